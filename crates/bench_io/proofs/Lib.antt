@@ -1,0 +1,5 @@
+pub mod Bytes
+pub mod MemoryFiles
+pub mod Rises
+pub mod States
+pub mod Turns

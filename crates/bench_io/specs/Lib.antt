@@ -1,0 +1,9 @@
+pub mod Counts
+pub mod Inputs
+pub mod Sinks
+pub mod NamedBytes
+pub mod Turns
+pub mod Memory
+pub mod MemorySlots
+pub mod SinkState
+pub mod MemorySinks

@@ -1,0 +1,154 @@
+// One slot of inputs in memory.
+ghost use Rattle.std.specs.Prelude.{◌≡◌, ◌+◌, ◌^◌, ◌<◌, Some, None, true, false, length, take, min, slice_get, IsSome, IsTrue, IfOk, IsOk, ◌↔◌, MatchOption, OnErr, OnOk};
+ghost use Rattle.std.specs.Io.{ReadsAtMost};
+ghost use Rattle.std.specs.Io.KnownBytes.{ReadConsumes};
+ghost use Rattle.bench_io.specs.Counts.{HasCause, CountsFailure};
+ghost use Rattle.bench_io.specs.Inputs.{IsOpened};
+ghost use Rattle.bench_io.specs.Turns.{limited};
+ghost use Rattle.bench_io.specs.Memory.{file_named, rest_of_file};
+ghost use Rattle.bench_io.specs.MemorySlots.{was_asked, was_opened, rest_in};
+
+use crate::memory_file::MemoryFile;
+use tally_base::Failed;
+
+#[derive(Clone, Copy, Debug)]
+pub(crate) enum Reading {
+    Unasked,
+    Refused,
+    Open { file: usize, at: usize },
+}
+
+#[derive(Drop)]
+pub(crate) struct MemorySlot {
+    reading: Reading,
+    open_faults: u64,
+    read_faults: u64,
+}
+
+/// The place of the first file of a name.
+fn place_of(files: &[MemoryFile], name: &str) -> Option<usize>
+    ensures { MatchOption result (file_named files.now name.now ≡ None)
+        (λ i. file_named files.now name.now ≡ Some (rest_of_file (slice_get files.now i) 0)) }
+{
+    for (i, file) in files.iter().enumerate() {
+        if file.name() == name {
+            return Some(i);
+        }
+    }
+    None
+}
+
+/// What is left of a file from a place on.
+fn left(files: &[MemoryFile], file: usize, at: usize) -> &[u8]
+    ensures fits { at + length result.now < 2 ^ 64 }
+    ensures bytes { result.now ≡ rest_of_file (slice_get files.now file) at }
+{
+    match files.get(file) {
+        Some(file) => {
+            let bytes = file.bytes();
+            if at < bytes.len() {
+                bytes.split_at(at).1
+            } else {
+                &[]
+            }
+        }
+        None => &[],
+    }
+}
+
+/// How many of the wanted bytes a read gives under an entry.
+fn limit(entry: Option<usize>, wanted: usize) -> usize
+    ensures { result ≡ limited entry wanted }
+{
+    match entry {
+        Some(entry) => entry.max(1).min(wanted),
+        None => wanted,
+    }
+}
+
+/// Copies as much from the front as there is, as there is room for and as the entry allows.
+fn copy_front(from: &[u8], into: &mut [u8], entry: Option<usize>) -> usize
+    ensures count { result ≡ limited entry (min (length from.now) (length into.old)) }
+    ensures bytes { take result into.new ≡ take result from.now }
+    ensures room { result ≡ length (take result into.new) }
+{
+    let count = limit(entry, from.len().min(into.len()));
+    into[..count].copy_from_slice(&from[..count]);
+    count
+}
+
+impl MemorySlot {
+    pub(crate) fn new() -> MemorySlot
+        ensures { result ≡ record { reading = Reading.Unasked; open_faults = 0; read_faults = 0 } }
+    {
+        MemorySlot {
+            reading: Reading::Unasked,
+            open_faults: 0,
+            read_faults: 0,
+        }
+    }
+
+    pub(crate) fn open(
+        &mut self,
+        files: &[MemoryFile],
+        name: &str,
+        fails: bool,
+    ) -> Result<(), Failed>
+        ensures file { OnOk result
+            (IsOpened (Some (file_named files.now name.now)) (Some (rest_in files.now self.new.reading))) }
+        ensures opened { OnOk result (was_opened self.new.reading ≡ true) }
+        ensures unopened { OnErr result (was_opened self.new.reading ≡ false) }
+        ensures asked { was_asked self.new.reading ≡ true }
+        ensures succeeds { IsOk result ↔
+            ((fails ≡ false) × IsSome (file_named files.now name.now)) }
+        ensures cause { HasCause self.old.open_faults self.new.open_faults result }
+        ensures counted { CountsFailure self.old.open_faults self.new.open_faults result }
+        ensures read_faults { self.new.read_faults ≡ self.old.read_faults }
+    {
+        if !fails {
+            if let Some(file) = place_of(files, name) {
+                self.reading = Reading::Open { file, at: 0 };
+                return Ok(());
+            }
+        }
+        self.reading = Reading::Refused;
+        self.open_faults = self.open_faults.saturating_add(1);
+        Err(Failed)
+    }
+
+    pub(crate) fn read(
+        &mut self,
+        files: &[MemoryFile],
+        into: &mut [u8],
+        entry: Option<usize>,
+        fails: bool,
+    ) -> Result<usize, Failed>
+        requires { was_opened self.old.reading ≡ true }
+        ensures bound { ReadsAtMost result into.new }
+        ensures bytes { ReadConsumes
+            (Some (rest_in files.now self.old.reading)) (Some (rest_in files.now self.new.reading)) result into.new }
+        ensures opened { was_opened self.new.reading ≡ was_opened self.old.reading }
+        ensures asked { was_asked self.new.reading ≡ was_asked self.old.reading }
+        ensures succeeds { IsOk result ↔ (fails ≡ false) }
+        ensures count { IfOk result (λ n. n ≡
+            limited entry
+            (min (length (rest_in files.now self.old.reading)) (length into.old))) }
+        ensures cause { HasCause self.old.read_faults self.new.read_faults result }
+        ensures counted { CountsFailure self.old.read_faults self.new.read_faults result }
+        ensures open_faults { self.new.open_faults ≡ self.old.open_faults }
+    {
+        let Reading::Open { file, at } = self.reading else {
+            unreachable!()
+        };
+        if fails {
+            self.read_faults = self.read_faults.saturating_add(1);
+            return Err(Failed);
+        }
+        let count = copy_front(left(files, file, at), into, entry);
+        self.reading = Reading::Open {
+            file,
+            at: at + count,
+        };
+        Ok(count)
+    }
+}

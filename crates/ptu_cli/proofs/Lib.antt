@@ -1,0 +1,9 @@
+pub mod Pieces
+pub mod Bodies
+pub mod Printers
+pub mod PrintSteps
+pub mod HeaderEnds
+pub mod Composed
+pub mod ByStatus
+pub mod Asked
+pub mod Complete

@@ -1,0 +1,30 @@
+use Rattle.std.proofs.Common.{◌++◌, [], Ok, Err, inr}
+use Rattle.std.proofs.lemmas.Result.{err_from_is_err_and}
+use Rattle.bench_io.proofs.Bytes.{Consumes-trans}
+use Rattle.ptu_cli.proofs.Composed.{EndsAs-behind, Says-shown}
+use Rattle.ptu_cli.proofs.data.count_data.Goals as goal
+
+pub returns-in_err-feed-clause-answer : goal.returns-in_err-feed-clause-answer
+returns-in_err-feed-clause-answer g c =
+    let front = c.in_ok-found.ensures.answer in
+    let p = err_from_is_err_and c.from_residual-in_err-feed.result c.from_residual-in_err-feed.ensures.1 in
+    (front.0, front.1, inr (rw (p.1, p.2) (Says-shown c.in_ok-found.found.header front.0 _ _ c.in_err-feed.field-0.0 front.2 (c.in_err-feed.ensures.shown c.in_ok-found.found.header.record_type [] c.new-counter.ensures.start))))
+
+pub returns-in_err-counts-clause-answer : goal.returns-in_err-counts-clause-answer
+returns-in_err-counts-clause-answer g c =
+    let front = c.in_ok-found.ensures.answer in
+    let rest = c.in_err-counts.ensures.answer c.in_ok-found.found.header.record_type _ (c.feed.ensures.taken c.in_ok-found.found.header.record_type [] c.new-counter.ensures.start) in
+    let p = err_from_is_err_and c.from_residual-in_err-counts.result c.from_residual-in_err-counts.ensures.1 in (
+      front.0 ++ rest.0,
+      Consumes-trans _ _ _ front.0 rest.0 front.1 rest.1,
+      rw (p.1, p.2) (EndsAs-behind c.in_ok-found.found.header front.0 _ rest.0 _ (Err c.in_err-counts.field-0.0) front.2 rest.2),
+    )
+
+pub returns-clause-answer : goal.returns-clause-answer
+returns-clause-answer g c =
+    let front = c.in_ok-found.ensures.answer in
+    let rest = c.in_ok-counts.ensures.answer c.in_ok-found.found.header.record_type _ (c.feed.ensures.taken c.in_ok-found.found.header.record_type [] c.new-counter.ensures.start) in (
+      front.0 ++ rest.0,
+      Consumes-trans _ _ _ front.0 rest.0 front.1 rest.1,
+      EndsAs-behind c.in_ok-found.found.header front.0 _ rest.0 _ (Ok c.in_ok-counts.counts) front.2 rest.2,
+    )

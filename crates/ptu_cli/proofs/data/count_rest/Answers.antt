@@ -1,0 +1,42 @@
+use Rattle.std.proofs.Common.{◌++◌, Err, take, append_assoc, subst, inr}
+use Rattle.std.proofs.lemmas.Result.{IfErr-weaker, err_from_is_err_and}
+use Rattle.tally_base.proofs.Reasons.{HasReason-inside}
+use Rattle.bench_io.proofs.Bytes.{Consumes-trans}
+use Rattle.bench_io.proofs.States.{OnlyReads-trans}
+use Rattle.ptu_definitions.specs.Counted.{counted}
+use Rattle.ptu_definitions.specs.Shown.{Shows}
+use Rattle.record_layout.specs.Counting.{HasCounted}
+use Rattle.ptu_cli.proofs.data.count_rest.Goals as goal
+
+pub returns-then-len-eq0-clause-reason : goal.returns-then-len-eq0-clause-reason
+returns-then-len-eq0-clause-reason g c = IfErr-weaker c.finish.result _ _ (λ fault h. HasReason-inside _ _ _ _ fault h) c.finish.ensures.inside
+
+pub pieces-preserved : goal.pieces-preserved
+pieces-preserved g c =
+    let so_far = c.pieces.invariant.taken in
+    let piece = take c.in-Ok.len c.read.new.into in
+    record {
+      reads = OnlyReads-trans _ _ _ _ c.pieces.invariant.reads (record { keeps = c.read.ensures.keeps; keeps_other = c.read.ensures.keeps_other; opens_none = c.read.ensures.opens_none });
+      taken = (
+        so_far.0 ++ piece,
+        Consumes-trans _ _ _ so_far.0 piece so_far.1 c.in-Ok.ensures.bytes.0,
+        λ record_type bytes h. subst (HasCounted c.feed.new.self record_type) (append_assoc bytes so_far.0 piece) (c.feed.ensures.taken record_type (bytes ++ so_far.0) (so_far.2 record_type bytes h)),
+      );
+    }
+
+pub returns-in_err-feed-clause-reason : goal.returns-in_err-feed-clause-reason
+returns-in_err-feed-clause-reason g c =
+    let p = err_from_is_err_and c.from_residual.result c.from_residual.ensures.1 in
+    rw (p.1, p.2) (HasReason-inside _ _ _ _ c.in_err-feed.field-0.0 c.in_err-feed.ensures.inside)
+
+pub returns-in_err-feed-clause-answer : goal.returns-in_err-feed-clause-answer
+returns-in_err-feed-clause-answer g c = λ record_type bytes h.
+    let so_far = c.pieces.invariant.taken in
+    let piece = take c.in-Ok.len c.read.new.into in
+    let p = err_from_is_err_and c.from_residual.result c.from_residual.ensures.1 in
+    let shown : Shows (counted record_type) (bytes ++ (so_far.0 ++ piece)) (Err c.in_err-feed.field-0.0) =
+    rw (← append_assoc bytes so_far.0 piece) (c.in_err-feed.ensures.shown record_type (bytes ++ so_far.0) (so_far.2 record_type bytes h)) in (
+      so_far.0 ++ piece,
+      Consumes-trans _ _ _ so_far.0 piece so_far.1 c.in-Ok.ensures.bytes.0,
+      inr (λ more left. rw (p.1, p.2) (shown more)),
+    )

@@ -1,0 +1,20 @@
+use Rattle.std.proofs.Common.{◌++◌, List, ℕ}
+use Rattle.std.specs.Io.KnownBytes.{Consumes}
+use Rattle.tally_base.specs.declared.slot.Slot.TheVariants.{Data}
+use Rattle.tally_base.specs.declared.header.RecordType.{RecordType}
+use Rattle.bench_io.specs.Inputs.{OnlyReads}
+use Rattle.record_layout.specs.Counting.{HasCounted, room}
+use Rattle.ptu_cli.proofs.data.count_rest.Given as goal
+
+-- the counter was given the bytes that were taken
+abbrev pub invariant-pieces : goal.invariant-pieces
+invariant-pieces g l =
+    let state = g.I.Inputs.state in
+    record {
+      reads : OnlyReads Data (state l.initial.inputs) (state l.inputs);
+      taken : (taken : List ℕ) × Consumes ((state l.initial.inputs).rest Data) ((state l.inputs).rest Data) taken
+          × ((record_type : RecordType) (bytes : List ℕ) → HasCounted l.initial.counter record_type bytes → HasCounted l.counter record_type (bytes ++ taken));
+    }
+
+abbrev pub decreases-pieces : goal.decreases-pieces
+decreases-pieces g l = room l.counter

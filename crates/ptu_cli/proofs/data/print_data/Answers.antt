@@ -1,0 +1,70 @@
+use Rattle.std.proofs.Common.{◌++◌, [], take, sym, arith, inr}
+use Rattle.bench_io.proofs.Bytes.{Appends-nil, Appends-same, Consumes-nil, Consumes-trans}
+use Rattle.bench_io.proofs.Rises.{Rose-behind}
+use Rattle.bench_io.proofs.States.{OnlyReads-refl, OnlyReads-trans}
+use Rattle.table_out.specs.HeaderText.{header_text}
+use Rattle.table_out.proofs.StepTexts.{header_text-nil}
+use Rattle.ptu_cli.proofs.HeaderEnds.{text-appended, text-cut, outcome-done, outcome-refused}
+use Rattle.ptu_cli.proofs.data.print_data.Goals as goal
+
+pub pieces-init : goal.pieces-init
+pieces-init g c = record {
+  reads = OnlyReads-refl _ _;
+  taken = ([], Consumes-nil _, c.new-printer.ensures.start, Appends-same _ _ _ _ (sym header_text-nil) (Appends-nil _));
+  is_open = c.new-printer.ensures.is_open;
+  later = omega arith;
+}
+
+pub returns-in-Err-clause-reason : goal.returns-in-Err-clause-reason
+returns-in-Err-clause-reason g c =
+    let so_far = c.pieces.invariant.taken in
+    let piece = take c.in-Ok.len c.read.new.into in (
+      Rose-behind _ _ _ c.pieces.invariant.later c.in-Err.ensures.cause.failed,
+      record {
+        taken = so_far.0 ++ piece;
+        consumes = Consumes-trans _ _ _ so_far.0 piece so_far.1 c.in-Ok.ensures.bytes.0;
+        cut = λ more left. text-cut so_far.0 piece more _ _ _ so_far.3 (c.in-Err.ensures.short so_far.0 so_far.2);
+      },
+    )
+
+pub pieces-preserved : goal.pieces-preserved
+pieces-preserved g c =
+    let so_far = c.pieces.invariant.taken in
+    let piece = take c.in-Ok.len c.read.new.into in
+    let leaves = rw c.in-Ok-More.field-0-is at (c.in-Ok-More.ensures.leaves so_far.0 so_far.2) in
+    record {
+      reads = OnlyReads-trans _ _ _ _ c.pieces.invariant.reads (record { keeps = c.read.ensures.keeps; keeps_other = c.read.ensures.keeps_other; opens_none = c.read.ensures.opens_none });
+      taken = (
+        so_far.0 ++ piece,
+        Consumes-trans _ _ _ so_far.0 piece so_far.1 c.in-Ok.ensures.bytes.0,
+        leaves.0,
+        text-appended so_far.0 piece _ _ _ so_far.3 (c.in-Ok-More.ensures.text so_far.0 so_far.2),
+      );
+      is_open = leaves.1;
+      later = omega (arith, c.pieces.invariant.later, c.print_piece.ensures.cause.later);
+    }
+
+pub returns-in-Ok-Done-clause-answer : goal.returns-in-Ok-Done-clause-answer
+returns-in-Ok-Done-clause-answer g c =
+    let so_far = c.pieces.invariant.taken in
+    let piece = take c.in-Ok.len c.read.new.into in
+    let leaves = rw c.in-Ok-Done.field-0-is at (c.in-Ok-Done.ensures.leaves so_far.0 so_far.2) in
+    inr (record {
+      taken = so_far.0 ++ piece;
+      consumes = Consumes-trans _ _ _ so_far.0 piece so_far.1 c.in-Ok.ensures.bytes.0;
+      text = header_text (so_far.0 ++ piece);
+      written = text-appended so_far.0 piece _ _ _ so_far.3 (c.in-Ok-Done.ensures.text so_far.0 so_far.2);
+      says = λ more left. outcome-done (so_far.0 ++ piece) more leaves.1 leaves.0 leaves.2;
+    })
+
+pub returns-in-Ok-Refused-clause-answer : goal.returns-in-Ok-Refused-clause-answer
+returns-in-Ok-Refused-clause-answer g c =
+    let so_far = c.pieces.invariant.taken in
+    let piece = take c.in-Ok.len c.read.new.into in
+    inr (record {
+      taken = so_far.0 ++ piece;
+      consumes = Consumes-trans _ _ _ so_far.0 piece so_far.1 c.in-Ok.ensures.bytes.0;
+      text = header_text (so_far.0 ++ piece);
+      written = text-appended so_far.0 piece _ _ _ so_far.3 (c.in-Ok-Refused.ensures.text so_far.0 so_far.2);
+      says = λ more left. outcome-refused (so_far.0 ++ piece) more c.in-Ok-Refused.fault (rw c.in-Ok-Refused.field-0-is at (c.in-Ok-Refused.ensures.leaves so_far.0 so_far.2));
+    })

@@ -1,0 +1,30 @@
+use Rattle.std.proofs.Common.{◌++◌, Ok, take, sym, ap, ◌∙◌, inr}
+use Rattle.std.proofs.lemmas.Slice.{between_is}
+use Rattle.tally_base.proofs.Reasons.{HasReason-inside}
+use Rattle.bench_io.proofs.Bytes.{Consumes-trans}
+use Rattle.ptu_cli.proofs.data.read_header.Goals as goal
+
+pub returns-then-len-eq0-clause-reason : goal.returns-then-len-eq0-clause-reason
+returns-then-len-eq0-clause-reason g c = HasReason-inside _ _ _ _ c.finish.result c.finish.ensures.inside
+
+pub returns-in-Refused-clause-reason : goal.returns-in-Refused-clause-reason
+returns-in-Refused-clause-reason g c = HasReason-inside _ _ _ _ c.in-Refused.fault c.in-Refused.ensures.inside
+
+pub returns-in-Done-clause-answer : goal.returns-in-Done-clause-answer
+returns-in-Done-clause-answer g c =
+    let so_far = c.pieces.invariant.taken in
+    let piece = take c.in-Ok.len c.read.new.into in
+    let step = c.in-Done.ensures.ends so_far.0 so_far.2 in (
+      so_far.0 ++ piece,
+      Consumes-trans _ _ _ so_far.0 piece so_far.1 c.in-Ok.ensures.bytes.0,
+      λ more. step.1 more ∙ ap (λ l. Ok (c.in-Done.header, l ++ more)) (sym (between_is c.read.new.into c.in-Done.used c.in-Ok.len)),
+    )
+
+pub returns-in-Refused-clause-answer : goal.returns-in-Refused-clause-answer
+returns-in-Refused-clause-answer g c =
+    let so_far = c.pieces.invariant.taken in
+    let piece = take c.in-Ok.len c.read.new.into in (
+      so_far.0 ++ piece,
+      Consumes-trans _ _ _ so_far.0 piece so_far.1 c.in-Ok.ensures.bytes.0,
+      inr (λ more left. c.in-Refused.ensures.ends so_far.0 so_far.2 more),
+    )

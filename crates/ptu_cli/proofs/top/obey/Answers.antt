@@ -1,0 +1,14 @@
+use Rattle.ptu_cli.proofs.Asked.{answers_as, causes_as}
+use Rattle.ptu_cli.proofs.top.obey.Goals as goal
+
+pub returns-in-Count-clause-answer : goal.returns-in-Count-clause-answer
+returns-in-Count-clause-answer g c = answers_as _ _ (g.I.Inputs.state c.args.inputs.now) _ _ _ (rw c.in-Count.is at c.in-Some.ensures) c.count.ensures.answer
+
+pub returns-in-Count-clause-causes : goal.returns-in-Count-clause-causes
+returns-in-Count-clause-causes g c = causes_as _ _ _ _ (rw c.in-Count.is at c.in-Some.ensures) c.count.ensures.causes
+
+pub returns-in-Header-clause-answer : goal.returns-in-Header-clause-answer
+returns-in-Header-clause-answer g c = answers_as _ _ (g.I.Inputs.state c.args.inputs.now) _ _ _ (rw c.in-Header.is at c.in-Some.ensures) c.header.ensures.answer
+
+pub returns-in-Header-clause-causes : goal.returns-in-Header-clause-causes
+returns-in-Header-clause-causes g c = causes_as _ _ _ _ (rw c.in-Header.is at c.in-Some.ensures) c.header.ensures.causes

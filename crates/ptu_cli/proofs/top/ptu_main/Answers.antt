@@ -1,0 +1,38 @@
+use Rattle.std.proofs.Common.{sym, ap, ◌∙◌}
+use Rattle.ptu_cli.specs.Endings.{HasCauses}
+use Rattle.ptu_cli.specs.Outcomes.{status}
+use Rattle.ptu_cli.proofs.Complete.{good-ends, inside-ends}
+use Rattle.ptu_cli.proofs.Asked.{tells_as}
+use Rattle.ptu_cli.proofs.ByStatus.{opening-from_status, reading-from_status, writing-from_status, memory-from_status}
+use Rattle.ptu_cli.proofs.top.ptu_main.Goals as goal
+
+pub returns-in-Err-clause-unopened : goal.returns-in-Err-clause-unopened
+unfolding HasCauses
+returns-in-Err-clause-unopened g c = λ two.
+    let h = opening-from_status _ _ _ _ c.in-Err.fault (sym c.status.ensures ∙ two) c.in-Err.ensures.causes in
+    (h.0, h.2.0, h.2.1, h.2.2, tells_as _ _ _ _ _ _ h.1 c.tell.ensures)
+
+pub returns-in-Err-clause-memory : goal.returns-in-Err-clause-memory
+unfolding HasCauses
+returns-in-Err-clause-memory g c = λ five. memory-from_status _ _ _ _ c.in-Err.fault (sym c.status.ensures ∙ five) c.in-Err.ensures.causes
+
+pub returns-in-Err-clause-unread : goal.returns-in-Err-clause-unread
+unfolding HasCauses
+returns-in-Err-clause-unread g c = λ three.
+    let h = reading-from_status _ _ _ _ c.in-Err.fault (sym c.status.ensures ∙ three) c.in-Err.ensures.causes in
+    (h.0, h.2.0, h.2.1, h.2.2, tells_as _ _ _ _ _ _ h.1 c.tell.ensures)
+
+pub returns-in-Err-clause-unwritten : goal.returns-in-Err-clause-unwritten
+unfolding HasCauses
+returns-in-Err-clause-unwritten g c = λ four.
+    let h = writing-from_status _ _ _ _ c.in-Err.fault (sym c.status.ensures ∙ four) c.in-Err.ensures.causes in
+    (h.1.0, h.1.1, tells_as _ _ _ _ _ _ h.0 c.tell.ensures)
+
+pub returns-in-Err-clause-complete : goal.returns-in-Err-clause-complete
+returns-in-Err-clause-complete g c = λ plan_file data_file tells none quiet.
+    c.status.ensures ∙ inside-ends _ _ c.in-Err.fault plan_file data_file none quiet c.in-Err.ensures.causes (c.in-Err.ensures.answer plan_file data_file tells)
+
+pub returns-in-Err-clause-good : goal.returns-in-Err-clause-good
+returns-in-Err-clause-good g c = λ plan_file data_file tells good none quiet.
+    c.status.ensures ∙ inside-ends _ _ c.in-Err.fault plan_file data_file none quiet c.in-Err.ensures.causes (c.in-Err.ensures.answer plan_file data_file tells)
+    ∙ ap status (good-ends _ plan_file data_file good)

@@ -1,0 +1,11 @@
+pub mod Commands
+pub mod CountText
+pub mod Outcomes
+pub mod Pieces
+pub mod HeaderPieces
+pub mod BodyPieces
+pub mod Printing
+pub mod Requests
+pub mod Endings
+pub mod HeaderRuns
+pub mod Edge

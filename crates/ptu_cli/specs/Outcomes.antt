@@ -1,0 +1,63 @@
+-- What a run of the program ends with, where nothing outside fails.
+use Rattle.std.specs.Prelude.{ℕ, List, [], None, Some, Result, Ok, Err}
+use Rattle.std.specs.declared.option.Option.{Option}
+use Rattle.tally_base.specs.declared.slot.Slot.TheVariants.{Data}
+use Rattle.tally_base.specs.declared.fault.Fault.{Fault}
+use Rattle.tally_base.specs.declared.fault.Fault.TheVariants.{Usage, OpenFault}
+use Rattle.tally_base.specs.declared.header.Header.{Header}
+use Rattle.tally_base.specs.Faults.{status_of}
+use Rattle.ptu_definitions.specs.declared.records.KindCounts.{KindCounts}
+use Rattle.ptu_definitions.specs.Headers.{header_answer}
+use Rattle.ptu_definitions.specs.Counted.{counted}
+use Rattle.ptu_cli.specs.CountText.{counts_text}
+use Rattle.table_out.specs.HeaderText.{header_text}
+use Rattle.ptu_cli.specs.Commands.{Request, Count, Header as HeaderOf}
+
+-- the text on standard output, and the fault where there is one
+pub record Outcome : Type 0 where
+  pub text : List ℕ
+  pub fault : Option Fault
+
+abbrev pub refused : Fault → Outcome
+refused fault = record { text = []; fault = Some fault }
+
+abbrev pub written : List ℕ → Outcome
+written text = record { text = text; fault = None }
+
+abbrev pub status : Option Fault → ℕ
+status None = 0
+status (Some fault) = status_of fault
+
+-- a header and the counts of the records behind it
+abbrev pub with_counts : Header → Result KindCounts Fault → Result (Header × KindCounts) Fault
+with_counts header (Ok counts) = Ok (header, counts)
+with_counts header (Err fault) = Err fault
+
+abbrev pub counts_behind : Result (Header × List ℕ) Fault → Result (Header × KindCounts) Fault
+counts_behind (Ok found) = with_counts found.0 (counted found.0.record_type found.1)
+counts_behind (Err fault) = Err fault
+
+-- the header of a whole file, and the counts of its records
+abbrev pub file_counts : List ℕ → Result (Header × KindCounts) Fault
+file_counts file = counts_behind (header_answer file)
+
+abbrev pub count_outcome : Result (Header × KindCounts) Fault → Outcome
+count_outcome (Ok found) = written (counts_text found.0 found.1)
+count_outcome (Err fault) = refused fault
+
+-- the fault of a header, where it is refused or cut
+abbrev pub header_fault : Result (Header × List ℕ) Fault → Option Fault
+header_fault (Ok found) = None
+header_fault (Err fault) = Some fault
+
+-- A header is printed as far as it goes.
+abbrev pub header_outcome : List ℕ → Outcome
+header_outcome file = record { text = header_text file; fault = header_fault (header_answer file) }
+
+-- `plan` and `file` are the files of the command's names, or None where there is none
+unfoldable pub outcome : Option Request → Option (List ℕ) → Option (List ℕ) → Outcome
+outcome None plan file = refused Usage
+outcome (Some (Count name)) plan None = refused (OpenFault Data)
+outcome (Some (Count name)) plan (Some bytes) = count_outcome (file_counts bytes)
+outcome (Some (HeaderOf name)) plan None = refused (OpenFault Data)
+outcome (Some (HeaderOf name)) plan (Some bytes) = header_outcome bytes

@@ -1,0 +1,71 @@
+// The commands.
+ghost use Rattle.std.specs.Prelude.{◌≡◌, ◌⊎◌, ◌≤◌, true, false, None, Some, IfErr, IsErrAnd};
+ghost use Rattle.std.specs.Io.KnownBytes.{Keeps};
+ghost use Rattle.tally_base.specs.declared.slot.Slot.TheVariants.{Plan, Data};
+ghost use Rattle.tally_base.specs.Faults.{is_outside, HasReason};
+ghost use Rattle.bench_io.specs.Counts.{Rose};
+ghost use Rattle.bench_io.specs.Inputs.{File};
+ghost use Rattle.ptu_cli.specs.Commands.{Count, Header};
+ghost use Rattle.ptu_cli.specs.Outcomes.{outcome};
+ghost use Rattle.ptu_cli.specs.Endings.{Answers, HasCauses};
+
+use crate::counts::write_counts;
+use crate::data::{count_data, print_data};
+use bench_io::{Inputs, Sink};
+use tally_base::{Failed, Fault, Slot};
+
+/// Counts the records of a file by kind.
+#[tactic(auto, unfolding(crate::specs::Outcomes::outcome, crate::specs::Endings::HasCauses))]
+pub(crate) fn count<I: Inputs, O: Sink>(
+    inputs: &mut I,
+    out: &mut O,
+    file: &str,
+) -> Result<(), Fault>
+    requires meant { (I.state inputs.old).meant Data file.now ≡ true }
+    requires first { (I.state inputs.old).asked Data ≡ false }
+    ensures answer { Answers (Some (Count file.now)) (I.state inputs.old) result (O.written out.old) (O.written out.new) }
+    ensures causes { IfErr result (HasCauses (Some (Count file.now)) (record {
+      before = I.state inputs.old;
+      after = I.state inputs.new;
+      old = O.written out.old;
+      new = O.written out.new;
+      faults_before = O.faults out.old;
+      faults_after = O.faults out.new;
+    })) }
+    ensures plan { (I.state inputs.new).asked Plan ≡ (I.state inputs.old).asked Plan }
+{
+    match inputs.open(Slot::Data, file) {
+        Err(Failed) => return Err(Fault::OpenFault { slot: Slot::Data }),
+        Ok(()) => {}
+    }
+    let (header, counts) = count_data(inputs)?;
+    write_counts(&header, &counts, out)?;
+    Ok(())
+}
+
+/// Prints the header of a file while it is read.
+#[tactic(auto, unfolding(crate::specs::Outcomes::outcome, crate::specs::Endings::HasCauses))]
+pub(crate) fn header<I: Inputs, O: Sink>(
+    inputs: &mut I,
+    out: &mut O,
+    file: &str,
+) -> Result<(), Fault>
+    requires meant { (I.state inputs.old).meant Data file.now ≡ true }
+    requires first { (I.state inputs.old).asked Data ≡ false }
+    ensures answer { Answers (Some (Header file.now)) (I.state inputs.old) result (O.written out.old) (O.written out.new) }
+    ensures causes { IfErr result (HasCauses (Some (Header file.now)) (record {
+      before = I.state inputs.old;
+      after = I.state inputs.new;
+      old = O.written out.old;
+      new = O.written out.new;
+      faults_before = O.faults out.old;
+      faults_after = O.faults out.new;
+    })) }
+    ensures plan { (I.state inputs.new).asked Plan ≡ (I.state inputs.old).asked Plan }
+{
+    match inputs.open(Slot::Data, file) {
+        Err(Failed) => return Err(Fault::OpenFault { slot: Slot::Data }),
+        Ok(()) => {}
+    }
+    print_data(inputs, out)
+}

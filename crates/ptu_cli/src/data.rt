@@ -1,0 +1,132 @@
+// Reads the data of a command in pieces.
+ghost use Rattle.std.specs.Prelude.{◌≡◌, ◌≤◌, ◌<◌, ◌++◌, List, ℕ, length, true, IfErr, IfOk};
+ghost use Rattle.std.specs.Io.KnownBytes.{Consumes};
+ghost use Rattle.tally_base.specs.declared.slot.Slot.TheVariants.{Data};
+ghost use Rattle.tally_base.specs.declared.header.Header.{Header};
+ghost use Rattle.tally_base.specs.declared.header.RecordType.{RecordType};
+ghost use Rattle.bench_io.specs.Inputs.{OnlyReads};
+ghost use Rattle.ptu_definitions.specs.Counted.{counted};
+ghost use Rattle.ptu_cli.specs.Outcomes.{file_counts};
+ghost use Rattle.ptu_cli.specs.Pieces.{ReadReason, EndsAs};
+ghost use Rattle.ptu_cli.specs.HeaderPieces.{HeaderEnds};
+ghost use Rattle.ptu_cli.specs.HeaderRuns.{AnswersText, ReadsText, CutsFile};
+ghost use Rattle.tally_base.specs.Faults.{HasReason};
+ghost use Rattle.bench_io.specs.Counts.{Rose};
+ghost use Rattle.record_layout.specs.Counting.{HasCounted};
+
+use crate::header::{Fed, feed_piece};
+use crate::print::{HeaderPrinter, Printed};
+use bench_io::{Inputs, Sink};
+use ptu_header::HeaderReader;
+use record_layout::{Counter, KindCounts};
+use tally_base::{Failed, Fault, Header, Slot};
+
+/// The bytes that one read takes at most.
+const PIECE: usize = 8192;
+
+const READ_FAULT: Fault = Fault::ReadFault { slot: Slot::Data };
+
+/// Counts the records behind those that the counter was given, up to the end of the data.
+fn count_rest<I: Inputs>(
+    inputs: &mut I,
+    buffer: &mut [u8],
+    mut counter: Counter,
+) -> Result<KindCounts, Fault>
+    requires opened { (I.state inputs.old).opened Data ≡ true }
+    requires room { 0 < length buffer.old }
+    ensures reads { OnlyReads Data (I.state inputs.old) (I.state inputs.new) }
+    ensures reason { IfErr result (ReadReason (I.state inputs.old) (I.state inputs.new)) }
+    ensures answer { (record_type : RecordType) (bytes : List ℕ) → HasCounted counter record_type bytes → (taken : List ℕ)
+        × Consumes ((I.state inputs.old).rest Data) ((I.state inputs.new).rest Data) taken
+        × EndsAs (counted record_type) (bytes ++ taken) ((I.state inputs.new).rest Data) result }
+{
+    'pieces: loop {
+        let Ok(len) = inputs.read(Slot::Data, buffer) else {
+            return Err(READ_FAULT);
+        };
+        if len == 0 {
+            return counter.finish();
+        }
+        counter.feed(&buffer[..len])?;
+    }
+}
+
+/// A header, and the bytes behind it that were read with its last ones: those of the buffer from `used` to `len`.
+#[derive(Clone, Copy, Debug)]
+struct Found {
+    header: Header,
+    used: usize,
+    len: usize,
+}
+
+/// Reads the data up to the end of its header.
+fn read_header<I: Inputs>(inputs: &mut I, buffer: &mut [u8]) -> Result<Found, Fault>
+    requires opened { (I.state inputs.old).opened Data ≡ true }
+    requires room { 0 < length buffer.old }
+    ensures reads { OnlyReads Data (I.state inputs.old) (I.state inputs.new) }
+    ensures reason { IfErr result (ReadReason (I.state inputs.old) (I.state inputs.new)) }
+    ensures part { IfOk result (λ found. (found.used ≤ found.len) × (found.len ≤ length buffer.new)) }
+    ensures answer { (taken : List ℕ) × Consumes ((I.state inputs.old).rest Data) ((I.state inputs.new).rest Data) taken
+        × HeaderEnds buffer.new taken ((I.state inputs.new).rest Data) result }
+{
+    let mut reader = HeaderReader::new();
+    'pieces: loop {
+        let Ok(len) = inputs.read(Slot::Data, buffer) else {
+            return Err(READ_FAULT);
+        };
+        if len == 0 {
+            return Err(reader.finish());
+        }
+        match feed_piece(&mut reader, &buffer[..len]) {
+            Fed::More => {}
+            Fed::Done { used, header } => return Ok(Found { header, used, len }),
+            Fed::Refused { fault } => return Err(fault),
+        }
+    }
+}
+
+/// Reads the data to its end, and counts its records by kind.
+pub(crate) fn count_data<I: Inputs>(inputs: &mut I) -> Result<(Header, KindCounts), Fault>
+    requires { (I.state inputs.old).opened Data ≡ true }
+    ensures reads { OnlyReads Data (I.state inputs.old) (I.state inputs.new) }
+    ensures reason { IfErr result (ReadReason (I.state inputs.old) (I.state inputs.new)) }
+    ensures answer { (taken : List ℕ) × Consumes ((I.state inputs.old).rest Data) ((I.state inputs.new).rest Data) taken
+        × EndsAs file_counts taken ((I.state inputs.new).rest Data) result }
+{
+    let mut buffer = [0u8; PIECE];
+    let found = read_header(inputs, &mut buffer)?;
+    let mut counter = Counter::new(found.header.record_type);
+    counter.feed(&buffer[found.used..found.len])?;
+    let counts = count_rest(inputs, &mut buffer, counter)?;
+    Ok((found.header, counts))
+}
+
+/// Reads the data up to the end of its header, and prints the header meanwhile.
+pub(crate) fn print_data<I: Inputs, O: Sink>(inputs: &mut I, out: &mut O) -> Result<(), Fault>
+    requires { (I.state inputs.old).opened Data ≡ true }
+    ensures reads { OnlyReads Data (I.state inputs.old) (I.state inputs.new) }
+    ensures answer { AnswersText ((I.state inputs.old).rest Data) ((I.state inputs.new).rest Data) (O.written out.old) (O.written out.new) result }
+    ensures reason { IfErr result (HasReason (λ slot. ⊥)
+        (λ slot. (slot ≡ Data) × Rose ((I.state inputs.old).read_faults slot) ((I.state inputs.new).read_faults slot)
+        × ReadsText ((I.state inputs.old).rest Data) ((I.state inputs.new).rest Data) (O.written out.old) (O.written out.new))
+        (Rose (O.faults out.old) (O.faults out.new) × CutsFile ((I.state inputs.old).rest Data) ((I.state inputs.new).rest Data) (O.written out.old) (O.written out.new))
+        ⊥) }
+    ensures later { O.faults out.old ≤ O.faults out.new }
+{
+    let mut buffer = [0u8; PIECE];
+    let mut printer = HeaderPrinter::new();
+    'pieces: loop {
+        let Ok(len) = inputs.read(Slot::Data, &mut buffer) else {
+            return Err(READ_FAULT);
+        };
+        if len == 0 {
+            return Err(printer.finish());
+        }
+        match printer.print_piece(&buffer[..len], out) {
+            Err(Failed) => return Err(Fault::WriteFault),
+            Ok(Printed::More) => {}
+            Ok(Printed::Done) => return Ok(()),
+            Ok(Printed::Refused { fault }) => return Err(fault),
+        }
+    }
+}

@@ -1,0 +1,16 @@
+//! The top call of the program, its commands, and its edge to files and streams.
+#![tactic(auto)]
+
+mod command;
+mod counts;
+mod data;
+mod edge;
+mod header;
+mod print;
+mod top;
+mod words;
+
+pub use counts::write_counts;
+pub use edge::{FileInputs, StreamSink};
+pub use top::{ptu_main, tell};
+pub use words::{Command, read_words};

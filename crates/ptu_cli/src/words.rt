@@ -1,0 +1,33 @@
+// The words of the command line.
+ghost use Rattle.std.specs.Prelude.{◌≡◌, map, string_bytes};
+ghost use Rattle.ptu_cli.specs.Commands.{request_of};
+ghost use Rattle.ptu_cli.specs.Requests.{asked_for};
+
+/// What the program is asked to do.
+#[derive(Clone, Copy, Debug)]
+pub enum Command<'a> {
+    /// Counts the records of a file by kind.
+    Count { file: &'a str },
+    /// Prints the header of a file.
+    Header { file: &'a str },
+}
+
+/// The command of the words behind the program's name: `count FILE` or `header FILE`. None exactly where
+/// the words are neither.
+pub fn read_words(words: &[String]) -> Option<Command<'_>>
+    ensures { asked_for result ≡ request_of (map (λ word. string_bytes word) words.now) }
+{
+    match words {
+        [word, file] => {
+            let file = file.as_str();
+            if word.as_str() == "count" {
+                Some(Command::Count { file })
+            } else if word.as_str() == "header" {
+                Some(Command::Header { file })
+            } else {
+                None
+            }
+        }
+        _ => None,
+    }
+}

@@ -1,0 +1,13 @@
+pub mod Walks
+pub mod EndingLemmas
+pub mod AnswerLemmas
+pub mod Sound
+pub mod Rows
+pub mod SeenLemmas
+pub mod WordsLemmas
+pub mod ShownLemmas
+pub mod RecordRows
+pub mod Nests
+pub mod SeenLaws
+pub mod Longest
+pub mod FoursLemmas

@@ -1,0 +1,12 @@
+pub mod TagFields
+pub mod TagList
+pub mod Endings
+pub mod Fields
+pub mod Headers
+pub mod Seen
+pub mod Shown
+pub mod Words
+pub mod Layouts
+pub mod Kinds
+pub mod Counted
+pub mod Fours

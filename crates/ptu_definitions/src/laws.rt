@@ -1,0 +1,92 @@
+//! Laws of the definitions, each as the contract of a function that does nothing.
+ghost use Rattle.std.specs.Prelude.{◌≡◌, ◌≢◌, ◌↔◌, ◌⊎◌, ◌++◌, ◌∷◌, [], ◌<◌, ◌≤◌, ◌^◌, ℕ, List, Result, length, true, false};
+ghost use Rattle.tally_base.specs.declared.fault.Fault.TheVariants as Fault;
+ghost use Rattle.tally_base.specs.declared.fault.Fault.{Fault};
+ghost use Rattle.tally_base.specs.declared.header.Header.{Header};
+ghost use Rattle.ptu_definitions.specs.Headers.{HasAnswer, head_of, header_answer};
+ghost use Rattle.ptu_definitions.specs.TagFields.{code_in, is_known, is_negative, body_size};
+ghost use Rattle.ptu_definitions.specs.TagList.{Item, IsFront, IsHeader, GoesOn};
+ghost use Rattle.ptu_definitions.specs.Seen.{seen, seen_preamble, begun, IsLongestFront, HasLongestFront, HasNoFront};
+ghost use Rattle.ptu_definitions.specs.Shown.{Shows};
+ghost use Rattle.ptu_definitions.specs.Endings.{Ending, EndsAs, HasHeader};
+
+/// Exactly one answer applies to a file, and it is the one that the function finds.
+pub fn one_answer()
+    ensures { (file : List ℕ) (answer : Result (Header × List ℕ) Fault)
+        → HasAnswer file answer ↔ (header_answer file ≡ answer) }
+{}
+
+/// Of the ways in which a tag list can end, one applies and no other.
+pub fn one_ending()
+    ensures one { (bytes : List ℕ) (a b : Ending) → EndsAs bytes a → EndsAs bytes b → a ≡ b }
+    ensures some { (bytes : List ℕ) → (end : Ending) × EndsAs bytes end }
+{}
+
+/// Two fronts of the same bytes have one preamble, and one of them goes on as the other.
+pub fn fronts_nest()
+    ensures { (bytes start other_start : List ℕ) (items other_items : List Item)
+        (front other rest other_rest : List ℕ)
+        → IsFront start items front → IsFront other_start other_items other
+        → bytes ≡ front ++ rest → bytes ≡ other ++ other_rest
+        → (start ≡ other_start)
+        × (GoesOn items front other_items other ⊎ GoesOn other_items other items front) }
+{}
+
+/// A header ends the list: each front of the same bytes has its preamble and its first items.
+pub fn a_header_ends()
+    ensures { (bytes start other_start : List ℕ) (inner items : List Item) (last : Item)
+        (header front rest other_rest : List ℕ)
+        → IsHeader start inner last header → IsFront other_start items front
+        → bytes ≡ header ++ rest → bytes ≡ front ++ other_rest
+        → (other_start ≡ start) × ((more : List Item) × (inner ≡ items ++ more)) }
+{}
+
+/// What bytes show: behind whole items the front of a tag shows nothing, and a tag shows as much of
+/// its body as is there.
+pub fn seen_items()
+    ensures tag { (start : List ℕ) (items : List Item) (front part : List ℕ)
+        → IsFront start items front → length part < 48 → seen (front ++ part) ≡ items }
+    ensures body { (start : List ℕ) (items : List Item) (front tag part : List ℕ)
+        → IsFront start items front → length tag ≡ 48
+        → is_known (code_in tag) ≡ true → is_negative tag ≡ false → length part ≤ body_size tag
+        → seen (front ++ (tag ++ part)) ≡ items ++ record { tag = tag; body = part } ∷ [] }
+    ensures start { (bytes : List ℕ) → length bytes < 16 → (seen_preamble bytes ≡ None) × (seen bytes ≡ []) }
+{}
+
+/// The longest front or header says what bytes show: its preamble, its items, and of the item that
+/// has begun behind a front its tag and as much of its body as is there.
+pub fn seen_longest()
+    ensures front { (bytes start : List ℕ) (items : List Item) (front rest : List ℕ)
+        → IsLongestFront bytes start items front rest
+        → (seen_preamble bytes ≡ Some start) × (seen bytes ≡ items ++ begun rest) }
+    ensures header { (start : List ℕ) (inner : List Item) (last : Item) (header rest : List ℕ)
+        → IsHeader start inner last header
+        → (seen_preamble (header ++ rest) ≡ Some start)
+        × (seen (header ++ rest) ≡ inner ++ last ∷ []) }
+    ensures none { (bytes : List ℕ) → HasNoFront bytes → (seen_preamble bytes ≡ None) × (seen bytes ≡ []) }
+{}
+
+/// All bytes have no front, a longest front or a header.
+pub fn some_longest()
+    ensures { (bytes : List ℕ)
+        → HasNoFront bytes
+        ⊎ (HasLongestFront bytes ⊎ ((items : List Item) × HasHeader bytes items)) }
+{}
+
+/// Bytes that have an answer show all that the first bytes of the file show, whatever comes behind.
+pub fn seen_answered()
+    ensures answered { (bytes more : List ℕ) → length bytes ≤ 2 ^ 24
+        → ((count : ℕ) → header_answer bytes ≢ Err (Fault.TruncatedHeader count))
+        → (seen_preamble (head_of (bytes ++ more)) ≡ seen_preamble bytes)
+        × (seen (head_of (bytes ++ more)) ≡ seen bytes) }
+    ensures refused { (bytes more : List ℕ) (fault : Fault) → length bytes ≤ 2 ^ 24
+        → Shows header_answer bytes (Err fault)
+        → (seen_preamble (head_of (bytes ++ more)) ≡ seen_preamble bytes)
+        × (seen (head_of (bytes ++ more)) ≡ seen bytes) }
+{}
+
+/// No bytes show that a header is cut, since more may come behind them.
+pub fn no_cut_is_shown()
+    ensures { (bytes : List ℕ) (count : ℕ)
+        → Shows header_answer bytes (Err (Fault.TruncatedHeader count)) → ⊥ }
+{}

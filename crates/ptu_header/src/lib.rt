@@ -1,0 +1,13 @@
+//! Reads the header of a PTU file (PicoQuant's unified TTTR format) that comes in pieces of any
+//! length. It keeps at most 48 bytes of the file.
+#![tactic(auto)]
+
+mod fields;
+mod fill;
+mod reader;
+mod step;
+#[cfg(test)]
+mod tests;
+
+pub use reader::{HEADER_LIMIT, HeaderReader};
+pub use step::HeaderStep;

@@ -1,0 +1,91 @@
+// What `header` prints.
+use crate::files::{BIT_SET64, BLOB, INT8, PREAMBLE, bench, put_end, put_item, put_tag, short};
+use crate::run::run_in_pieces;
+use std::alloc::Global;
+use std::process::Abort;
+use std::test::Fail;
+
+const BENCH_TEXT: &[u8] = b"magic 5051545454520000\n\
+version 312E302E30300000\n\
+tag File_GUID -1 tyAnsiString 40 {00000000-0000-0000-0000-000000000001}\n\
+tag File_CreatingTime -1 tyTDateTime 40E6000000000000\n\
+tag CreatorSW_Name -1 tyAnsiString 8 TestSW\n\
+tag HW_Type -1 tyAnsiString 8 Bench\n\
+tag HWInpChan_Enabled 0 tyBool8 true\n\
+tag HWInpChan_Enabled 1 tyBool8 true\n\
+tag MeasDesc_AcquisitionTime -1 tyInt8 60000\n\
+tag MeasDesc_GlobalResolution -1 tyFloat8 3E6AD7F29ABCAF48\n\
+tag MeasDesc_Resolution -1 tyFloat8 3DC19799812DEA11\n\
+tag TTResultFormat_TTTRRecType -1 tyInt8 16843524\n\
+tag TTResult_NumberOfRecords -1 tyInt8 9\n\
+tag Bench_Blob -1 tyBinaryBlob 3 0102FF\n\
+tag Fast_Load_End -1 tyEmpty8 -\n\
+tag Header_End -1 tyEmpty8 -\n";
+
+/// `header` on the file ends so.
+fn prints(
+    rt: &impl Abort,
+    alloc: Global,
+    file: &[u8],
+    status: u8,
+    text: &[u8],
+    line: &[u8],
+) -> Result<(), Fail> {
+    for pieces in [&[][..], &[1], &[3], &[47, 5]] {
+        let left = run_in_pieces(alloc, "header", file, pieces)?;
+        assert_eq!(rt; left.status, status);
+        assert_eq!(rt; left.out.bytes(), text);
+        assert_eq!(rt; left.err.bytes(), line);
+    }
+    Ok(())
+}
+
+#[test]
+fn headers_are_printed(rt: HostRuntime) -> Result<(), Fail> {
+    let alloc = rt.alloc();
+    let file = bench(alloc)?;
+    prints(&rt, alloc, file.as_slice(), 0, BENCH_TEXT, b"")?;
+    let mut front = short(alloc, 0x0101_0304, &[])?;
+    front.truncate(100);
+    prints(
+        &rt,
+        alloc,
+        front.as_slice(),
+        11,
+        b"magic 5051545454520000\nversion 312E302E30300000\n\
+tag TTResultFormat_TTTRRecType -1 tyInt8 16843524\n",
+        b"ptu: header cut after 100 bytes\n",
+    )?;
+    let mut cut = PREAMBLE.as_slice().to_vec(alloc)?;
+    put_item(&mut cut, b"B", BLOB, 3, &[1, 2])?;
+    prints(
+        &rt,
+        alloc,
+        cut.as_slice(),
+        11,
+        b"magic 5051545454520000\nversion 312E302E30300000\ntag B -1 tyBinaryBlob 3 0102",
+        b"ptu: header cut after 66 bytes\n",
+    )?;
+    let mut odd = PREAMBLE.as_slice().to_vec(alloc)?;
+    put_tag(&mut odd, b"A B\\", 2, BIT_SET64, 0xFF)?;
+    put_item(
+        &mut odd,
+        b"TTResultFormat_TTTRRecType",
+        INT8,
+        16_843_524,
+        b"",
+    )?;
+    put_end(&mut odd)?;
+    prints(
+        &rt,
+        alloc,
+        odd.as_slice(),
+        0,
+        b"magic 5051545454520000\nversion 312E302E30300000\n\
+tag A\\x20B\\x5C 2 tyBitSet64 00000000000000FF\n\
+tag TTResultFormat_TTTRRecType -1 tyInt8 16843524\n\
+tag Header_End -1 tyEmpty8 -\n",
+        b"",
+    )?;
+    prints(&rt, alloc, b"PQTTTS", 10, b"", b"ptu: not a PTU file\n")
+}

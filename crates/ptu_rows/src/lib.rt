@@ -1,0 +1,13 @@
+//! Whole runs of the program over memory, as tables of files and what they are answered.
+#![tactic(auto)]
+
+#[cfg(test)]
+mod count;
+#[cfg(test)]
+mod faults;
+#[cfg(test)]
+mod files;
+#[cfg(test)]
+mod headers;
+#[cfg(test)]
+mod run;

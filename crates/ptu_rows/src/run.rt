@@ -1,0 +1,53 @@
+// One run of the program over a file in memory.
+use bench_io::{MemoryFile, MemoryInputs, MemorySink};
+use ptu_cli::ptu_main;
+use std::alloc::Global;
+use std::test::Fail;
+
+/// What a run left.
+#[derive(Drop)]
+pub(crate) struct Left {
+    pub(crate) status: u8,
+    pub(crate) out: MemorySink,
+    pub(crate) err: MemorySink,
+}
+
+/// Runs a command on the file `f`, where the calls of the inputs with these numbers fail and standard
+/// output has this room.
+pub(crate) fn run(
+    alloc: Global,
+    words: &[&str],
+    contents: Vec<u8>,
+    pieces: &[usize],
+    failing: &[u64],
+    room: usize,
+) -> Result<Left, Fail> {
+    let mut files = Vec::new(alloc);
+    files.push(MemoryFile::new(String::from_str(alloc, "f")?, contents))?;
+    let mut inputs = MemoryInputs::new(files, pieces.to_vec(alloc)?, failing.to_vec(alloc)?);
+    let mut out = MemorySink::new(alloc, room, Vec::new(alloc))?;
+    let mut err = MemorySink::new(alloc, 96, Vec::new(alloc))?;
+    let mut line = Vec::new(alloc);
+    for word in words {
+        line.push(String::from_str(alloc, word)?)?;
+    }
+    let status = ptu_main(alloc, line.as_slice(), &mut inputs, &mut out, &mut err);
+    Ok(Left { status, out, err })
+}
+
+/// Runs a command on a file whose bytes come in pieces of these sizes.
+pub(crate) fn run_in_pieces(
+    alloc: Global,
+    command: &str,
+    contents: &[u8],
+    pieces: &[usize],
+) -> Result<Left, Fail> {
+    run(
+        alloc,
+        &[command, "f"],
+        contents.to_vec(alloc)?,
+        pieces,
+        &[],
+        4096,
+    )
+}

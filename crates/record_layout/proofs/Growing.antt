@@ -1,0 +1,107 @@
+-- A counter's bytes grow.
+use Rattle.std.proofs.Common.{◌≡◌, ◌+◌, ◌-◌, ◌*◌, ◌/◌, ◌^◌, ◌<◌, ◌≤◌, ℕ, List, [], ◌++◌, length, map, Ok, Err, refl, sym, ap, ◌∙◌, append-nil, arith, length-append}
+use Rattle.std.specs.Simd.{first_chunks}
+use Rattle.std.specs.Prelude.{false, nat_lt, nat_eq}
+use Rattle.std.proofs.lemmas.List.{length-map, map-append}
+use Rattle.std.proofs.lemmas.Bool.Decides.{nat_tests}
+use Rattle.tally_base.specs.declared.fault.Fault.TheVariants.{RecordLimit, TruncatedRecord}
+use Rattle.tally_base.specs.declared.header.RecordType.{RecordType}
+use Rattle.ptu_definitions.specs.declared.records.KindCounts.{KindCounts}
+use Rattle.ptu_definitions.specs.Words.{words_of, rest_of}
+use Rattle.ptu_definitions.specs.Fours.{numbers}
+use Rattle.ptu_definitions.specs.Layouts.{meaning_of}
+use Rattle.ptu_definitions.specs.Kinds.{counts_of}
+use Rattle.ptu_definitions.specs.Counted.{counted, records_of, record_limit}
+use Rattle.ptu_definitions.specs.Shown.{Shows}
+use Rattle.ptu_definitions.proofs.WordsLemmas.{words_of-append, rest_of-append, length-words_of, length-rest_of, length-words_of-append, words_of-few, rest_of-few}
+use Rattle.ptu_definitions.proofs.FoursLemmas.{numbers-chunks}
+use Rattle.record_layout.specs.Sums.{sum_of}
+use Rattle.record_layout.specs.Counting.{AreCounts}
+use Rattle.record_layout.proofs.KindLemmas.{counts_of-append}
+
+module _ (record_type : RecordType) (carried : List ℕ) (counts : KindCounts) (bytes : List ℕ) (h : AreCounts record_type carried counts bytes) where
+  -- each word is counted
+  records-counted : counts.records ≡ length (words_of bytes)
+  unfolding records_of
+  records-counted = ap (λ (k : KindCounts). k.records) h.kinds ∙ length-map (words_of bytes) (meaning_of record_type)
+
+  carried-short : length carried < 4
+  carried-short = let rest : length carried ≡ length (rest_of bytes) = ap length h.rest in omega (arith, rest, length-rest_of bytes)
+
+  -- each byte is counted or carried
+  bytes-taken : 4 * counts.records + length carried ≡ length bytes
+  bytes-taken =
+      let rest : length carried ≡ length (rest_of bytes) = ap length h.rest in
+      omega (arith, records-counted, rest, length-words_of bytes, length-rest_of bytes)
+
+  -- a piece that there is room for
+  pub words-fit : (piece : List ℕ) → length piece ≤ 4 * (record_limit - counts.records) + 3 - length carried → length (words_of (bytes ++ piece)) ≤ record_limit
+  words-fit piece fits = omega (arith, h.few, records-counted, carried-short, bytes-taken, length-words_of (bytes ++ piece), length-append bytes piece)
+
+  -- a piece that there is no room for
+  pub words-pass : (piece : List ℕ) → 4 * (record_limit - counts.records) + 3 - length carried < length piece → record_limit < length (words_of (bytes ++ piece))
+  words-pass piece passes = omega (arith, h.few, records-counted, carried-short, bytes-taken, length-words_of (bytes ++ piece), length-append bytes piece)
+
+  -- a piece is counted with what was carried
+  pub AreCounts-append : (piece : List ℕ) (more : KindCounts) → length piece ≤ 4 * (record_limit - counts.records) + 3 - length carried
+      → more ≡ counts_of (map (meaning_of record_type) (words_of (carried ++ piece)))
+      → AreCounts record_type (rest_of (carried ++ piece)) (sum_of counts more) (bytes ++ piece)
+  unfolding records_of
+  AreCounts-append piece more fits counted_more = record {
+    rest = sym (rest_of-append bytes piece ∙ ap (λ l. rest_of (l ++ piece)) (sym h.rest));
+    kinds =
+        rw (counted_more, h.kinds, h.rest)
+        (sym (ap (λ l. counts_of (map (meaning_of record_type) l)) (words_of-append bytes piece)
+        ∙ ap counts_of (map-append (meaning_of record_type) (words_of bytes) (words_of (rest_of bytes ++ piece)))
+        ∙ counts_of-append (map (meaning_of record_type) (words_of bytes)) (map (meaning_of record_type) (words_of (rest_of bytes ++ piece)))));
+    few = words-fit piece fits;
+  }
+
+  -- a piece that completes no word
+  pub AreCounts-few : (piece : List ℕ) → length (carried ++ piece) < 4 → AreCounts record_type (carried ++ piece) counts (bytes ++ piece)
+  unfolding records_of
+  AreCounts-few piece few =
+      let same : words_of (bytes ++ piece) ≡ words_of bytes =
+      words_of-append bytes piece ∙ ap (λ l. words_of bytes ++ words_of (l ++ piece)) (sym h.rest)
+      ∙ ap (λ l. words_of bytes ++ l) (words_of-few (carried ++ piece) few) ∙ append-nil (words_of bytes) in
+      record {
+        rest = sym (rest_of-append bytes piece ∙ ap (λ l. rest_of (l ++ piece)) (sym h.rest) ∙ rest_of-few (carried ++ piece) few);
+        kinds = rw same h.kinds;
+        few = rw same h.few;
+      }
+
+  pub counted-whole : length carried ≡ 0 → Ok counts ≡ counted record_type bytes
+  unfolding counted
+  counted-whole none =
+      let rest : length (rest_of bytes) ≡ 0 = rw (← h.rest) none in
+      let few : nat_lt (2 ^ 40) (length (words_of bytes)) ≡ false = grind (arith, nat_tests, h.few) in
+      rw (few, rest) (ap Ok h.kinds)
+
+  pub counted-cut : (length carried ≡ 0 → ⊥) → Err (TruncatedRecord (length carried)) ≡ counted record_type bytes
+  unfolding counted
+  counted-cut some =
+      let few : nat_lt (2 ^ 40) (length (words_of bytes)) ≡ false = grind (arith, nat_tests, h.few) in
+      let left : nat_eq (length (rest_of bytes)) 0 ≡ false = rw (← h.rest) (grind (arith, nat_tests)) in
+      rw (few, left, h.rest) refl
+
+-- no bytes
+pub AreCounts-none : (record_type : RecordType) → AreCounts record_type [] (record { records = 0; photons = 0; markers = 0; wraps = 0; reserved = 0 }) []
+unfolding records_of
+AreCounts-none record_type = record { rest = refl; kinds = refl; few = omega arith }
+
+-- the counts of the fours of some bytes are those of their words
+pub counts_of-chunks : (record_type : RecordType) (bytes : List ℕ) (fours : List (List ℕ)) (counts : KindCounts) → fours ≡ first_chunks 4 (length bytes / 4) bytes
+    → counts ≡ counts_of (map (meaning_of record_type) (numbers fours)) → counts ≡ counts_of (map (meaning_of record_type) (words_of bytes))
+counts_of-chunks record_type bytes fours counts are counted = counted ∙ ap (λ l. counts_of (map (meaning_of record_type) l)) (ap numbers are ∙ numbers-chunks bytes)
+
+-- too many words stay too many
+pub words-more : (bytes more : List ℕ) → record_limit < length (words_of bytes) → record_limit < length (words_of (bytes ++ more))
+words-more bytes more many = omega (arith, length-words_of-append bytes more)
+
+pub counted-limit : (record_type : RecordType) (bytes : List ℕ) → record_limit < length (words_of bytes) → Err (RecordLimit record_limit) ≡ counted record_type bytes
+unfolding counted
+counted-limit record_type bytes many = grind (arith, nat_tests)
+
+-- too many words are refused, whatever comes behind them
+pub counted-shows : (record_type : RecordType) (bytes : List ℕ) → record_limit < length (words_of bytes) → Shows (counted record_type) bytes (Err (RecordLimit record_limit))
+counted-shows record_type bytes many = λ more. sym (counted-limit record_type (bytes ++ more) (words-more bytes more many))

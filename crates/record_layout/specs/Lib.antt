@@ -1,0 +1,5 @@
+pub mod Parts
+pub mod Joins
+pub mod JoinLaws
+pub mod Sums
+pub mod Counting

@@ -1,0 +1,157 @@
+// Counts the records of bytes that come in pieces.
+ghost use Rattle.std.specs.Prelude.{◌≡◌, ◌+◌, ◌*◌, ◌<◌, ◌≤◌, ◌++◌, ◌↔◌, ◌^◌, [], List, ℕ, length, true, false, IsErr, IfErr, Err, OnOk, OnErr};
+ghost use Rattle.arrayvec.specs.ArrayVec.{array_vec_len};
+ghost use Rattle.tally_base.specs.declared.header.RecordType.{RecordType};
+ghost use Rattle.record_layout.specs.Sums.{IsSplit};
+
+use crate::by_type::kinds;
+use crate::kinds::sum;
+use arrayvec::ArrayVec;
+use ptu_definitions::KindCounts;
+use tally_base::{Fault, RecordType, put_text};
+
+/// The most records of a file.
+const MAX_RECORDS: u64 = 1 << 40;
+
+const LIMIT: Fault = Fault::RecordLimit { limit: MAX_RECORDS };
+
+/// Counts the records of a file by kind, from the bytes behind its header. These come in pieces of
+/// any sizes, and a record may lie in two of them.
+#[derive(Drop)]
+pub struct Counter {
+    record_type: RecordType,
+    carried: ArrayVec<u8, 4>,
+    counts: KindCounts,
+    refused: bool,
+    ghost short: { array_vec_len carried < 4 },
+    ghost few: { counts.records ≤ 2 ^ 40 },
+    ghost split: { IsSplit counts },
+}
+
+impl Counter {
+    ghost use Rattle.ptu_definitions.specs.Words.{words_of};
+    ghost use Rattle.ptu_definitions.specs.Counted.{counted, record_limit};
+    ghost use Rattle.ptu_definitions.specs.Shown.{Shows};
+    ghost use Rattle.tally_base.specs.Faults.{is_outside};
+    ghost use Rattle.record_layout.specs.Counting.{HasCounted, was_refused, room, carried_by};
+
+    /// A counter that was given no bytes.
+    pub fn new(record_type: RecordType) -> Counter
+        ensures start { HasCounted result record_type [] }
+        ensures going { was_refused result ≡ false }
+    {
+        Counter {
+            record_type,
+            carried: ArrayVec::new(),
+            counts: KindCounts {
+                records: 0,
+                photons: 0,
+                markers: 0,
+                wraps: 0,
+                reserved: 0,
+            },
+            refused: false,
+        }
+    }
+
+    /// Takes the next piece of the bytes. Refuses where there are more than 2^40 whole records, and
+    /// from then on every piece.
+    pub fn feed(&mut self, piece: &[u8]) -> Result<(), Fault>
+        ensures taken { (record_type : RecordType) (bytes : List ℕ) → HasCounted self.old record_type bytes
+            → HasCounted self.new record_type (bytes ++ piece.now) }
+        ensures limit { (record_type : RecordType) (bytes : List ℕ) → HasCounted self.old record_type bytes
+            → (IsErr result ↔ (record_limit < length (words_of (bytes ++ piece.now)))) }
+        ensures shown { (record_type : RecordType) (bytes : List ℕ) → HasCounted self.old record_type bytes
+            → IfErr result (λ fault. Shows (counted record_type) (bytes ++ piece.now) (Err fault)) }
+        ensures fault { IfErr result (λ fault. fault ≡ Fault.RecordLimit record_limit) }
+        ensures inside { IfErr result (λ fault. is_outside fault ≡ false) }
+        ensures room { OnOk result (room self.new + length piece.now ≤ room self.old) }
+        ensures refused { OnErr result (was_refused self.new ≡ true) }
+        ensures repeats { was_refused self.old ≡ true → IsErr result × (self.new ≡ self.old) }
+    {
+        if self.refused {
+            return Err(LIMIT);
+        }
+        let room = 4 * (MAX_RECORDS - self.counts.records) + 3 - self.carried.len() as u64;
+        if piece.len() as u64 > room {
+            self.refused = true;
+            return Err(LIMIT);
+        }
+        self.take(piece);
+        Ok(())
+    }
+
+    /// Counts a piece that it has room for.
+    fn take(&mut self, piece: &[u8])
+        requires going { was_refused self.old ≡ false }
+        requires fits { length piece.now ≤ room self.old }
+        ensures going { was_refused self.new ≡ false }
+        ensures taken { (record_type : RecordType) (bytes : List ℕ) → HasCounted self.old record_type bytes
+            → HasCounted self.new record_type (bytes ++ piece.now) }
+        ensures room { room self.new + length piece.now ≡ room self.old }
+    {
+        let carried = self.carried.len();
+        if carried == 0 {
+            self.take_words(piece);
+            return;
+        }
+        let missing = 4 - carried;
+        if piece.len() < missing {
+            put_text(&mut self.carried, piece);
+            return;
+        }
+        let (first, rest) = piece.split_at(missing);
+        self.complete(first);
+        self.take_words(rest);
+    }
+
+    /// Counts the word that is carried, with the bytes that complete it.
+    fn complete(&mut self, first: &[u8])
+        requires going { was_refused self.old ≡ false }
+        requires four { length (carried_by self.old ++ first.now) ≡ 4 }
+        requires fits { length first.now ≤ room self.old }
+        ensures going { was_refused self.new ≡ false }
+        ensures taken { (record_type : RecordType) (bytes : List ℕ) → HasCounted self.old record_type bytes
+            → HasCounted self.new record_type (bytes ++ first.now) }
+        ensures none { carried_by self.new ≡ [] }
+        ensures room { room self.new + length first.now ≡ room self.old }
+    {
+        put_text(&mut self.carried, first);
+        let (words, _) = self.carried.as_slice().as_chunks::<4>();
+        self.counts = sum(&self.counts, &kinds(self.record_type, words));
+        self.carried.clear();
+    }
+
+    /// Counts the words of a piece that begins with a whole one, and carries what is left over.
+    fn take_words(&mut self, piece: &[u8])
+        requires going { was_refused self.old ≡ false }
+        requires none { carried_by self.old ≡ [] }
+        requires fits { length piece.now ≤ room self.old }
+        ensures going { was_refused self.new ≡ false }
+        ensures taken { (record_type : RecordType) (bytes : List ℕ) → HasCounted self.old record_type bytes
+            → HasCounted self.new record_type (bytes ++ piece.now) }
+        ensures room { room self.new + length piece.now ≡ room self.old }
+    {
+        let (words, rest) = piece.as_chunks::<4>();
+        self.counts = sum(&self.counts, &kinds(self.record_type, words));
+        put_text(&mut self.carried, rest);
+    }
+
+    /// The counts of all bytes. Refuses bytes that end within a record, and answers again what a
+    /// piece was refused for.
+    pub fn finish(self) -> Result<KindCounts, Fault>
+        ensures answer { (record_type : RecordType) (bytes : List ℕ) → HasCounted self record_type bytes
+            → result ≡ counted record_type bytes }
+        ensures repeats { was_refused self ≡ true → result ≡ Err (Fault.RecordLimit record_limit) }
+        ensures inside { IfErr result (λ fault. is_outside fault ≡ false) }
+    {
+        if self.refused {
+            return Err(LIMIT);
+        }
+        let bytes = self.carried.len();
+        if bytes == 0 {
+            return Ok(self.counts);
+        }
+        Err(Fault::TruncatedRecord { bytes: bytes as u8 })
+    }
+}

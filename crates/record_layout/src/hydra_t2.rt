@@ -1,0 +1,104 @@
+// The T2 layout of HydraHarp and later devices.
+ghost use Rattle.std.specs.Prelude.{◌≡◌, ◌<◌, ◌^◌};
+ghost use Rattle.std.proofs.Common.{rules};
+ghost use Rattle.tally_base.specs.declared.header.Mode.TheVariants.{T2};
+ghost use Rattle.ptu_definitions.specs.Layouts.{hydra_t2, hydra_t2_wrap, wraps_in};
+ghost use Rattle.record_layout.specs.Joins.{joined_hydra_t2};
+ghost use Rattle.record_layout.specs.JoinLaws.{hydra_t2-is_join};
+
+use crate::fields::Fields;
+use crate::layout::RecordLayout;
+use ptu_definitions::Raw;
+use tally_base::Mode;
+
+/// T2 records of HydraHarp and later devices. `OLD` is the layout of the type code 0x00010204, where a
+/// wrap record stands for one wrap of 33,552,000 ticks. Later a wrap has 33,554,432 ticks, and a record
+/// stands for as many wraps as its time field says, where 0 means one.
+pub struct HydraT2<const OLD: bool>;
+
+impl<const OLD: bool> RecordLayout for HydraT2<OLD> {
+    const MODE: Mode = Mode::T2;
+
+    const TOP_SHIFT: u32 = 25;
+
+    const DTIME_SHIFT: u32 = 0;
+
+    const DTIME_MASK: u32 = 0;
+
+    const TIME_MASK: u32 = 0x01FF_FFFF;
+
+    ghost MODE = { T2 };
+
+    ghost TOP_SHIFT = { 25 };
+
+    ghost DTIME_SHIFT = { 0 };
+
+    ghost DTIME_MASK = { 0 };
+
+    ghost TIME_MASK = { 33554431 };
+
+    ghost meaning = { hydra_t2 OLD };
+
+    ghost joined = { joined_hydra_t2 OLD };
+
+    ghost top_shift_low = { Prim.search rules };
+
+    ghost top_shift_high = { Prim.search rules };
+
+    ghost dtime_shift_high = { Prim.search rules };
+
+    ghost dtime_mask_high = { Prim.search rules };
+
+    ghost decode_is_join = { hydra_t2-is_join OLD };
+
+    #[inline(always)]
+    fn join(fields: &Fields) -> Raw {
+        let Fields { top, time, .. } = *fields;
+        if top < 64 {
+            return Raw::Photon {
+                input: top + 1,
+                time,
+                dtime: 0,
+            };
+        }
+        if top == 64 {
+            return Raw::Photon {
+                input: 0,
+                time,
+                dtime: 0,
+            };
+        }
+        if top > 64 && top < 80 {
+            return Raw::Marker {
+                bits: top - 64,
+                time,
+            };
+        }
+        if top == 127 {
+            return wrap::<OLD>(time);
+        }
+        Raw::Reserved
+    }
+}
+
+/// What a wrap record says, by its time field.
+#[inline(always)]
+fn wrap<const OLD: bool>(time: u32) -> Raw
+    ensures { result ≡ hydra_t2_wrap OLD time }
+{
+    let amount = if OLD {
+        33_552_000
+    } else {
+        33_554_432 * wraps_in(time)
+    };
+    Raw::Wrap { amount }
+}
+
+/// How many wraps one record stands for, by its time field.
+#[inline(always)]
+pub(crate) fn wraps_in(time: u32) -> u64
+    ensures value { result ≡ wraps_in time }
+    ensures small { result < 2 ^ 32 }
+{
+    if time == 0 { 1 } else { time as u64 }
+}

@@ -1,0 +1,85 @@
+// The T3 layout of HydraHarp and later devices.
+ghost use Rattle.std.specs.Prelude.{◌≡◌};
+ghost use Rattle.std.proofs.Common.{rules};
+ghost use Rattle.tally_base.specs.declared.header.Mode.TheVariants.{T3};
+ghost use Rattle.ptu_definitions.specs.Layouts.{hydra_t3, hydra_t3_wrap};
+ghost use Rattle.record_layout.specs.Joins.{joined_hydra_t3};
+ghost use Rattle.record_layout.specs.JoinLaws.{hydra_t3-is_join};
+
+use crate::fields::Fields;
+use crate::hydra_t2::wraps_in;
+use crate::layout::RecordLayout;
+use ptu_definitions::Raw;
+use tally_base::Mode;
+
+/// T3 records of HydraHarp and later devices. `OLD` is the layout of the type code 0x00010304, where a
+/// wrap record stands for one wrap of 1,024 syncs. Later it stands for as many as its sync field says,
+/// where 0 means one.
+pub struct HydraT3<const OLD: bool>;
+
+impl<const OLD: bool> RecordLayout for HydraT3<OLD> {
+    const MODE: Mode = Mode::T3;
+
+    const TOP_SHIFT: u32 = 25;
+
+    const DTIME_SHIFT: u32 = 10;
+
+    const DTIME_MASK: u32 = 0x7FFF;
+
+    const TIME_MASK: u32 = 0x03FF;
+
+    ghost MODE = { T3 };
+
+    ghost TOP_SHIFT = { 25 };
+
+    ghost DTIME_SHIFT = { 10 };
+
+    ghost DTIME_MASK = { 32767 };
+
+    ghost TIME_MASK = { 1023 };
+
+    ghost meaning = { hydra_t3 OLD };
+
+    ghost joined = { joined_hydra_t3 OLD };
+
+    ghost top_shift_low = { Prim.search rules };
+
+    ghost top_shift_high = { Prim.search rules };
+
+    ghost dtime_shift_high = { Prim.search rules };
+
+    ghost dtime_mask_high = { Prim.search rules };
+
+    ghost decode_is_join = { hydra_t3-is_join OLD };
+
+    #[inline(always)]
+    fn join(fields: &Fields) -> Raw {
+        let Fields { top, dtime, time } = *fields;
+        if top < 64 {
+            return Raw::Photon {
+                input: top,
+                time,
+                dtime,
+            };
+        }
+        if top > 64 && top < 80 {
+            return Raw::Marker {
+                bits: top - 64,
+                time,
+            };
+        }
+        if top == 127 {
+            return wrap::<OLD>(time);
+        }
+        Raw::Reserved
+    }
+}
+
+/// What a wrap record says, by its time field.
+#[inline(always)]
+fn wrap<const OLD: bool>(time: u32) -> Raw
+    ensures { result ≡ hydra_t3_wrap OLD time }
+{
+    let amount = if OLD { 1024 } else { 1024 * wraps_in(time) };
+    Raw::Wrap { amount }
+}

@@ -1,0 +1,127 @@
+// The layouts of PicoHarp.
+ghost use Rattle.std.proofs.Common.{rules};
+ghost use Rattle.tally_base.specs.declared.header.Mode.TheVariants.{T2, T3};
+ghost use Rattle.ptu_definitions.specs.Layouts.{pico_t2, pico_t3};
+ghost use Rattle.record_layout.specs.Joins.{joined_pico_t2, joined_pico_t3};
+ghost use Rattle.record_layout.specs.JoinLaws.{pico_t2-is_join, pico_t3-is_join};
+
+use crate::fields::Fields;
+use crate::layout::RecordLayout;
+use ptu_definitions::Raw;
+use tally_base::Mode;
+
+/// T2 records of PicoHarp. The lowest four bits of a marker's time are the marker's own.
+pub struct PicoT2;
+
+impl RecordLayout for PicoT2 {
+    const MODE: Mode = Mode::T2;
+
+    const TOP_SHIFT: u32 = 28;
+
+    const DTIME_SHIFT: u32 = 0;
+
+    const DTIME_MASK: u32 = 0;
+
+    const TIME_MASK: u32 = 0x0FFF_FFFF;
+
+    ghost MODE = { T2 };
+
+    ghost TOP_SHIFT = { 28 };
+
+    ghost DTIME_SHIFT = { 0 };
+
+    ghost DTIME_MASK = { 0 };
+
+    ghost TIME_MASK = { 268435455 };
+
+    ghost meaning = { pico_t2 };
+
+    ghost joined = { joined_pico_t2 };
+
+    ghost top_shift_low = { Prim.search rules };
+
+    ghost top_shift_high = { Prim.search rules };
+
+    ghost dtime_shift_high = { Prim.search rules };
+
+    ghost dtime_mask_high = { Prim.search rules };
+
+    ghost decode_is_join = { pico_t2-is_join };
+
+    #[inline(always)]
+    fn join(fields: &Fields) -> Raw {
+        let time = fields.time;
+        match fields.top {
+            channel @ 0..=4 => Raw::Photon {
+                input: channel,
+                time,
+                dtime: 0,
+            },
+            15 if time & 15 == 0 => Raw::Wrap {
+                amount: 210_698_240,
+            },
+            15 => Raw::Marker {
+                bits: (time & 15) as u8,
+                time,
+            },
+            _ => Raw::Reserved,
+        }
+    }
+}
+
+/// T3 records of PicoHarp.
+pub struct PicoT3;
+
+impl RecordLayout for PicoT3 {
+    const MODE: Mode = Mode::T3;
+
+    const TOP_SHIFT: u32 = 28;
+
+    const DTIME_SHIFT: u32 = 16;
+
+    const DTIME_MASK: u32 = 0x0FFF;
+
+    const TIME_MASK: u32 = 0xFFFF;
+
+    ghost MODE = { T3 };
+
+    ghost TOP_SHIFT = { 28 };
+
+    ghost DTIME_SHIFT = { 16 };
+
+    ghost DTIME_MASK = { 4095 };
+
+    ghost TIME_MASK = { 65535 };
+
+    ghost meaning = { pico_t3 };
+
+    ghost joined = { joined_pico_t3 };
+
+    ghost top_shift_low = { Prim.search rules };
+
+    ghost top_shift_high = { Prim.search rules };
+
+    ghost dtime_shift_high = { Prim.search rules };
+
+    ghost dtime_mask_high = { Prim.search rules };
+
+    ghost decode_is_join = { pico_t3-is_join };
+
+    #[inline(always)]
+    fn join(fields: &Fields) -> Raw {
+        let time = fields.time;
+        match fields.top {
+            channel @ 0..=4 => Raw::Photon {
+                input: channel,
+                time,
+                dtime: fields.dtime,
+            },
+            15 if fields.dtime & 15 == 0 => Raw::Wrap { amount: 65_536 },
+            15 => Raw::Marker {
+                bits: (fields.dtime & 15) as u8,
+                time,
+            },
+            _ => Raw::Reserved,
+        }
+    }
+}

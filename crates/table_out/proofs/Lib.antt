@@ -1,0 +1,4 @@
+pub mod Bodies
+pub mod Growing
+pub mod Final
+pub mod StepTexts

@@ -1,0 +1,32 @@
+-- The reasons of faults.
+use Rattle.std.proofs.Common.{◌≡◌, true, false}
+use Rattle.tally_base.specs.declared.slot.Slot.{Slot}
+use Rattle.tally_base.specs.declared.fault.Fault.{Fault}
+use Rattle.tally_base.specs.declared.fault.Fault.TheVariants.{OpenFault, ReadFault, WriteFault, OutOfMemory}
+use Rattle.tally_base.specs.Faults.{is_outside, HasReason}
+
+-- a fault that the bytes call for has no reason to give
+pub HasReason-inside : (opening reading : Slot → Type 0) (writing memory : Type 0) (fault : Fault) → is_outside fault ≡ false → HasReason opening reading writing memory fault
+HasReason-inside o r w m (OpenFault slot) h = cc
+HasReason-inside o r w m (ReadFault slot) h = cc
+HasReason-inside o r w m WriteFault h = cc
+HasReason-inside o r w m OutOfMemory h = cc
+HasReason-inside o r w m _ h = tt
+
+-- reasons that follow from others
+pub HasReason-follows : (opening reading opening' reading' : Slot → Type 0) (writing memory writing' memory' : Type 0) (fault : Fault) → ((slot : Slot) → opening slot → opening' slot) → ((slot : Slot) → reading slot → reading' slot)
+    → (writing → writing') → (memory → memory') → HasReason opening reading writing memory fault → HasReason opening' reading' writing' memory' fault
+HasReason-follows o r o' r' w m w' m' (OpenFault slot) f g p q h = f slot h
+HasReason-follows o r o' r' w m w' m' (ReadFault slot) f g p q h = g slot h
+HasReason-follows o r o' r' w m w' m' WriteFault f g p q h = p h
+HasReason-follows o r o' r' w m w' m' OutOfMemory f g p q h = q h
+HasReason-follows o r o' r' w m w' m' _ f g p q h = tt
+
+-- a fault from outside has a cause
+pub HasReason-outside : (opening reading : Slot → Type 0) (writing memory : Type 0) (fault : Fault) → is_outside fault ≡ true → ((slot : Slot) → opening slot → ⊥) → ((slot : Slot) → reading slot → ⊥) → (writing → ⊥) → (memory → ⊥)
+    → HasReason opening reading writing memory fault → ⊥
+HasReason-outside o r w m (OpenFault slot) e no_o no_r no_w no_m h = no_o slot h
+HasReason-outside o r w m (ReadFault slot) e no_o no_r no_w no_m h = no_r slot h
+HasReason-outside o r w m WriteFault e no_o no_r no_w no_m h = no_w h
+HasReason-outside o r w m OutOfMemory e no_o no_r no_w no_m h = no_m h
+HasReason-outside o r w m _ e no_o no_r no_w no_m h = cc

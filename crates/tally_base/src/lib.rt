@@ -1,0 +1,14 @@
+//! What every part of the program speaks of: record types, headers, slots, faults and their lines.
+#![tactic(auto)]
+
+mod fault;
+mod header;
+mod line;
+mod part;
+mod slot;
+
+pub use fault::{Fault, fault_line};
+pub use header::{Header, Mode, RecordType};
+pub use line::{put_decimal, put_hexadecimal, put_signed, put_text};
+pub use part::PartKind;
+pub use slot::{Failed, Slot};

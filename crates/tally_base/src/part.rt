@@ -1,0 +1,9 @@
+/// A part of a plan that may not suit the mode of a file.
+#[derive(Clone, Copy, Debug, PartialEq, Eq)]
+pub enum PartKind {
+    Gate,
+    Histogram,
+    StartStop,
+    Coincidence,
+    Image,
+}
