@@ -64,13 +64,15 @@ impl Inputs for MemoryInputs {
         requires first { (input_state self.old).asked slot ≡ false }
 
         ensures file { OnOk result
-            (IsOpened ((input_state self.old).contents name.now) ((input_state self.new).rest slot)) }
+            (IsOpened ((input_state self.old).contents name.now)
+            ((input_state self.new).rest slot)) }
         ensures opened { OnOk result ((input_state self.new).opened slot ≡ true) }
         ensures unopened { OnErr result
             ((input_state self.new).opened slot ≡ (input_state self.old).opened slot) }
         ensures asked { (input_state self.new).asked slot ≡ true }
         ensures cause { HasCause
-            ((input_state self.old).open_faults slot) ((input_state self.new).open_faults slot) result }
+            ((input_state self.old).open_faults slot)
+            ((input_state self.new).open_faults slot) result }
         ensures keeps { Keeps (input_state self.old) (input_state self.new) }
         ensures keeps_other { KeepsOther slot (input_state self.old) (input_state self.new) }
 
@@ -96,7 +98,8 @@ impl Inputs for MemoryInputs {
         ensures bytes { ReadConsumes
             ((input_state self.old).rest slot) ((input_state self.new).rest slot) result into.new }
         ensures cause { HasCause
-            ((input_state self.old).read_faults slot) ((input_state self.new).read_faults slot) result }
+            ((input_state self.old).read_faults slot)
+            ((input_state self.new).read_faults slot) result }
         ensures keeps { Keeps (input_state self.old) (input_state self.new) }
         ensures keeps_other { KeepsOther slot (input_state self.old) (input_state self.new) }
         ensures opens_none { OpensNone (input_state self.old) (input_state self.new) }

@@ -95,7 +95,8 @@ impl MemorySlot {
         fails: bool,
     ) -> Result<(), Failed>
         ensures file { OnOk result
-            (IsOpened (Some (file_named files.now name.now)) (Some (rest_in files.now self.new.reading))) }
+            (IsOpened (Some (file_named files.now name.now)) (Some
+            (rest_in files.now self.new.reading))) }
         ensures opened { OnOk result (was_opened self.new.reading ≡ true) }
         ensures unopened { OnErr result (was_opened self.new.reading ≡ false) }
         ensures asked { was_asked self.new.reading ≡ true }
@@ -126,7 +127,8 @@ impl MemorySlot {
         requires { was_opened self.old.reading ≡ true }
         ensures bound { ReadsAtMost result into.new }
         ensures bytes { ReadConsumes
-            (Some (rest_in files.now self.old.reading)) (Some (rest_in files.now self.new.reading)) result into.new }
+            (Some (rest_in files.now self.old.reading)) (Some
+            (rest_in files.now self.new.reading)) result into.new }
         ensures opened { was_opened self.new.reading ≡ was_opened self.old.reading }
         ensures asked { was_asked self.new.reading ≡ was_asked self.old.reading }
         ensures succeeds { IsOk result ↔ (fails ≡ false) }

@@ -29,7 +29,8 @@ pub trait Sink {
 /// makes no call.
 pub fn write_all<S: Sink>(sink: &mut S, bytes: &[u8]) -> Result<(), Failed>
     ensures all { OnOk result (Appends (S.written sink.old) (S.written sink.new) bytes.now) }
-    ensures short { OnErr result (AppendsShort (S.written sink.old) (S.written sink.new) bytes.now) }
+    ensures short { OnErr result (AppendsShort (S.written sink.old)
+        (S.written sink.new) bytes.now) }
     ensures cause { HasCause (S.faults sink.old) (S.faults sink.new) result }
     ensures none { bytes.now ≡ [] → IsOk result × (sink.new ≡ sink.old) }
 {

@@ -9,10 +9,6 @@ use Rattle.table_out.specs.HeaderText.{body_text}
 use Rattle.table_out.proofs.Growing.{body_text-grows}
 use Rattle.ptu_cli.specs.BodyPieces.{PutsBody, CutsBody}
 
--- no byte yet
-pub PutsBody-none : (kind : TagKind) (part : List ℕ) (a : Option (List ℕ)) (held : List ℕ) → PutsBody kind part [] a a held held
-PutsBody-none kind part a held = record { added = []; text = ap (body_text kind) (append-nil part) ∙ sym (append-nil (body_text kind part)); put = rw append-nil (PassesOn-held a held) }
-
 -- one byte more
 pub PutsBody-next : (kind : TagKind) (part bytes : List ℕ) (i : ℕ) (a b c : Option (List ℕ)) (held now later text : List ℕ) → i < length bytes → PutsBody kind part (take i bytes) a b held now
     → body_text kind ((part ++ take i bytes) ++ get_or bytes i 0 ∷ []) ≡ body_text kind (part ++ take i bytes) ++ text → PassesOn b c (now ++ text) later → PutsBody kind part (take (i + 1) bytes) a c held later

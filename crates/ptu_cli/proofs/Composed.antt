@@ -9,25 +9,25 @@ use Rattle.ptu_definitions.specs.Headers.{header_answer}
 use Rattle.ptu_definitions.specs.Counted.{counted}
 use Rattle.ptu_cli.specs.Outcomes.{file_counts, counts_behind, with_counts}
 use Rattle.ptu_definitions.specs.Shown.{Says, Shows}
-use Rattle.ptu_cli.specs.Pieces.{EndsAs}
+use Rattle.ptu_cli.specs.Pieces.{AnswersAs}
 
 -- the bytes taken are a header with these bytes behind it, whatever comes next
-abbrev pub HasHeader : List ℕ → Header → List ℕ → Type 0
-HasHeader taken header behind = (more : List ℕ) → header_answer (taken ++ more) ≡ Ok (header, behind ++ more)
+abbrev pub ShowsHeader : List ℕ → Header → List ℕ → Type 0
+ShowsHeader taken header behind = (more : List ℕ) → header_answer (taken ++ more) ≡ Ok (header, behind ++ more)
 
-Says-behind : (header : Header) (taken behind next : List ℕ) (left : Option (List ℕ)) (r : Result KindCounts Fault) → HasHeader taken header behind → Says (counted header.record_type) (behind ++ next) left r
+Says-behind : (header : Header) (taken behind next : List ℕ) (left : Option (List ℕ)) (r : Result KindCounts Fault) → ShowsHeader taken header behind → Says (counted header.record_type) (behind ++ next) left r
     → Says file_counts (taken ++ next) left (with_counts header r)
 Says-behind header taken behind next left r h says = λ more known.
     ap file_counts (append_assoc taken next more) ∙ ap counts_behind (h (next ++ more)) ∙ ap (with_counts header) (ap (counted header.record_type) (sym (append_assoc behind next more)) ∙ says more known)
 
-pub EndsAs-behind : (header : Header) (taken behind next : List ℕ) (left : Option (List ℕ)) (r : Result KindCounts Fault) → HasHeader taken header behind → EndsAs (counted header.record_type) (behind ++ next) left r
-    → EndsAs file_counts (taken ++ next) left (with_counts header r)
-EndsAs-behind header taken behind next left (Ok counts) h (inl outside) = absurd outside
-EndsAs-behind header taken behind next left (Ok counts) h (inr says) = inr (Says-behind header taken behind next left (Ok counts) h says)
-EndsAs-behind header taken behind next left (Err fault) h (inl outside) = inl outside
-EndsAs-behind header taken behind next left (Err fault) h (inr says) = inr (Says-behind header taken behind next left (Err fault) h says)
+pub AnswersAs-behind : (header : Header) (taken behind next : List ℕ) (left : Option (List ℕ)) (r : Result KindCounts Fault) → ShowsHeader taken header behind → AnswersAs (counted header.record_type) (behind ++ next) left r
+    → AnswersAs file_counts (taken ++ next) left (with_counts header r)
+AnswersAs-behind header taken behind next left (Ok counts) h (inl outside) = absurd outside
+AnswersAs-behind header taken behind next left (Ok counts) h (inr says) = inr (Says-behind header taken behind next left (Ok counts) h says)
+AnswersAs-behind header taken behind next left (Err fault) h (inl outside) = inl outside
+AnswersAs-behind header taken behind next left (Err fault) h (inr says) = inr (Says-behind header taken behind next left (Err fault) h says)
 
 -- the bytes behind the header are refused already
-pub Says-shown : (header : Header) (taken behind : List ℕ) (left : Option (List ℕ)) (fault : Fault) → HasHeader taken header behind → Shows (counted header.record_type) behind (Err fault)
+pub Says-shown : (header : Header) (taken behind : List ℕ) (left : Option (List ℕ)) (fault : Fault) → ShowsHeader taken header behind → Shows (counted header.record_type) behind (Err fault)
     → Says file_counts taken left (Err fault)
 Says-shown header taken behind left fault h shown = λ more known. ap counts_behind (h more) ∙ ap (with_counts header) (shown more)

@@ -1,5 +1,6 @@
 -- How printing the header of a file ends.
 use Rattle.std.proofs.Common.{◌≡◌, ℕ, List, [], ◌++◌, None, Some, refl, sym, ap, ◌∙◌, subst, Ok, Err}
+use Rattle.std.specs.Prelude.{Result}
 use Rattle.std.specs.declared.option.Option.{Option}
 use Rattle.std.specs.Io.KnownBytes.{Appends, Consumes}
 use Rattle.tally_base.specs.declared.fault.Fault.{Fault}
@@ -11,8 +12,10 @@ use Rattle.ptu_definitions.specs.Headers.{header_answer}
 use Rattle.ptu_definitions.specs.Shown.{Shows}
 use Rattle.table_out.specs.HeaderText.{header_text}
 use Rattle.table_out.proofs.Final.{header_text-grows, header_text-refused, header_text-done}
-use Rattle.ptu_cli.specs.Commands.{Header as HeaderOf}
-use Rattle.ptu_cli.specs.Outcomes.{header_fault, header_outcome, outcome}
+use Rattle.ptu_definitions.specs.declared.records.KindCounts.{KindCounts}
+use Rattle.ptu_cli.specs.Commands.{Count as CountOf, Header as HeaderOf}
+use Rattle.ptu_cli.specs.Outcomes.{header_fault, header_outcome, outcome, MayChange, count_outcome}
+use Rattle.ptu_cli.specs.Endings.{MayGoOn}
 use Rattle.ptu_cli.specs.Printing.{AppendsText, CutsText}
 use Rattle.ptu_cli.specs.HeaderRuns.{CutsFile}
 
@@ -58,3 +61,8 @@ cut-told name (Some (Some file)) rest new a b plan_file None opened known h = cc
 cut-told name (Some (Some file)) rest new a b plan_file (Some bytes) opened known h =
     let same : file ≡ bytes = cc in
     cut-all bytes rest new a b (opened.0 ∙ ap Some same) h
+
+-- an answer that may change gives an outcome that may
+pub may_go_on : (name : List ℕ) (answer : Result (Header × KindCounts) Fault) → MayChange answer → MayGoOn (Some (CountOf name)) (count_outcome answer).fault
+may_go_on name (Ok found) h = tt
+may_go_on name (Err fault) h = h

@@ -7,3 +7,4 @@ pub mod Composed
 pub mod ByStatus
 pub mod Asked
 pub mod Complete
+pub mod Rows

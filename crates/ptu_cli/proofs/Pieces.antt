@@ -1,6 +1,19 @@
--- A piece that is fed in two parts.
-use Rattle.std.proofs.Common.{◌≡◌, ◌+◌, ℕ, List, ◌++◌, take, drop, refl, sym, ap, ◌∙◌, subst, append_assoc, take-append-drop}
+-- A piece that is fed in two parts, and what the bytes taken call for.
+use Rattle.std.proofs.Common.{◌≡◌, ◌+◌, ◌≤◌, ℕ, List, [], ◌++◌, true, false, Ok, Err, length, arith, take, drop, refl, sym, ap, ◌∙◌, subst, inl, inr, append_assoc, take-append-drop}
 use Rattle.std.proofs.Math.Seq.{take-add}
+use Rattle.std.specs.Prelude.{nat_lt, nat_eq, ◌<◌, ◌↔◌, Result, IsErr}
+use Rattle.std.proofs.lemmas.Bool.{cases_Bool, cases_lt}
+use Rattle.std.proofs.lemmas.Bool.Decides.{nat_tests}
+use Rattle.tally_base.specs.declared.fault.Fault.{Fault}
+use Rattle.tally_base.specs.declared.header.Header.{Header}
+use Rattle.tally_base.specs.declared.header.RecordType.{RecordType}
+use Rattle.ptu_definitions.specs.declared.records.KindCounts.{KindCounts}
+use Rattle.ptu_definitions.specs.Words.{words_of, rest_of}
+use Rattle.ptu_definitions.specs.Counted.{counted, record_limit}
+use Rattle.ptu_definitions.specs.Endings.{ending}
+use Rattle.ptu_definitions.specs.Headers.{header_answer}
+use Rattle.ptu_cli.specs.HeaderPieces.{IsCut}
+use Rattle.ptu_cli.specs.Outcomes.{MayChange, file_counts, with_counts}
 use Rattle.ptu_header.specs.declared.reader.HeaderReader.{HeaderReader}
 use Rattle.ptu_header.specs.Reading.{HasRead}
 
@@ -17,3 +30,41 @@ whole-piece bytes piece part used e = ap (λ l. (bytes ++ take used piece) ++ l)
 
 pub whole-piece-more : (bytes piece more : List ℕ) (used : ℕ) → (bytes ++ take used piece) ++ (drop used piece ++ more) ≡ (bytes ++ piece) ++ more
 whole-piece-more bytes piece more used = sym (append_assoc (bytes ++ take used piece) (drop used piece) more) ∙ ap (λ l. l ++ more) (whole-piece bytes piece (drop used piece) used refl)
+
+-- no bytes are the front of each header
+pub IsCut-nil : IsCut []
+unfolding header_answer ending
+IsCut-nil = refl
+
+-- bytes that are the front of a header may be followed by anything
+pub file_counts-cut : (taken : List ℕ) → IsCut taken → MayChange (file_counts taken)
+file_counts-cut taken cut = rw cut refl
+
+-- records that aren't too many may be followed by others
+pub counted-open : (record_type : RecordType) (bytes : List ℕ) → length (words_of bytes) ≤ record_limit → MayChange (counted record_type bytes)
+unfolding counted
+counted-open record_type bytes few =
+    let within : nat_lt record_limit (length (words_of bytes)) ≡ false = grind (arith, nat_tests) in
+    elim (cases_Bool (nat_eq (length (rest_of bytes)) 0)) [
+      | inl whole ↦ rw (within, whole) tt
+      | inr cut ↦ rw (within, cut) refl
+    ]
+
+with_counts-open : (header : Header) (counts : Result KindCounts Fault) → MayChange counts → MayChange (with_counts header counts)
+with_counts-open header (Ok counts) h = tt
+with_counts-open header (Err fault) h = h
+
+-- a header, and records behind it that aren't too many
+pub file_counts-open : (header : Header) (taken behind next : List ℕ) → ((more : List ℕ) → header_answer (taken ++ more) ≡ Ok (header, behind ++ more)) → MayChange (counted header.record_type (behind ++ next)) → MayChange (file_counts (taken ++ next))
+file_counts-open header taken behind next h counts = rw (h next) (with_counts-open header (counted header.record_type (behind ++ next)) counts)
+
+-- records that were not refused aren't too many
+pub within_limit : (r : Result (Unit {0}) Fault) (bytes : List ℕ) → r ≡ Ok tt → (IsErr r ↔ (record_limit < length (words_of bytes))) → length (words_of bytes) ≤ record_limit
+within_limit r bytes ok limit = elim (cases_lt record_limit (length (words_of bytes))) [
+  | inr within ↦ within
+  | inl many ↦ absurd (not_err r ok (limit.1 many))
+]
+  where
+    not_err : (r : Result (Unit {0}) Fault) → r ≡ Ok tt → IsErr r → ⊥
+    not_err (Ok done) ok err = cc
+    not_err (Err fault) ok err = cc

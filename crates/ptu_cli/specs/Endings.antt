@@ -15,7 +15,7 @@ use Rattle.ptu_definitions.specs.Words.{words_of, rest_of}
 use Rattle.ptu_definitions.specs.Counted.{record_limit}
 use Rattle.table_out.specs.HeaderText.{header_text}
 use Rattle.ptu_cli.specs.Commands.{Request, Count, Header as HeaderOf}
-use Rattle.ptu_cli.specs.Outcomes.{Outcome, outcome}
+use Rattle.ptu_cli.specs.Outcomes.{Outcome, outcome, ends_early}
 
 -- each word FILE or PLAN is meant for its slot
 abbrev pub IsMeant : InputState → Option Request → Type 0
@@ -37,9 +37,9 @@ Tells state None plan_file data_file = Unit {0}
 Tells state (Some (Count file)) plan_file data_file = state.contents file ≡ Some data_file
 Tells state (Some (HeaderOf file)) plan_file data_file = state.contents file ≡ Some data_file
 
-abbrev pub ending : Result (Unit {0}) Fault → Option Fault
-ending (Ok done) = None
-ending (Err fault) = Some fault
+abbrev pub fault_of : Result (Unit {0}) Fault → Option Fault
+fault_of (Ok done) = None
+fault_of (Err fault) = Some fault
 
 -- the run ended so, and its text was written
 pub record EndsWith (outcome : Outcome) (fault : Option Fault) (old new : Option (List ℕ)) : Type 0 where
@@ -56,11 +56,22 @@ CutsShort (Some (HeaderOf file)) outcome old new = AppendsShort old new outcome.
 abbrev pub IsTaken : InputState → InputState → List ℕ → List ℕ → Type 0
 IsTaken before after name taken = (bytes : List ℕ) → before.contents name ≡ Some (Some bytes) → Consumes (Some bytes) (after.rest Data) taken
 
--- What a run leaves on standard output where a read failed: `count` nothing, `header` the text of the bytes taken.
+-- An outcome that more bytes may change: `count` has no fault yet, or only that the data end too early, and `header` only that.
+abbrev pub MayGoOn : Option Request → Option Fault → Type 0
+MayGoOn None fault = ⊥
+MayGoOn (Some (Count file)) None = Unit {0}
+MayGoOn (Some (Count file)) (Some fault) = ends_early fault ≡ true
+MayGoOn (Some (HeaderOf file)) None = ⊥
+MayGoOn (Some (HeaderOf file)) (Some fault) = ends_early fault ≡ true
+
+-- What a run leaves on standard output where a read failed: `count` nothing, `header` the text of the bytes taken. Had the file ended
+-- with these bytes, more of them might have changed the outcome: so they call for no refusal by themselves.
 abbrev pub LeavesUnread : Option Request → InputState → InputState → Option (List ℕ) → Option (List ℕ) → Type 0
 LeavesUnread None before after old new = ⊥
-LeavesUnread (Some (Count file)) before after old new = Keeps old new
-LeavesUnread (Some (HeaderOf file)) before after old new = (taken : List ℕ) × IsTaken before after file taken × Appends old new (header_text taken)
+LeavesUnread (Some (Count file)) before after old new =
+    Keeps old new × ((taken : List ℕ) × IsTaken before after file taken × MayGoOn (Some (Count file)) (outcome (Some (Count file)) None (Some taken)).fault)
+LeavesUnread (Some (HeaderOf file)) before after old new =
+    (taken : List ℕ) × IsTaken before after file taken × Appends old new (header_text taken) × MayGoOn (Some (HeaderOf file)) (outcome (Some (HeaderOf file)) None (Some taken)).fault
 
 -- A fault has its line on standard error, or a prefix of it where a write there failed.
 abbrev pub TellsFault : Option (List ℕ) → Option (List ℕ) → ℕ → ℕ → Option Fault → Type 0
@@ -70,7 +81,7 @@ TellsFault old new before now (Some fault) = Appends old new (line_of fault) ⊎
 -- what a command leaves where the fault is not from outside
 abbrev pub Answers : Option Request → InputState → Result (Unit {0}) Fault → Option (List ℕ) → Option (List ℕ) → Type 0
 Answers request state result old new =
-    (plan_file data_file : File) → Tells state request plan_file data_file → IsErrAnd result (λ fault. is_outside fault ≡ true) ⊎ EndsWith (outcome request plan_file data_file) (ending result) old new
+    (plan_file data_file : File) → Tells state request plan_file data_file → IsErrAnd result (λ fault. is_outside fault ≡ true) ⊎ EndsWith (outcome request plan_file data_file) (fault_of result) old new
 
 -- the states of the inputs and of standard output before a command and behind it
 pub record Span : Type 0 where
@@ -94,7 +105,7 @@ abbrev pub NoneRose : InputState → InputState → Type 0
 NoneRose before after = (slot : Slot) → ¬ (Rose (before.open_faults slot) (after.open_faults slot)) × ¬ (Rose (before.read_faults slot) (after.read_faults slot))
 
 -- The file is there and has a header.
-pub record HasHeader (data_file : File) (header : Header) (behind : List ℕ) : Type 0 where
+pub record IsHeaded (data_file : File) (header : Header) (behind : List ℕ) : Type 0 where
   pub bytes : List ℕ
   pub present : data_file ≡ Some bytes
   pub answer : header_answer bytes ≡ Ok (header, behind)
@@ -107,5 +118,5 @@ pub record AreWhole (behind : List ℕ) : Type 0 where
 -- The words are a command, and its files are good ones.
 abbrev pub IsGood : Option Request → File → File → Type 0
 IsGood None plan_file data_file = ⊥
-IsGood (Some (Count file)) plan_file data_file = (header : Header) × (behind : List ℕ) × HasHeader data_file header behind × AreWhole behind
-IsGood (Some (HeaderOf file)) plan_file data_file = (header : Header) × (behind : List ℕ) × HasHeader data_file header behind
+IsGood (Some (Count file)) plan_file data_file = (header : Header) × (behind : List ℕ) × IsHeaded data_file header behind × AreWhole behind
+IsGood (Some (HeaderOf file)) plan_file data_file = (header : Header) × (behind : List ℕ) × IsHeaded data_file header behind

@@ -2,6 +2,7 @@
 use Rattle.std.specs.Prelude.{ℕ, ◌≡◌, ◌⊎◌, ◌+◌, ◌≤◌, List, ◌++◌, drop, length, slice_range, true, false, Result, Ok, Err}
 use Rattle.std.specs.declared.option.Option.{Option}
 use Rattle.tally_base.specs.declared.fault.Fault.{Fault}
+use Rattle.tally_base.specs.declared.fault.Fault.TheVariants.{TruncatedHeader}
 use Rattle.tally_base.specs.Faults.{is_outside}
 use Rattle.ptu_definitions.specs.Headers.{header_answer}
 use Rattle.ptu_definitions.specs.Shown.{Says, Shows}
@@ -9,11 +10,15 @@ use Rattle.ptu_header.specs.declared.reader.HeaderReader.{HeaderReader}
 use Rattle.ptu_header.specs.Reading.{HasRead, is_open, bytes_taken}
 use Rattle.ptu_cli.specs.declared.header.Fed.{Fed}
 use Rattle.ptu_cli.specs.declared.header.Fed.TheVariants.{More, Done, Refused}
-use Rattle.ptu_cli.specs.declared.data.Found.{Found}
+use Rattle.ptu_cli.specs.declared.data.FoundHeader.{FoundHeader}
+
+-- The bytes are the front of a header, and call for no refusal by themselves.
+abbrev pub IsCut : List ℕ → Type 0
+IsCut bytes = header_answer bytes ≡ Err (TruncatedHeader (length bytes))
 
 -- How a piece leaves a reader that was given these bytes before.
 abbrev pub Ends : List ℕ → List ℕ → HeaderReader → Fed → Type 0
-Ends bytes piece reader More = HasRead reader (bytes ++ piece) × (is_open reader ≡ true)
+Ends bytes piece reader More = HasRead reader (bytes ++ piece) × (is_open reader ≡ true) × IsCut (bytes ++ piece)
 Ends bytes piece reader (Done used header) = (used ≤ length piece) × ((more : List ℕ) → header_answer (bytes ++ piece ++ more) ≡ Ok (header, drop used piece ++ more))
 Ends bytes piece reader (Refused fault) = Shows header_answer (bytes ++ piece) (Err fault)
 
@@ -30,6 +35,6 @@ RefusesInside (Done used header) = Unit {0}
 RefusesInside (Refused fault) = is_outside fault ≡ false
 
 -- The header of the bytes taken, with the part of the buffer behind it; or a fault.
-abbrev pub HeaderEnds : List ℕ → List ℕ → Option (List ℕ) → Result Found Fault → Type 0
+abbrev pub HeaderEnds : List ℕ → List ℕ → Option (List ℕ) → Result FoundHeader Fault → Type 0
 HeaderEnds buffer taken left (Ok found) = (more : List ℕ) → header_answer (taken ++ more) ≡ Ok (found.header, slice_range buffer found.used found.len ++ more)
 HeaderEnds buffer taken left (Err fault) = (is_outside fault ≡ true) ⊎ Says header_answer taken left (Err fault)

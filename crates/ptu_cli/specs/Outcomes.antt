@@ -1,9 +1,9 @@
 -- What a run of the program ends with, where nothing outside fails.
-use Rattle.std.specs.Prelude.{ℕ, List, [], None, Some, Result, Ok, Err}
+use Rattle.std.specs.Prelude.{ℕ, ◌≡◌, List, [], None, Some, Bool, true, false, Result, Ok, Err}
 use Rattle.std.specs.declared.option.Option.{Option}
 use Rattle.tally_base.specs.declared.slot.Slot.TheVariants.{Data}
 use Rattle.tally_base.specs.declared.fault.Fault.{Fault}
-use Rattle.tally_base.specs.declared.fault.Fault.TheVariants.{Usage, OpenFault}
+use Rattle.tally_base.specs.declared.fault.Fault.TheVariants.{Usage, OpenFault, TruncatedHeader, TruncatedRecord}
 use Rattle.tally_base.specs.declared.header.Header.{Header}
 use Rattle.tally_base.specs.Faults.{status_of}
 use Rattle.ptu_definitions.specs.declared.records.KindCounts.{KindCounts}
@@ -49,6 +49,17 @@ count_outcome (Err fault) = refused fault
 abbrev pub header_fault : Result (Header × List ℕ) Fault → Option Fault
 header_fault (Ok found) = None
 header_fault (Err fault) = Some fault
+
+-- The data end too early. More bytes may do away with such a fault.
+abbrev pub ends_early : Fault → Bool
+ends_early (TruncatedHeader bytes) = true
+ends_early (TruncatedRecord bytes) = true
+ends_early _ = false
+
+-- An answer that more bytes may change.
+abbrev pub MayChange : {A : Type 0} → Result A Fault → Type 0
+MayChange (Ok value) = Unit {0}
+MayChange (Err fault) = ends_early fault ≡ true
 
 -- A header is printed as far as it goes.
 abbrev pub header_outcome : List ℕ → Outcome

@@ -13,6 +13,7 @@ use Rattle.ptu_definitions.specs.Shown.{Shows}
 use Rattle.ptu_header.specs.Reading.{HasRead, bytes_taken, is_open}
 use Rattle.table_out.specs.HeaderText.{kind_with, header_text}
 use Rattle.table_out.specs.Body.{HasPut}
+use Rattle.ptu_cli.specs.HeaderPieces.{IsCut}
 use Rattle.ptu_cli.specs.declared.print.HeaderPrinter.{HeaderPrinter}
 use Rattle.ptu_cli.specs.declared.print.Printed.{Printed}
 use Rattle.ptu_cli.specs.declared.print.Printed.TheVariants.{More, Done, Refused}
@@ -25,7 +26,7 @@ pub record Prints (printer : HeaderPrinter) (bytes : List ℕ) : Type 0 where
 
 -- what the bytes before and a piece say, however the reader leaves the piece
 abbrev pub Leaves : List ℕ → List ℕ → HeaderPrinter → Printed → Type 0
-Leaves bytes piece printer More = Prints printer (bytes ++ piece) × (is_open printer.reader ≡ true)
+Leaves bytes piece printer More = Prints printer (bytes ++ piece) × (is_open printer.reader ≡ true) × IsCut (bytes ++ piece)
 Leaves bytes piece printer Done = (header : Header) × (behind : List ℕ) × ((more : List ℕ) → header_answer (bytes ++ piece ++ more) ≡ Ok (header, behind ++ more))
 Leaves bytes piece printer (Refused fault) = Shows header_answer (bytes ++ piece) (Err fault)
 

@@ -1,10 +1,6 @@
 // The commands.
-ghost use Rattle.std.specs.Prelude.{◌≡◌, ◌⊎◌, ◌≤◌, true, false, None, Some, IfErr, IsErrAnd};
-ghost use Rattle.std.specs.Io.KnownBytes.{Keeps};
+ghost use Rattle.std.specs.Prelude.{◌≡◌, true, false, Some, IfErr};
 ghost use Rattle.tally_base.specs.declared.slot.Slot.TheVariants.{Plan, Data};
-ghost use Rattle.tally_base.specs.Faults.{is_outside, HasReason};
-ghost use Rattle.bench_io.specs.Counts.{Rose};
-ghost use Rattle.bench_io.specs.Inputs.{File};
 ghost use Rattle.ptu_cli.specs.Commands.{Count, Header};
 ghost use Rattle.ptu_cli.specs.Outcomes.{outcome};
 ghost use Rattle.ptu_cli.specs.Endings.{Answers, HasCauses};
@@ -23,7 +19,8 @@ pub(crate) fn count<I: Inputs, O: Sink>(
 ) -> Result<(), Fault>
     requires meant { (I.state inputs.old).meant Data file.now ≡ true }
     requires first { (I.state inputs.old).asked Data ≡ false }
-    ensures answer { Answers (Some (Count file.now)) (I.state inputs.old) result (O.written out.old) (O.written out.new) }
+    ensures answer { Answers (Some (Count file.now)) (I.state inputs.old) result
+        (O.written out.old) (O.written out.new) }
     ensures causes { IfErr result (HasCauses (Some (Count file.now)) (record {
       before = I.state inputs.old;
       after = I.state inputs.new;
@@ -52,7 +49,8 @@ pub(crate) fn header<I: Inputs, O: Sink>(
 ) -> Result<(), Fault>
     requires meant { (I.state inputs.old).meant Data file.now ≡ true }
     requires first { (I.state inputs.old).asked Data ≡ false }
-    ensures answer { Answers (Some (Header file.now)) (I.state inputs.old) result (O.written out.old) (O.written out.new) }
+    ensures answer { Answers (Some (Header file.now)) (I.state inputs.old) result
+        (O.written out.old) (O.written out.new) }
     ensures causes { IfErr result (HasCauses (Some (Header file.now)) (record {
       before = I.state inputs.old;
       after = I.state inputs.new;

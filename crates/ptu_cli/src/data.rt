@@ -1,16 +1,17 @@
 // Reads the data of a command in pieces.
-ghost use Rattle.std.specs.Prelude.{◌≡◌, ◌≤◌, ◌<◌, ◌++◌, List, ℕ, length, true, IfErr, IfOk};
+ghost use Rattle.std.specs.Prelude.{◌≡◌, ◌≤◌, ◌<◌, ◌++◌, [], List, ℕ, length, true, IfErr, IfOk};
 ghost use Rattle.std.specs.Io.KnownBytes.{Consumes};
 ghost use Rattle.tally_base.specs.declared.slot.Slot.TheVariants.{Data};
 ghost use Rattle.tally_base.specs.declared.header.Header.{Header};
 ghost use Rattle.tally_base.specs.declared.header.RecordType.{RecordType};
 ghost use Rattle.bench_io.specs.Inputs.{OnlyReads};
-ghost use Rattle.ptu_definitions.specs.Counted.{counted};
+ghost use Rattle.ptu_definitions.specs.Words.{words_of};
+ghost use Rattle.ptu_definitions.specs.Counted.{counted, record_limit};
 ghost use Rattle.ptu_cli.specs.Outcomes.{file_counts};
-ghost use Rattle.ptu_cli.specs.Pieces.{ReadReason, EndsAs};
-ghost use Rattle.ptu_cli.specs.HeaderPieces.{HeaderEnds};
+ghost use Rattle.ptu_cli.specs.Pieces.{ReadReason, AnswersAs, TakesOpen};
+ghost use Rattle.ptu_cli.specs.HeaderPieces.{HeaderEnds, IsCut};
 ghost use Rattle.ptu_cli.specs.HeaderRuns.{AnswersText, ReadsText, CutsFile};
-ghost use Rattle.tally_base.specs.Faults.{HasReason};
+ghost use Rattle.tally_base.specs.Faults.{HasReason, is_outside};
 ghost use Rattle.bench_io.specs.Counts.{Rose};
 ghost use Rattle.record_layout.specs.Counting.{HasCounted};
 
@@ -36,9 +37,15 @@ fn count_rest<I: Inputs>(
     requires room { 0 < length buffer.old }
     ensures reads { OnlyReads Data (I.state inputs.old) (I.state inputs.new) }
     ensures reason { IfErr result (ReadReason (I.state inputs.old) (I.state inputs.new)) }
-    ensures answer { (record_type : RecordType) (bytes : List ℕ) → HasCounted counter record_type bytes → (taken : List ℕ)
+    ensures answer { (record_type : RecordType) (bytes : List ℕ)
+        → HasCounted counter record_type bytes → (taken : List ℕ)
         × Consumes ((I.state inputs.old).rest Data) ((I.state inputs.new).rest Data) taken
-        × EndsAs (counted record_type) (bytes ++ taken) ((I.state inputs.new).rest Data) result }
+        × AnswersAs (counted record_type) (bytes ++ taken) ((I.state inputs.new).rest Data) result }
+    ensures unread { (record_type : RecordType) (bytes : List ℕ)
+        → HasCounted counter record_type bytes → length (words_of bytes) ≤ record_limit
+        → IfErr result (λ fault. is_outside fault ≡ true
+        → TakesOpen (counted record_type) bytes ((I.state inputs.old).rest Data)
+        ((I.state inputs.new).rest Data)) }
 {
     'pieces: loop {
         let Ok(len) = inputs.read(Slot::Data, buffer) else {
@@ -53,21 +60,26 @@ fn count_rest<I: Inputs>(
 
 /// A header, and the bytes behind it that were read with its last ones: those of the buffer from `used` to `len`.
 #[derive(Clone, Copy, Debug)]
-struct Found {
+struct FoundHeader {
     header: Header,
     used: usize,
     len: usize,
 }
 
 /// Reads the data up to the end of its header.
-fn read_header<I: Inputs>(inputs: &mut I, buffer: &mut [u8]) -> Result<Found, Fault>
+fn read_header<I: Inputs>(inputs: &mut I, buffer: &mut [u8]) -> Result<FoundHeader, Fault>
     requires opened { (I.state inputs.old).opened Data ≡ true }
     requires room { 0 < length buffer.old }
     ensures reads { OnlyReads Data (I.state inputs.old) (I.state inputs.new) }
     ensures reason { IfErr result (ReadReason (I.state inputs.old) (I.state inputs.new)) }
-    ensures part { IfOk result (λ found. (found.used ≤ found.len) × (found.len ≤ length buffer.new)) }
-    ensures answer { (taken : List ℕ) × Consumes ((I.state inputs.old).rest Data) ((I.state inputs.new).rest Data) taken
+    ensures part { IfOk result (λ found. (found.used ≤ found.len)
+        × (found.len ≤ length buffer.new)) }
+    ensures answer { (taken : List ℕ)
+        × Consumes ((I.state inputs.old).rest Data) ((I.state inputs.new).rest Data) taken
         × HeaderEnds buffer.new taken ((I.state inputs.new).rest Data) result }
+    ensures unread { IfErr result (λ fault. is_outside fault ≡ true → (taken : List ℕ)
+        × Consumes ((I.state inputs.old).rest Data) ((I.state inputs.new).rest Data) taken
+        × IsCut taken) }
 {
     let mut reader = HeaderReader::new();
     'pieces: loop {
@@ -79,7 +91,7 @@ fn read_header<I: Inputs>(inputs: &mut I, buffer: &mut [u8]) -> Result<Found, Fa
         }
         match feed_piece(&mut reader, &buffer[..len]) {
             Fed::More => {}
-            Fed::Done { used, header } => return Ok(Found { header, used, len }),
+            Fed::Done { used, header } => return Ok(FoundHeader { header, used, len }),
             Fed::Refused { fault } => return Err(fault),
         }
     }
@@ -90,8 +102,12 @@ pub(crate) fn count_data<I: Inputs>(inputs: &mut I) -> Result<(Header, KindCount
     requires { (I.state inputs.old).opened Data ≡ true }
     ensures reads { OnlyReads Data (I.state inputs.old) (I.state inputs.new) }
     ensures reason { IfErr result (ReadReason (I.state inputs.old) (I.state inputs.new)) }
-    ensures answer { (taken : List ℕ) × Consumes ((I.state inputs.old).rest Data) ((I.state inputs.new).rest Data) taken
-        × EndsAs file_counts taken ((I.state inputs.new).rest Data) result }
+    ensures answer { (taken : List ℕ)
+        × Consumes ((I.state inputs.old).rest Data) ((I.state inputs.new).rest Data) taken
+        × AnswersAs file_counts taken ((I.state inputs.new).rest Data) result }
+    ensures unread { IfErr result (λ fault. is_outside fault ≡ true
+        → TakesOpen file_counts [] ((I.state inputs.old).rest Data)
+        ((I.state inputs.new).rest Data)) }
 {
     let mut buffer = [0u8; PIECE];
     let found = read_header(inputs, &mut buffer)?;
@@ -105,11 +121,16 @@ pub(crate) fn count_data<I: Inputs>(inputs: &mut I) -> Result<(Header, KindCount
 pub(crate) fn print_data<I: Inputs, O: Sink>(inputs: &mut I, out: &mut O) -> Result<(), Fault>
     requires { (I.state inputs.old).opened Data ≡ true }
     ensures reads { OnlyReads Data (I.state inputs.old) (I.state inputs.new) }
-    ensures answer { AnswersText ((I.state inputs.old).rest Data) ((I.state inputs.new).rest Data) (O.written out.old) (O.written out.new) result }
+    ensures answer { AnswersText ((I.state inputs.old).rest Data) ((I.state inputs.new).rest Data)
+        (O.written out.old) (O.written out.new) result }
     ensures reason { IfErr result (HasReason (λ slot. ⊥)
-        (λ slot. (slot ≡ Data) × Rose ((I.state inputs.old).read_faults slot) ((I.state inputs.new).read_faults slot)
-        × ReadsText ((I.state inputs.old).rest Data) ((I.state inputs.new).rest Data) (O.written out.old) (O.written out.new))
-        (Rose (O.faults out.old) (O.faults out.new) × CutsFile ((I.state inputs.old).rest Data) ((I.state inputs.new).rest Data) (O.written out.old) (O.written out.new))
+        (λ slot. (slot ≡ Data)
+        × Rose ((I.state inputs.old).read_faults slot) ((I.state inputs.new).read_faults slot)
+        × ReadsText ((I.state inputs.old).rest Data) ((I.state inputs.new).rest Data)
+        (O.written out.old) (O.written out.new))
+        (Rose (O.faults out.old) (O.faults out.new)
+        × CutsFile ((I.state inputs.old).rest Data) ((I.state inputs.new).rest Data)
+        (O.written out.old) (O.written out.new))
         ⊥) }
     ensures later { O.faults out.old ≤ O.faults out.new }
 {

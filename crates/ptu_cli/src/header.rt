@@ -20,7 +20,8 @@ pub(crate) enum Fed {
 /// Feeds a whole piece, or the part of it that ends the header.
 pub(crate) fn feed_piece(reader: &mut HeaderReader, piece: &[u8]) -> Fed
     requires { (bytes : List ℕ) × HasRead reader.old bytes }
-    ensures ends { (bytes : List ℕ) → HasRead reader.old bytes → Ends bytes piece.now reader.new result }
+    ensures ends { (bytes : List ℕ) → HasRead reader.old bytes
+        → Ends bytes piece.now reader.new result }
     ensures taken { TakesPiece reader.old reader.new piece.now result }
     ensures limit { bytes_taken reader.new ≤ 2 ^ 24 }
     ensures inside { RefusesInside result }

@@ -39,7 +39,8 @@ pub(crate) enum Printed {
 
 /// The line of a tag, with its newline where no body follows.
 fn tag_line(tag: &TagHead, kind: TagKind) -> ArrayVec<u8, 256>
-    ensures { (bytes : List ℕ) → IsHead bytes tag.now → code_of kind ≡ code_in bytes → result.items ≡ head_text tag.now kind ++ bare_end bytes }
+    ensures { (bytes : List ℕ) → IsHead bytes tag.now → code_of kind ≡ code_in bytes
+        → result.items ≡ head_text tag.now kind ++ bare_end bytes }
 {
     let mut line = ArrayVec::new();
     header_line(tag, kind, &mut line);
@@ -56,9 +57,13 @@ fn put_body<O: Sink>(
     block: &mut Block,
     out: &mut O,
 ) -> Result<(), Failed>
-    ensures taken { OnOk result ((kind : TagKind) (part : List ℕ) → HasPut text.old kind part → HasPut text.new kind (part ++ bytes.now)) }
-    ensures all { OnOk result ((kind : TagKind) (part : List ℕ) → HasPut text.old kind part → PutsBody kind part bytes.now (O.written out.old) (O.written out.new) block.old block.new) }
-    ensures short { OnErr result ((kind : TagKind) (part : List ℕ) → HasPut text.old kind part → CutsBody kind part bytes.now (O.written out.old) (O.written out.new) block.old) }
+    ensures taken { OnOk result ((kind : TagKind) (part : List ℕ) → HasPut text.old kind part
+        → HasPut text.new kind (part ++ bytes.now)) }
+    ensures all { OnOk result ((kind : TagKind) (part : List ℕ) → HasPut text.old kind part
+        → PutsBody kind part bytes.now (O.written out.old)
+        (O.written out.new) block.old block.new) }
+    ensures short { OnErr result ((kind : TagKind) (part : List ℕ) → HasPut text.old kind part
+        → CutsBody kind part bytes.now (O.written out.old) (O.written out.new) block.old) }
     ensures cause { HasCause (O.faults out.old) (O.faults out.new) result }
 {
     for byte in bytes {
@@ -69,8 +74,10 @@ fn put_body<O: Sink>(
 
 /// Puts the newline behind the last byte of a body.
 fn put_end<O: Sink>(last: bool, block: &mut Block, out: &mut O) -> Result<(), Failed>
-    ensures all { OnOk result (PassesOn (O.written out.old) (O.written out.new) (block.old ++ end_line last) block.new) }
-    ensures short { OnErr result (AppendsShort (O.written out.old) (O.written out.new) (block.old ++ end_line last)) }
+    ensures all { OnOk result (PassesOn (O.written out.old) (O.written out.new)
+        (block.old ++ end_line last) block.new) }
+    ensures short { OnErr result (AppendsShort (O.written out.old) (O.written out.new)
+        (block.old ++ end_line last)) }
     ensures cause { HasCause (O.faults out.old) (O.faults out.new) result }
 {
     let end: &[u8] = if last { b"\n" } else { b"" };
@@ -99,9 +106,12 @@ impl HeaderPrinter {
         out: &mut O,
     ) -> Result<Printed, Failed>
         requires { (bytes : List ℕ) × Prints self.old bytes }
-        ensures leaves { IfOk result (λ printed. (bytes : List ℕ) → Prints self.old bytes → Leaves bytes piece.now self.new printed) }
-        ensures text { OnOk result ((bytes : List ℕ) → Prints self.old bytes → PutsText bytes piece.now (O.written out.old) (O.written out.new) block.old block.new) }
-        ensures short { OnErr result ((bytes : List ℕ) → Prints self.old bytes → CutsText bytes piece.now (O.written out.old) (O.written out.new) block.old) }
+        ensures leaves { IfOk result (λ printed. (bytes : List ℕ) → Prints self.old bytes
+            → Leaves bytes piece.now self.new printed) }
+        ensures text { OnOk result ((bytes : List ℕ) → Prints self.old bytes
+            → PutsText bytes piece.now (O.written out.old) (O.written out.new) block.old block.new) }
+        ensures short { OnErr result ((bytes : List ℕ) → Prints self.old bytes
+            → CutsText bytes piece.now (O.written out.old) (O.written out.new) block.old) }
         ensures taken { IfOk result (TakesAll self.old self.new piece.now) }
         ensures limit { IfOk result (λ printed. bytes_taken self.new.reader ≤ 2 ^ 24) }
         ensures inside { IfOk result PrintsInside }
@@ -149,9 +159,12 @@ impl HeaderPrinter {
         out: &mut O,
     ) -> Result<Printed, Failed>
         requires { (bytes : List ℕ) × Prints self.old bytes }
-        ensures leaves { IfOk result (λ printed. (bytes : List ℕ) → Prints self.old bytes → Leaves bytes piece.now self.new printed) }
-        ensures text { OnOk result ((bytes : List ℕ) → Prints self.old bytes → AppendsText bytes piece.now (O.written out.old) (O.written out.new)) }
-        ensures short { OnErr result ((bytes : List ℕ) → Prints self.old bytes → CutsText bytes piece.now (O.written out.old) (O.written out.new) []) }
+        ensures leaves { IfOk result (λ printed. (bytes : List ℕ) → Prints self.old bytes
+            → Leaves bytes piece.now self.new printed) }
+        ensures text { OnOk result ((bytes : List ℕ) → Prints self.old bytes
+            → AppendsText bytes piece.now (O.written out.old) (O.written out.new)) }
+        ensures short { OnErr result ((bytes : List ℕ) → Prints self.old bytes
+            → CutsText bytes piece.now (O.written out.old) (O.written out.new) []) }
         ensures taken { IfOk result (TakesAll self.old self.new piece.now) }
         ensures limit { IfOk result (λ printed. bytes_taken self.new.reader ≤ 2 ^ 24) }
         ensures inside { IfOk result PrintsInside }

@@ -1,13 +1,13 @@
 // The top call.
-ghost use Rattle.std.specs.Prelude.{◌≡◌, ◌≢◌, ◌⊎◌, ◌≤◌, ◌<◌, true, false, None, Some, map, string_bytes, IfErr, IsErrAnd};
+ghost use Rattle.std.specs.Prelude.{◌≡◌, ◌≢◌, ◌≤◌, ◌<◌, false, Some, IfErr};
 ghost use Rattle.std.specs.Io.KnownBytes.{Keeps, Appends};
+ghost use Rattle.std.specs.declared.option.Option.{Option};
 ghost use Rattle.tally_base.specs.declared.slot.Slot.{Slot};
-ghost use Rattle.tally_base.specs.declared.slot.Slot.TheVariants.{Plan, Data};
+ghost use Rattle.tally_base.specs.declared.fault.Fault.{Fault};
+ghost use Rattle.tally_base.specs.declared.slot.Slot.TheVariants.{Plan};
 ghost use Rattle.tally_base.specs.declared.fault.Fault.TheVariants.{OpenFault, ReadFault, WriteFault};
-ghost use Rattle.tally_base.specs.Faults.{is_outside, HasReason};
 ghost use Rattle.bench_io.specs.Counts.{Rose};
 ghost use Rattle.bench_io.specs.Inputs.{File};
-ghost use Rattle.ptu_cli.specs.Commands.{request_of};
 ghost use Rattle.ptu_cli.specs.Outcomes.{outcome, status};
 ghost use Rattle.ptu_cli.specs.Endings.{IsMeant, Tells, TellsFault, CutsShort, Answers, HasCauses, Reaches, LeavesUnread, NoneRose, IsGood};
 ghost use Rattle.ptu_cli.specs.Requests.{request_in};
@@ -24,7 +24,8 @@ use tally_base::{Fault, fault_line};
 fn obey<I: Inputs, O: Sink>(words: &[String], inputs: &mut I, out: &mut O) -> Result<(), Fault>
     requires meant { IsMeant (I.state inputs.old) (request_in words.now) }
     requires first { (slot : Slot) → (I.state inputs.old).asked slot ≡ false }
-    ensures answer { Answers (request_in words.now) (I.state inputs.old) result (O.written out.old) (O.written out.new) }
+    ensures answer { Answers (request_in words.now) (I.state inputs.old) result
+        (O.written out.old) (O.written out.new) }
     ensures causes { IfErr result (HasCauses (request_in words.now) (record {
       before = I.state inputs.old;
       after = I.state inputs.new;
@@ -46,7 +47,8 @@ fn obey<I: Inputs, O: Sink>(words: &[String], inputs: &mut I, out: &mut O) -> Re
 
 /// Writes the line of a fault, or a prefix of it where a write fails.
 pub fn tell<E: Sink>(fault: &Fault, err: &mut E)
-    ensures { TellsFault (E.written err.old) (E.written err.new) (E.faults err.old) (E.faults err.new) (Some fault.now) }
+    ensures { TellsFault (E.written err.old) (E.written err.new) (E.faults err.old)
+        (E.faults err.new) (Some fault.now) }
 {
     let mut line = ArrayVec::<u8, 96>::new();
     fault_line(fault, &mut line);
@@ -69,40 +71,58 @@ pub fn ptu_main<I: Inputs, O: Sink, E: Sink>(
     requires first { (slot : Slot) → (I.state inputs.old).asked slot ≡ false }
 
     // Where nothing outside failed, the run ends as the words and the files call for.
-    ensures answered { (plan_file data_file : File) → Tells (I.state inputs.old) (request_in words.now) plan_file data_file → (2 ≤ result → 5 < result) →
+    ensures answered { (plan_file data_file : File)
+        → Tells (I.state inputs.old) (request_in words.now) plan_file data_file → (2 ≤ result
+        → 5 < result) →
         let end = outcome (request_in words.now) plan_file data_file in
         (result ≡ status end.fault) × Appends (O.written out.old) (O.written out.new) end.text
-        × TellsFault (E.written err.old) (E.written err.new) (E.faults err.old) (E.faults err.new) end.fault }
+        × TellsFault (E.written err.old) (E.written err.new) (E.faults err.old)
+        (E.faults err.new) end.fault }
+
+    // Whatever the inputs tell, the status is 0 or that of one fault, and its line is told.
+    ensures told { (fault : Option Fault) × (result ≡ status fault)
+        × TellsFault (E.written err.old) (E.written err.new) (E.faults err.old)
+        (E.faults err.new) fault }
 
     // An opening failed.
     ensures unopened { result ≡ 2 → (slot : Slot) × Reaches (request_in words.now) slot
         × Rose ((I.state inputs.old).open_faults slot) ((I.state inputs.new).open_faults slot)
         × Keeps (O.written out.old) (O.written out.new)
-        × TellsFault (E.written err.old) (E.written err.new) (E.faults err.old) (E.faults err.new) (Some (OpenFault slot)) }
+        × TellsFault (E.written err.old) (E.written err.new) (E.faults err.old) (E.faults err.new)
+        (Some (OpenFault slot)) }
 
     // A read failed.
     ensures unread { result ≡ 3 → (slot : Slot) × Reaches (request_in words.now) slot
         × Rose ((I.state inputs.old).read_faults slot) ((I.state inputs.new).read_faults slot)
-        × LeavesUnread (request_in words.now) (I.state inputs.old) (I.state inputs.new) (O.written out.old) (O.written out.new)
-        × TellsFault (E.written err.old) (E.written err.new) (E.faults err.old) (E.faults err.new) (Some (ReadFault slot)) }
+        × LeavesUnread (request_in words.now) (I.state inputs.old) (I.state inputs.new)
+        (O.written out.old) (O.written out.new)
+        × TellsFault (E.written err.old) (E.written err.new) (E.faults err.old) (E.faults err.new)
+        (Some (ReadFault slot)) }
 
     // A write failed.
     ensures unwritten { result ≡ 4 → Rose (O.faults out.old) (O.faults out.new)
-        × ((plan_file data_file : File) → Tells (I.state inputs.old) (request_in words.now) plan_file data_file
-        → CutsShort (request_in words.now) (outcome (request_in words.now) plan_file data_file) (O.written out.old) (O.written out.new))
-        × TellsFault (E.written err.old) (E.written err.new) (E.faults err.old) (E.faults err.new) (Some WriteFault) }
+        × ((plan_file data_file : File)
+        → Tells (I.state inputs.old) (request_in words.now) plan_file data_file
+        → CutsShort (request_in words.now) (outcome (request_in words.now) plan_file data_file)
+        (O.written out.old) (O.written out.new))
+        × TellsFault (E.written err.old) (E.written err.new) (E.faults err.old) (E.faults err.new)
+        (Some WriteFault) }
 
     ensures memory { result ≢ 5 }
     ensures quiet { result ≡ 0 → Keeps (E.written err.old) (E.written err.new) }
     ensures plan { (I.state inputs.new).asked Plan ≡ false }
 
     // Where no count of the inputs and of `out` rose, the run ends as the words and the files call for, and well where they are good.
-    ensures complete { (plan_file data_file : File) → Tells (I.state inputs.old) (request_in words.now) plan_file data_file
-        → NoneRose (I.state inputs.old) (I.state inputs.new) → ¬ (Rose (O.faults out.old) (O.faults out.new))
+    ensures complete { (plan_file data_file : File)
+        → Tells (I.state inputs.old) (request_in words.now) plan_file data_file
+        → NoneRose (I.state inputs.old) (I.state inputs.new)
+        → ¬ (Rose (O.faults out.old) (O.faults out.new))
         → result ≡ status (outcome (request_in words.now) plan_file data_file).fault }
-    ensures good { (plan_file data_file : File) → Tells (I.state inputs.old) (request_in words.now) plan_file data_file
+    ensures good { (plan_file data_file : File)
+        → Tells (I.state inputs.old) (request_in words.now) plan_file data_file
         → IsGood (request_in words.now) plan_file data_file
-        → NoneRose (I.state inputs.old) (I.state inputs.new) → ¬ (Rose (O.faults out.old) (O.faults out.new))
+        → NoneRose (I.state inputs.old) (I.state inputs.new)
+        → ¬ (Rose (O.faults out.old) (O.faults out.new))
         → result ≡ 0 }
 {
     let _ = alloc;

@@ -50,7 +50,8 @@ pub fn seen_items()
         → IsFront start items front → length tag ≡ 48
         → is_known (code_in tag) ≡ true → is_negative tag ≡ false → length part ≤ body_size tag
         → seen (front ++ (tag ++ part)) ≡ items ++ record { tag = tag; body = part } ∷ [] }
-    ensures start { (bytes : List ℕ) → length bytes < 16 → (seen_preamble bytes ≡ None) × (seen bytes ≡ []) }
+    ensures start { (bytes : List ℕ) → length bytes < 16 → (seen_preamble bytes ≡ None)
+        × (seen bytes ≡ []) }
 {}
 
 /// The longest front or header says what bytes show: its preamble, its items, and of the item that
@@ -63,7 +64,8 @@ pub fn seen_longest()
         → IsHeader start inner last header
         → (seen_preamble (header ++ rest) ≡ Some start)
         × (seen (header ++ rest) ≡ inner ++ last ∷ []) }
-    ensures none { (bytes : List ℕ) → HasNoFront bytes → (seen_preamble bytes ≡ None) × (seen bytes ≡ []) }
+    ensures none { (bytes : List ℕ) → HasNoFront bytes → (seen_preamble bytes ≡ None)
+        × (seen bytes ≡ []) }
 {}
 
 /// All bytes have no front, a longest front or a header.

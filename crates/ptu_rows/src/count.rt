@@ -214,11 +214,20 @@ fn is_refused(
 }
 
 #[test]
-fn headers_that_are_refused(rt: HostRuntime) -> Result<(), Fail> {
+fn fronts_that_are_no_header(rt: HostRuntime) -> Result<(), Fail> {
     let alloc = rt.alloc();
     is_refused(&rt, alloc, b"", 11, b"ptu: header cut after 0 bytes\n")?;
     is_refused(&rt, alloc, b"PQ", 11, b"ptu: header cut after 2 bytes\n")?;
     is_refused(&rt, alloc, b"PQTTTS", 10, b"ptu: not a PTU file\n")?;
+    let mut front = short(alloc, 0x0101_0304, &[])?;
+    front.truncate(100);
+    is_refused(
+        &rt,
+        alloc,
+        front.as_slice(),
+        11,
+        b"ptu: header cut after 100 bytes\n",
+    )?;
     let unknown = with_item(alloc, b"A", 0x3000_0008, 0)?;
     is_refused(
         &rt,
@@ -234,16 +243,12 @@ fn headers_that_are_refused(rt: HostRuntime) -> Result<(), Fail> {
         negative.as_slice(),
         13,
         b"ptu: tag 1 has length -1\n",
-    )?;
-    let mut front = short(alloc, 0x0101_0304, &[])?;
-    front.truncate(100);
-    is_refused(
-        &rt,
-        alloc,
-        front.as_slice(),
-        11,
-        b"ptu: header cut after 100 bytes\n",
-    )?;
+    )
+}
+
+#[test]
+fn headers_without_a_record_type(rt: HostRuntime) -> Result<(), Fail> {
+    let alloc = rt.alloc();
     let untyped = with_item(alloc, b"Header_End", EMPTY8, 0)?;
     is_refused(&rt, alloc, untyped.as_slice(), 14, b"ptu: no record type\n")?;
     let mut other = with_item(alloc, b"TTResultFormat_TTTRRecType", BOOL8, 0x0101_0304)?;
@@ -256,7 +261,12 @@ fn headers_that_are_refused(rt: HostRuntime) -> Result<(), Fail> {
         strange.as_slice(),
         15,
         b"ptu: record type 0000000000010308\n",
-    )?;
+    )
+}
+
+#[test]
+fn bytes_left_over(rt: HostRuntime) -> Result<(), Fail> {
+    let alloc = rt.alloc();
     let mut cut = short(alloc, 0x0101_0304, &[1])?;
     cut.extend_from_slice(&[5, 6])?;
     is_refused(

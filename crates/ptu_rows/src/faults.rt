@@ -1,6 +1,6 @@
 // What faults outside leave.
 use crate::files::{bench, short};
-use crate::run::{Left, run};
+use crate::run::{Left, run, run_with_room};
 use std::alloc::Global;
 use std::test::Fail;
 
@@ -34,7 +34,7 @@ fn words_that_are_no_command(rt: HostRuntime) -> Result<(), Fail> {
 }
 
 #[test]
-fn a_file_that_can_not_be_opened(rt: HostRuntime) -> Result<(), Fail> {
+fn a_file_that_cannot_be_opened(rt: HostRuntime) -> Result<(), Fail> {
     let alloc = rt.alloc();
     for command in ["count", "header"] {
         let missing = run(alloc, &[command, "g"], bench(alloc)?, &[], &[], 4096)?;
@@ -87,5 +87,14 @@ fn a_write_that_fails(rt: HostRuntime) -> Result<(), Fail> {
     assert_eq!(rt; header.err.bytes(), b"ptu: cannot write\n".as_slice());
     let refused = run(alloc, &["count", "f"], short(alloc, 1, &[])?, &[], &[], 0)?;
     assert_eq!(rt; refused.status, 15);
+    Ok(())
+}
+
+#[test]
+fn a_line_that_cannot_be_told(rt: HostRuntime) -> Result<(), Fail> {
+    let alloc = rt.alloc();
+    let left = run_with_room(alloc, &["count", "g"], 10)?;
+    assert_eq!(rt; left.status, 2);
+    assert_eq!(rt; left.err.bytes(), b"ptu: canno".as_slice());
     Ok(())
 }

@@ -5,7 +5,7 @@ use std::alloc::Global;
 use std::process::Abort;
 use std::test::Fail;
 
-const BENCH_TEXT: &[u8] = b"magic 5051545454520000\n\
+pub(crate) const BENCH_TEXT: &[u8] = b"magic 5051545454520000\n\
 version 312E302E30300000\n\
 tag File_GUID -1 tyAnsiString 40 {00000000-0000-0000-0000-000000000001}\n\
 tag File_CreatingTime -1 tyTDateTime 40E6000000000000\n\
@@ -41,31 +41,10 @@ fn prints(
 }
 
 #[test]
-fn headers_are_printed(rt: HostRuntime) -> Result<(), Fail> {
+fn whole_headers(rt: HostRuntime) -> Result<(), Fail> {
     let alloc = rt.alloc();
     let file = bench(alloc)?;
     prints(&rt, alloc, file.as_slice(), 0, BENCH_TEXT, b"")?;
-    let mut front = short(alloc, 0x0101_0304, &[])?;
-    front.truncate(100);
-    prints(
-        &rt,
-        alloc,
-        front.as_slice(),
-        11,
-        b"magic 5051545454520000\nversion 312E302E30300000\n\
-tag TTResultFormat_TTTRRecType -1 tyInt8 16843524\n",
-        b"ptu: header cut after 100 bytes\n",
-    )?;
-    let mut cut = PREAMBLE.as_slice().to_vec(alloc)?;
-    put_item(&mut cut, b"B", BLOB, 3, &[1, 2])?;
-    prints(
-        &rt,
-        alloc,
-        cut.as_slice(),
-        11,
-        b"magic 5051545454520000\nversion 312E302E30300000\ntag B -1 tyBinaryBlob 3 0102",
-        b"ptu: header cut after 66 bytes\n",
-    )?;
     let mut odd = PREAMBLE.as_slice().to_vec(alloc)?;
     put_tag(&mut odd, b"A B\\", 2, BIT_SET64, 0xFF)?;
     put_item(
@@ -86,6 +65,32 @@ tag A\\x20B\\x5C 2 tyBitSet64 00000000000000FF\n\
 tag TTResultFormat_TTTRRecType -1 tyInt8 16843524\n\
 tag Header_End -1 tyEmpty8 -\n",
         b"",
+    )
+}
+
+#[test]
+fn headers_that_are_cut(rt: HostRuntime) -> Result<(), Fail> {
+    let alloc = rt.alloc();
+    let mut front = short(alloc, 0x0101_0304, &[])?;
+    front.truncate(100);
+    prints(
+        &rt,
+        alloc,
+        front.as_slice(),
+        11,
+        b"magic 5051545454520000\nversion 312E302E30300000\n\
+tag TTResultFormat_TTTRRecType -1 tyInt8 16843524\n",
+        b"ptu: header cut after 100 bytes\n",
+    )?;
+    let mut cut = PREAMBLE.as_slice().to_vec(alloc)?;
+    put_item(&mut cut, b"B", BLOB, 3, &[1, 2])?;
+    prints(
+        &rt,
+        alloc,
+        cut.as_slice(),
+        11,
+        b"magic 5051545454520000\nversion 312E302E30300000\ntag B -1 tyBinaryBlob 3 0102",
+        b"ptu: header cut after 66 bytes\n",
     )?;
     prints(&rt, alloc, b"PQTTTS", 10, b"", b"ptu: not a PTU file\n")
 }

@@ -11,3 +11,5 @@ mod files;
 mod headers;
 #[cfg(test)]
 mod run;
+#[cfg(test)]
+mod written;

@@ -12,6 +12,15 @@ pub(crate) struct Left {
     pub(crate) err: MemorySink,
 }
 
+/// The words of a command line.
+fn words_of(alloc: Global, words: &[&str]) -> Result<Vec<String>, Fail> {
+    let mut line = Vec::new(alloc);
+    for word in words {
+        line.push(String::from_str(alloc, word)?)?;
+    }
+    Ok(line)
+}
+
 /// Runs a command on the file `f`, where the calls of the inputs with these numbers fail and standard
 /// output has this room.
 pub(crate) fn run(
@@ -27,10 +36,17 @@ pub(crate) fn run(
     let mut inputs = MemoryInputs::new(files, pieces.to_vec(alloc)?, failing.to_vec(alloc)?);
     let mut out = MemorySink::new(alloc, room, Vec::new(alloc))?;
     let mut err = MemorySink::new(alloc, 96, Vec::new(alloc))?;
-    let mut line = Vec::new(alloc);
-    for word in words {
-        line.push(String::from_str(alloc, word)?)?;
-    }
+    let line = words_of(alloc, words)?;
+    let status = ptu_main(alloc, line.as_slice(), &mut inputs, &mut out, &mut err);
+    Ok(Left { status, out, err })
+}
+
+/// Runs a command where there are no files, and where standard error has this room.
+pub(crate) fn run_with_room(alloc: Global, words: &[&str], room: usize) -> Result<Left, Fail> {
+    let mut inputs = MemoryInputs::new(Vec::new(alloc), Vec::new(alloc), Vec::new(alloc));
+    let mut out = MemorySink::new(alloc, 96, Vec::new(alloc))?;
+    let mut err = MemorySink::new(alloc, room, Vec::new(alloc))?;
+    let line = words_of(alloc, words)?;
     let status = ptu_main(alloc, line.as_slice(), &mut inputs, &mut out, &mut err);
     Ok(Left { status, out, err })
 }

@@ -57,11 +57,14 @@ impl Counter {
     /// Takes the next piece of the bytes. Refuses where there are more than 2^40 whole records, and
     /// from then on every piece.
     pub fn feed(&mut self, piece: &[u8]) -> Result<(), Fault>
-        ensures taken { (record_type : RecordType) (bytes : List ℕ) → HasCounted self.old record_type bytes
+        ensures taken { (record_type : RecordType) (bytes : List ℕ)
+            → HasCounted self.old record_type bytes
             → HasCounted self.new record_type (bytes ++ piece.now) }
-        ensures limit { (record_type : RecordType) (bytes : List ℕ) → HasCounted self.old record_type bytes
+        ensures limit { (record_type : RecordType) (bytes : List ℕ)
+            → HasCounted self.old record_type bytes
             → (IsErr result ↔ (record_limit < length (words_of (bytes ++ piece.now)))) }
-        ensures shown { (record_type : RecordType) (bytes : List ℕ) → HasCounted self.old record_type bytes
+        ensures shown { (record_type : RecordType) (bytes : List ℕ)
+            → HasCounted self.old record_type bytes
             → IfErr result (λ fault. Shows (counted record_type) (bytes ++ piece.now) (Err fault)) }
         ensures fault { IfErr result (λ fault. fault ≡ Fault.RecordLimit record_limit) }
         ensures inside { IfErr result (λ fault. is_outside fault ≡ false) }
@@ -86,7 +89,8 @@ impl Counter {
         requires going { was_refused self.old ≡ false }
         requires fits { length piece.now ≤ room self.old }
         ensures going { was_refused self.new ≡ false }
-        ensures taken { (record_type : RecordType) (bytes : List ℕ) → HasCounted self.old record_type bytes
+        ensures taken { (record_type : RecordType) (bytes : List ℕ)
+            → HasCounted self.old record_type bytes
             → HasCounted self.new record_type (bytes ++ piece.now) }
         ensures room { room self.new + length piece.now ≡ room self.old }
     {
@@ -111,7 +115,8 @@ impl Counter {
         requires four { length (carried_by self.old ++ first.now) ≡ 4 }
         requires fits { length first.now ≤ room self.old }
         ensures going { was_refused self.new ≡ false }
-        ensures taken { (record_type : RecordType) (bytes : List ℕ) → HasCounted self.old record_type bytes
+        ensures taken { (record_type : RecordType) (bytes : List ℕ)
+            → HasCounted self.old record_type bytes
             → HasCounted self.new record_type (bytes ++ first.now) }
         ensures none { carried_by self.new ≡ [] }
         ensures room { room self.new + length first.now ≡ room self.old }
@@ -128,7 +133,8 @@ impl Counter {
         requires none { carried_by self.old ≡ [] }
         requires fits { length piece.now ≤ room self.old }
         ensures going { was_refused self.new ≡ false }
-        ensures taken { (record_type : RecordType) (bytes : List ℕ) → HasCounted self.old record_type bytes
+        ensures taken { (record_type : RecordType) (bytes : List ℕ)
+            → HasCounted self.old record_type bytes
             → HasCounted self.new record_type (bytes ++ piece.now) }
         ensures room { room self.new + length piece.now ≡ room self.old }
     {
@@ -140,7 +146,8 @@ impl Counter {
     /// The counts of all bytes. Refuses bytes that end within a record, and answers again what a
     /// piece was refused for.
     pub fn finish(self) -> Result<KindCounts, Fault>
-        ensures answer { (record_type : RecordType) (bytes : List ℕ) → HasCounted self record_type bytes
+        ensures answer { (record_type : RecordType) (bytes : List ℕ)
+            → HasCounted self record_type bytes
             → result ≡ counted record_type bytes }
         ensures repeats { was_refused self ≡ true → result ≡ Err (Fault.RecordLimit record_limit) }
         ensures inside { IfErr result (λ fault. is_outside fault ≡ false) }

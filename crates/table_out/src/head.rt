@@ -23,7 +23,7 @@ pub(crate) fn put_shown<const N: usize>(line: &mut ArrayVec<u8, N>, low: u8, byt
     }
 }
 
-/// Appends an identifier up to its first NUL: at most 128 bytes.
+/// Appends the bytes of a name: at most 128 bytes.
 fn put_name(line: &mut ArrayVec<u8, 256>, name: &[u8])
     requires short { length name.now ≤ 32 }
     requires room { array_vec_len line.old + 128 ≤ 256 }

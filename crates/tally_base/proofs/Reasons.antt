@@ -1,5 +1,5 @@
 -- The reasons of faults.
-use Rattle.std.proofs.Common.{◌≡◌, true, false}
+use Rattle.std.proofs.Common.{◌≡◌, true, false, refl}
 use Rattle.tally_base.specs.declared.slot.Slot.{Slot}
 use Rattle.tally_base.specs.declared.fault.Fault.{Fault}
 use Rattle.tally_base.specs.declared.fault.Fault.TheVariants.{OpenFault, ReadFault, WriteFault, OutOfMemory}
@@ -30,3 +30,11 @@ HasReason-outside o r w m (ReadFault slot) e no_o no_r no_w no_m h = no_r slot h
 HasReason-outside o r w m WriteFault e no_o no_r no_w no_m h = no_w h
 HasReason-outside o r w m OutOfMemory e no_o no_r no_w no_m h = no_m h
 HasReason-outside o r w m _ e no_o no_r no_w no_m h = cc
+
+-- the reason of a read, with what is known of each fault from outside
+pub HasReason-with : (opening reading : Slot → Type 0) (writing memory more : Type 0) (fault : Fault) → (is_outside fault ≡ true → more) → HasReason opening reading writing memory fault → HasReason opening (λ slot. reading slot × more) writing memory fault
+HasReason-with o r w m more (OpenFault slot) known h = h
+HasReason-with o r w m more (ReadFault slot) known h = (h, known refl)
+HasReason-with o r w m more WriteFault known h = h
+HasReason-with o r w m more OutOfMemory known h = h
+HasReason-with o r w m more _ known h = tt

@@ -124,7 +124,7 @@ impl Fault {
 /// Leaves exactly the fault's line in `into`, with its newline. Every line has at most 93 bytes.
 pub fn fault_line(fault: &Fault, into: &mut ArrayVec<u8, 96>)
     ensures line { into.new.items ≡ line_of fault.now }
-    ensures some { 0 < array_vec_len into.new }
+    ensures short { array_vec_len into.new ≤ 93 }
 {
     into.clear();
     put_text(into, b"ptu: ");
@@ -188,7 +188,8 @@ fn put_two(into: &mut ArrayVec<u8, 96>, first: &[u8], second: &str)
 /// Appends a number between two texts.
 fn put_around(into: &mut ArrayVec<u8, 96>, before: &[u8], number: u64, behind: &[u8])
     requires { array_vec_len into.old + length before.now + 20 + length behind.now ≤ 96 }
-    ensures items { into.new.items ≡ into.old.items ++ (before.now ++ decimal number ++ behind.now) }
+    ensures items { into.new.items ≡ into.old.items ++
+        (before.now ++ decimal number ++ behind.now) }
     ensures len { array_vec_len into.new ≤ array_vec_len into.old + length before.now + 20 + length behind.now }
 {
     put_text(into, before);
@@ -263,7 +264,8 @@ fn put_reserved(into: &mut ArrayVec<u8, 96>, place: u64, word: u32)
 
 fn put_backward(into: &mut ArrayVec<u8, 96>, place: u64, before: u64, time: u64)
     requires { array_vec_len into.old ≤ 5 }
-    ensures items { into.new.items ≡ into.old.items ++ reason_of (Fault.BackwardTime place time before) }
+    ensures items { into.new.items ≡ into.old.items ++ reason_of
+        (Fault.BackwardTime place time before) }
     ensures len { array_vec_len into.new ≤ array_vec_len into.old + 87 }
 {
     put_text(into, b"record ");

@@ -12,3 +12,6 @@ pub use header::{Header, Mode, RecordType};
 pub use line::{put_decimal, put_hexadecimal, put_signed, put_text};
 pub use part::PartKind;
 pub use slot::{Failed, Slot};
+
+#[cfg(test)]
+mod tests;

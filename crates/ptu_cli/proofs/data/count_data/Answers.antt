@@ -1,7 +1,8 @@
 use Rattle.std.proofs.Common.{◌++◌, [], Ok, Err, inr}
 use Rattle.std.proofs.lemmas.Result.{err_from_is_err_and}
 use Rattle.bench_io.proofs.Bytes.{Consumes-trans}
-use Rattle.ptu_cli.proofs.Composed.{EndsAs-behind, Says-shown}
+use Rattle.ptu_cli.proofs.Pieces.{file_counts-cut, file_counts-open, within_limit}
+use Rattle.ptu_cli.proofs.Composed.{AnswersAs-behind, Says-shown}
 use Rattle.ptu_cli.proofs.data.count_data.Goals as goal
 
 pub returns-in_err-feed-clause-answer : goal.returns-in_err-feed-clause-answer
@@ -17,7 +18,7 @@ returns-in_err-counts-clause-answer g c =
     let p = err_from_is_err_and c.from_residual-in_err-counts.result c.from_residual-in_err-counts.ensures.1 in (
       front.0 ++ rest.0,
       Consumes-trans _ _ _ front.0 rest.0 front.1 rest.1,
-      rw (p.1, p.2) (EndsAs-behind c.in_ok-found.found.header front.0 _ rest.0 _ (Err c.in_err-counts.field-0.0) front.2 rest.2),
+      rw (p.1, p.2) (AnswersAs-behind c.in_ok-found.found.header front.0 _ rest.0 _ (Err c.in_err-counts.field-0.0) front.2 rest.2),
     )
 
 pub returns-clause-answer : goal.returns-clause-answer
@@ -26,5 +27,20 @@ returns-clause-answer g c =
     let rest = c.in_ok-counts.ensures.answer c.in_ok-found.found.header.record_type _ (c.feed.ensures.taken c.in_ok-found.found.header.record_type [] c.new-counter.ensures.start) in (
       front.0 ++ rest.0,
       Consumes-trans _ _ _ front.0 rest.0 front.1 rest.1,
-      EndsAs-behind c.in_ok-found.found.header front.0 _ rest.0 _ (Ok c.in_ok-counts.counts) front.2 rest.2,
+      AnswersAs-behind c.in_ok-found.found.header front.0 _ rest.0 _ (Ok c.in_ok-counts.counts) front.2 rest.2,
     )
+
+pub returns-in_err-found-clause-unread : goal.returns-in_err-found-clause-unread
+returns-in_err-found-clause-unread g c =
+    let p = err_from_is_err_and c.from_residual.result c.from_residual.ensures.1 in
+    rw (p.1, p.2) (λ outside. let front = c.in_err-found.ensures.unread outside in (front.0, front.1, file_counts-cut front.0 front.2))
+
+pub returns-in_err-counts-clause-unread : goal.returns-in_err-counts-clause-unread
+returns-in_err-counts-clause-unread g c =
+    let p = err_from_is_err_and c.from_residual-in_err-counts.result c.from_residual-in_err-counts.ensures.1 in
+    let header = c.in_ok-found.found.header in
+    let front = c.in_ok-found.ensures.answer in
+    let few = within_limit _ _ c.in_ok-feed.was (c.feed.ensures.limit header.record_type [] c.new-counter.ensures.start) in
+    rw (p.1, p.2) (λ outside.
+    let rest = c.in_err-counts.ensures.unread header.record_type _ (c.feed.ensures.taken header.record_type [] c.new-counter.ensures.start) few outside in
+    (front.0 ++ rest.0, Consumes-trans _ _ _ front.0 rest.0 front.1 rest.1, file_counts-open header front.0 _ rest.0 front.2 rest.2))

@@ -1,11 +1,14 @@
-use Rattle.std.proofs.Common.{◌++◌, Err, take, append_assoc, subst, inr}
+use Rattle.std.proofs.Common.{◌≡◌, [], refl, sym, ap, ◌∙◌, append-nil, arith, ◌≤◌, ◌++◌, ℕ, List, length, Err, take, append_assoc, subst, inr}
 use Rattle.std.proofs.lemmas.Result.{IfErr-weaker, err_from_is_err_and}
 use Rattle.tally_base.proofs.Reasons.{HasReason-inside}
-use Rattle.bench_io.proofs.Bytes.{Consumes-trans}
+use Rattle.bench_io.proofs.Bytes.{Consumes-kept, Consumes-trans}
 use Rattle.bench_io.proofs.States.{OnlyReads-trans}
-use Rattle.ptu_definitions.specs.Counted.{counted}
+use Rattle.ptu_definitions.specs.Words.{words_of}
+use Rattle.ptu_definitions.specs.Counted.{counted, record_limit}
 use Rattle.ptu_definitions.specs.Shown.{Shows}
 use Rattle.record_layout.specs.Counting.{HasCounted}
+use Rattle.ptu_definitions.proofs.ShownLemmas.{Says-at_end}
+use Rattle.ptu_cli.proofs.Pieces.{counted-open, within_limit}
 use Rattle.ptu_cli.proofs.data.count_rest.Goals as goal
 
 pub returns-then-len-eq0-clause-reason : goal.returns-then-len-eq0-clause-reason
@@ -21,6 +24,8 @@ pieces-preserved g c =
         so_far.0 ++ piece,
         Consumes-trans _ _ _ so_far.0 piece so_far.1 c.in-Ok.ensures.bytes.0,
         λ record_type bytes h. subst (HasCounted c.feed.new.self record_type) (append_assoc bytes so_far.0 piece) (c.feed.ensures.taken record_type (bytes ++ so_far.0) (so_far.2 record_type bytes h)),
+        λ record_type bytes h few.
+            subst (λ (l : List ℕ). length (words_of l) ≤ record_limit) (append_assoc bytes so_far.0 piece) (within_limit _ _ c.in_ok-feed.was (c.feed.ensures.limit record_type (bytes ++ so_far.0) (so_far.2 record_type bytes h))),
       );
     }
 
@@ -39,4 +44,21 @@ returns-in_err-feed-clause-answer g c = λ record_type bytes h.
       so_far.0 ++ piece,
       Consumes-trans _ _ _ so_far.0 piece so_far.1 c.in-Ok.ensures.bytes.0,
       inr (λ more left. rw (p.1, p.2) (shown more)),
+    )
+
+pub returns-in_default-clause-unread : goal.returns-in_default-clause-unread
+returns-in_default-clause-unread g c = λ record_type bytes h few outside.
+    let so_far = c.pieces.invariant.taken in
+    (so_far.0, Consumes-kept _ _ _ so_far.0 so_far.1 c.in_default.ensures.bytes, counted-open record_type (bytes ++ so_far.0) (so_far.3 record_type bytes h few))
+
+pub returns-then-len-eq0-clause-answer : goal.returns-then-len-eq0-clause-answer
+returns-then-len-eq0-clause-answer g c = λ record_type bytes h.
+    let so_far = c.pieces.invariant.taken in
+    let piece = take c.in-Ok.len c.read.new.into in
+    let none : piece ≡ [] = rw c.if-len-eq0.true refl in
+    let all : bytes ++ (so_far.0 ++ piece) ≡ bytes ++ so_far.0 = ap (λ l. bytes ++ (so_far.0 ++ l)) none ∙ ap (λ l. bytes ++ l) (append-nil so_far.0) in (
+      so_far.0 ++ piece,
+      Consumes-trans _ _ _ so_far.0 piece so_far.1 c.in-Ok.ensures.bytes.0,
+      inr (Says-at_end (counted record_type) (bytes ++ (so_far.0 ++ piece)) _ c.finish.result (c.in-Ok.ensures.bytes.1 c.if-len-eq0.true (omega (arith, c.requires.room, c.pieces.auto.buffer, c.read.auto.into)))
+          (ap (counted record_type) all ∙ sym (c.finish.ensures.answer record_type (bytes ++ so_far.0) (so_far.2 record_type bytes h)))),
     )

@@ -1,8 +1,10 @@
-use Rattle.std.proofs.Common.{◌++◌, List, ℕ}
+use Rattle.std.proofs.Common.{◌++◌, ◌≤◌, List, ℕ, length}
 use Rattle.std.specs.Io.KnownBytes.{Consumes}
 use Rattle.tally_base.specs.declared.slot.Slot.TheVariants.{Data}
 use Rattle.tally_base.specs.declared.header.RecordType.{RecordType}
 use Rattle.bench_io.specs.Inputs.{OnlyReads}
+use Rattle.ptu_definitions.specs.Words.{words_of}
+use Rattle.ptu_definitions.specs.Counted.{record_limit}
 use Rattle.record_layout.specs.Counting.{HasCounted, room}
 use Rattle.ptu_cli.proofs.data.count_rest.Given as goal
 
@@ -13,7 +15,8 @@ invariant-pieces g l =
     record {
       reads : OnlyReads Data (state l.initial.inputs) (state l.inputs);
       taken : (taken : List ℕ) × Consumes ((state l.initial.inputs).rest Data) ((state l.inputs).rest Data) taken
-          × ((record_type : RecordType) (bytes : List ℕ) → HasCounted l.initial.counter record_type bytes → HasCounted l.counter record_type (bytes ++ taken));
+          × ((record_type : RecordType) (bytes : List ℕ) → HasCounted l.initial.counter record_type bytes → HasCounted l.counter record_type (bytes ++ taken))
+          × ((record_type : RecordType) (bytes : List ℕ) → HasCounted l.initial.counter record_type bytes → length (words_of bytes) ≤ record_limit → length (words_of (bytes ++ taken)) ≤ record_limit);
     }
 
 abbrev pub decreases-pieces : goal.decreases-pieces

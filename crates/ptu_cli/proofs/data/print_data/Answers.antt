@@ -4,13 +4,14 @@ use Rattle.bench_io.proofs.Rises.{Rose-behind}
 use Rattle.bench_io.proofs.States.{OnlyReads-refl, OnlyReads-trans}
 use Rattle.table_out.specs.HeaderText.{header_text}
 use Rattle.table_out.proofs.StepTexts.{header_text-nil}
+use Rattle.ptu_cli.proofs.Pieces.{IsCut-nil}
 use Rattle.ptu_cli.proofs.HeaderEnds.{text-appended, text-cut, outcome-done, outcome-refused}
 use Rattle.ptu_cli.proofs.data.print_data.Goals as goal
 
 pub pieces-init : goal.pieces-init
 pieces-init g c = record {
   reads = OnlyReads-refl _ _;
-  taken = ([], Consumes-nil _, c.new-printer.ensures.start, Appends-same _ _ _ _ (sym header_text-nil) (Appends-nil _));
+  taken = ([], Consumes-nil _, c.new-printer.ensures.start, Appends-same _ _ _ _ (sym header_text-nil) (Appends-nil _), IsCut-nil);
   is_open = c.new-printer.ensures.is_open;
   later = omega arith;
 }
@@ -39,6 +40,7 @@ pieces-preserved g c =
         Consumes-trans _ _ _ so_far.0 piece so_far.1 c.in-Ok.ensures.bytes.0,
         leaves.0,
         text-appended so_far.0 piece _ _ _ so_far.3 (c.in-Ok-More.ensures.text so_far.0 so_far.2),
+        leaves.2,
       );
       is_open = leaves.1;
       later = omega (arith, c.pieces.invariant.later, c.print_piece.ensures.cause.later);

@@ -4,6 +4,7 @@ use Rattle.tally_base.specs.declared.slot.Slot.TheVariants.{Data}
 use Rattle.bench_io.specs.Inputs.{OnlyReads}
 use Rattle.ptu_header.specs.Reading.{bytes_taken, is_open}
 use Rattle.table_out.specs.HeaderText.{header_text}
+use Rattle.ptu_cli.specs.HeaderPieces.{IsCut}
 use Rattle.ptu_cli.specs.Printing.{Prints}
 use Rattle.ptu_cli.proofs.data.print_data.Given as goal
 
@@ -14,7 +15,7 @@ invariant-pieces g l =
     let written = g.O.Sink.written in
     record {
       reads : OnlyReads Data (state l.initial.inputs) (state l.inputs);
-      taken : (taken : List ℕ) × Consumes ((state l.initial.inputs).rest Data) ((state l.inputs).rest Data) taken × Prints l.printer taken × Appends (written l.initial.out) (written l.out) (header_text taken);
+      taken : (taken : List ℕ) × Consumes ((state l.initial.inputs).rest Data) ((state l.inputs).rest Data) taken × Prints l.printer taken × Appends (written l.initial.out) (written l.out) (header_text taken) × IsCut taken;
       is_open : is_open l.printer.reader ≡ true;
       later : g.O.Sink.faults l.initial.out ≤ g.O.Sink.faults l.out;
     }

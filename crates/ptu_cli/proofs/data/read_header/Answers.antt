@@ -1,7 +1,9 @@
-use Rattle.std.proofs.Common.{◌++◌, Ok, take, sym, ap, ◌∙◌, inr}
+use Rattle.std.proofs.Common.{[], ◌++◌, Ok, take, sym, ap, ◌∙◌, inr}
 use Rattle.std.proofs.lemmas.Slice.{between_is}
 use Rattle.tally_base.proofs.Reasons.{HasReason-inside}
-use Rattle.bench_io.proofs.Bytes.{Consumes-trans}
+use Rattle.bench_io.proofs.Bytes.{Consumes-nil, Consumes-trans}
+use Rattle.bench_io.proofs.States.{OnlyReads-refl}
+use Rattle.ptu_cli.proofs.Pieces.{IsCut-nil}
 use Rattle.ptu_cli.proofs.data.read_header.Goals as goal
 
 pub returns-then-len-eq0-clause-reason : goal.returns-then-len-eq0-clause-reason
@@ -28,3 +30,6 @@ returns-in-Refused-clause-answer g c =
       Consumes-trans _ _ _ so_far.0 piece so_far.1 c.in-Ok.ensures.bytes.0,
       inr (λ more left. c.in-Refused.ensures.ends so_far.0 so_far.2 more),
     )
+
+pub pieces-init : goal.pieces-init
+pieces-init g c = record { reads = OnlyReads-refl _ _; taken = ([], Consumes-nil _, c.new-reader.ensures.start, IsCut-nil); is_open = c.new-reader.ensures.is_open }

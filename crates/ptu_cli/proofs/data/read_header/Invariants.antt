@@ -3,6 +3,7 @@ use Rattle.std.specs.Io.KnownBytes.{Consumes}
 use Rattle.tally_base.specs.declared.slot.Slot.TheVariants.{Data}
 use Rattle.bench_io.specs.Inputs.{OnlyReads}
 use Rattle.ptu_header.specs.Reading.{HasRead, bytes_taken, is_open}
+use Rattle.ptu_cli.specs.HeaderPieces.{IsCut}
 use Rattle.ptu_cli.proofs.data.read_header.Given as goal
 
 -- the reader was given the bytes that were taken
@@ -11,7 +12,7 @@ invariant-pieces g l =
     let state = g.I.Inputs.state in
     record {
       reads : OnlyReads Data (state l.initial.inputs) (state l.inputs);
-      taken : (taken : List ℕ) × Consumes ((state l.initial.inputs).rest Data) ((state l.inputs).rest Data) taken × HasRead l.reader taken;
+      taken : (taken : List ℕ) × Consumes ((state l.initial.inputs).rest Data) ((state l.inputs).rest Data) taken × HasRead l.reader taken × IsCut taken;
       is_open : is_open l.reader ≡ true;
     }
 

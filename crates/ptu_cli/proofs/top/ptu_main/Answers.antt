@@ -1,10 +1,13 @@
-use Rattle.std.proofs.Common.{sym, ap, ◌∙◌}
+use Rattle.std.proofs.Common.{Some, sym, ap, ◌∙◌}
 use Rattle.ptu_cli.specs.Endings.{HasCauses}
 use Rattle.ptu_cli.specs.Outcomes.{status}
 use Rattle.ptu_cli.proofs.Complete.{good-ends, inside-ends}
 use Rattle.ptu_cli.proofs.Asked.{tells_as}
 use Rattle.ptu_cli.proofs.ByStatus.{opening-from_status, reading-from_status, writing-from_status, memory-from_status}
 use Rattle.ptu_cli.proofs.top.ptu_main.Goals as goal
+
+pub returns-in-Err-clause-told : goal.returns-in-Err-clause-told
+returns-in-Err-clause-told g c = (Some c.in-Err.fault, c.status.ensures, c.tell.ensures)
 
 pub returns-in-Err-clause-unopened : goal.returns-in-Err-clause-unopened
 unfolding HasCauses

@@ -4,6 +4,7 @@ use Rattle.std.proofs.lemmas.Result.{err_from_is_err_and}
 use Rattle.ptu_definitions.specs.TagFields.{code_in}
 use Rattle.ptu_definitions.specs.Headers.{header_answer}
 use Rattle.table_out.specs.HeaderText.{kind_with}
+use Rattle.ptu_cli.specs.HeaderPieces.{IsCut}
 use Rattle.ptu_cli.specs.Printing.{Prints}
 use Rattle.ptu_cli.specs.BodyPieces.{end_line}
 use Rattle.ptu_cli.proofs.Pieces.{whole-piece}
@@ -18,7 +19,7 @@ returns-in-More-clause-leaves g c = λ bytes h.
     let p = c.steps.invariant.prints bytes h in
     let s = c.in-More.ensures.step front p.read in
     let whole : front ++ left ≡ bytes ++ piece = whole-piece bytes piece left c.steps.used c.split_at.ensures.back in
-    (subst (Prints (printer c.feed.new.self c.steps.self.body)) whole (Prints-more c.steps.self front left c.feed.new.self p s (omega (arith, p.taken, c.in-More.ensures.room, length-append front left))), s.1)
+    (subst (Prints (printer c.feed.new.self c.steps.self.body)) whole (Prints-more c.steps.self front left c.feed.new.self p s (omega (arith, p.taken, c.in-More.ensures.room, length-append front left))), s.1, subst IsCut whole s.2)
 
 pub returns-in-More-clause-text : goal.returns-in-More-clause-text
 returns-in-More-clause-text g c = λ bytes h.

@@ -1,0 +1,63 @@
+-- The commands and their outcomes at known words and bytes.
+use Rattle.std.proofs.Common.{◌≡◌, ◌-◌, ℕ, List, [], ◌∷◌, ◌++◌, None, Some, length, replicate, refl}
+use Rattle.std.specs.Prelude.{codes, decimal}
+use Rattle.tally_base.specs.declared.slot.Slot.TheVariants.{Data}
+use Rattle.tally_base.specs.declared.header.RecordType.TheVariants.{HydraHarp2T3}
+use Rattle.tally_base.specs.declared.fault.Fault.TheVariants.{Usage, OpenFault, BadMagic, TruncatedHeader, TruncatedRecord}
+use Rattle.tally_base.specs.RecordTypes.{type_with}
+use Rattle.ptu_definitions.specs.TagFields.{name_in, index_in, code_in, value_in, has_body, is_known}
+use Rattle.ptu_definitions.specs.Endings.{walk, ending}
+use Rattle.ptu_definitions.specs.Fields.{value_under, found_in, header_of}
+use Rattle.ptu_definitions.specs.Headers.{header_answer}
+use Rattle.ptu_definitions.specs.Layouts.{hydra_t3}
+use Rattle.ptu_definitions.specs.Counted.{counted, records_of}
+use Rattle.ptu_definitions.specs.Seen.{seen_from, seen, seen_preamble}
+use Rattle.table_out.specs.HeaderText.{shown_text, header_text}
+use Rattle.ptu_cli.specs.CountText.{counts_text}
+use Rattle.ptu_cli.specs.Commands.{Count, Header, request_of}
+use Rattle.ptu_cli.specs.Outcomes.{outcome}
+
+abbrev known : List ℕ
+known =
+    codes "PQTTTR" ++ 0 ∷ 0 ∷ codes "1.0.00" ++ 0 ∷ 0 ∷ []
+    ++ codes "TTResultFormat_TTTRRecType" ++ replicate 6 0 ++ replicate 4 255 ++ 8 ∷ 0 ∷ 0 ∷ 16 ∷ 4 ∷ 3 ∷ 1 ∷ 1 ∷ replicate 4 0
+    ++ codes "Header_End" ++ replicate 22 0 ++ replicate 4 255 ++ 8 ∷ 0 ∷ 255 ∷ 255 ∷ replicate 8 0
+
+pub row-count : request_of (codes "count" ∷ codes "f" ∷ []) ≡ Some (Count (codes "f"))
+row-count = refl
+
+pub row-header : request_of (codes "header" ∷ [] ∷ []) ≡ Some (Header [])
+row-header = refl
+
+pub row-other : request_of (codes "Count" ∷ codes "f" ∷ []) ≡ None
+row-other = refl
+
+pub row-more : request_of (codes "count" ∷ codes "f" ∷ codes "g" ∷ []) ≡ None
+row-more = refl
+
+pub row-usage : outcome None None None ≡ record { text = []; fault = Some Usage }
+unfolding outcome
+row-usage = refl
+
+pub row-absent : outcome (Some (Count [])) None None ≡ record { text = []; fault = Some (OpenFault Data) }
+unfolding outcome
+row-absent = refl
+
+pub row-rest : outcome (Some (Count [])) None (Some (known ++ 1 ∷ 0 ∷ 0 ∷ 0 ∷ 9 ∷ 9 ∷ [])) ≡ record { text = []; fault = Some (TruncatedRecord 2) }
+unfolding outcome header_answer ending walk name_in code_in value_in has_body is_known value_under found_in header_of type_with counted records_of hydra_t3 counts_text
+row-rest = refl
+
+pub row-short : outcome (Some (Header [])) None (Some (codes "PQ")) ≡ record { text = []; fault = Some (TruncatedHeader 2) }
+unfolding outcome header_answer ending walk header_text shown_text seen seen_preamble
+row-short = refl
+
+pub row-magic : outcome (Some (Header [])) None (Some (codes "PQTTTS")) ≡ record { text = []; fault = Some BadMagic }
+unfolding outcome header_answer ending walk header_text shown_text seen seen_preamble
+row-magic = refl
+
+pub row-lines : outcome (Some (Count [])) None (Some (known ++ 1 ∷ 0 ∷ 0 ∷ 0 ∷ [])) ≡ record {
+  text = counts_text (record { record_type = HydraHarp2T3; count = None; global = None; resolution = None; version = codes "1.0.00" ++ 0 ∷ 0 ∷ [] }) (record { records = 1; photons = 1; markers = 0; wraps = 0; reserved = 0 });
+  fault = None;
+}
+unfolding outcome header_answer ending walk name_in code_in value_in has_body is_known value_under found_in header_of type_with counted records_of hydra_t3
+row-lines = refl
