@@ -8,3 +8,4 @@ pub mod ByStatus
 pub mod Asked
 pub mod Complete
 pub mod Rows
+pub mod BadWords

@@ -1,5 +1,5 @@
 -- A piece that is fed in two parts, and what the bytes taken call for.
-use Rattle.std.proofs.Common.{◌≡◌, ◌+◌, ◌≤◌, ℕ, List, [], ◌++◌, true, false, Ok, Err, length, arith, take, drop, refl, sym, ap, ◌∙◌, subst, inl, inr, append_assoc, take-append-drop}
+use Rattle.std.proofs.Common.{◌≡◌, ◌+◌, ◌≤◌, ℕ, List, [], ◌++◌, false, Ok, Err, length, arith, take, drop, refl, sym, ap, ◌∙◌, subst, inl, inr, append_assoc, take-append-drop}
 use Rattle.std.proofs.Math.Seq.{take-add}
 use Rattle.std.specs.Prelude.{nat_lt, nat_eq, ◌<◌, ◌↔◌, Result, IsErr}
 use Rattle.std.proofs.lemmas.Bool.{cases_Bool, cases_lt}

@@ -10,6 +10,8 @@ use crate::data::{count_data, print_data};
 use bench_io::{Inputs, Sink};
 use tally_base::{Failed, Fault, Slot};
 
+const OPEN_FAULT: Fault = Fault::OpenFault { slot: Slot::Data };
+
 /// Counts the records of a file by kind.
 #[tactic(auto, unfolding(crate::specs::Outcomes::outcome, crate::specs::Endings::HasCauses))]
 pub(crate) fn count<I: Inputs, O: Sink>(
@@ -32,7 +34,7 @@ pub(crate) fn count<I: Inputs, O: Sink>(
     ensures plan { (I.state inputs.new).asked Plan ≡ (I.state inputs.old).asked Plan }
 {
     match inputs.open(Slot::Data, file) {
-        Err(Failed) => return Err(Fault::OpenFault { slot: Slot::Data }),
+        Err(Failed) => return Err(OPEN_FAULT),
         Ok(()) => {}
     }
     let (header, counts) = count_data(inputs)?;
@@ -62,7 +64,7 @@ pub(crate) fn header<I: Inputs, O: Sink>(
     ensures plan { (I.state inputs.new).asked Plan ≡ (I.state inputs.old).asked Plan }
 {
     match inputs.open(Slot::Data, file) {
-        Err(Failed) => return Err(Fault::OpenFault { slot: Slot::Data }),
+        Err(Failed) => return Err(OPEN_FAULT),
         Ok(()) => {}
     }
     print_data(inputs, out)

@@ -1,5 +1,5 @@
 // The top call.
-ghost use Rattle.std.specs.Prelude.{◌≡◌, ◌≢◌, ◌≤◌, ◌<◌, false, Some, IfErr};
+ghost use Rattle.std.specs.Prelude.{◌≡◌, ◌≢◌, ◌≤◌, ◌<◌, false, None, Some, Err, IfErr};
 ghost use Rattle.std.specs.Io.KnownBytes.{Keeps, Appends};
 ghost use Rattle.std.specs.declared.option.Option.{Option};
 ghost use Rattle.tally_base.specs.declared.slot.Slot.{Slot};
@@ -35,6 +35,7 @@ fn obey<I: Inputs, O: Sink>(words: &[String], inputs: &mut I, out: &mut O) -> Re
       faults_after = O.faults out.new;
     })) }
     ensures plan { (I.state inputs.new).asked Plan ≡ false }
+    ensures usage { request_in words.now ≡ None → result ≡ Err Fault.Usage }
 {
     let Some(command) = read_words(words) else {
         return Err(Fault::Usage);
@@ -58,6 +59,9 @@ pub fn tell<E: Sink>(fault: &Fault, err: &mut E)
 /// Does all that the program does, and answers its exit status: 0, or that of the one fault whose line
 /// is written to `err`. The words are those behind the program's name.
 ///
+/// The statuses that come are 0 to 4, 10 to 17 and 20. The outcome of the words and the file, `outcome`,
+/// is their text and their fault by the definitions, after PicoQuant's unified TTTR format.
+///
 /// Nothing may have been asked of the inputs before, and the words FILE and PLAN of the command must be
 /// meant for their slots.
 pub fn ptu_main<I: Inputs, O: Sink, E: Sink>(
@@ -72,47 +76,62 @@ pub fn ptu_main<I: Inputs, O: Sink, E: Sink>(
 
     // Where nothing outside failed, the run ends as the words and the files call for.
     ensures answered { (plan_file data_file : File)
-        → Tells (I.state inputs.old) (request_in words.now) plan_file data_file → (2 ≤ result
-        → 5 < result) →
-        let end = outcome (request_in words.now) plan_file data_file in
-        (result ≡ status end.fault) × Appends (O.written out.old) (O.written out.new) end.text
-        × TellsFault (E.written err.old) (E.written err.new) (E.faults err.old)
-        (E.faults err.new) end.fault }
+        → Tells (I.state inputs.old) (request_in words.now) plan_file data_file
+        → (2 ≤ result → 5 < result)
+        → let end = outcome (request_in words.now) plan_file data_file in
+        (result ≡ status end.fault)
+        × Appends (O.written out.old) (O.written out.new) end.text
+        × TellsFault (E.written err.old) (E.written err.new)
+        (E.faults err.old) (E.faults err.new) end.fault }
 
     // Whatever the inputs tell, the status is 0 or that of one fault, and its line is told.
-    ensures told { (fault : Option Fault) × (result ≡ status fault)
-        × TellsFault (E.written err.old) (E.written err.new) (E.faults err.old)
-        (E.faults err.new) fault }
+    ensures told { (fault : Option Fault)
+        × (result ≡ status fault)
+        × TellsFault (E.written err.old) (E.written err.new)
+        (E.faults err.old) (E.faults err.new) fault }
+
+    // The command line is bad exactly where the words are no command.
+    ensures usage { request_in words.now ≡ None → result ≡ 1 }
+    ensures words { (plan_file data_file : File)
+        → Tells (I.state inputs.old) (request_in words.now) plan_file data_file
+        → result ≡ 1
+        → request_in words.now ≡ None }
 
     // An opening failed.
-    ensures unopened { result ≡ 2 → (slot : Slot) × Reaches (request_in words.now) slot
+    ensures unopened { result ≡ 2
+        → (slot : Slot)
+        × Reaches (request_in words.now) slot
         × Rose ((I.state inputs.old).open_faults slot) ((I.state inputs.new).open_faults slot)
         × Keeps (O.written out.old) (O.written out.new)
-        × TellsFault (E.written err.old) (E.written err.new) (E.faults err.old) (E.faults err.new)
-        (Some (OpenFault slot)) }
+        × TellsFault (E.written err.old) (E.written err.new)
+        (E.faults err.old) (E.faults err.new) (Some (OpenFault slot)) }
 
     // A read failed.
-    ensures unread { result ≡ 3 → (slot : Slot) × Reaches (request_in words.now) slot
+    ensures unread { result ≡ 3
+        → (slot : Slot)
+        × Reaches (request_in words.now) slot
         × Rose ((I.state inputs.old).read_faults slot) ((I.state inputs.new).read_faults slot)
         × LeavesUnread (request_in words.now) (I.state inputs.old) (I.state inputs.new)
         (O.written out.old) (O.written out.new)
-        × TellsFault (E.written err.old) (E.written err.new) (E.faults err.old) (E.faults err.new)
-        (Some (ReadFault slot)) }
+        × TellsFault (E.written err.old) (E.written err.new)
+        (E.faults err.old) (E.faults err.new) (Some (ReadFault slot)) }
 
     // A write failed.
-    ensures unwritten { result ≡ 4 → Rose (O.faults out.old) (O.faults out.new)
+    ensures unwritten { result ≡ 4
+        → Rose (O.faults out.old) (O.faults out.new)
         × ((plan_file data_file : File)
         → Tells (I.state inputs.old) (request_in words.now) plan_file data_file
         → CutsShort (request_in words.now) (outcome (request_in words.now) plan_file data_file)
         (O.written out.old) (O.written out.new))
-        × TellsFault (E.written err.old) (E.written err.new) (E.faults err.old) (E.faults err.new)
-        (Some WriteFault) }
+        × TellsFault (E.written err.old) (E.written err.new)
+        (E.faults err.old) (E.faults err.new) (Some WriteFault) }
 
     ensures memory { result ≢ 5 }
     ensures quiet { result ≡ 0 → Keeps (E.written err.old) (E.written err.new) }
     ensures plan { (I.state inputs.new).asked Plan ≡ false }
 
-    // Where no count of the inputs and of `out` rose, the run ends as the words and the files call for, and well where they are good.
+    // Where no count of the inputs and of `out` rose, the run ends as the words and the files call
+    // for, and well where they are good.
     ensures complete { (plan_file data_file : File)
         → Tells (I.state inputs.old) (request_in words.now) plan_file data_file
         → NoneRose (I.state inputs.old) (I.state inputs.new)

@@ -2,6 +2,7 @@ use Rattle.std.proofs.Common.{Some, sym, ap, ◌∙◌}
 use Rattle.ptu_cli.specs.Endings.{HasCauses}
 use Rattle.ptu_cli.specs.Outcomes.{status}
 use Rattle.ptu_cli.proofs.Complete.{good-ends, inside-ends}
+use Rattle.ptu_cli.proofs.BadWords.{bad-words}
 use Rattle.ptu_cli.proofs.Asked.{tells_as}
 use Rattle.ptu_cli.proofs.ByStatus.{opening-from_status, reading-from_status, writing-from_status, memory-from_status}
 use Rattle.ptu_cli.proofs.top.ptu_main.Goals as goal
@@ -39,3 +40,7 @@ pub returns-in-Err-clause-good : goal.returns-in-Err-clause-good
 returns-in-Err-clause-good g c = λ plan_file data_file tells good none quiet.
     c.status.ensures ∙ inside-ends _ _ c.in-Err.fault plan_file data_file none quiet c.in-Err.ensures.causes (c.in-Err.ensures.answer plan_file data_file tells)
     ∙ ap status (good-ends _ plan_file data_file good)
+
+pub returns-in-Err-clause-words : goal.returns-in-Err-clause-words
+returns-in-Err-clause-words g c = λ plan_file data_file tells one.
+    bad-words _ c.in-Err.fault plan_file data_file _ _ (c.in-Err.ensures.answer plan_file data_file tells) (sym c.status.ensures ∙ one)

@@ -1,0 +1,105 @@
+-- Only words that are no command end as a bad command line.
+use Rattle.std.proofs.Common.{◌≡◌, ℕ, List, Bool, true, false, None, Some, Ok, Err, refl, ap, sym, ◌∙◌, arith, inl, inr}
+use Rattle.std.specs.Prelude.{◌≢◌, ◌⊎◌, ◌==◌, Result, length, nat_lt, if◌then◌else◌}
+use Rattle.std.specs.declared.option.Option.{Option}
+use Rattle.tally_base.specs.declared.fault.Fault.{Fault}
+use Rattle.tally_base.specs.declared.fault.Fault.TheVariants.{Usage, OpenFault, ReadFault, WriteFault, OutOfMemory, HeaderLimit, TruncatedHeader, RecordLimit, TruncatedRecord}
+use Rattle.tally_base.specs.declared.header.Header.{Header}
+use Rattle.tally_base.specs.declared.header.RecordType.{RecordType}
+use Rattle.tally_base.specs.Faults.{is_outside, status_of}
+use Rattle.bench_io.specs.Inputs.{File}
+use Rattle.ptu_definitions.specs.declared.found.Found.{Found}
+use Rattle.ptu_definitions.specs.declared.records.KindCounts.{KindCounts}
+use Rattle.ptu_definitions.specs.Words.{words_of, rest_of}
+use Rattle.ptu_definitions.specs.Kinds.{counts_of}
+use Rattle.ptu_definitions.specs.Counted.{counted, records_of, record_limit}
+use Rattle.ptu_definitions.specs.Endings.{Ending, OtherFile, BadType, BadLength, Whole, Open, ending}
+use Rattle.ptu_definitions.specs.Fields.{found_in, header_of, version_in, with_type, with_value}
+use Rattle.ptu_definitions.specs.Headers.{header_answer, head_of, answer_as, with_rest, header_limit}
+use Rattle.ptu_cli.specs.Commands.{Request, Count, Header as HeaderOf}
+use Rattle.ptu_cli.specs.Outcomes.{outcome, status, with_counts, counts_behind, count_outcome, file_counts, header_fault}
+use Rattle.ptu_cli.specs.Endings.{EndsWith}
+
+-- A refusal is not that of a bad command line.
+abbrev IsOfBytes : {A : Type 0} → Result A Fault → Type 0
+IsOfBytes (Ok value) = Unit {0}
+IsOfBytes (Err fault) = status_of fault ≢ 1
+
+with_rest-bytes : (rest : List ℕ) (r : Result Header Fault) → IsOfBytes r → IsOfBytes (with_rest rest r)
+with_rest-bytes rest (Ok header) h = tt
+with_rest-bytes rest (Err fault) h = h
+
+with_type-bytes : (version : List ℕ) (found : Found) (value : ℕ) (record_type : Option RecordType) → IsOfBytes (with_type version found value record_type)
+with_type-bytes version found value None = λ e. omega arith
+with_type-bytes version found value (Some record_type) = tt
+
+with_value-bytes : (version : List ℕ) (found : Found) (value : Option ℕ) → IsOfBytes (with_value version found value)
+with_value-bytes version found None = λ e. omega arith
+with_value-bytes version found (Some value) = with_type-bytes version found value _
+
+header_of-bytes : (version : List ℕ) (found : Found) → IsOfBytes (header_of version found)
+unfolding header_of
+header_of-bytes version found = with_value-bytes version found found.record_type
+
+unfinished-bytes : (whole : Bool) (size : ℕ) → status_of (if whole then HeaderLimit else TruncatedHeader size) ≢ 1
+unfinished-bytes true size = λ e. omega arith
+unfinished-bytes false size = λ e. omega arith
+
+answer_as-bytes : (file : List ℕ) (end : Ending) → IsOfBytes (answer_as file end)
+answer_as-bytes file OtherFile = λ e. omega arith
+answer_as-bytes file (BadType number code) = λ e. omega arith
+answer_as-bytes file (BadLength number value) = λ e. omega arith
+answer_as-bytes file (Whole items) = with_rest-bytes _ (header_of (version_in file) (found_in items)) (header_of-bytes (version_in file) (found_in items))
+answer_as-bytes file Open = unfinished-bytes (length (head_of file) == header_limit) (length (head_of file))
+
+header_answer-bytes : (file : List ℕ) → IsOfBytes (header_answer file)
+unfolding header_answer
+header_answer-bytes file = answer_as-bytes file (ending (head_of file))
+
+counted-cases : (many whole : Bool) (counts : KindCounts) (left : ℕ) → IsOfBytes (if many then Err (RecordLimit record_limit) else if whole then Ok counts else Err (TruncatedRecord left))
+counted-cases true whole counts left = λ e. omega arith
+counted-cases false true counts left = tt
+counted-cases false false counts left = λ e. omega arith
+
+counted-bytes : (record_type : RecordType) (bytes : List ℕ) → IsOfBytes (counted record_type bytes)
+unfolding counted
+counted-bytes record_type bytes =
+    counted-cases (nat_lt record_limit (length (words_of bytes))) (length (rest_of bytes) == 0) (counts_of (records_of record_type bytes)) (length (rest_of bytes))
+
+with_counts-bytes : (header : Header) (r : Result KindCounts Fault) → IsOfBytes r → IsOfBytes (with_counts header r)
+with_counts-bytes header (Ok counts) h = tt
+with_counts-bytes header (Err fault) h = h
+
+counts_behind-bytes : (r : Result (Header × List ℕ) Fault) → IsOfBytes r → IsOfBytes (counts_behind r)
+counts_behind-bytes (Ok found) h = with_counts-bytes found.0 (counted found.0.record_type found.1) (counted-bytes found.0.record_type found.1)
+counts_behind-bytes (Err fault) h = h
+
+count_outcome-bytes : (r : Result (Header × KindCounts) Fault) → IsOfBytes r → status (count_outcome r).fault ≢ 1
+count_outcome-bytes (Ok found) h = λ e. omega arith
+count_outcome-bytes (Err fault) h = h
+
+header_fault-bytes : (r : Result (Header × List ℕ) Fault) → IsOfBytes r → status (header_fault r) ≢ 1
+header_fault-bytes (Ok found) h = λ e. omega arith
+header_fault-bytes (Err fault) h = h
+
+outcome-words : (request : Option Request) (plan_file data_file : File) → status (outcome request plan_file data_file).fault ≡ 1 → request ≡ None
+unfolding outcome
+outcome-words None plan_file data_file e = refl
+outcome-words (Some (Count name)) plan_file None e = absurd (omega arith)
+outcome-words (Some (Count name)) plan_file (Some bytes) e = absurd (count_outcome-bytes (file_counts bytes) (counts_behind-bytes (header_answer bytes) (header_answer-bytes bytes)) e)
+outcome-words (Some (HeaderOf name)) plan_file None e = absurd (omega arith)
+outcome-words (Some (HeaderOf name)) plan_file (Some bytes) e = absurd (header_fault-bytes (header_answer bytes) (header_answer-bytes bytes) e)
+
+outside-status : (fault : Fault) → is_outside fault ≡ true → status_of fault ≢ 1
+outside-status Usage e = cc
+outside-status (OpenFault slot) e = λ one. omega arith
+outside-status (ReadFault slot) e = λ one. omega arith
+outside-status WriteFault e = λ one. omega arith
+outside-status OutOfMemory e = λ one. omega arith
+outside-status _ e = cc
+
+-- A run that ends so had words that are no command.
+pub bad-words : (request : Option Request) (fault : Fault) (plan_file data_file : File) (old new : Option (List ℕ))
+    → ((is_outside fault ≡ true) ⊎ EndsWith (outcome request plan_file data_file) (Some fault) old new) → status_of fault ≡ 1 → request ≡ None
+bad-words request fault plan_file data_file old new (inl outside) one = absurd (outside-status fault outside one)
+bad-words request fault plan_file data_file old new (inr ends) one = outcome-words request plan_file data_file (sym (ap status ends.same) ∙ one)
