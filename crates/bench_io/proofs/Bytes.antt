@@ -1,7 +1,7 @@
 -- Bytes that a sink holds or that are left to read, over several calls.
-use Rattle.std.proofs.Common.{◌≡◌, ◌<◌, ℕ, List, [], ◌++◌, None, Some, refl, sym, ap, subst, ◌∙◌, arith, append_assoc, append-nil, length, length-append}
+use Rattle.std.proofs.Common.{◌≡◌, ℕ, List, [], ◌++◌, None, Some, refl, sym, ap, subst, ◌∙◌, arith, append_assoc, append-nil, length-append}
 use Rattle.std.specs.declared.option.Option.{Option}
-use Rattle.std.specs.Io.KnownBytes.{Keeps, Appends, Consumes, IsAtEnd}
+use Rattle.std.specs.Io.KnownBytes.{Keeps, Appends, Consumes}
 use Rattle.bench_io.specs.Sinks.{AppendsShort, PassesOn}
 
 pub Appends-nil : (a : Option (List ℕ)) → Appends a a []
@@ -19,12 +19,6 @@ Appends-kept None b c bs p q = tt
 Appends-kept (Some x) None c bs p q = absurd p
 Appends-kept (Some x) (Some y) None bs p q = absurd q
 Appends-kept (Some x) (Some y) (Some z) bs p q = q ∙ p
-
--- what stays grows by nothing, and the other way round
-pub Appends-from_kept : (a b : Option (List ℕ)) → Keeps a b → Appends a b []
-Appends-from_kept None b p = tt
-Appends-from_kept (Some x) None p = absurd p
-Appends-from_kept (Some x) (Some y) p = p ∙ sym (append-nil x)
 
 pub Keeps-from_none : (a b : Option (List ℕ)) → Appends a b [] → Keeps a b
 Keeps-from_none None b p = tt
@@ -53,13 +47,6 @@ AppendsShort-more a b bs more p = (
   ap (λ l. l ++ more) p.3 ∙ append_assoc p.0 p.1 more,
   p.4,
 )
-
--- a text is a short prefix of each longer one
-pub AppendsShort-cut : (a b : Option (List ℕ)) (bs more : List ℕ) → 0 < length more → Appends a b bs → AppendsShort a b (bs ++ more)
-AppendsShort-cut a b bs more some p = (bs, more, some, refl, p)
-
-pub AppendsShort-kept : (a b c : Option (List ℕ)) (bs : List ℕ) → AppendsShort a b bs → Keeps b c → AppendsShort a c bs
-AppendsShort-kept a b c bs p q = (p.0, p.1, p.2, p.3, Appends-kept a b c p.0 p.4 q)
 
 pub AppendsShort-same : (a b : Option (List ℕ)) (bs cs : List ℕ) → bs ≡ cs → AppendsShort a b bs → AppendsShort a b cs
 AppendsShort-same a b bs cs same p = (p.0, p.1, p.2, sym same ∙ p.3, p.4)
@@ -104,11 +91,3 @@ Consumes-kept None b c bs p q = tt
 Consumes-kept (Some x) None c bs p q = absurd p
 Consumes-kept (Some x) (Some y) None bs p q = absurd q
 Consumes-kept (Some x) (Some y) (Some z) bs p q = p ∙ ap (λ l. bs ++ l) (sym q)
-
--- what was taken up to the end is all of it
-pub Consumes-all : (xs : List ℕ) (a b : Option (List ℕ)) (bs : List ℕ) → a ≡ Some xs → Consumes a b bs → IsAtEnd b → xs ≡ bs
-Consumes-all xs None b bs e p q = cc
-Consumes-all xs (Some x) None bs e p q = absurd p
-Consumes-all xs (Some x) (Some y) bs e p q =
-    let same : xs ≡ x = cc in
-    same ∙ p ∙ ap (λ l. bs ++ l) q ∙ append-nil bs

@@ -14,6 +14,3 @@ greater_below_last before now below rose = omega arith
 -- what rose in one of several calls rose in all of them together
 pub Rose-behind : (before mid now : ℕ) → before ≤ mid → Rose mid now → Rose before now
 Rose-behind before mid now later rose = omega arith
-
-pub Rose-kept : (before mid now : ℕ) → Rose before mid → mid ≤ now → Rose before now
-Rose-kept before mid now rose later = omega arith

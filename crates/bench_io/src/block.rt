@@ -30,6 +30,7 @@ impl Model for Block {
 }
 
 impl Block {
+    /// A block that holds no byte.
     pub fn new() -> Block
         ensures { result ≡ [] }
     {

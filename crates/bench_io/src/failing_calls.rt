@@ -1,5 +1,5 @@
 // Calls that are numbered, some of which fail.
-ghost use Rattle.std.specs.Prelude.{◌≡◌, [], IsTrue, ◌↔◌};
+ghost use Rattle.std.specs.Prelude.{◌≡◌, IsTrue, ◌↔◌};
 ghost use Rattle.bench_io.specs.Counts.{one_more, FailsNext};
 
 /// Calls are numbered from 1, and those whose number is in the list fail.

@@ -32,8 +32,8 @@ pub trait Inputs {
         ensures keeps { Keeps (state self.old) (state self.new) }
         ensures keeps_other { KeepsOther slot (state self.old) (state self.new) };
 
-    /// Reads the next bytes of a slot into the front of a buffer, and says how many. None for a
-    /// buffer that is not empty is the end.
+    /// Reads the next bytes of a slot into the front of a buffer, and says how many. 0 for a buffer
+    /// that is not empty is the end.
     fn read(&mut self, slot: Slot, into: &mut [u8]) -> Result<usize, Failed>
         requires { (state self.old).opened slot ≡ true }
 

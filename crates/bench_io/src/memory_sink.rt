@@ -1,5 +1,5 @@
 // A sink in memory, with a fixed room.
-ghost use Rattle.std.specs.Prelude.{◌≡◌, ◌+◌, ◌-◌, ◌<◌, ◌≤◌, ◌↔◌, [], length, min, vec_len, vec_capacity, Some, IsOk, IfOk};
+ghost use Rattle.std.specs.Prelude.{◌≡◌, ◌-◌, ◌<◌, ◌≤◌, ◌↔◌, [], length, min, vec_len, vec_capacity, Some, IsOk, IfOk};
 ghost use Rattle.std.specs.Io.{WritesAtMost};
 ghost use Rattle.std.specs.Io.KnownBytes.{WriteAppends};
 ghost use Rattle.bench_io.specs.Counts.{HasCause, CountsFailure};

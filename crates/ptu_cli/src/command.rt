@@ -2,7 +2,6 @@
 ghost use Rattle.std.specs.Prelude.{◌≡◌, true, false, Some, IfErr};
 ghost use Rattle.tally_base.specs.declared.slot.Slot.TheVariants.{Plan, Data};
 ghost use Rattle.ptu_cli.specs.Commands.{Count, Header};
-ghost use Rattle.ptu_cli.specs.Outcomes.{outcome};
 ghost use Rattle.ptu_cli.specs.Endings.{Answers, HasCauses};
 
 use crate::counts::write_counts;

@@ -1,5 +1,5 @@
 // Feeds whole pieces to a header reader.
-ghost use Rattle.std.specs.Prelude.{◌≡◌, ◌≤◌, ◌^◌, List, ℕ};
+ghost use Rattle.std.specs.Prelude.{◌≤◌, ◌^◌, List, ℕ};
 ghost use Rattle.ptu_header.specs.Reading.{HasRead, bytes_taken};
 ghost use Rattle.ptu_cli.specs.HeaderPieces.{Ends, TakesPiece, RefusesInside};
 

@@ -1,5 +1,5 @@
 // A reader that carries at most one tag, and the number of body bytes still to come.
-ghost use Rattle.std.specs.Prelude.{◌≡◌, ◌+◌, ◌*◌, ◌^◌, ◌<◌, ◌≤◌, ◌++◌, ◌↔◌, [], IsTrue, List, ℕ, length, true, false, Some, Err, IfErr, ◌≢◌, take, codes};
+ghost use Rattle.std.specs.Prelude.{◌≡◌, ◌+◌, ◌*◌, ◌^◌, ◌≤◌, ◌↔◌, [], IsTrue, List, ℕ, length, true, false, Err, take, codes};
 ghost use Rattle.arrayvec.specs.ArrayVec.{array_vec_len};
 ghost use Rattle.ptu_definitions.specs.Endings.{IsOtherFile};
 ghost use Rattle.ptu_definitions.specs.TagFields.{code_in, body_size};
@@ -23,10 +23,15 @@ pub const HEADER_LIMIT: u64 = 1 << 24;
 /// What comes next.
 #[derive(Clone, Copy, Debug)]
 pub enum Phase {
+    /// The 16 bytes of magic and version.
     Preamble,
+    /// The 48 bytes of a tag.
     Tag,
+    /// So many bytes of the body of the tag, which may be `Header_End`.
     Body { left: u64, last: bool },
+    /// Nothing: the header is whole.
     End,
+    /// Nothing: the header is refused.
     Refused { fault: Fault },
 }
 

@@ -1,7 +1,6 @@
 // The parts of one tag.
-ghost use Rattle.std.specs.Prelude.{◌≡◌, ◌+◌, ◌<◌, List, ℕ};
-ghost use Rattle.std.specs.Int.{w32, cast_unsigned};
-ghost use Rattle.ptu_definitions.specs.TagFields.{ident_in, index_in, code_in, value_in, name_of};
+ghost use Rattle.std.specs.Prelude.{◌≡◌};
+ghost use Rattle.ptu_definitions.specs.TagFields.{name_of};
 ghost use Rattle.ptu_tag.specs.Kinds.{IsHead};
 
 use byteorder::{ByteOrder, LittleEndian};

@@ -1,5 +1,5 @@
 // The types of tags.
-ghost use Rattle.std.specs.Prelude.{◌≡◌, IfSome, IsSome, IsTrue, ◌↔◌, true, false};
+ghost use Rattle.std.specs.Prelude.{◌≡◌, IfSome, IsSome, ◌↔◌, true};
 ghost use Rattle.ptu_definitions.specs.TagFields.{is_known, has_body};
 ghost use Rattle.ptu_tag.specs.Kinds.{code_of};
 
@@ -32,8 +32,8 @@ pub enum TagKind {
 }
 
 impl TagKind {
-    #[tactic(auto, unfolding(ptu_definitions::specs::TagFields::is_known, ptu_definitions::specs::TagFields::has_body))]
     /// The type of a code. None exactly for a code that is no type's.
+    #[tactic(auto, unfolding(ptu_definitions::specs::TagFields::is_known, ptu_definitions::specs::TagFields::has_body))]
     pub fn of(code: u32) -> Option<TagKind>
         ensures known { IsSome result ↔ (is_known code ≡ true) }
         ensures code { IfSome result (λ kind. code_of kind ≡ code) }
@@ -54,8 +54,8 @@ impl TagKind {
         }
     }
 
-    #[tactic(auto, unfolding(ptu_definitions::specs::TagFields::has_body))]
     /// Whether a body follows the tag. Its value is the body's length then.
+    #[tactic(auto, unfolding(ptu_definitions::specs::TagFields::has_body))]
     pub fn has_body(&self) -> bool
         ensures { result ≡ has_body (code_of self.now) }
     {

@@ -1,5 +1,5 @@
 // Counts the records of bytes that come in pieces.
-ghost use Rattle.std.specs.Prelude.{◌≡◌, ◌+◌, ◌*◌, ◌<◌, ◌≤◌, ◌++◌, ◌↔◌, ◌^◌, [], List, ℕ, length, true, false, IsErr, IfErr, Err, OnOk, OnErr};
+ghost use Rattle.std.specs.Prelude.{◌≡◌, ◌+◌, ◌<◌, ◌≤◌, ◌++◌, ◌↔◌, ◌^◌, [], List, ℕ, length, true, false, IsErr, IfErr, Err, OnOk, OnErr};
 ghost use Rattle.arrayvec.specs.ArrayVec.{array_vec_len};
 ghost use Rattle.tally_base.specs.declared.header.RecordType.{RecordType};
 ghost use Rattle.record_layout.specs.Sums.{IsSplit};

@@ -1,8 +1,8 @@
 // The line of a tag, up to its body.
-ghost use Rattle.std.specs.Prelude.{◌≡◌, ◌+◌, ◌*◌, ◌≤◌, ◌++◌, length};
+ghost use Rattle.std.specs.Prelude.{◌≡◌, ◌+◌, ◌≤◌, ◌++◌, length};
 ghost use Rattle.std.specs.List.{flat_map};
 ghost use Rattle.arrayvec.specs.ArrayVec.{array_vec_len};
-ghost use Rattle.table_out.specs.HeaderText.{head_text, name_text, type_name, value_text, shown_byte};
+ghost use Rattle.table_out.specs.HeaderText.{head_text, type_name, value_text, shown_byte};
 
 use arrayvec::ArrayVec;
 use ptu_tag::{TagHead, TagKind};

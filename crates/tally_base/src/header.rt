@@ -29,9 +29,9 @@ pub enum RecordType {
 }
 
 impl RecordType {
-    #[tactic(auto, unfolding(crate::specs::RecordTypes::type_with))]
     /// The record type of a value of the tag `TTResultFormat_TTTRRecType`. None exactly for values
     /// that are no record type's.
+    #[tactic(auto, unfolding(crate::specs::RecordTypes::type_with))]
     pub fn of(value: i64) -> Option<RecordType>
         ensures { result ≡ type_of value }
     {
