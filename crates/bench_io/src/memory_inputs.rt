@@ -30,7 +30,7 @@ impl MemoryInputs {
     ///
     /// The calls of `open` and `read` are numbered from 1, and those in `failing` fail. The reads
     /// alone go by the entries of `pieces`, taken round and round, and give at most so many bytes.
-    /// An entry 0 counts as 1, and an empty list sets no limit.
+    /// 0 is taken as 1, and with no entry a read is not limited.
     pub fn new(files: Vec<MemoryFile>, pieces: Vec<usize>, failing: Vec<u64>) -> MemoryInputs
         ensures fresh { IsFresh files.items (⟦<MemoryInputs as Inputs>⟧.state result) }
         ensures state { memory_state result ≡ record {

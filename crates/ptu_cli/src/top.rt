@@ -59,11 +59,12 @@ pub fn tell<E: Sink>(fault: &Fault, err: &mut E)
 /// Does all that the program does, and answers its exit status: 0, or that of the one fault whose line
 /// is written to `err`. The words are those behind the program's name.
 ///
-/// The statuses that come are 0 to 4, 10 to 17 and 20. The outcome of the words and the file, `outcome`,
-/// is their text and their fault by the definitions, after PicoQuant's unified TTTR format.
+/// For inputs that tell the file, the statuses are 0 to 4, 10 to 17 and 20. The outcome of the words and
+/// the file, `outcome`, is their text and their fault by the definitions, after PicoQuant's unified TTTR
+/// format.
 ///
-/// Nothing may have been asked of the inputs before, and the words FILE and PLAN of the command must be
-/// meant for their slots.
+/// Nothing may have been asked of the inputs before, and the word FILE of the command must be meant for
+/// the slot Data.
 pub fn ptu_main<I: Inputs, O: Sink, E: Sink>(
     alloc: Global,
     words: &[String],

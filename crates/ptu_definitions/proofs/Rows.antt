@@ -120,7 +120,7 @@ alone ident code value = numbered ident 0xFFFFFFFF code value
 abbrev guid : List ℕ
 guid = codes "{00000000-0000-0000-0000-000000000001}" ++ 0 ∷ 0 ∷ []
 
--- the header of a file as an instrument writes it
+-- a longer header, with tags such as instruments write
 abbrev bench_header : List ℕ
 bench_header =
     start_bytes

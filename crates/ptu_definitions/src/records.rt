@@ -1,11 +1,13 @@
 /// What one record says. Times count ticks in T2 and sync periods in T3.
 #[derive(Clone, Copy, Debug, PartialEq, Eq)]
 pub enum Raw {
-    /// A photon of an input channel. `dtime` counts ticks after its sync, and is 0 in T2.
+    /// A photon of an input, 0 to 64. `time` is below 2^28. `dtime` counts ticks after its sync, at
+    /// most 32,767, and is 0 in T2.
     Photon { input: u8, time: u32, dtime: u16 },
     /// A marker of one to four bits, so `bits` is 1 to 15.
     Marker { bits: u8, time: u32 },
-    /// The clock has wrapped: later times are greater by this amount.
+    /// The time field ran over: later times are greater by this amount, in ticks in T2 and in sync
+    /// periods in T3.
     Wrap { amount: u64 },
     /// A record that has no meaning.
     Reserved,
@@ -14,9 +16,14 @@ pub enum Raw {
 /// How many records there are, and of each kind.
 #[derive(Clone, Copy, Debug, PartialEq, Eq)]
 pub struct KindCounts {
+    /// All records.
     pub records: u64,
+    /// Photons.
     pub photons: u64,
+    /// Markers.
     pub markers: u64,
+    /// Wraps of the time field.
     pub wraps: u64,
+    /// Records that have no meaning.
     pub reserved: u64,
 }

@@ -1,5 +1,5 @@
 //! Reads the header of a PTU file (PicoQuant's unified TTTR format) that comes in pieces of any
-//! length. It keeps at most 48 bytes of the file.
+//! length. Of bytes that are not judged yet it keeps at most 48.
 #![tactic(auto)]
 
 mod fields;

@@ -2,8 +2,8 @@
 use ptu_tag::{TagHead, TagKind};
 use tally_base::{Fault, Header};
 
-/// One step through a header. Every step but More and Refused took the first `used` bytes of the
-/// piece, and the caller feeds the rest of it next, which may be empty.
+/// One step through a header. But for More and Refused, a step took `used` bytes from the front of the
+/// piece. The caller feeds what is behind them next, which may be nothing.
 #[derive(Clone, Copy, Debug)]
 pub enum HeaderStep {
     /// Took the whole piece, and completed neither the preamble nor a tag. The header goes on.

@@ -54,8 +54,8 @@ impl Counter {
         }
     }
 
-    /// Takes the next piece of the bytes. Refuses where there are more than 2^40 whole records, and
-    /// from then on every piece.
+    /// Takes the next piece of the bytes. Refuses (`RecordLimit`) where there are more than 2^40 whole
+    /// records, and from then on every piece.
     pub fn feed(&mut self, piece: &[u8]) -> Result<(), Fault>
         ensures taken { (record_type : RecordType) (bytes : List ℕ)
             → HasCounted self.old record_type bytes
@@ -143,8 +143,8 @@ impl Counter {
         put_text(&mut self.carried, rest);
     }
 
-    /// The counts of all bytes. Refuses bytes that end within a record, and answers again what a
-    /// piece was refused for.
+    /// The counts of all bytes. Refuses bytes that end within a record (`TruncatedRecord`), and answers
+    /// again what a piece was refused for.
     pub fn finish(self) -> Result<KindCounts, Fault>
         ensures answer { (record_type : RecordType) (bytes : List ℕ)
             → HasCounted self record_type bytes

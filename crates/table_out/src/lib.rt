@@ -1,4 +1,4 @@
-//! What the program prints of tags, events and tables.
+//! What the program prints of a header: its first lines, its tags and their bodies.
 #![tactic(auto)]
 
 mod body;

@@ -9,7 +9,7 @@ use crate::part::PartKind;
 use crate::slot::Slot;
 use arrayvec::ArrayVec;
 
-/// Why a run ends with a status other than 0.
+/// Why a run ends with a status other than 0. Tags and records are numbered from 1.
 #[derive(Clone, Copy, Debug, PartialEq, Eq)]
 pub enum Fault {
     /// The words are no command.

@@ -117,6 +117,7 @@ impl RecordType {
 /// What the program takes from the header of a file.
 #[derive(Clone, Copy, Debug, PartialEq, Eq)]
 pub struct Header {
+    /// How the words of its records are laid out (`TTResultFormat_TTTRRecType`).
     pub record_type: RecordType,
     /// The number of records that the header announces (`TTResult_NumberOfRecords`). It may differ from
     /// the number of records in the file.
