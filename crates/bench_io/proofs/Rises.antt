@@ -1,6 +1,6 @@
 -- A count rose where it is greater than before, or stands at the last value of a counter of 64 bits.
 use Rattle.std.proofs.Common.{ℕ, ◌≡◌, ◌-◌, ◌^◌, ◌<◌, ◌≤◌, arith}
-use Rattle.bench_io.specs.Counts.{Rose}
+use Rattle.tally_base.specs.Counts.{Rose}
 
 pub Rose-greater : (before now : ℕ) → before < now → Rose before now
 Rose-greater before now more = omega arith

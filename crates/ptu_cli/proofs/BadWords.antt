@@ -1,9 +1,9 @@
 -- Only words that are no command end as a bad command line.
-use Rattle.std.proofs.Common.{◌≡◌, ℕ, List, Bool, true, false, None, Some, Ok, Err, refl, ap, sym, ◌∙◌, arith, inl, inr}
-use Rattle.std.specs.Prelude.{◌≢◌, ◌⊎◌, ◌==◌, Result, length, nat_lt, if◌then◌else◌}
+use Rattle.std.proofs.Common.{◌≡◌, ℕ, ◌+◌, List, [], ◌∷◌, ◌++◌, subst, Bool, true, false, None, Some, Ok, Err, refl, ap, sym, ◌∙◌, arith, inl, inr}
+use Rattle.std.specs.Prelude.{◌≢◌, ◌⊎◌, ◌==◌, ◌&&◌, map, Result, length, nat_lt, nat_le, if◌then◌else◌}
 use Rattle.std.specs.declared.option.Option.{Option}
 use Rattle.tally_base.specs.declared.fault.Fault.{Fault}
-use Rattle.tally_base.specs.declared.fault.Fault.TheVariants.{Usage, OpenFault, ReadFault, WriteFault, OutOfMemory, HeaderLimit, TruncatedHeader, RecordLimit, TruncatedRecord}
+use Rattle.tally_base.specs.declared.fault.Fault.TheVariants.{Usage, OpenFault, ReadFault, WriteFault, OutOfMemory, HeaderLimit, TruncatedHeader, RecordLimit, TruncatedRecord, ReservedRecord, TimeLimit, BackwardTime}
 use Rattle.tally_base.specs.declared.header.Header.{Header}
 use Rattle.tally_base.specs.declared.header.RecordType.{RecordType}
 use Rattle.tally_base.specs.Faults.{is_outside, status_of}
@@ -16,8 +16,18 @@ use Rattle.ptu_definitions.specs.Counted.{counted, records_of, record_limit}
 use Rattle.ptu_definitions.specs.Endings.{Ending, OtherFile, BadType, BadLength, Whole, Open, ending}
 use Rattle.ptu_definitions.specs.Fields.{found_in, header_of, version_in, with_type, with_value}
 use Rattle.ptu_definitions.specs.Headers.{header_answer, head_of, answer_as, with_rest, header_limit}
-use Rattle.ptu_cli.specs.Commands.{Request, Count, Header as HeaderOf}
-use Rattle.ptu_cli.specs.Outcomes.{outcome, status, with_counts, counts_behind, count_outcome, file_counts, header_fault}
+use Rattle.ptu_cli.specs.Commands.{Request, Count, Header as HeaderOf, Events as EventsOf}
+use Rattle.tally_base.specs.declared.event.Event.{Event}
+use Rattle.tally_base.specs.declared.header.Mode.{Mode}
+use Rattle.tally_base.specs.Events.{stops_late, stops_reserved}
+use Rattle.ptu_definitions.specs.declared.records.Summary.{Summary}
+use Rattle.ptu_definitions.specs.Kinds.{is_reserved}
+use Rattle.ptu_definitions.specs.Times.{events, event_after, passes}
+use Rattle.ptu_definitions.specs.Kept.{is_late, greatest}
+use Rattle.ptu_definitions.specs.Streams.{Reading, late_refusal, refusal, record_refusal, or_refusal, summary, streamed}
+use Rattle.ptu_definitions.proofs.Firsts.{first-refusal}
+use Rattle.record_stream.specs.Standing.{fault_in}
+use Rattle.ptu_cli.specs.Outcomes.{outcome, status, with_counts, counts_behind, count_outcome, file_counts, header_fault, listing, events_behind}
 use Rattle.ptu_cli.specs.Endings.{EndsWith}
 
 -- A refusal is not that of a bad command line.
@@ -82,6 +92,49 @@ header_fault-bytes : (r : Result (Header × List ℕ) Fault) → IsOfBytes r →
 header_fault-bytes (Ok found) h = λ e. omega arith
 header_fault-bytes (Err fault) h = h
 
+-- A refusal of a record is not that of a bad command line.
+abbrev NotWords : Option Fault → Type 0
+NotWords o = status o ≢ 1
+
+late-bytes : (b : Bool) (place time before : ℕ) → NotWords (if b then Some (BackwardTime place time before) else None)
+late-bytes true place time before = λ e. omega arith
+late-bytes false place time before = λ e. omega arith
+
+late_refusal-bytes : (mode : Mode) (before es : List Event) → NotWords (late_refusal mode before es)
+late_refusal-bytes mode before [] = λ e. omega arith
+late_refusal-bytes mode before (e ∷ es) = late-bytes (is_late mode before e) e.place e.time (greatest mode before)
+
+causes-bytes : (full reserved passing stops : Bool) (limit place word : ℕ) (late : Option Fault) → NotWords late
+    → NotWords (if full then Some (RecordLimit limit) else if reserved then Some (ReservedRecord place word) else if passing then Some (TimeLimit place) else if stops then late else None)
+causes-bytes true reserved passing stops limit place word late h = λ e. omega arith
+causes-bytes false true passing stops limit place word late h = λ e. omega arith
+causes-bytes false false true stops limit place word late h = λ e. omega arith
+causes-bytes false false false true limit place word late h = h
+causes-bytes false false false false limit place word late h = λ e. omega arith
+
+refusal-bytes : (how : Reading) (before : List ℕ) (word : ℕ) → NotWords (refusal how before word)
+unfolding refusal
+refusal-bytes how before word =
+    let records = map how.meaning before in
+    let raw = how.meaning word in
+    causes-bytes (nat_le how.policy.records (length records)) (is_reserved raw && stops_reserved how.policy.reserved) (passes records raw) (stops_late how.policy.order) how.policy.records (length records + 1) word
+    (late_refusal how.mode (events records) (event_after records raw)) (late_refusal-bytes how.mode (events records) (event_after records raw))
+
+streamed-bytes : (how : Reading) (bytes : List ℕ) (o : Option Fault) (whole : Bool) (sum : Summary) → record_refusal how (words_of bytes) ≡ o
+    → NotWords (fault_in (or_refusal o (if whole then Ok sum else Err (TruncatedRecord (length (rest_of bytes))))))
+streamed-bytes how bytes (Some fault) whole sum h =
+    let r = first-refusal how (words_of bytes) fault h in
+    subst NotWords r.refused (refusal-bytes how ([] ++ r.front) r.word)
+streamed-bytes how bytes None true sum h = λ e. omega arith
+streamed-bytes how bytes None false sum h = λ e. omega arith
+
+events_behind-bytes : (r : Result (Header × List ℕ) Fault) → IsOfBytes r → status (events_behind r).fault ≢ 1
+unfolding streamed
+events_behind-bytes (Ok found) h =
+    let how = listing found.0 in
+    streamed-bytes how found.1 (record_refusal how (words_of found.1)) (length (rest_of found.1) == 0) (summary how (words_of found.1)) refl
+events_behind-bytes (Err fault) h = h
+
 outcome-words : (request : Option Request) (plan_file data_file : File) → status (outcome request plan_file data_file).fault ≡ 1 → request ≡ None
 unfolding outcome
 outcome-words None plan_file data_file e = refl
@@ -89,6 +142,8 @@ outcome-words (Some (Count name)) plan_file None e = absurd (omega arith)
 outcome-words (Some (Count name)) plan_file (Some bytes) e = absurd (count_outcome-bytes (file_counts bytes) (counts_behind-bytes (header_answer bytes) (header_answer-bytes bytes)) e)
 outcome-words (Some (HeaderOf name)) plan_file None e = absurd (omega arith)
 outcome-words (Some (HeaderOf name)) plan_file (Some bytes) e = absurd (header_fault-bytes (header_answer bytes) (header_answer-bytes bytes) e)
+outcome-words (Some (EventsOf name)) plan_file None e = absurd (omega arith)
+outcome-words (Some (EventsOf name)) plan_file (Some bytes) e = absurd (events_behind-bytes (header_answer bytes) (header_answer-bytes bytes) e)
 
 outside-status : (fault : Fault) → is_outside fault ≡ true → status_of fault ≢ 1
 outside-status Usage e = cc

@@ -9,3 +9,8 @@ pub mod Asked
 pub mod Complete
 pub mod Rows
 pub mod BadWords
+pub mod Listing
+pub mod EventEnds
+pub mod EventComposed
+pub mod EventReasons
+pub mod EventsTold

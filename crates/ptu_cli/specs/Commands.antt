@@ -7,11 +7,13 @@ use Rattle.std.specs.declared.option.Option.{Option}
 pub data Request : Type 0 where
   Count : (file : List ℕ) → Request
   Header : (file : List ℕ) → Request
+  Events : (file : List ℕ) → Request
 
 -- the words behind the program's name
 abbrev pub request_of : List (List ℕ) → Option Request
 request_of (word ∷ file ∷ []) =
     if bytes_eq word (codes "count") then Some (Count file)
     else if bytes_eq word (codes "header") then Some (Header file)
+    else if bytes_eq word (codes "events") then Some (Events file)
     else None
 request_of other = None

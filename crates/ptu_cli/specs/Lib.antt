@@ -1,5 +1,7 @@
 pub mod Commands
 pub mod CountText
+pub mod EventLines
+pub mod EventPieces
 pub mod Outcomes
 pub mod Pieces
 pub mod HeaderPieces
@@ -9,3 +11,5 @@ pub mod Requests
 pub mod Endings
 pub mod HeaderRuns
 pub mod Edge
+pub mod EventRuns
+pub mod EventOutcomes

@@ -1,5 +1,5 @@
 -- What a run of the program ends with, where nothing outside fails.
-use Rattle.std.specs.Prelude.{ℕ, ◌≡◌, List, [], None, Some, Bool, true, false, Result, Ok, Err}
+use Rattle.std.specs.Prelude.{ℕ, ◌≡◌, ◌^◌, List, [], None, Some, Bool, true, false, Result, Ok, Err}
 use Rattle.std.specs.declared.option.Option.{Option}
 use Rattle.tally_base.specs.declared.slot.Slot.TheVariants.{Data}
 use Rattle.tally_base.specs.declared.fault.Fault.{Fault}
@@ -9,9 +9,16 @@ use Rattle.tally_base.specs.Faults.{status_of}
 use Rattle.ptu_definitions.specs.declared.records.KindCounts.{KindCounts}
 use Rattle.ptu_definitions.specs.Headers.{header_answer}
 use Rattle.ptu_definitions.specs.Counted.{counted}
+use Rattle.tally_base.specs.declared.event.Policy.{Policy}
+use Rattle.tally_base.specs.declared.event.Order.TheVariants.{Drop}
+use Rattle.tally_base.specs.declared.event.OnReserved.TheVariants.{Skip}
+use Rattle.ptu_definitions.specs.Words.{words_of}
+use Rattle.ptu_definitions.specs.Streams.{Reading, reading, streamed}
+use Rattle.record_stream.specs.Standing.{fault_in}
+use Rattle.ptu_cli.specs.EventPieces.{lines_of}
 use Rattle.ptu_cli.specs.CountText.{counts_text}
 use Rattle.table_out.specs.HeaderText.{header_text}
-use Rattle.ptu_cli.specs.Commands.{Request, Count, Header as HeaderOf}
+use Rattle.ptu_cli.specs.Commands.{Request, Count, Header as HeaderOf, Events as EventsOf}
 
 -- the text on standard output, and the fault where there is one
 pub record Outcome : Type 0 where
@@ -65,6 +72,25 @@ MayChange (Err fault) = ends_early fault ≡ true
 abbrev pub header_outcome : List ℕ → Outcome
 header_outcome file = record { text = header_text file; fault = header_fault (header_answer file) }
 
+-- late events are marked, and reserved records are left out
+abbrev pub listing_policy : Policy
+listing_policy = record { order = Drop; reserved = Skip; records = 2 ^ 40 }
+
+abbrev pub listing : Header → Reading
+listing header = reading header.record_type listing_policy
+
+-- the lines of the events, and the fault of the records
+abbrev pub listed : Reading → List ℕ → Outcome
+listed how bytes = record { text = lines_of how (words_of bytes); fault = fault_in (streamed how bytes) }
+
+abbrev pub events_behind : Result (Header × List ℕ) Fault → Outcome
+events_behind (Ok found) = listed (listing found.0) found.1
+events_behind (Err fault) = refused fault
+
+-- what listing the events of a whole file ends with
+abbrev pub events_outcome : List ℕ → Outcome
+events_outcome file = events_behind (header_answer file)
+
 -- `plan` and `file` are the files of the command's names, or None where there is none
 unfoldable pub outcome : Option Request → Option (List ℕ) → Option (List ℕ) → Outcome
 outcome None plan file = refused Usage
@@ -72,3 +98,5 @@ outcome (Some (Count name)) plan None = refused (OpenFault Data)
 outcome (Some (Count name)) plan (Some bytes) = count_outcome (file_counts bytes)
 outcome (Some (HeaderOf name)) plan None = refused (OpenFault Data)
 outcome (Some (HeaderOf name)) plan (Some bytes) = header_outcome bytes
+outcome (Some (EventsOf name)) plan None = refused (OpenFault Data)
+outcome (Some (EventsOf name)) plan (Some bytes) = events_outcome bytes

@@ -1,11 +1,11 @@
 // The commands.
 ghost use Rattle.std.specs.Prelude.{◌≡◌, true, false, Some, IfErr};
 ghost use Rattle.tally_base.specs.declared.slot.Slot.TheVariants.{Plan, Data};
-ghost use Rattle.ptu_cli.specs.Commands.{Count, Header};
+ghost use Rattle.ptu_cli.specs.Commands.{Count, Header, Events};
 ghost use Rattle.ptu_cli.specs.Endings.{Answers, HasCauses};
 
 use crate::counts::write_counts;
-use crate::data::{count_data, print_data};
+use crate::data::{count_data, list_data, print_data};
 use bench_io::{Inputs, Sink};
 use tally_base::{Failed, Fault, Slot};
 
@@ -67,4 +67,32 @@ pub(crate) fn header<I: Inputs, O: Sink>(
         Ok(()) => {}
     }
     print_data(inputs, out)
+}
+
+/// Lists the events of a file while it is read.
+#[tactic(auto, unfolding(crate::specs::Outcomes::outcome, crate::specs::Endings::HasCauses))]
+pub(crate) fn events<I: Inputs, O: Sink>(
+    inputs: &mut I,
+    out: &mut O,
+    file: &str,
+) -> Result<(), Fault>
+    requires meant { (I.state inputs.old).meant Data file.now ≡ true }
+    requires first { (I.state inputs.old).asked Data ≡ false }
+    ensures answer { Answers (Some (Events file.now)) (I.state inputs.old) result
+        (O.written out.old) (O.written out.new) }
+    ensures causes { IfErr result (HasCauses (Some (Events file.now)) (record {
+      before = I.state inputs.old;
+      after = I.state inputs.new;
+      old = O.written out.old;
+      new = O.written out.new;
+      faults_before = O.faults out.old;
+      faults_after = O.faults out.new;
+    })) }
+    ensures plan { (I.state inputs.new).asked Plan ≡ (I.state inputs.old).asked Plan }
+{
+    match inputs.open(Slot::Data, file) {
+        Err(Failed) => return Err(OPEN_FAULT),
+        Ok(()) => {}
+    }
+    list_data(inputs, out)
 }

@@ -2,7 +2,7 @@
 ghost use Rattle.std.specs.Prelude.{◌≡◌, ◌+◌, ◌≤◌, ◌++◌, length, decimal, codes, IfErr, OnOk, OnErr};
 ghost use Rattle.arrayvec.specs.ArrayVec.{array_vec_len};
 ghost use Rattle.std.specs.Io.KnownBytes.{Appends};
-ghost use Rattle.bench_io.specs.Counts.{HasCause};
+ghost use Rattle.tally_base.specs.Counts.{HasCause};
 ghost use Rattle.bench_io.specs.Sinks.{AppendsShort};
 ghost use Rattle.ptu_cli.specs.CountText.{counts_text, line, announced};
 

@@ -7,22 +7,32 @@ ghost use Rattle.bench_io.specs.Inputs.{OnlyReads};
 ghost use Rattle.ptu_definitions.specs.Words.{words_of};
 ghost use Rattle.ptu_definitions.specs.Counted.{counted, record_limit};
 ghost use Rattle.ptu_cli.specs.Outcomes.{file_counts};
+ghost use Rattle.ptu_cli.specs.EventOutcomes.{AnswersEvents, ReadsEvents, CutsEvents};
 ghost use Rattle.ptu_cli.specs.Pieces.{ReadReason, AnswersAs, TakesOpen};
 ghost use Rattle.ptu_cli.specs.HeaderPieces.{HeaderEnds, IsCut};
 ghost use Rattle.ptu_cli.specs.HeaderRuns.{AnswersText, ReadsText, CutsFile};
 ghost use Rattle.tally_base.specs.Faults.{HasReason, is_outside};
-ghost use Rattle.bench_io.specs.Counts.{Rose};
+ghost use Rattle.tally_base.specs.Counts.{Rose};
 ghost use Rattle.record_layout.specs.Counting.{HasCounted};
 
+use crate::events::{list_piece, list_rest};
 use crate::header::{Fed, feed_piece};
 use crate::print::{HeaderPrinter, Printed};
 use bench_io::{Inputs, Sink};
 use ptu_header::HeaderReader;
 use record_layout::{Counter, KindCounts};
-use tally_base::{Failed, Fault, Header, Slot};
+use record_stream::RecordStream;
+use tally_base::{Failed, Fault, Header, OnReserved, Order, Policy, Slot};
 
 /// The bytes that one read takes at most.
 const PIECE: usize = 8192;
+
+/// How the records are read that are listed: late events are marked, and reserved records are left out.
+const LISTING: Policy = Policy {
+    order: Order::Drop,
+    reserved: OnReserved::Skip,
+    records: 1 << 40,
+};
 
 const READ_FAULT: Fault = Fault::ReadFault { slot: Slot::Data };
 
@@ -149,4 +159,29 @@ pub(crate) fn print_data<I: Inputs, O: Sink>(inputs: &mut I, out: &mut O) -> Res
             Ok(Printed::Refused { fault }) => return Err(fault),
         }
     }
+}
+
+/// Reads the data to its end, and writes the lines of its events meanwhile.
+pub(crate) fn list_data<I: Inputs, O: Sink>(inputs: &mut I, out: &mut O) -> Result<(), Fault>
+    requires { (I.state inputs.old).opened Data ≡ true }
+    ensures reads { OnlyReads Data (I.state inputs.old) (I.state inputs.new) }
+    ensures answer { AnswersEvents ((I.state inputs.old).rest Data)
+        ((I.state inputs.new).rest Data) (O.written out.old) (O.written out.new) result }
+    ensures reason { IfErr result (HasReason (λ slot. ⊥)
+        (λ slot. (slot ≡ Data)
+        × Rose ((I.state inputs.old).read_faults slot) ((I.state inputs.new).read_faults slot)
+        × ReadsEvents ((I.state inputs.old).rest Data) ((I.state inputs.new).rest Data)
+        (O.written out.old) (O.written out.new))
+        (Rose (O.faults out.old) (O.faults out.new)
+        × CutsEvents ((I.state inputs.old).rest Data) ((I.state inputs.new).rest Data)
+        (O.written out.old) (O.written out.new))
+        ⊥) }
+    ensures later { O.faults out.old ≤ O.faults out.new }
+{
+    let mut buffer = [0u8; PIECE];
+    let found = read_header(inputs, &mut buffer)?;
+    let mode = found.header.record_type.mode();
+    let mut stream = RecordStream::new(found.header.record_type, LISTING);
+    list_piece(&mut stream, mode, &buffer[found.used..found.len], out)?;
+    list_rest(inputs, &mut buffer, stream, mode, out)
 }

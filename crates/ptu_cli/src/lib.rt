@@ -5,6 +5,7 @@ mod command;
 mod counts;
 mod data;
 mod edge;
+mod events;
 mod header;
 mod print;
 mod top;

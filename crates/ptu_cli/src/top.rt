@@ -6,13 +6,13 @@ ghost use Rattle.tally_base.specs.declared.slot.Slot.{Slot};
 ghost use Rattle.tally_base.specs.declared.fault.Fault.{Fault};
 ghost use Rattle.tally_base.specs.declared.slot.Slot.TheVariants.{Plan};
 ghost use Rattle.tally_base.specs.declared.fault.Fault.TheVariants.{OpenFault, ReadFault, WriteFault};
-ghost use Rattle.bench_io.specs.Counts.{Rose};
+ghost use Rattle.tally_base.specs.Counts.{Rose};
 ghost use Rattle.bench_io.specs.Inputs.{File};
 ghost use Rattle.ptu_cli.specs.Outcomes.{outcome, status};
 ghost use Rattle.ptu_cli.specs.Endings.{IsMeant, Tells, TellsFault, CutsShort, Answers, HasCauses, Reaches, LeavesUnread, NoneRose, IsGood};
 ghost use Rattle.ptu_cli.specs.Requests.{request_in};
 
-use crate::command::{count, header};
+use crate::command::{count, events, header};
 use crate::words::{Command, read_words};
 use arrayvec::ArrayVec;
 use bench_io::{Inputs, Sink, write_all};
@@ -43,6 +43,7 @@ fn obey<I: Inputs, O: Sink>(words: &[String], inputs: &mut I, out: &mut O) -> Re
     match command {
         Command::Count { file } => count(inputs, out, file),
         Command::Header { file } => header(inputs, out, file),
+        Command::Events { file } => events(inputs, out, file),
     }
 }
 
@@ -59,7 +60,7 @@ pub fn tell<E: Sink>(fault: &Fault, err: &mut E)
 /// Does all that the program does, and answers its exit status: 0, or that of the one fault whose line
 /// is written to `err`. The words are those behind the program's name.
 ///
-/// For inputs that tell the file, the statuses are 0 to 4, 10 to 17 and 20. The outcome of the words and
+/// For inputs that tell the file, the statuses are 0 to 4, 10 to 17, 20 and 21. The outcome of the words and
 /// the file, `outcome`, is their text and their fault by the definitions, after PicoQuant's unified TTTR
 /// format.
 ///

@@ -10,10 +10,12 @@ pub enum Command<'a> {
     Count { file: &'a str },
     /// Prints the header of a file.
     Header { file: &'a str },
+    /// Lists the events of a file with their absolute times.
+    Events { file: &'a str },
 }
 
-/// The command of the words behind the program's name: `count FILE` or `header FILE`. None exactly where
-/// the words are neither.
+/// The command of the words behind the program's name: `count FILE`, `header FILE` or `events FILE`. None
+/// exactly where the words are none of these.
 pub fn read_words(words: &[String]) -> Option<Command<'_>>
     ensures { asked_for result ≡ request_of (map (λ word. string_bytes word) words.now) }
 {
@@ -24,6 +26,8 @@ pub fn read_words(words: &[String]) -> Option<Command<'_>>
                 Some(Command::Count { file })
             } else if word.as_str() == "header" {
                 Some(Command::Header { file })
+            } else if word.as_str() == "events" {
+                Some(Command::Events { file })
             } else {
                 None
             }

@@ -11,3 +11,8 @@ pub mod Nests
 pub mod SeenLaws
 pub mod Longest
 pub mod FoursLemmas
+pub mod PrefixLemmas
+pub mod StreamLemmas
+pub mod Firsts
+pub mod FittingLemmas
+pub mod StreamRows

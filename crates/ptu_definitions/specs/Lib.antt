@@ -10,3 +10,9 @@ pub mod Layouts
 pub mod Kinds
 pub mod Counted
 pub mod Fours
+pub mod Prefixes
+pub mod Times
+pub mod Kept
+pub mod Streams
+pub mod Fitting
+pub mod Firsts

@@ -1,5 +1,5 @@
 //! Laws of the definitions, each as the contract of a function that does nothing.
-ghost use Rattle.std.specs.Prelude.{◌≡◌, ◌≢◌, ◌↔◌, ◌⊎◌, ◌++◌, ◌∷◌, [], ◌<◌, ◌≤◌, ◌^◌, ℕ, List, Result, length, true, false};
+ghost use Rattle.std.specs.Prelude.{◌≡◌, ◌≢◌, ◌↔◌, ◌⊎◌, ◌++◌, ◌∷◌, [], ◌<◌, ◌≤◌, ◌^◌, ℕ, List, Result, length, true, false, Some};
 ghost use Rattle.tally_base.specs.declared.fault.Fault.TheVariants as Fault;
 ghost use Rattle.tally_base.specs.declared.fault.Fault.{Fault};
 ghost use Rattle.tally_base.specs.declared.header.Header.{Header};
@@ -9,6 +9,11 @@ ghost use Rattle.ptu_definitions.specs.TagList.{Item, IsFront, IsHeader, GoesOn}
 ghost use Rattle.ptu_definitions.specs.Seen.{seen, seen_preamble, begun, IsLongestFront, HasLongestFront, HasNoFront};
 ghost use Rattle.ptu_definitions.specs.Shown.{Shows};
 ghost use Rattle.ptu_definitions.specs.Endings.{Ending, EndsAs, HasHeader};
+ghost use Rattle.tally_base.specs.declared.event.Event.{Event};
+ghost use Rattle.tally_base.specs.declared.header.Mode.{Mode};
+ghost use Rattle.ptu_definitions.specs.Kept.{marked, greatest, floor_of};
+ghost use Rattle.ptu_definitions.specs.Streams.{Reading, record_refusal, given};
+ghost use Rattle.ptu_definitions.specs.Firsts.{IsFirst};
 
 /// Exactly one answer applies to a file, and it is the one that the function finds.
 pub fn one_answer()
@@ -91,4 +96,21 @@ pub fn seen_answered()
 pub fn no_cut_is_shown()
     ensures { (bytes : List ℕ) (count : ℕ)
         → Shows header_answer bytes (Err (Fault.TruncatedHeader count)) → ⊥ }
+{}
+
+/// A stream is refused for its least record that is refused, and whatever comes behind changes neither
+/// the refusal nor what is given.
+pub fn first_refusal()
+    ensures first { (how : Reading) (words : List ℕ) (fault : Fault)
+        → record_refusal how words ≡ Some fault → IsFirst how fault [] words }
+    ensures stays { (how : Reading) (words more : List ℕ) (fault : Fault)
+        → record_refusal how words ≡ Some fault
+        → (record_refusal how (words ++ more) ≡ Some fault)
+        × (given how (words ++ more) ≡ given how words) }
+{}
+
+/// The greatest time of the events in order that are not late is that of all events in order.
+pub fn late_events_are_no_greatest()
+    ensures { (mode : Mode) (events : List Event)
+        → floor_of mode (marked mode events) ≡ greatest mode events }
 {}

@@ -6,4 +6,4 @@ pub mod laws;
 mod records;
 
 pub use found::Found;
-pub use records::{KindCounts, Raw};
+pub use records::{KindCounts, Raw, Summary};

@@ -27,3 +27,21 @@ pub struct KindCounts {
     /// Records that have no meaning.
     pub reserved: u64,
 }
+
+/// What the records of a whole file are, and its events.
+#[derive(Clone, Copy, Debug, PartialEq, Eq)]
+pub struct Summary {
+    pub records: u64,
+    /// The photons, with those that are late.
+    pub photons: u64,
+    /// The markers, with those that are late.
+    pub markers: u64,
+    pub wraps: u64,
+    pub reserved: u64,
+    /// The late events. They are not kept.
+    pub late: u64,
+    /// The time of the first event that is kept.
+    pub first: Option<u64>,
+    /// The time of the last event that is kept.
+    pub last: Option<u64>,
+}

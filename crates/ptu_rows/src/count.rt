@@ -1,6 +1,6 @@
 // What `count` answers.
 use crate::files::{
-    ANSI_STRING, BLOB, BOOL8, EMPTY8, INT8, PREAMBLE, bench, put_end, put_item, put_words, short,
+    ANSI_STRING, BLOB, BOOL8, EMPTY8, INT8, bench, put_end, put_item, put_words, short, with_item,
 };
 use crate::run::run_in_pieces;
 use std::alloc::{AllocError, Global};
@@ -187,13 +187,6 @@ fn many_great_wraps(rt: HostRuntime) -> Result<(), Fail> {
         b"type HydraHarp2T2\nannounced -\nrecords 4097\nphotons 0\nmarkers 0\nwraps 4097\nreserved 0\n".as_slice()
     );
     Ok(())
-}
-
-/// A preamble and one item behind it.
-fn with_item(alloc: Global, ident: &[u8], code: u32, value: u64) -> Result<Vec<u8>, AllocError> {
-    let mut file = PREAMBLE.as_slice().to_vec(alloc)?;
-    put_item(&mut file, ident, code, value, b"")?;
-    Ok(file)
 }
 
 /// The file is refused so, with nothing on standard output.

@@ -21,7 +21,10 @@ fn words_that_are_no_command(rt: HostRuntime) -> Result<(), Fail> {
     for words in [
         &[][..],
         &["count"],
+        &["events"],
         &["Count", "f"],
+        &["event", "f"],
+        &["events", "f", "f"],
         &["count", "f", "f"],
         &["run", "f"],
     ] {
@@ -36,7 +39,7 @@ fn words_that_are_no_command(rt: HostRuntime) -> Result<(), Fail> {
 #[test]
 fn a_file_that_cannot_be_opened(rt: HostRuntime) -> Result<(), Fail> {
     let alloc = rt.alloc();
-    for command in ["count", "header"] {
+    for command in ["count", "header", "events"] {
         let missing = run(alloc, &[command, "g"], bench(alloc)?, &[], &[], 4096)?;
         assert_eq!(rt; missing.status, 2);
         assert_eq!(rt;

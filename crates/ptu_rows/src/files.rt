@@ -62,6 +62,18 @@ pub(crate) fn put_words(file: &mut Vec<u8>, words: &[u32]) -> Result<(), AllocEr
     Ok(())
 }
 
+/// A preamble and one item behind it.
+pub(crate) fn with_item(
+    alloc: Global,
+    ident: &[u8],
+    code: u32,
+    value: u64,
+) -> Result<Vec<u8>, AllocError> {
+    let mut file = PREAMBLE.as_slice().to_vec(alloc)?;
+    put_item(&mut file, ident, code, value, b"")?;
+    Ok(file)
+}
+
 /// The shortest file of a record type, with these words behind its header of 112 bytes.
 pub(crate) fn short(alloc: Global, code: u64, words: &[u32]) -> Result<Vec<u8>, AllocError> {
     let mut file = PREAMBLE.as_slice().to_vec(alloc)?;

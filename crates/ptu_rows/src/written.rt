@@ -1,4 +1,5 @@
 // Runs over a real file, through the adapters.
+use crate::events::BENCH_EVENTS;
 use crate::files::bench;
 use crate::headers::BENCH_TEXT;
 use ptu_cli::{FileInputs, StreamSink, ptu_main};
@@ -37,6 +38,8 @@ fn a_written_file(rt: HostRuntime) -> Result<(), Fail> {
     assert_eq!(rt; fs::read(&rt, ERR)?.as_slice(), b"".as_slice());
     assert_eq!(rt; run_on_disk(&rt, alloc, "header", DATA)?, 0);
     assert_eq!(rt; fs::read(&rt, OUT)?.as_slice(), BENCH_TEXT);
+    assert_eq!(rt; run_on_disk(&rt, alloc, "events", DATA)?, 0);
+    assert_eq!(rt; fs::read(&rt, OUT)?.as_slice(), BENCH_EVENTS);
     fs::remove_file(&rt, DATA)?;
     assert_eq!(rt; run_on_disk(&rt, alloc, "count", DATA)?, 2);
     assert_eq!(rt; fs::read(&rt, OUT)?.as_slice(), b"".as_slice());

@@ -3,3 +3,4 @@ pub mod Growing
 pub mod Final
 pub mod StepTexts
 pub mod Rows
+pub mod EventRows

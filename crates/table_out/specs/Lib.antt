@@ -1,2 +1,3 @@
 pub mod HeaderText
 pub mod Body
+pub mod EventText

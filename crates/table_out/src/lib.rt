@@ -2,9 +2,11 @@
 #![tactic(auto)]
 
 mod body;
+mod event;
 mod head;
 mod preamble;
 
 pub use body::BodyText;
+pub use event::event_line;
 pub use head::header_line;
 pub use preamble::preamble_lines;

@@ -1,3 +1,5 @@
 pub mod Hexadecimal
 pub mod RecordTypes
 pub mod Faults
+pub mod Events
+pub mod Counts

@@ -12,3 +12,9 @@ returns-in-Header-clause-answer g c = answers_as _ _ (g.I.Inputs.state c.args.in
 
 pub returns-in-Header-clause-causes : goal.returns-in-Header-clause-causes
 returns-in-Header-clause-causes g c = causes_as _ _ _ _ (rw c.in-Header.is at c.in-Some.ensures) c.header.ensures.causes
+
+pub returns-in-Events-clause-answer : goal.returns-in-Events-clause-answer
+returns-in-Events-clause-answer g c = answers_as _ _ (g.I.Inputs.state c.args.inputs.now) _ _ _ (rw c.in-Events.is at c.in-Some.ensures) c.events.ensures.answer
+
+pub returns-in-Events-clause-causes : goal.returns-in-Events-clause-causes
+returns-in-Events-clause-causes g c = causes_as _ _ _ _ (rw c.in-Events.is at c.in-Some.ensures) c.events.ensures.causes

@@ -1,0 +1,66 @@
+-- What a clock stands for.
+use Rattle.std.specs.Prelude.{ℕ, ◌≡◌, ◌+◌, ◌^◌, ◌≤◌, ◌&&◌, IsTrue, nat_lt, List, [], ◌∷◌, length, if◌then◌else◌, Result, Ok, Err}
+use Rattle.tally_base.specs.declared.event.Event.{Event}
+use Rattle.tally_base.specs.declared.fault.Fault.{Fault}
+use Rattle.tally_base.specs.declared.fault.Fault.TheVariants.{TimeLimit}
+use Rattle.tally_base.specs.declared.header.Mode.{Mode}
+use Rattle.tally_base.specs.Events.{is_ordered}
+use Rattle.ptu_definitions.specs.declared.records.Raw.{Raw}
+use Rattle.ptu_definitions.specs.Kinds.{is_wrap}
+use Rattle.ptu_definitions.specs.Times.{base, event_after, events, passes}
+use Rattle.ptu_definitions.specs.Kept.{is_late, greatest}
+use Rattle.ptu_definitions.specs.Fitting.{KindFits}
+use Rattle.abs_time.specs.declared.clock.Clock.{Clock}
+use Rattle.abs_time.specs.declared.clock.Placed.{Placed}
+use Rattle.abs_time.specs.declared.clock.Placed.TheVariants.{Event as InOrder, Late, Wrap, Reserved}
+
+-- the numbers that a clock keeps, by the records placed
+pub record IsClock (mode : Mode) (count sum top : ℕ) (records : List Raw) : Type 0 where
+  pub placed : count ≡ length records
+  pub base : sum ≡ base records
+  pub greatest : top ≡ greatest mode (events records)
+
+abbrev pub mode_of : Clock → Mode
+mode_of clock = clock.mode
+
+abbrev pub placed_by : Clock → ℕ
+placed_by clock = clock.placed
+
+abbrev pub base_of : Clock → ℕ
+base_of clock = clock.base
+
+abbrev pub greatest_by : Clock → ℕ
+greatest_by clock = clock.greatest
+
+-- The clock placed these records.
+abbrev pub HasPlaced : Clock → List Raw → Type 0
+HasPlaced clock records = IsClock clock.mode clock.placed clock.base clock.greatest records
+
+-- an event, where the ordered ones before it have this greatest time
+abbrev pub against : Mode → ℕ → Event → Placed
+against mode top e = if is_ordered mode e && nat_lt e.time top then Late e top else InOrder e
+
+abbrev pub placed_event : Mode → List Event → Event → Placed
+placed_event mode before e = if is_late mode before e then Late e (greatest mode before) else InOrder e
+
+-- a record by its event, if it is one
+abbrev pub placed_as : Mode → List Event → Raw → List Event → Placed
+placed_as mode before raw [] = if is_wrap raw then Wrap else Reserved
+placed_as mode before raw (e ∷ es) = placed_event mode before e
+
+-- what placing a record behind these answers
+unfoldable pub place_answer : Mode → List Raw → Raw → Result Placed Fault
+place_answer mode before raw =
+    if passes before raw then Err (TimeLimit (length before + 1)) else Ok (placed_as mode (events before) raw (event_after before raw))
+
+-- an event of a record whose fields are as large as its mode allows
+pub record IsSmall (mode : Mode) (e : Event) : Type 0 where
+  pub in_time : e.time ≤ 2 ^ 62 + 2 ^ 28
+  pub kind : KindFits mode e.kind
+
+-- What is known of a placed record by the greatest times before and after it.
+abbrev pub Moves : Mode → ℕ → ℕ → Placed → Type 0
+Moves mode before now (InOrder e) = IsSmall mode e × (IsTrue (is_ordered mode e) → before ≤ e.time) × (now ≡ (if is_ordered mode e then e.time else before))
+Moves mode before now (Late e top) = IsSmall mode e × (now ≡ before)
+Moves mode before now Wrap = now ≡ before
+Moves mode before now Reserved = now ≡ before

@@ -1,0 +1,149 @@
+// The clock of a file: the absolute times of its records.
+ghost use Rattle.std.specs.Prelude.{◌≡◌, ◌+◌, ◌^◌, ◌<◌, ◌≤◌, ◌++◌, ◌∷◌, [], List, ℕ, Bool, ◌&&◌, not, nat_lt, max, if◌then◌else◌, OnOk, OnErr, IfOk, IfErr, length};
+ghost use Rattle.tally_base.specs.Events.{is_ordered};
+ghost use Rattle.ptu_definitions.specs.declared.records.Raw.{Raw};
+
+use ptu_definitions::Raw;
+use tally_base::{Event, EventKind, Fault, Mode};
+
+/// The greatest sum of wraps.
+const GREATEST: u64 = 1 << 62;
+
+/// What a record is, with its absolute time.
+#[derive(Clone, Copy, Debug, PartialEq, Eq)]
+pub enum Placed {
+    /// An event that is not late. Where it must come in order of time, no earlier one has a greater time.
+    Event(Event),
+    /// A late event, with the greatest time among the earlier events in order.
+    Late { event: Event, before: u64 },
+    /// The clock has wrapped. It is no event.
+    Wrap,
+    /// A record that has no meaning. It is no event.
+    Reserved,
+}
+
+/// Where the records of a file stand in time. In T2 the photons must come in order of time. In T3 all
+/// events must.
+#[derive(Drop)]
+pub struct Clock {
+    mode: Mode,
+    placed: u64,
+    base: u64,
+    greatest: u64,
+    ghost within: { base ≤ 2 ^ 62 },
+}
+
+impl Clock {
+    ghost use Rattle.abs_time.specs.Placing.{mode_of, placed_by, greatest_by, HasPlaced, base_of, against, place_answer, IsSmall, Moves};
+    ghost use Rattle.ptu_definitions.specs.Fitting.{Fits};
+    ghost use Rattle.ptu_definitions.specs.Kept.{ordered_time};
+
+    /// The clock of a file of this mode, before its first record.
+    pub fn new(mode: Mode) -> Clock
+        ensures mode { mode_of result ≡ mode }
+        ensures empty { HasPlaced result [] }
+    {
+        Clock {
+            mode,
+            placed: 0,
+            base: 0,
+            greatest: 0,
+        }
+    }
+
+    /// The number of records placed.
+    pub fn placed(&self) -> u64
+        ensures value { result ≡ placed_by self.now }
+        ensures count { (records : List Raw) → HasPlaced self.now records
+            → result ≡ length records }
+    {
+        self.placed
+    }
+
+    /// Places the next record, whose number is one more than the number of records placed, at most 2^40.
+    /// The time of an event is its record's time field and the sum of all wraps before it. Refuses a wrap
+    /// that makes this sum greater than 2^62, and the clock then stays as it is.
+    #[inline(always)]
+    pub fn place(&mut self, raw: &Raw) -> Result<Placed, Fault>
+        requires { placed_by self.old < 2 ^ 40 }
+        ensures answer { (records : List Raw) → HasPlaced self.old records
+            → result ≡ place_answer (mode_of self.old) records raw.now }
+        ensures count { placed_by self.new ≤ placed_by self.old + 1 }
+        ensures placed { (records : List Raw) → HasPlaced self.old records
+            → OnOk result (HasPlaced self.new (records ++ raw.now ∷ [])) }
+        ensures same_mode { mode_of self.new ≡ mode_of self.old }
+        ensures moves { Fits (mode_of self.old) raw.now
+            → IfOk result (Moves (mode_of self.old) (greatest_by self.old) (greatest_by self.new)) }
+        ensures unchanged { OnErr result (self.new ≡ self.old) }
+    {
+        let place = self.placed + 1;
+        match *raw {
+            Raw::Photon { input, time, dtime } => {
+                let event = Event {
+                    place,
+                    kind: EventKind::Photon { input, dtime },
+                    time: self.base + time as u64,
+                };
+                self.placed = place;
+                Ok(self.event(event))
+            }
+            Raw::Marker { bits, time } => {
+                let event = Event {
+                    place,
+                    kind: EventKind::Marker { bits },
+                    time: self.base + time as u64,
+                };
+                self.placed = place;
+                Ok(self.event(event))
+            }
+            Raw::Wrap { amount } => {
+                if amount > GREATEST - self.base {
+                    return Err(Fault::TimeLimit { place });
+                }
+                self.base += amount;
+                self.placed = place;
+                Ok(Placed::Wrap)
+            }
+            Raw::Reserved => {
+                self.placed = place;
+                Ok(Placed::Reserved)
+            }
+        }
+    }
+
+    /// An event, which is late where some ordered one before it has a greater time.
+    #[inline(always)]
+    fn event(&mut self, event: Event) -> Placed
+        ensures answer { result ≡ against (mode_of self.old) (greatest_by self.old) event }
+        ensures greatest { greatest_by self.new ≡ max (greatest_by self.old) (ordered_time
+            (mode_of self.old) event) }
+        ensures moves { IsSmall (mode_of self.old) event
+            → Moves (mode_of self.old) (greatest_by self.old) (greatest_by self.new) result }
+        ensures same_mode { mode_of self.new ≡ mode_of self.old }
+        ensures same_count { placed_by self.new ≡ placed_by self.old }
+        ensures same_base { base_of self.new ≡ base_of self.old }
+    {
+        if !is_ordered(self.mode, &event) {
+            return Placed::Event(event);
+        }
+        if event.time < self.greatest {
+            return Placed::Late {
+                event,
+                before: self.greatest,
+            };
+        }
+        self.greatest = event.time;
+        Placed::Event(event)
+    }
+}
+
+/// Whether the event must come in order of time.
+fn is_ordered(mode: Mode, event: &Event) -> bool
+    ensures { result ≡ is_ordered mode event.now }
+{
+    match (mode, event.kind) {
+        (Mode::T3, _) => true,
+        (Mode::T2, EventKind::Photon { .. }) => true,
+        (Mode::T2, EventKind::Marker { .. }) => false,
+    }
+}

@@ -1,0 +1,103 @@
+-- Lines of bytes that grow.
+use Rattle.std.proofs.Common.{◌≡◌, ◌≢◌, ◌≤◌, ℕ, List, [], ◌++◌, true, false, None, Some, Ok, Err, refl, sym, ap, ◌∙◌, inl, inr, ⊎_elim, append_assoc, append-nil, arith}
+use Rattle.std.specs.declared.option.Option.{Option}
+use Rattle.std.specs.declared.result.Result.{Result}
+use Rattle.std.specs.Io.KnownBytes.{Appends, Consumes, IsAtEnd}
+use Rattle.tally_base.specs.declared.fault.Fault.{Fault}
+use Rattle.tally_base.specs.declared.fault.Fault.TheVariants.{WriteFault}
+use Rattle.tally_base.specs.Faults.{is_outside, HasReason}
+use Rattle.tally_base.specs.declared.slot.Slot.{Slot}
+use Rattle.tally_base.proofs.Reasons.{HasReason-inside}
+use Rattle.ptu_definitions.specs.declared.records.Summary.{Summary}
+use Rattle.ptu_definitions.proofs.Firsts.{record_refusal-inside}
+use Rattle.abs_time.specs.declared.clock.Clock.{Clock}
+use Rattle.ptu_cli.specs.Endings.{fault_of}
+use Rattle.tally_base.specs.Counts.{Rose}
+use Rattle.bench_io.specs.Sinks.{AppendsShort}
+use Rattle.bench_io.proofs.Bytes.{Appends-nil, Appends-trans, AppendsShort-behind}
+use Rattle.ptu_definitions.specs.Words.{words_of}
+use Rattle.ptu_definitions.specs.Streams.{Reading, record_refusal, streamed, given}
+use Rattle.ptu_definitions.proofs.WordsLemmas.{words_of-append}
+use Rattle.ptu_definitions.proofs.StreamLemmas.{given-stays}
+use Rattle.record_stream.specs.Standing.{fault_in, Stands}
+use Rattle.record_stream.proofs.Lasts.{unrefused, streamed-shown}
+use Rattle.table_out.specs.EventText.{events_text}
+use Rattle.ptu_cli.specs.EventPieces.{lines_of, Wrote, WroteShort, Writes}
+use Rattle.ptu_cli.specs.EventRuns.{SaysLines, EndsLines, AnswersLines, ReadsLines, CutsLines}
+
+pub Wrote-none : (how : Reading) (a : Option (List ℕ)) (words : List ℕ) → Wrote how a a words words
+Wrote-none how a words = record { more = []; adds = sym (append-nil (lines_of how words)); text = Appends-nil a }
+
+pub Wrote-trans : (how : Reading) (a b c : Option (List ℕ)) (ws us vs : List ℕ) → Wrote how a b ws us → Wrote how b c us vs → Wrote how a c ws vs
+Wrote-trans how a b c ws us vs p q = record {
+  more = p.more ++ q.more;
+  adds = q.adds ∙ ap (λ l. l ++ q.more) p.adds ∙ append_assoc (lines_of how ws) p.more q.more;
+  text = Appends-trans a b c p.more q.more p.text q.text;
+}
+
+-- a refusal over some bytes is the end of all that begin with them
+pub says-refused : (how : Reading) (before bytes more text : List ℕ) (fault : Fault) → lines_of how (words_of bytes) ≡ lines_of how (words_of before) ++ text → record_refusal how (words_of bytes) ≡ Some fault → SaysLines how before (bytes ++ more) text (Some fault)
+says-refused how before bytes more text fault lines refused = record {
+  lines = ap (lines_of how) (words_of-append bytes more) ∙ ap events_text (given-stays how (words_of bytes) _ fault refused) ∙ lines;
+  ends = ap fault_in (streamed-shown how bytes fault refused more);
+}
+
+module _ (how : Reading) (bytes so_far piece : List ℕ) (before after a b c : Option (List ℕ)) (faults now : ℕ) where
+  -- a piece that was refused, or was cut short
+  pub answers-piece : (fault : Fault) → Consumes before after (so_far ++ piece) → Wrote how a b (words_of bytes) (words_of (bytes ++ so_far)) → Writes {X = Unit {0}} how b c faults now (words_of (bytes ++ so_far)) (words_of ((bytes ++ so_far) ++ piece)) (Err fault) → AnswersLines how bytes before after a c (Err fault)
+  answers-piece fault consumes wrote writes =
+      ⊎_elim
+      (λ (r : (record_refusal how (words_of ((bytes ++ so_far) ++ piece)) ≡ Some fault) × Wrote how b c (words_of (bytes ++ so_far)) (words_of ((bytes ++ so_far) ++ piece))).
+      let all = Wrote-trans how a b c _ _ _ wrote r.1 in
+      inr (record {
+        taken = so_far ++ piece;
+        consumes = consumes;
+        text = all.more;
+        written = all.text;
+        says = λ more left. rw (← append_assoc bytes so_far piece) (says-refused how bytes ((bytes ++ so_far) ++ piece) more all.more fault all.adds r.0);
+      }))
+      (λ (r : (fault ≡ WriteFault) × WroteShort how b c faults now (words_of (bytes ++ so_far)) (words_of ((bytes ++ so_far) ++ piece))). inl (rw r.0 refl))
+      writes
+
+  pub cuts-piece : Consumes before after (so_far ++ piece) → Wrote how a b (words_of bytes) (words_of (bytes ++ so_far)) → WroteShort how b c faults now (words_of (bytes ++ so_far)) (words_of ((bytes ++ so_far) ++ piece)) → CutsLines how bytes before after a c
+  cuts-piece consumes wrote short = record {
+    taken = so_far ++ piece;
+    consumes = consumes;
+    text = wrote.more ++ short.more;
+    lines = rw (← append_assoc bytes so_far piece) (short.adds ∙ ap (λ l. l ++ short.more) wrote.adds ∙ append_assoc (lines_of how (words_of bytes)) wrote.more short.more);
+    cut = AppendsShort-behind a b c wrote.more short.more wrote.text short.text;
+  }
+
+-- a stream that has refused nothing
+pub streamed-clear : (how : Reading) (clock : Clock) (sum : Summary) (count : ℕ) (carried : List ℕ) (refused : Option Fault) (bytes : List ℕ) → Stands how clock sum count carried refused bytes → refused ≡ None → record_refusal how (words_of bytes) ≡ None
+streamed-clear how clock sum count carried None bytes h none = unrefused how (words_of bytes) h.1.clear
+streamed-clear how clock sum count carried (Some fault) bytes h none = cc
+
+-- the end of the data
+at_end : (how : Reading) (before bytes text : List ℕ) (fault : Option Fault) (after : Option (List ℕ)) → IsAtEnd after → SaysLines how before bytes text fault → (more : List ℕ) → after ≡ Some more → SaysLines how before (bytes ++ more) text fault
+at_end how before bytes text fault None end says more left = cc
+at_end how before bytes text fault (Some rest) end says more left =
+    let none : more ≡ [] = cc in
+    rw (none, append-nil bytes) says
+
+pub answers-end : (how : Reading) (bytes taken : List ℕ) (before after a b : Option (List ℕ)) (answer : Result Summary Fault) (done : Result (Unit {0}) Fault) → Consumes before after taken → IsAtEnd after → Wrote how a b (words_of bytes) (words_of (bytes ++ taken))
+    → answer ≡ streamed how (bytes ++ taken) → fault_in answer ≡ fault_of done → AnswersLines how bytes before after a b done
+answers-end how bytes taken before after a b answer done consumes end wrote is same = inr (record {
+  taken = taken;
+  consumes = consumes;
+  text = wrote.more;
+  written = wrote.text;
+  says = at_end how bytes (bytes ++ taken) wrote.more (fault_of done) after end (record { lines = wrote.adds; ends = ap fault_in (sym is) ∙ same });
+})
+
+-- the fault of a piece
+pub reason-piece : {A : Type 0} (opening : Slot → Type 0) (reading : Slot → Type 0) (how : Reading) (b c : Option (List ℕ)) (faults now : ℕ) (us vs : List ℕ) (fault : Fault) → Writes {X = Unit {0}} how b c faults now us vs (Err fault) → (WroteShort how b c faults now us vs → A) → HasReason opening reading A ⊥ fault
+reason-piece opening reading how b c faults now us vs fault writes cut =
+    ⊎_elim
+    (λ (r : (record_refusal how vs ≡ Some fault) × Wrote how b c us vs). HasReason-inside opening reading _ ⊥ fault (record_refusal-inside how vs fault r.0))
+    (λ (r : (fault ≡ WriteFault) × WroteShort how b c faults now us vs). rw r.0 (cut r.1))
+    writes
+
+pub not_written : (refused : Option Fault) → refused ≡ None → refused ≢ Some WriteFault
+not_written None none = λ e. cc
+not_written (Some fault) none = cc

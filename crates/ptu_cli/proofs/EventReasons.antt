@@ -1,0 +1,82 @@
+-- What is written where listing the events of a file fails.
+use Rattle.std.proofs.Common.{◌≡◌, ℕ, List, [], ◌++◌, true, false, Ok, Err, None, Some, length, refl, sym, ap, subst, ◌∙◌, append_assoc, inl, inr, ⊎_elim}
+use Rattle.std.specs.Prelude.{nat_eq}
+use Rattle.std.specs.declared.option.Option.{Option}
+use Rattle.std.specs.Io.KnownBytes.{Appends, Consumes}
+use Rattle.std.proofs.lemmas.Bool.{cases_Bool}
+use Rattle.tally_base.specs.declared.header.Header.{Header}
+use Rattle.bench_io.specs.Sinks.{AppendsShort}
+use Rattle.bench_io.proofs.Bytes.{Appends-nil, Appends-same, Appends-trans, Consumes-trans, AppendsShort-same, AppendsShort-more, AppendsShort-behind}
+use Rattle.ptu_definitions.specs.Words.{words_of, rest_of}
+use Rattle.ptu_definitions.specs.Headers.{header_answer}
+use Rattle.ptu_definitions.specs.Streams.{Reading, record_refusal, given, streamed}
+use Rattle.ptu_definitions.proofs.WordsLemmas.{words_of-append}
+use Rattle.ptu_definitions.proofs.StreamLemmas.{given-front}
+use Rattle.record_stream.specs.Standing.{fault_in}
+use Rattle.table_out.specs.EventText.{events_text}
+use Rattle.ptu_cli.specs.HeaderPieces.{IsCut}
+use Rattle.ptu_cli.specs.EventPieces.{lines_of, Wrote, WroteShort}
+use Rattle.ptu_cli.specs.EventRuns.{ReadsLines, CutsLines}
+use Rattle.ptu_cli.specs.EventOutcomes.{MayGoOnFrom, ReadsEvents, CutsEvents}
+use Rattle.ptu_cli.specs.Outcomes.{listing, listed, events_outcome, events_behind}
+use Rattle.ptu_cli.proofs.Composed.{ShowsHeader}
+use Rattle.ptu_cli.proofs.Listing.{events_text-append}
+use Rattle.ptu_cli.proofs.EventComposed.{lines_of-none}
+
+streamed-open : (how : Reading) (bytes : List ℕ) → record_refusal how (words_of bytes) ≡ None → MayGoOnFrom (fault_in (streamed how bytes))
+unfolding streamed
+streamed-open how bytes none = elim (cases_Bool (nat_eq (length (rest_of bytes)) 0)) [
+  | inl whole ↦ rw (none, whole) tt
+  | inr cut ↦ rw (none, cut) refl
+]
+
+-- the header was read in part
+pub reads-header : (taken : List ℕ) (before after a : Option (List ℕ)) → Consumes before after taken → IsCut taken → ReadsEvents before after a a
+reads-header taken before after a consumes cut = record { taken = taken; consumes = consumes; written = rw cut (Appends-nil a); goes_on = rw cut refl }
+
+-- the lines of some bytes, and of more
+lines-front : (how : Reading) (bytes more : List ℕ) → (tail : List ℕ) × (lines_of how (words_of (bytes ++ more)) ≡ lines_of how (words_of bytes) ++ tail)
+lines-front how bytes more =
+    let r = given-front how (words_of bytes) (words_of (rest_of bytes ++ more)) in
+    (events_text r.0, ap (lines_of how) (words_of-append bytes more) ∙ ap events_text r.1 ∙ events_text-append (given how (words_of bytes)) r.0)
+
+all-lines : (how : Reading) (behind bytes first text : List ℕ) → lines_of how (words_of behind) ≡ lines_of how (words_of []) ++ first → lines_of how (words_of bytes) ≡ lines_of how (words_of behind) ++ text → first ++ text ≡ lines_of how (words_of bytes)
+all-lines how behind bytes first text one two = sym (two ∙ ap (λ l. l ++ text) (one ∙ ap (λ l. l ++ first) (lines_of-none how)))
+
+-- a read failed behind the header
+pub reads-behind : (header : Header) (front behind : List ℕ) (before mid after a b c : Option (List ℕ)) → Consumes before mid front → ShowsHeader front header behind
+    → Wrote (listing header) a b (words_of []) (words_of behind) → ReadsLines (listing header) behind mid after b c → ReadsEvents before after a c
+reads-behind header front behind before mid after a b c consumes shows wrote reads =
+    let is : events_outcome (front ++ reads.taken) ≡ listed (listing header) (behind ++ reads.taken) = ap events_behind (shows reads.taken) in
+    record {
+      taken = front ++ reads.taken;
+      consumes = Consumes-trans before mid after front reads.taken consumes reads.consumes;
+      written = rw is (Appends-same a c _ _ (all-lines (listing header) behind (behind ++ reads.taken) wrote.more reads.text wrote.adds reads.lines) (Appends-trans a b c wrote.more reads.text wrote.text reads.written));
+      goes_on = rw is (streamed-open (listing header) (behind ++ reads.taken) reads.unrefused);
+    }
+
+cut-text : (header : Header) (front behind bytes more text : List ℕ) (a c : Option (List ℕ)) → events_outcome (front ++ more) ≡ listed (listing header) (bytes ++ more) → text ≡ lines_of (listing header) (words_of bytes) → AppendsShort a c text → AppendsShort a c (events_outcome (front ++ more)).text
+cut-text header front behind bytes more text a c is lines cut =
+    let r = lines-front (listing header) bytes more in
+    rw is (AppendsShort-same a c _ _ (sym r.1) (AppendsShort-more a c _ r.0 (AppendsShort-same a c text _ lines cut)))
+
+-- a write failed at the first piece behind the header
+pub cuts-first : (header : Header) (front behind : List ℕ) (before after a b : Option (List ℕ)) (faults now : ℕ) → Consumes before after front → ShowsHeader front header behind
+    → WroteShort (listing header) a b faults now (words_of []) (words_of behind) → CutsEvents before after a b
+cuts-first header front behind before after a b faults now consumes shows short = record {
+  taken = front;
+  consumes = consumes;
+  cut = λ more left. cut-text header front behind behind more short.more a b (ap events_behind (shows more)) (sym (short.adds ∙ ap (λ l. l ++ short.more) (lines_of-none (listing header)))) short.text;
+}
+
+-- or behind it
+pub cuts-behind : (header : Header) (front behind : List ℕ) (before mid after a b c : Option (List ℕ)) → Consumes before mid front → ShowsHeader front header behind
+    → Wrote (listing header) a b (words_of []) (words_of behind) → CutsLines (listing header) behind mid after b c → CutsEvents before after a c
+cuts-behind header front behind before mid after a b c consumes shows wrote cuts = record {
+  taken = front ++ cuts.taken;
+  consumes = Consumes-trans before mid after front cuts.taken consumes cuts.consumes;
+  cut = λ more left. cut-text header (front ++ cuts.taken) behind (behind ++ cuts.taken) more (wrote.more ++ cuts.text) a c
+      (ap events_outcome (append_assoc front cuts.taken more) ∙ ap events_behind (shows (cuts.taken ++ more)) ∙ ap (listed (listing header)) (sym (append_assoc behind cuts.taken more)))
+      (all-lines (listing header) behind (behind ++ cuts.taken) wrote.more cuts.text wrote.adds cuts.lines)
+      (AppendsShort-behind a b c wrote.more cuts.text wrote.text cuts.cut);
+}

@@ -1,0 +1,100 @@
+-- One line more, and the lines of a piece.
+use Rattle.std.proofs.Common.{◌≡◌, ◌+◌, ◌≤◌, ◌<◌, ℕ, List, [], ◌∷◌, ◌++◌, Bool, true, false, Ok, Err, Some, max, refl, sym, ap, subst, ◌∙◌, inl, inr, ⊎_elim, append_assoc, append-nil, arith, length, length-append}
+use Rattle.std.specs.Prelude.{◌&&◌, not, IsTrue, if◌then◌else◌}
+use Rattle.std.specs.declared.option.Option.{Option}
+use Rattle.std.specs.declared.result.Result.{Result}
+use Rattle.std.specs.Io.KnownBytes.{Appends}
+use Rattle.tally_base.specs.declared.event.Event.{Event}
+use Rattle.tally_base.specs.declared.header.Mode.{Mode}
+use Rattle.tally_base.specs.declared.fault.Fault.{Fault}
+use Rattle.tally_base.specs.declared.fault.Fault.TheVariants.{WriteFault}
+use Rattle.tally_base.specs.Events.{is_ordered}
+use Rattle.tally_base.specs.Counts.{Rose}
+use Rattle.bench_io.specs.Sinks.{AppendsShort, PassesOn}
+use Rattle.bench_io.proofs.Bytes.{PassesOn-trans, Appends-flushed, AppendsShort-passed, AppendsShort-flushed, AppendsShort-more, AppendsShort-kept, Keeps-from_none}
+use Rattle.ptu_definitions.specs.Kept.{Marked, floor_of}
+use Rattle.ptu_definitions.specs.Streams.{Reading, record_refusal, given}
+use Rattle.table_out.specs.EventText.{event_text, events_text}
+use Rattle.record_stream.specs.declared.taker.EventTaker.{Ghosts}
+use Rattle.record_stream.specs.Feeding.{GaveOn, BrokeOn, Fed}
+use Rattle.ptu_cli.specs.EventLines.{Listed, ListedShort}
+use Rattle.ptu_cli.specs.EventPieces.{lines_of, Wrote, WroteShort, Writes}
+
+pub events_text-append : (l m : Marked) → events_text (l ++ m) ≡ events_text l ++ events_text m
+events_text-append [] m = refl
+events_text-append (x ∷ l) m = ap (λ t. event_text x.0 x.1 ++ t) (events_text-append l m) ∙ sym (append_assoc (event_text x.0 x.1) (events_text l) (events_text m))
+
+pub floor_of-push : (mode : Mode) (l : Marked) (e : Event) (late : Bool) → floor_of mode (l ++ (e, late) ∷ []) ≡ max (floor_of mode l) (if is_ordered mode e && not late then e.time else 0)
+floor_of-push mode [] e late = omega arith
+floor_of-push mode (x ∷ l) e late = rw (floor_of-push mode l e late) (omega arith)
+
+moved_on : (b : Bool) (first floor time so_far : ℕ) → floor ≡ max first so_far → (IsTrue b → floor ≤ time) → (if b then time else floor) ≡ max first (max so_far (if b then time else 0))
+moved_on true first floor time so_far is in_order = let h : floor ≤ time = in_order refl in omega arith
+moved_on false first floor time so_far is in_order = omega arith
+
+line_more : (held : List ℕ) (l : Marked) (e : Event) (late : Bool) → (held ++ events_text l) ++ event_text e late ≡ held ++ events_text (l ++ (e, late) ∷ [])
+line_more held l e late = append_assoc held (events_text l) (event_text e late) ∙ ap (λ t. held ++ t) (ap (λ t. events_text l ++ t) (sym (append-nil (event_text e late))) ∙ sym (events_text-append l ((e, late) ∷ [])))
+
+pub Listed-more : (name name' : ℕ) (mode mode' : Mode) (taken taken' floor floor' : ℕ) (a b c : Option (List ℕ)) (held held' held'' : List ℕ) (l : Marked) (e : Event) (late : Bool) (line : List ℕ) (now : ℕ)
+    → Listed name name' mode mode' taken taken' floor floor' a b held held' l → line ≡ event_text e late → PassesOn b c (held' ++ line) held''
+    → (IsTrue (is_ordered mode' e && not late) → floor' ≤ e.time) → now ≡ (if is_ordered mode' e && not late then e.time else floor')
+    → Listed name name' mode mode' taken (taken' + 1) floor now a c held held'' (l ++ (e, late) ∷ [])
+Listed-more name name' mode mode' taken taken' floor floor' a b c held held' held'' l e late line now h is p in_order moves = record {
+  same_sink = h.same_sink;
+  same_mode = h.same_mode;
+  counted = omega (arith, h.counted, length-append l ((e, late) ∷ []));
+  moved = moves ∙ moved_on (is_ordered mode' e && not late) floor floor' e.time (floor_of mode l) h.moved in_order ∙ rw (floor_of-push mode l e late, h.same_mode) refl;
+  text = subst (λ t. PassesOn a c t held'') (ap (λ t. (held ++ events_text l) ++ t) is ∙ line_more held l e late) (PassesOn-trans a b c (held ++ events_text l) held' line held'' h.text p);
+}
+
+pub ListedShort-more : (name name' : ℕ) (mode mode' : Mode) (taken taken' floor floor' : ℕ) (a b c : Option (List ℕ)) (held held' held'' : List ℕ) (l : Marked) (e : Event) (late : Bool) (line : List ℕ)
+    → Listed name name' mode mode' taken taken' floor floor' a b held held' l → line ≡ event_text e late → AppendsShort b c (held' ++ line) → held'' ≡ [] → ListedShort a c held held'' (l ++ (e, late) ∷ [])
+ListedShort-more name name' mode mode' taken taken' floor floor' a b c held held' held'' l e late line h is p none = record {
+  text = subst (λ t. AppendsShort a c t) (ap (λ t. (held ++ events_text l) ++ t) is ∙ line_more held l e late) (AppendsShort-passed a b c (held ++ events_text l) held' line h.text p);
+  empty = none;
+}
+
+AppendsShort-none : (a b : Option (List ℕ)) → AppendsShort a b [] → ⊥
+AppendsShort-none a b q = let e : length {A = ℕ} [] ≡ length (q.0 ++ q.1) = ap length q.3 in let some = q.2 in omega (arith, e, some, length-append q.0 q.1)
+
+lines-add : (how : Reading) (words now : List ℕ) (more : Marked) → given how now ≡ given how words ++ more → lines_of how now ≡ lines_of how words ++ events_text more
+lines-add how words now more adds = ap events_text adds ∙ events_text-append (given how words) more
+
+module _ {T : Type 0} (g : Ghosts T) (told : T → Option (List ℕ)) (held : T → List ℕ) (how : Reading) (a b : T) (c : Option (List ℕ)) (faults : ℕ) (words now : List ℕ) where
+  -- What a piece wrote, by what its events were, where the block was flushed.
+  pub writes_on : {X : Type 0} (r : Result X Fault) → g.got a a [] → ((l : Marked) → g.got a b l → PassesOn (told a) (told b) (events_text l) (held b))
+      → ((l : Marked) → g.broke a b l → AppendsShort (told a) (told b) (events_text l) × (held b ≡ [])) → Appends (told b) c (held b) → g.faults b ≤ faults → Fed g how a b words now r → Writes how (told a) c (g.faults a) faults words now r
+  writes_on (Ok x) none gets breaks flushed later fed =
+      (fed.0, record { more = events_text fed.1.more; adds = lines-add how words now fed.1.more fed.1.adds; text = Appends-flushed (told a) (told b) c _ (held b) (gets fed.1.more (fed.1.follows a [] none)) flushed })
+  writes_on (Err fault) none gets breaks flushed later fed =
+      ⊎_elim
+      (λ (r : (record_refusal how now ≡ Some fault) × GaveOn g how a b words now).
+      inl (r.0, record { more = events_text r.1.more; adds = lines-add how words now r.1.more r.1.adds; text = Appends-flushed (told a) (told b) c _ (held b) (gets r.1.more (r.1.follows a [] none)) flushed }))
+      (λ (r : (fault ≡ WriteFault) × BrokeOn g how a b words now).
+      let broken = breaks r.1.front (r.1.broken a [] none) in
+      let rose = r.1.rose in
+      inr (
+        r.0,
+        record {
+          more = events_text (r.1.front ++ r.1.back);
+          adds = lines-add how words now (r.1.front ++ r.1.back) r.1.adds;
+          text = rw (events_text-append r.1.front r.1.back) (AppendsShort-more (told a) c (events_text r.1.front) (events_text r.1.back) (AppendsShort-kept (told a) (told b) c _ broken.0 (Keeps-from_none (told b) c (rw broken.1 at flushed))));
+          rose = omega arith;
+        },
+      ))
+      fed
+
+  -- What it wrote where the flush failed.
+  cut_on : {X : Type 0} (r : Result X Fault) (more : Marked) → given how now ≡ given how words ++ more → PassesOn (told a) (told b) (events_text more) (held b) → AppendsShort (told b) c (held b) → Rose (g.faults a) faults → Writes {X = X} how (told a) c (g.faults a) faults words now (Err WriteFault)
+  cut_on r more adds put short rose = inr (refl, record { more = events_text more; adds = lines-add how words now more adds; text = AppendsShort-flushed (told a) (told b) c _ (held b) put short; rose = rose })
+
+  pub writes_cut : {X : Type 0} (r : Result X Fault) → g.got a a [] → ((l : Marked) → g.got a b l → PassesOn (told a) (told b) (events_text l) (held b))
+      → ((l : Marked) → g.broke a b l → AppendsShort (told a) (told b) (events_text l) × (held b ≡ [])) → AppendsShort (told b) c (held b) → Rose (g.faults a) faults → Fed g how a b words now r → Writes {X = X} how (told a) c (g.faults a) faults words now (Err WriteFault)
+  writes_cut (Ok x) none gets breaks short rose fed = cut_on (Ok x) fed.1.more fed.1.adds (gets fed.1.more (fed.1.follows a [] none)) short rose
+  writes_cut {X} (Err fault) none gets breaks short rose fed =
+      ⊎_elim
+      (λ (r : (record_refusal how now ≡ Some fault) × GaveOn g how a b words now). cut_on {X = X} (Err fault) r.1.more r.1.adds (gets r.1.more (r.1.follows a [] none)) short rose)
+      (λ (r : (fault ≡ WriteFault) × BrokeOn g how a b words now).
+      let broken = breaks r.1.front (r.1.broken a [] none) in
+      absurd (AppendsShort-none (told b) c (rw broken.1 at short)))
+      fed

@@ -1,0 +1,101 @@
+use Rattle.std.proofs.Common.{◌≡◌, [], refl, sym, ap, ◌∙◌, append-nil, arith, ◌++◌, ℕ, List, Ok, Err, take, append_assoc, subst, inl}
+use Rattle.std.proofs.lemmas.Result.{IfErr-weaker, err_from_is_err_and}
+use Rattle.tally_base.proofs.Reasons.{HasReason-inside}
+use Rattle.bench_io.proofs.Bytes.{Consumes-nil, Consumes-kept, Consumes-trans}
+use Rattle.bench_io.proofs.Rises.{Rose-behind}
+use Rattle.bench_io.proofs.States.{OnlyReads-refl, OnlyReads-trans}
+use Rattle.ptu_definitions.specs.Words.{words_of}
+use Rattle.tally_base.specs.declared.slot.Slot.TheVariants.{Data}
+use Rattle.record_stream.specs.Standing.{how_of, fault_in, HasStreamed}
+use Rattle.ptu_cli.specs.EventPieces.{Wrote, WroteShort}
+use Rattle.ptu_cli.proofs.EventEnds.{Wrote-none, Wrote-trans, answers-piece, cuts-piece, streamed-clear, answers-end, reason-piece, not_written}
+use Rattle.ptu_cli.proofs.events.list_rest.Goals as goal
+
+pub pieces-init : goal.pieces-init
+pieces-init g c = record {
+  reads = OnlyReads-refl _ _;
+  how = refl;
+  going = c.requires.going;
+  taken = ([], Consumes-nil _, λ bytes h. rw append-nil (h, Wrote-none _ _ (words_of bytes)));
+  later = omega arith;
+}
+
+pub pieces-preserved : goal.pieces-preserved
+pieces-preserved g c =
+    let inv = c.pieces.invariant in
+    let so_far = inv.taken in
+    let piece = take c.in-Ok.len c.read.new.into in
+    record {
+      reads = OnlyReads-trans _ _ _ _ inv.reads (record { keeps = c.read.ensures.keeps; keeps_other = c.read.ensures.keeps_other; opens_none = c.read.ensures.opens_none });
+      how = c.list_piece.ensures.same_how ∙ inv.how;
+      going = c.in_ok-list_piece.ensures.going;
+      taken = (
+        so_far.0 ++ piece,
+        Consumes-trans _ _ _ so_far.0 piece so_far.1 c.in-Ok.ensures.bytes.0,
+        λ bytes h.
+            let at = so_far.2 bytes h in
+            let writes = rw inv.how at (c.in_ok-list_piece.ensures.writes inv.going (bytes ++ so_far.0) at.0) in
+            rw (← append_assoc bytes so_far.0 piece) (c.list_piece.ensures.taken (bytes ++ so_far.0) at.0, Wrote-trans _ _ _ _ _ _ _ at.1 writes.1),
+      );
+      later = omega (arith, inv.later, c.list_piece.ensures.later);
+    }
+
+pub returns-in_default-clause-reason : goal.returns-in_default-clause-reason
+returns-in_default-clause-reason g c = λ bytes h.
+    let inv = c.pieces.invariant in
+    let so_far = inv.taken in
+    let at = so_far.2 bytes h in (
+      refl,
+      Rose-behind _ _ _ (inv.reads.keeps.read_faults Data) c.in_default.ensures.cause.failed,
+      record {
+        taken = so_far.0;
+        consumes = Consumes-kept _ _ _ so_far.0 so_far.1 c.in_default.ensures.bytes;
+        text = at.1.more;
+        lines = at.1.adds;
+        written = at.1.text;
+        unrefused = rw inv.how at (streamed-clear _ _ _ _ _ _ _ at.0 inv.going);
+      },
+    )
+
+pub returns-in_err-list_piece-clause-answer : goal.returns-in_err-list_piece-clause-answer
+returns-in_err-list_piece-clause-answer g c = λ bytes h.
+    let inv = c.pieces.invariant in
+    let so_far = inv.taken in
+    let at = so_far.2 bytes h in
+    let p = err_from_is_err_and c.from_residual-in_err-list_piece.result c.from_residual-in_err-list_piece.ensures.1 in
+    let writes = rw inv.how at (c.in_err-list_piece.ensures.writes inv.going (bytes ++ so_far.0) at.0) in
+    rw (p.1, p.2) (answers-piece _ bytes so_far.0 _ _ _ _ _ _ _ _ _ (Consumes-trans _ _ _ so_far.0 _ so_far.1 c.in-Ok.ensures.bytes.0) at.1 writes)
+
+pub returns-in_err-list_piece-clause-reason : goal.returns-in_err-list_piece-clause-reason
+returns-in_err-list_piece-clause-reason g c = λ bytes h.
+    let inv = c.pieces.invariant in
+    let so_far = inv.taken in
+    let at = so_far.2 bytes h in
+    let p = err_from_is_err_and c.from_residual-in_err-list_piece.result c.from_residual-in_err-list_piece.ensures.1 in
+    let writes = rw inv.how at (c.in_err-list_piece.ensures.writes inv.going (bytes ++ so_far.0) at.0) in
+    rw (p.1, p.2)
+    (reason-piece _ _ _ _ _ _ _ _ _ _ writes
+    (λ short. (Rose-behind _ _ _ inv.later short.rose, cuts-piece _ bytes so_far.0 _ _ _ _ _ _ _ _ (Consumes-trans _ _ _ so_far.0 _ so_far.1 c.in-Ok.ensures.bytes.0) at.1 short)))
+
+pub returns-in_err-finish-clause-answer : goal.returns-in_err-finish-clause-answer
+returns-in_err-finish-clause-answer g c = λ bytes h.
+    let inv = c.pieces.invariant in
+    let so_far = inv.taken in
+    let at = so_far.2 bytes h in
+    let none : take c.in-Ok.len c.read.new.into ≡ [] = rw c.if-len-eq0.true refl in
+    let consumes = rw (none, append-nil) at (Consumes-trans _ _ _ so_far.0 _ so_far.1 c.in-Ok.ensures.bytes.0) in
+    let end = c.in-Ok.ensures.bytes.1 c.if-len-eq0.true (omega (arith, c.requires.room, c.pieces.auto.buffer, c.read.auto.into)) in
+    let p = err_from_is_err_and c.from_residual.result c.from_residual.ensures.1 in
+    let is = rw inv.how at (c.finish.ensures.answer (not_written _ inv.going) (bytes ++ so_far.0) at.0) in
+    rw (p.1, p.2) (answers-end _ bytes so_far.0 _ _ _ _ _ (Err c.in_err-finish.field-0.0) consumes end at.1 is (ap fault_in c.in_err-finish.was))
+
+pub returns-then-len-eq0-clause-answer : goal.returns-then-len-eq0-clause-answer
+returns-then-len-eq0-clause-answer g c = λ bytes h.
+    let inv = c.pieces.invariant in
+    let so_far = inv.taken in
+    let at = so_far.2 bytes h in
+    let none : take c.in-Ok.len c.read.new.into ≡ [] = rw c.if-len-eq0.true refl in
+    let consumes = rw (none, append-nil) at (Consumes-trans _ _ _ so_far.0 _ so_far.1 c.in-Ok.ensures.bytes.0) in
+    let end = c.in-Ok.ensures.bytes.1 c.if-len-eq0.true (omega (arith, c.requires.room, c.pieces.auto.buffer, c.read.auto.into)) in
+    let is = rw inv.how at (c.finish.ensures.answer (not_written _ inv.going) (bytes ++ so_far.0) at.0) in
+    answers-end _ bytes so_far.0 _ _ _ _ _ (Ok (tt {0})) consumes end at.1 is (ap fault_in c.in_ok-finish.was)

@@ -1,0 +1,25 @@
+-- The lines of events on their way to a sink.
+use Rattle.std.specs.Prelude.{ℕ, ◌≡◌, ◌+◌, max, List, [], ◌++◌, length, refl}
+use Rattle.std.proofs.Common.{append-nil, arith, sym}
+use Rattle.std.specs.declared.option.Option.{Option}
+use Rattle.tally_base.specs.declared.header.Mode.{Mode}
+use Rattle.bench_io.specs.Sinks.{AppendsShort, PassesOn}
+use Rattle.bench_io.proofs.Bytes.{PassesOn-held}
+use Rattle.ptu_definitions.specs.Kept.{Marked, floor_of}
+use Rattle.table_out.specs.EventText.{events_text}
+
+-- The lines of these events were put behind what a block held, for the same sink.
+pub record Listed (name name' : ℕ) (mode mode' : Mode) (taken taken' floor floor' : ℕ) (old new : Option (List ℕ)) (held held' : List ℕ) (l : Marked) : Type 0 where
+  pub same_sink : name' ≡ name
+  pub same_mode : mode' ≡ mode
+  pub counted : taken' ≡ taken + length l
+  pub moved : floor' ≡ max floor (floor_of mode l)
+  pub text : PassesOn old new (held ++ events_text l) held'
+
+-- They were cut short, and the block holds none.
+pub record ListedShort (old new : Option (List ℕ)) (held held' : List ℕ) (l : Marked) : Type 0 where
+  pub text : AppendsShort old new (held ++ events_text l)
+  pub empty : held' ≡ []
+
+pub listed_none : (name : ℕ) (mode : Mode) (taken floor : ℕ) (old : Option (List ℕ)) (held : List ℕ) → Listed name name mode mode taken taken floor floor old old held held []
+listed_none name mode taken floor old held = record { same_sink = refl; same_mode = refl; counted = omega arith; moved = omega arith; text = rw (append-nil held) (PassesOn-held old held) }

@@ -1,0 +1,46 @@
+-- What writing the lines of the events of a file leaves.
+use Rattle.std.specs.Prelude.{ℕ, ◌≡◌, ◌⊎◌, ◌^◌, List, ◌++◌, true, None, Some, Result, Ok, Err, IsErrAnd}
+use Rattle.std.specs.declared.option.Option.{Option}
+use Rattle.std.specs.Io.KnownBytes.{Appends, Consumes}
+use Rattle.tally_base.specs.declared.fault.Fault.{Fault}
+use Rattle.tally_base.specs.Faults.{is_outside}
+use Rattle.bench_io.specs.Sinks.{AppendsShort}
+use Rattle.ptu_definitions.specs.Words.{words_of}
+use Rattle.ptu_definitions.specs.Streams.{Reading, record_refusal, streamed}
+use Rattle.record_stream.specs.Standing.{fault_in}
+use Rattle.ptu_cli.specs.Endings.{fault_of}
+use Rattle.ptu_cli.specs.EventPieces.{lines_of}
+
+-- The text is what is written of the lines of some bytes behind those of others, and the bytes have this fault.
+pub record SaysLines (how : Reading) (before bytes text : List ℕ) (fault : Option Fault) : Type 0 where
+  pub lines : lines_of how (words_of bytes) ≡ lines_of how (words_of before) ++ text
+  pub ends : fault_in (streamed how bytes) ≡ fault
+
+-- The bytes taken and those left end so, and the lines behind those of the bytes before were written.
+pub record EndsLines (how : Reading) (bytes : List ℕ) (rest_before rest_after old new : Option (List ℕ)) (fault : Option Fault) : Type 0 where
+  pub taken : List ℕ
+  pub consumes : Consumes rest_before rest_after taken
+  pub text : List ℕ
+  pub written : Appends old new text
+  pub says : (more : List ℕ) → rest_after ≡ Some more → SaysLines how bytes ((bytes ++ taken) ++ more) text fault
+
+-- A fault from outside, or the end that the bytes call for.
+abbrev pub AnswersLines : Reading → List ℕ → Option (List ℕ) → Option (List ℕ) → Option (List ℕ) → Option (List ℕ) → Result (Unit {0}) Fault → Type 0
+AnswersLines how bytes rest_before rest_after old new result = IsErrAnd result (λ fault. is_outside fault ≡ true) ⊎ EndsLines how bytes rest_before rest_after old new (fault_of result)
+
+-- The lines of the bytes taken were written, and these are not refused.
+pub record ReadsLines (how : Reading) (bytes : List ℕ) (rest_before rest_after old new : Option (List ℕ)) : Type 0 where
+  pub taken : List ℕ
+  pub consumes : Consumes rest_before rest_after taken
+  pub text : List ℕ
+  pub lines : lines_of how (words_of (bytes ++ taken)) ≡ lines_of how (words_of bytes) ++ text
+  pub written : Appends old new text
+  pub unrefused : record_refusal how (words_of (bytes ++ taken)) ≡ None
+
+-- The lines of all bytes were cut short.
+pub record CutsLines (how : Reading) (bytes : List ℕ) (rest_before rest_after old new : Option (List ℕ)) : Type 0 where
+  pub taken : List ℕ
+  pub consumes : Consumes rest_before rest_after taken
+  pub text : List ℕ
+  pub lines : lines_of how (words_of (bytes ++ taken)) ≡ lines_of how (words_of bytes) ++ text
+  pub cut : AppendsShort old new text

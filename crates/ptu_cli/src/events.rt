@@ -1,0 +1,182 @@
+// The lines of the events of a file, written while it is read.
+ghost use Rattle.std.specs.Prelude.{◌≡◌, ◌+◌, ◌*◌, ◌^◌, ◌≤◌, ◌++◌, ◌&&◌, not, [], List, ℕ, length, None, OnOk, if◌then◌else◌};
+ghost use Rattle.tally_base.specs.Events.{is_ordered};
+ghost use Rattle.ptu_definitions.specs.Words.{words_of};
+ghost use Rattle.record_stream.specs.Standing.{how_of, refused_with, bytes_in, HasStreamed};
+ghost use Rattle.ptu_cli.specs.EventPieces.{Writes};
+ghost use Rattle.std.specs.Prelude.{◌<◌, true, IfErr};
+ghost use Rattle.tally_base.specs.declared.slot.Slot.TheVariants.{Data};
+ghost use Rattle.tally_base.specs.Faults.{HasReason};
+ghost use Rattle.bench_io.specs.Inputs.{OnlyReads};
+ghost use Rattle.tally_base.specs.Counts.{Rose};
+ghost use Rattle.ptu_cli.specs.EventRuns.{AnswersLines, ReadsLines, CutsLines};
+
+use arrayvec::ArrayVec;
+use bench_io::{Block, Inputs, Sink};
+use record_stream::{EventTaker, RecordStream};
+use table_out::event_line;
+use tally_base::{Event, EventKind, Failed, Fault, Mode, Slot};
+
+const READ_FAULT: Fault = Fault::ReadFault { slot: Slot::Data };
+
+/// Writes the line of each event that it is given, through a block. It lives for one piece.
+#[derive(Drop)]
+struct EventLines<'o, O: Sink> {
+    out: &'o mut O,
+    block: Block,
+    mode: Mode,
+    taken: u64,
+    floor: u64,
+}
+
+impl<'o, O: Sink> EventTaker for EventLines<'o, O> {
+    ghost use Rattle.ptu_cli.specs.EventLines.{Listed, ListedShort, listed_none};
+    ghost use Rattle.std.specs.Prelude.{refl};
+    ghost use Rattle.std.proofs.Common.{◌∙◌};
+
+    ghost got = { λ s t l. Listed s.out.ghost_name t.out.ghost_name s.mode t.mode s.taken t.taken s.floor t.floor (O.written s.out.now) (O.written t.out.now) s.block t.block l };
+
+    ghost broke = { λ s t l. ListedShort (O.written s.out.now) (O.written t.out.now) s.block t.block l };
+
+    ghost same = { λ s t. t.out.ghost_name ≡ s.out.ghost_name };
+
+    ghost same_none = { λ t. refl };
+
+    ghost same_more = { λ t u v p q. q ∙ p };
+
+    ghost mode = { λ t. t.mode };
+
+    ghost taken = { λ t. t.taken };
+
+    ghost floor = { λ t. t.floor };
+
+    ghost faults = { λ t. O.faults t.out.now };
+
+    ghost got_none = { λ t. listed_none _ _ _ _ _ _ };
+
+    ghost taken_is = { λ s t l is. is.counted };
+
+    ghost floor_is = { λ s t l is. is.moved };
+
+    fn take(&mut self, event: &Event, late: bool) -> Result<(), Failed> {
+        let mut line = ArrayVec::<u8, 96>::new();
+        event_line(event, late, &mut line);
+        self.block.put(self.out, line.as_slice())?;
+        self.taken += 1;
+        self.floor = moved(self.mode, event, late, self.floor);
+        Ok(())
+    }
+}
+
+/// The greatest time of the events in order that were not late, with one event more.
+fn moved(mode: Mode, event: &Event, late: bool, floor: u64) -> u64
+    ensures { result ≡ (if is_ordered mode event.now && not late then event.now.time else floor) }
+{
+    match (mode, event.kind) {
+        (Mode::T2, EventKind::Marker { .. }) => floor,
+        _ if late => floor,
+        _ => event.time,
+    }
+}
+
+/// Feeds a piece, and writes the lines that the block holds.
+fn feed_lines<'o, O: Sink>(
+    stream: &mut RecordStream,
+    piece: &[u8],
+    lines: &mut EventLines<'o, O>,
+) -> Result<(), Fault>
+    requires mode { lines.old.mode ≡ (how_of stream.old).mode }
+    requires taken { lines.old.taken ≡ 0 }
+    requires floor { lines.old.floor ≡ 0 }
+    requires none { lines.old.block ≡ [] }
+    ensures taken { (bytes : List ℕ) → HasStreamed stream.old bytes
+        → HasStreamed stream.new (bytes ++ piece.now) }
+    ensures writes { refused_with stream.old ≡ None → (bytes : List ℕ)
+        → HasStreamed stream.old bytes
+        → Writes (how_of stream.old) (O.written lines.old.out.now) (O.written lines.new.out.now)
+        (O.faults lines.old.out.now) (O.faults lines.new.out.now)
+        (words_of bytes) (words_of (bytes ++ piece.now)) result }
+    ensures going { OnOk result (refused_with stream.new ≡ None) }
+    ensures counted { OnOk result (bytes_in stream.new ≡ bytes_in stream.old + length piece.now) }
+    ensures limit { bytes_in stream.new ≤ 4 * 2 ^ 40 + 3 }
+    ensures same_how { how_of stream.new ≡ how_of stream.old }
+    ensures later { O.faults lines.old.out.now ≤ O.faults lines.new.out.now }
+    ensures same { lines.new.out.ghost_name ≡ lines.old.out.ghost_name }
+{
+    let fed = stream.feed(piece, lines);
+    match lines.block.flush(lines.out) {
+        Ok(()) => fed,
+        Err(Failed) => Err(Fault::WriteFault),
+    }
+}
+
+/// Writes the lines of the events of a piece.
+pub(crate) fn list_piece<O: Sink>(
+    stream: &mut RecordStream,
+    mode: Mode,
+    piece: &[u8],
+    out: &mut O,
+) -> Result<(), Fault>
+    requires mode { mode ≡ (how_of stream.old).mode }
+    ensures taken { (bytes : List ℕ) → HasStreamed stream.old bytes
+        → HasStreamed stream.new (bytes ++ piece.now) }
+    ensures writes { refused_with stream.old ≡ None → (bytes : List ℕ)
+        → HasStreamed stream.old bytes
+        → Writes (how_of stream.old) (O.written out.old) (O.written out.new)
+        (O.faults out.old) (O.faults out.new)
+        (words_of bytes) (words_of (bytes ++ piece.now)) result }
+    ensures going { OnOk result (refused_with stream.new ≡ None) }
+    ensures counted { OnOk result (bytes_in stream.new ≡ bytes_in stream.old + length piece.now) }
+    ensures limit { bytes_in stream.new ≤ 4 * 2 ^ 40 + 3 }
+    ensures same_how { how_of stream.new ≡ how_of stream.old }
+    ensures later { O.faults out.old ≤ O.faults out.new }
+{
+    let mut lines = EventLines {
+        out,
+        block: Block::new(),
+        mode,
+        taken: 0,
+        floor: 0,
+    };
+    feed_lines(stream, piece, &mut lines)
+}
+
+/// Writes the lines of the events behind those that the stream was given, up to the end of the data.
+pub(crate) fn list_rest<I: Inputs, O: Sink>(
+    inputs: &mut I,
+    buffer: &mut [u8],
+    mut stream: RecordStream,
+    mode: Mode,
+    out: &mut O,
+) -> Result<(), Fault>
+    requires opened { (I.state inputs.old).opened Data ≡ true }
+    requires room { 0 < length buffer.old }
+    requires mode { mode ≡ (how_of stream).mode }
+    requires going { refused_with stream ≡ None }
+    ensures reads { OnlyReads Data (I.state inputs.old) (I.state inputs.new) }
+    ensures answer { (bytes : List ℕ) → HasStreamed stream bytes
+        → AnswersLines (how_of stream) bytes ((I.state inputs.old).rest Data)
+        ((I.state inputs.new).rest Data) (O.written out.old) (O.written out.new) result }
+    ensures reason { (bytes : List ℕ) → HasStreamed stream bytes
+        → IfErr result (HasReason (λ slot. ⊥)
+        (λ slot. (slot ≡ Data)
+        × Rose ((I.state inputs.old).read_faults slot) ((I.state inputs.new).read_faults slot)
+        × ReadsLines (how_of stream) bytes ((I.state inputs.old).rest Data)
+        ((I.state inputs.new).rest Data) (O.written out.old) (O.written out.new))
+        (Rose (O.faults out.old) (O.faults out.new)
+        × CutsLines (how_of stream) bytes ((I.state inputs.old).rest Data)
+        ((I.state inputs.new).rest Data) (O.written out.old) (O.written out.new))
+        ⊥) }
+    ensures later { O.faults out.old ≤ O.faults out.new }
+{
+    'pieces: loop {
+        let Ok(len) = inputs.read(Slot::Data, buffer) else {
+            return Err(READ_FAULT);
+        };
+        if len == 0 {
+            stream.finish()?;
+            return Ok(());
+        }
+        list_piece(&mut stream, mode, &buffer[..len], out)?;
+    }
+}

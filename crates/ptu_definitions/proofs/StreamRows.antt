@@ -1,0 +1,74 @@
+-- The definitions of streams at known words.
+use Rattle.std.proofs.Common.{◌≡◌, ℕ, [], ◌∷◌, true, false, Some, Ok, Err, refl}
+use Rattle.tally_base.specs.declared.event.EventKind.TheVariants.{Photon, Marker}
+use Rattle.tally_base.specs.declared.event.Order.{Order}
+use Rattle.tally_base.specs.declared.event.Order.TheVariants.{Drop, Stop}
+use Rattle.tally_base.specs.declared.event.OnReserved.{OnReserved}
+use Rattle.tally_base.specs.declared.event.OnReserved.TheVariants.{Skip, Stop as StopReserved}
+use Rattle.tally_base.specs.declared.fault.Fault.TheVariants.{BackwardTime, RecordLimit, ReservedRecord, TruncatedRecord}
+use Rattle.tally_base.specs.declared.header.RecordType.{RecordType}
+use Rattle.tally_base.specs.declared.header.RecordType.TheVariants.{PicoHarpT2, PicoHarpT3, HydraHarpT2, HydraHarp2T2, HydraHarp2T3, MultiHarpT3}
+use Rattle.ptu_definitions.specs.declared.records.Raw.TheVariants.{Wrap}
+use Rattle.ptu_definitions.specs.Layouts.{pico_t2, pico_t3, hydra_t2, hydra_t3}
+use Rattle.ptu_definitions.specs.Times.{events, passes}
+use Rattle.ptu_definitions.specs.Kept.{marked, kept}
+use Rattle.ptu_definitions.specs.Streams.{Reading, reading, refusal, refusals, record_refusal, given, summary, streamed}
+
+abbrev how : RecordType → Order → OnReserved → ℕ → Reading
+how record_type order reserved limit = reading record_type (record { order = order; reserved = reserved; records = limit })
+
+-- the third event is late
+pub row-late : given (how HydraHarp2T3 Drop Skip 100) (5 ∷ 9 ∷ 7 ∷ 9 ∷ [])
+    ≡ (record { place = 1; kind = Photon 0 0; time = 5 }, false) ∷ (record { place = 2; kind = Photon 0 0; time = 9 }, false) ∷ (record { place = 3; kind = Photon 0 0; time = 7 }, true) ∷ (record { place = 4; kind = Photon 0 0; time = 9 }, false) ∷ []
+unfolding given events marked refusal hydra_t3
+row-late = refl
+
+-- and is refused where late events stop
+pub row-stop : record_refusal (how HydraHarp2T3 Stop Skip 100) (5 ∷ 9 ∷ 7 ∷ 9 ∷ []) ≡ Some (BackwardTime 3 7 9)
+unfolding refusals refusal events hydra_t3
+row-stop = refl
+
+-- wraps of zero and of three units
+pub row-wraps : given (how MultiHarpT3 Drop Skip 100) (0xFE000000 ∷ 0xFE000003 ∷ 5 ∷ []) ≡ (record { place = 3; kind = Photon 0 0; time = 4101 }, false) ∷ []
+unfolding given events marked refusal hydra_t3
+row-wraps = refl
+
+-- the field of a wrap is not read in the older layout
+pub row-old_wrap : given (how HydraHarpT2 Drop Skip 100) (0xFE000005 ∷ 0 ∷ []) ≡ (record { place = 2; kind = Photon 1 0; time = 33552000 }, false) ∷ []
+unfolding given events marked refusal hydra_t2
+row-old_wrap = refl
+
+pub row-pico_t3 : given (how PicoHarpT3 Drop Skip 100) (0xF0100000 ∷ 0x10070003 ∷ []) ≡ (record { place = 2; kind = Photon 1 7; time = 65539 }, false) ∷ []
+unfolding given events marked refusal pico_t3
+row-pico_t3 = refl
+
+-- in T2 a photon is not late for a marker before it
+pub row-pico_t2 : given (how PicoHarpT2 Drop Skip 100) (0xF000100F ∷ 0x10001002 ∷ []) ≡ (record { place = 1; kind = Marker 15; time = 4111 }, false) ∷ (record { place = 2; kind = Photon 1 0; time = 4098 }, false) ∷ []
+unfolding given events marked refusal pico_t2
+row-pico_t2 = refl
+
+-- one record more than the limit
+pub row-limit : record_refusal (how HydraHarp2T3 Drop Skip 3) (5 ∷ 9 ∷ 7 ∷ 9 ∷ []) ≡ Some (RecordLimit 3)
+unfolding refusals refusal events hydra_t3
+row-limit = refl
+
+pub row-reserved : record_refusal (how HydraHarp2T2 Drop StopReserved 100) (0x80000007 ∷ 0xA0000000 ∷ []) ≡ Some (ReservedRecord 2 0xA0000000)
+unfolding refusals refusal events hydra_t2
+row-reserved = refl
+
+-- the base may be 2^62 and no more
+pub row-passes : passes (Wrap 4611686018427387904 ∷ []) (Wrap 1) ≡ true
+row-passes = refl
+
+pub row-reaches : passes (Wrap 4611686018427387903 ∷ []) (Wrap 1) ≡ false
+row-reaches = refl
+
+-- the summary counts the late event, and keeps it from the last time
+pub row-summary : streamed (how HydraHarp2T3 Drop Skip 100) (5 ∷ 0 ∷ 0 ∷ 0 ∷ 9 ∷ 0 ∷ 0 ∷ 0 ∷ 7 ∷ 0 ∷ 0 ∷ 0 ∷ [])
+    ≡ Ok (record { records = 3; photons = 3; markers = 0; wraps = 0; reserved = 0; late = 1; first = Some 5; last = Some 9 })
+unfolding streamed refusals refusal summary events marked kept hydra_t3
+row-summary = refl
+
+pub row-cut : streamed (how HydraHarp2T3 Drop Skip 100) (5 ∷ 0 ∷ 0 ∷ 0 ∷ 9 ∷ 9 ∷ []) ≡ Err (TruncatedRecord 2)
+unfolding streamed refusals refusal events hydra_t3
+row-cut = refl

@@ -1,0 +1,102 @@
+-- What a stream of records gives: its refusal, its events and its summary.
+use Rattle.std.specs.Prelude.{ℕ, ◌+◌, ◌&&◌, ◌==◌, nat_le, List, [], ◌∷◌, ◌++◌, length, count_by, map, None, Some, Result, Ok, Err, if◌then◌else◌}
+use Rattle.std.specs.declared.option.Option.{Option}
+use Rattle.tally_base.specs.declared.event.Event.{Event}
+use Rattle.tally_base.specs.declared.event.Policy.{Policy}
+use Rattle.ptu_definitions.specs.declared.records.Summary.{Summary}
+use Rattle.tally_base.specs.declared.fault.Fault.{Fault}
+use Rattle.tally_base.specs.declared.fault.Fault.TheVariants.{TruncatedRecord, RecordLimit, ReservedRecord, BackwardTime, TimeLimit}
+use Rattle.tally_base.specs.declared.header.Mode.{Mode}
+use Rattle.tally_base.specs.declared.header.RecordType.{RecordType}
+use Rattle.tally_base.specs.RecordTypes.{mode_of}
+use Rattle.tally_base.specs.Events.{stops_late, stops_reserved}
+use Rattle.ptu_definitions.specs.declared.records.Raw.{Raw}
+use Rattle.ptu_definitions.specs.Kinds.{is_photon, is_marker, is_wrap, is_reserved}
+use Rattle.ptu_definitions.specs.Layouts.{meaning_of}
+use Rattle.ptu_definitions.specs.Prefixes.{each, listed, first, last}
+use Rattle.ptu_definitions.specs.Times.{event_after, events, passes}
+use Rattle.ptu_definitions.specs.Kept.{is_late, Marked, marked, kept, greatest}
+use Rattle.ptu_definitions.specs.Words.{words_of, rest_of}
+
+-- how words are read
+pub record Reading : Type 0 where
+  pub mode : Mode
+  pub meaning : ℕ → Raw
+  pub policy : Policy
+
+-- how the words of a file of this type are read
+abbrev pub reading : RecordType → Policy → Reading
+reading record_type policy = record { mode = mode_of record_type; meaning = meaning_of record_type; policy = policy }
+
+-- the late event that is refused, among the events of one record
+abbrev pub late_refusal : Mode → List Event → List Event → Option Fault
+late_refusal mode before [] = None
+late_refusal mode before (e ∷ es) = if is_late mode before e then Some (BackwardTime e.place e.time (greatest mode before)) else None
+
+-- why a record is refused behind these records, by the first cause that stands
+abbrev pub refusal_in : Reading → List Raw → Raw → ℕ → Option Fault
+refusal_in how before raw word =
+    if nat_le how.policy.records (length before) then Some (RecordLimit how.policy.records)
+    else if is_reserved raw && stops_reserved how.policy.reserved then Some (ReservedRecord (length before + 1) word)
+    else if passes before raw then Some (TimeLimit (length before + 1))
+    else if stops_late how.policy.order then late_refusal how.mode (events before) (event_after before raw)
+    else None
+
+-- Why the word behind these is refused, or None where it is not.
+unfoldable pub refusal : Reading → List ℕ → ℕ → Option Fault
+refusal how before word = refusal_in how (map how.meaning before) (how.meaning word) word
+
+-- The refusals of all words, in order: the first is the stream's.
+unfoldable pub refusals : Reading → List ℕ → List Fault
+refusals how words = each (λ before word. listed (refusal how before word)) words
+
+-- Why a stream of these words is refused, or None where it is not.
+abbrev pub record_refusal : Reading → List ℕ → Option Fault
+record_refusal how words = first (refusals how words)
+
+-- the words before the first that is refused
+abbrev pub unless_refused : ℕ → List ℕ → Option Fault → List ℕ
+unless_refused word more None = word ∷ more
+unless_refused word more (Some fault) = []
+
+abbrev pub unrefused_after : Reading → List ℕ → List ℕ → List ℕ
+unrefused_after how before [] = []
+unrefused_after how before (word ∷ more) = unless_refused word (unrefused_after how (before ++ word ∷ []) more) (refusal how before word)
+
+-- the events of these words, with their marks
+abbrev pub events_in : Reading → List ℕ → Marked
+events_in how words = marked how.mode (events (map how.meaning words))
+
+-- What a taker is given: the events before the first refusal, each with its mark.
+unfoldable pub given : Reading → List ℕ → Marked
+given how words = events_in how (unrefused_after how [] words)
+
+abbrev pub time_of : Option Event → Option ℕ
+time_of None = None
+time_of (Some e) = Some e.time
+
+-- the summary of these records and their events
+abbrev pub summary_of : Mode → List Raw → List Event → Summary
+summary_of mode records es = record {
+  records = length records;
+  photons = count_by is_photon records;
+  markers = count_by is_marker records;
+  wraps = count_by is_wrap records;
+  reserved = count_by is_reserved records;
+  late = count_by (λ x. x.1) (marked mode es);
+  first = time_of (first (kept mode es));
+  last = time_of (last (kept mode es));
+}
+
+unfoldable pub summary : Reading → List ℕ → Summary
+summary how words = summary_of how.mode (map how.meaning words) (events (map how.meaning words))
+
+abbrev pub or_refusal : Option Fault → Result Summary Fault → Result Summary Fault
+or_refusal None answer = answer
+or_refusal (Some fault) answer = Err fault
+
+-- what the bytes behind a header answer
+unfoldable pub streamed : Reading → List ℕ → Result Summary Fault
+streamed how bytes =
+    or_refusal (record_refusal how (words_of bytes))
+    (if length (rest_of bytes) == 0 then Ok (summary how (words_of bytes)) else Err (TruncatedRecord (length (rest_of bytes))))

@@ -1,0 +1,495 @@
+// What `events` prints.
+use crate::files::{ANSI_STRING, BOOL8, EMPTY8, bench, put_end, short, with_item};
+use crate::run::{run, run_in_pieces};
+use std::alloc::{AllocError, Global};
+use std::process::Abort;
+use std::test::Fail;
+
+pub(crate) const BENCH_EVENTS: &[u8] = b"2 marker 3 1030\n\
+3 photon 0 1030 100\n\
+4 photon 1 1032 200\n\
+5 photon 0 1044 4100\n\
+6 photon 1 1045 5000\n\
+8 marker 4 2048\n\
+9 photon 0 2050 100\n";
+
+/// A record type, words of a file, and the lines of its events.
+struct Row {
+    code: u64,
+    words: &'static [u32],
+    text: &'static [u8],
+}
+
+/// A wrap with the field 2, and a photon of channel 1 with the time field 3.
+const T2_WORDS: [u32; 2] = [0xFE00_0002, 0x0200_0003];
+
+/// A wrap with the field 2, and a photon of channel 1 with the sync 3 and the dtime 5.
+const T3_WORDS: [u32; 2] = [0xFE00_0002, 0x0200_1403];
+
+const T2_TEXT: &[u8] = b"2 photon 2 67108867 0\n";
+
+const T3_TEXT: &[u8] = b"2 photon 1 2051 5\n";
+
+const TYPES: [Row; 12] = [
+    Row {
+        code: 0x0001_0203,
+        words: &[0xF000_0000, 0x4000_0003, 0x5000_0000, 0xF000_0001],
+        text: b"2 photon 4 210698243 0\n4 marker 1 210698241\n",
+    },
+    Row {
+        code: 0x0001_0303,
+        words: &[0xF010_0000, 0x4FFF_FFFF, 0xE000_0000, 0xF012_FFFF],
+        text: b"2 photon 4 131071 4095\n4 marker 2 131071\n",
+    },
+    Row {
+        code: 0x0001_0204,
+        words: &T2_WORDS,
+        text: b"2 photon 2 33552003 0\n",
+    },
+    Row {
+        code: 0x0101_0204,
+        words: &T2_WORDS,
+        text: T2_TEXT,
+    },
+    Row {
+        code: 0x0001_0205,
+        words: &T2_WORDS,
+        text: T2_TEXT,
+    },
+    Row {
+        code: 0x0001_0206,
+        words: &T2_WORDS,
+        text: T2_TEXT,
+    },
+    Row {
+        code: 0x0001_0207,
+        words: &T2_WORDS,
+        text: T2_TEXT,
+    },
+    Row {
+        code: 0x0001_0304,
+        words: &T3_WORDS,
+        text: b"2 photon 1 1027 5\n",
+    },
+    Row {
+        code: 0x0101_0304,
+        words: &T3_WORDS,
+        text: T3_TEXT,
+    },
+    Row {
+        code: 0x0001_0305,
+        words: &T3_WORDS,
+        text: T3_TEXT,
+    },
+    Row {
+        code: 0x0001_0306,
+        words: &T3_WORDS,
+        text: T3_TEXT,
+    },
+    Row {
+        code: 0x0001_0307,
+        words: &T3_WORDS,
+        text: T3_TEXT,
+    },
+];
+
+const ROWS: [Row; 13] = [
+    Row {
+        code: 0x0101_0304,
+        words: &[],
+        text: b"",
+    },
+    // A wrap of field 0 counts once.
+    Row {
+        code: 0x0101_0304,
+        words: &[0xFE00_0000, 0xFE00_0003, 0x0000_0005],
+        text: b"3 photon 0 4101 0\n",
+    },
+    // An old wrap goes by no field.
+    Row {
+        code: 0x0001_0204,
+        words: &[0xFE00_0005, 0x0000_0000],
+        text: b"2 photon 1 33552000 0\n",
+    },
+    // Four bits alone tell a wrap.
+    Row {
+        code: 0x0001_0303,
+        words: &[0xF010_0000, 0x1007_0003],
+        text: b"2 photon 1 65539 7\n",
+    },
+    // A marker in T2 makes no photon late.
+    Row {
+        code: 0x0001_0203,
+        words: &[0xF000_100F, 0x1000_1002],
+        text: b"1 marker 15 4111\n2 photon 1 4098 0\n",
+    },
+    Row {
+        code: 0x0101_0204,
+        words: &[0x8000_0007, 0xA000_0000],
+        text: b"1 photon 0 7 0\n",
+    },
+    Row {
+        code: 0x0101_0304,
+        words: &[0x8000_0007, 0xA000_0000, 0xFC00_0001, 0x0000_0001],
+        text: b"4 photon 0 1 0\n",
+    },
+    // Times that go back.
+    Row {
+        code: 0x0101_0304,
+        words: &[0x0000_0005, 0x0000_0009, 0x0000_0007, 0x0000_0009],
+        text: b"1 photon 0 5 0\n2 photon 0 9 0\n3 photon 0 7 0 late\n4 photon 0 9 0\n",
+    },
+    // A late event moves nothing.
+    Row {
+        code: 0x0101_0304,
+        words: &[0x0000_0009, 0x0000_0007, 0x0000_0008],
+        text: b"1 photon 0 9 0\n2 photon 0 7 0 late\n3 photon 0 8 0 late\n",
+    },
+    // In T3 a marker can be late, and makes others late.
+    Row {
+        code: 0x0101_0304,
+        words: &[0x0000_0009, 0x8200_0007, 0x9E00_000B, 0x0000_000A],
+        text: b"1 photon 0 9 0\n2 marker 1 7 late\n3 marker 15 11\n4 photon 0 10 0 late\n",
+    },
+    // In T2 it does neither.
+    Row {
+        code: 0x0101_0204,
+        words: &[
+            0x0000_0009,
+            0x8200_0007,
+            0x9E00_000B,
+            0x0000_000A,
+            0x8000_0008,
+        ],
+        text: b"1 photon 1 9 0\n2 marker 1 7\n3 marker 15 11\n4 photon 1 10 0\n5 photon 0 8 0 late\n",
+    },
+    // All bits of a photon.
+    Row {
+        code: 0x0001_0307,
+        words: &[0x7FFF_FFFF],
+        text: b"1 photon 63 1023 32767\n",
+    },
+    Row {
+        code: 0x0001_0207,
+        words: &[0x7FFF_FFFF],
+        text: b"1 photon 64 33554431 0\n",
+    },
+];
+
+/// `events` on the file ends so.
+fn lists(
+    rt: &impl Abort,
+    alloc: Global,
+    file: &[u8],
+    status: u8,
+    text: &[u8],
+    line: &[u8],
+) -> Result<(), Fail> {
+    for pieces in [&[][..], &[1], &[3], &[47, 5]] {
+        let left = run_in_pieces(alloc, "events", file, pieces)?;
+        assert_eq!(rt; left.status, status);
+        assert_eq!(rt; left.out.bytes(), text);
+        assert_eq!(rt; left.err.bytes(), line);
+    }
+    Ok(())
+}
+
+#[test]
+fn events_of_each_type(rt: HostRuntime) -> Result<(), Fail> {
+    let alloc = rt.alloc();
+    for row in &TYPES {
+        let file = short(alloc, row.code, row.words)?;
+        lists(&rt, alloc, file.as_slice(), 0, row.text, b"")?;
+    }
+    Ok(())
+}
+
+#[test]
+fn times_and_late_events(rt: HostRuntime) -> Result<(), Fail> {
+    let alloc = rt.alloc();
+    for row in &ROWS {
+        let file = short(alloc, row.code, row.words)?;
+        lists(&rt, alloc, file.as_slice(), 0, row.text, b"")?;
+    }
+    Ok(())
+}
+
+#[test]
+fn events_of_the_bench_file(rt: HostRuntime) -> Result<(), Fail> {
+    let alloc = rt.alloc();
+    let file = bench(alloc)?;
+    lists(&rt, alloc, file.as_slice(), 0, BENCH_EVENTS, b"")
+}
+
+const CUT_EVENTS: &[u8] = b"1 photon 0 5 0\n2 photon 0 9 0\n3 photon 0 7 0 late\n";
+
+#[test]
+fn a_record_that_is_cut(rt: HostRuntime) -> Result<(), Fail> {
+    let alloc = rt.alloc();
+    let mut file = short(alloc, 0x0101_0304, &[5, 9, 7])?;
+    file.push(1)?;
+    lists(
+        &rt,
+        alloc,
+        file.as_slice(),
+        17,
+        CUT_EVENTS,
+        b"ptu: 1 bytes of a record at the end\n",
+    )?;
+    file.push(0)?;
+    lists(
+        &rt,
+        alloc,
+        file.as_slice(),
+        17,
+        CUT_EVENTS,
+        b"ptu: 2 bytes of a record at the end\n",
+    )
+}
+
+/// A file of 4096 wraps, each of the greatest amount, which make 2^62 - 2^37, and words behind them.
+fn behind_great_wraps(alloc: Global, last: &[u32]) -> Result<Vec<u8>, AllocError> {
+    let mut words = vec![in alloc; u32::MAX; 4096]?;
+    words.extend_from_slice(last)?;
+    short(alloc, 0x0101_0204, words.as_slice())
+}
+
+#[test]
+fn up_to_the_greatest_time(rt: HostRuntime) -> Result<(), Fail> {
+    let alloc = rt.alloc();
+    let empty = behind_great_wraps(alloc, &[])?;
+    lists(&rt, alloc, empty.as_slice(), 0, b"", b"")?;
+    let full = behind_great_wraps(alloc, &[0xFE00_1000, 0x01FF_FFFF])?;
+    lists(
+        &rt,
+        alloc,
+        full.as_slice(),
+        0,
+        b"4098 photon 1 4611686018460942335 0\n",
+        b"",
+    )
+}
+
+#[test]
+fn past_the_greatest_time(rt: HostRuntime) -> Result<(), Fail> {
+    let alloc = rt.alloc();
+    for word in [u32::MAX, 0xFE00_1001] {
+        let file = behind_great_wraps(alloc, &[word, 0])?;
+        lists(
+            &rt,
+            alloc,
+            file.as_slice(),
+            21,
+            b"",
+            b"ptu: record 4097 passes the greatest time\n",
+        )?;
+    }
+    let full = behind_great_wraps(alloc, &[0xFE00_1000, 0, 0xFE00_0000, 0])?;
+    lists(
+        &rt,
+        alloc,
+        full.as_slice(),
+        21,
+        b"4098 photon 1 4611686018427387904 0\n",
+        b"ptu: record 4099 passes the greatest time\n",
+    )
+}
+
+#[test]
+fn fronts_that_list_nothing(rt: HostRuntime) -> Result<(), Fail> {
+    let alloc = rt.alloc();
+    lists(&rt, alloc, b"", 11, b"", b"ptu: header cut after 0 bytes\n")?;
+    lists(&rt, alloc, b"PQTTTS", 10, b"", b"ptu: not a PTU file\n")?;
+    let mut front = short(alloc, 0x0101_0304, &[])?;
+    front.truncate(100);
+    lists(
+        &rt,
+        alloc,
+        front.as_slice(),
+        11,
+        b"",
+        b"ptu: header cut after 100 bytes\n",
+    )?;
+    let unknown = with_item(alloc, b"A", 0x3000_0008, 0)?;
+    lists(
+        &rt,
+        alloc,
+        unknown.as_slice(),
+        12,
+        b"",
+        b"ptu: tag 1 has type 30000008\n",
+    )?;
+    let negative = with_item(alloc, b"A", ANSI_STRING, u64::MAX)?;
+    lists(
+        &rt,
+        alloc,
+        negative.as_slice(),
+        13,
+        b"",
+        b"ptu: tag 1 has length -1\n",
+    )
+}
+
+#[test]
+fn types_that_list_nothing(rt: HostRuntime) -> Result<(), Fail> {
+    let alloc = rt.alloc();
+    let untyped = with_item(alloc, b"Header_End", EMPTY8, 0)?;
+    lists(
+        &rt,
+        alloc,
+        untyped.as_slice(),
+        14,
+        b"",
+        b"ptu: no record type\n",
+    )?;
+    let mut other = with_item(alloc, b"TTResultFormat_TTTRRecType", BOOL8, 0x0101_0304)?;
+    put_end(&mut other)?;
+    lists(
+        &rt,
+        alloc,
+        other.as_slice(),
+        14,
+        b"",
+        b"ptu: no record type\n",
+    )?;
+    let strange = short(alloc, 0x0001_0308, &[5])?;
+    lists(
+        &rt,
+        alloc,
+        strange.as_slice(),
+        15,
+        b"",
+        b"ptu: record type 0000000000010308\n",
+    )
+}
+
+/// Sizes of pieces, the call of the inputs that fails, and what was printed before.
+struct Failing {
+    pieces: &'static [usize],
+    call: u64,
+    text: &'static [u8],
+}
+
+/// In pieces of one byte, the call is two above the bytes taken. The header has 747 bytes.
+const FAILING: [Failing; 10] = [
+    Failing {
+        pieces: &[],
+        call: 2,
+        text: b"",
+    },
+    Failing {
+        pieces: &[],
+        call: 3,
+        text: BENCH_EVENTS,
+    },
+    Failing {
+        pieces: &[764],
+        call: 3,
+        text: b"2 marker 3 1030\n3 photon 0 1030 100\n4 photon 1 1032 200\n",
+    },
+    Failing {
+        pieces: &[1],
+        call: 748,
+        text: b"",
+    },
+    Failing {
+        pieces: &[1],
+        call: 749,
+        text: b"",
+    },
+    Failing {
+        pieces: &[1],
+        call: 756,
+        text: b"",
+    },
+    Failing {
+        pieces: &[1],
+        call: 757,
+        text: b"2 marker 3 1030\n",
+    },
+    Failing {
+        pieces: &[1],
+        call: 760,
+        text: b"2 marker 3 1030\n",
+    },
+    Failing {
+        pieces: &[1],
+        call: 761,
+        text: b"2 marker 3 1030\n3 photon 0 1030 100\n",
+    },
+    Failing {
+        pieces: &[1],
+        call: 785,
+        text: BENCH_EVENTS,
+    },
+];
+
+#[test]
+fn events_before_a_failed_read(rt: HostRuntime) -> Result<(), Fail> {
+    let alloc = rt.alloc();
+    for row in &FAILING {
+        let file = bench(alloc)?;
+        let left = run(alloc, &["events", "f"], file, row.pieces, &[row.call], 4096)?;
+        assert_eq!(rt; left.status, 3);
+        assert_eq!(rt; left.out.bytes(), row.text);
+        assert_eq!(rt; left.err.bytes(), b"ptu: cannot read the data\n".as_slice());
+    }
+    Ok(())
+}
+
+/// A room of standard output, and what is printed there.
+struct Room {
+    room: usize,
+    text: &'static [u8],
+}
+
+const ROOMS: [Room; 4] = [
+    Room { room: 0, text: b"" },
+    Room {
+        room: 1,
+        text: b"2",
+    },
+    Room {
+        room: 16,
+        text: b"2 marker 3 1030\n",
+    },
+    Room {
+        room: 20,
+        text: b"2 marker 3 1030\n3 ph",
+    },
+];
+
+#[test]
+fn events_before_a_failed_write(rt: HostRuntime) -> Result<(), Fail> {
+    let alloc = rt.alloc();
+    for row in &ROOMS {
+        for pieces in [&[][..], &[1], &[3], &[47, 5]] {
+            let left = run(
+                alloc,
+                &["events", "f"],
+                bench(alloc)?,
+                pieces,
+                &[],
+                row.room,
+            )?;
+            assert_eq!(rt; left.status, 4);
+            assert_eq!(rt; left.out.bytes(), row.text);
+            assert_eq!(rt; left.err.bytes(), b"ptu: cannot write\n".as_slice());
+        }
+    }
+    Ok(())
+}
+
+#[test]
+fn a_room_that_just_fits(rt: HostRuntime) -> Result<(), Fail> {
+    let alloc = rt.alloc();
+    let whole = run(alloc, &["events", "f"], bench(alloc)?, &[], &[], 134)?;
+    assert_eq!(rt; whole.status, 0);
+    assert_eq!(rt; whole.out.bytes(), BENCH_EVENTS);
+    let wraps = short(alloc, 0x0101_0304, &[0xFE00_0000])?;
+    let none = run(alloc, &["events", "f"], wraps, &[], &[], 0)?;
+    assert_eq!(rt; none.status, 0);
+    let refused = run(alloc, &["events", "f"], short(alloc, 1, &[])?, &[], &[], 0)?;
+    assert_eq!(rt; refused.status, 15);
+    Ok(())
+}

@@ -1,0 +1,18 @@
+use Rattle.std.proofs.Common.{◌≡◌, ◌+◌, ◌≤◌, ◌++◌, List, ℕ, take}
+use Rattle.record_stream.specs.Feeding.{Follows, GaveOn}
+use Rattle.record_stream.specs.Standing.{how_of, given_by, top_of, carried_by, records_of, refused_with, IsBehind}
+use Rattle.ptu_definitions.specs.Fours.{numbers}
+use Rattle.record_stream.proofs.stream.RecordStream.words.Given as goal
+
+abbrev pub invariant-loop-word : goal.invariant-loop-word
+invariant-loop-word g l = record {
+  how : how_of l.self ≡ how_of l.fn.self;
+  counted : records_of l.self ≡ records_of l.fn.self + l.word-index;
+  carried : carried_by l.self ≡ carried_by l.fn.self;
+  refused : refused_with l.self ≡ refused_with l.fn.self;
+  follows : Follows g.S.EventTaker (how_of l.fn.self).mode (given_by l.self) (top_of l.self) l.taker;
+  at : (before : List ℕ) → IsBehind l.fn.self before → IsBehind l.self (before ++ numbers (take l.word-index l.words));
+  gave : (before : List ℕ) → IsBehind l.fn.self before → GaveOn g.S.EventTaker (how_of l.fn.self) l.fn.taker l.taker before (before ++ numbers (take l.word-index l.words));
+  later : g.S.EventTaker.faults l.fn.taker ≤ g.S.EventTaker.faults l.taker;
+  same : g.S.EventTaker.same l.fn.taker l.taker;
+}

@@ -1,0 +1,47 @@
+-- What a taker is given by words that come behind others.
+use Rattle.std.specs.Prelude.{ℕ, ◌≡◌, ◌<◌, ◌≤◌, List, [], ◌++◌, length, map, None, Some, Result, Ok, Err, ◌⊎◌}
+use Rattle.ptu_definitions.specs.declared.records.Summary.{Summary}
+use Rattle.tally_base.specs.declared.fault.Fault.{Fault}
+use Rattle.tally_base.specs.declared.fault.Fault.TheVariants.{WriteFault}
+use Rattle.tally_base.specs.declared.header.Mode.{Mode}
+use Rattle.tally_base.specs.Counts.{Rose}
+use Rattle.ptu_definitions.specs.Kept.{Marked}
+use Rattle.ptu_definitions.specs.Streams.{Reading, refusals, record_refusal, given, events_in, summary}
+use Rattle.abs_time.specs.declared.clock.Clock.{Clock}
+use Rattle.abs_time.specs.Placing.{HasPlaced}
+use Rattle.record_stream.specs.declared.taker.EventTaker.{Ghosts}
+
+-- Where a stream stands that took these words and refused none.
+pub record IsAt (how : Reading) (clock : Clock) (sum : Summary) (count : ℕ) (words : List ℕ) : Type 0 where
+  pub clear : refusals how words ≡ []
+  pub placed : HasPlaced clock (map how.meaning words)
+  pub summary : sum ≡ summary how words
+  pub counted : count ≡ length (events_in how words)
+
+module _ {T : Type 0} (g : Ghosts T) where
+  -- The taker is of this mode, and no further on than the stream.
+  pub record Follows (mode : Mode) (count top : ℕ) (taker : T) : Type 0 where
+    pub mode_is : g.mode taker ≡ mode
+    pub few : g.taken taker ≤ count
+    pub before : g.floor taker ≤ top
+
+  -- It got what the words call for that came behind others.
+  pub record GaveOn (how : Reading) (old new : T) (words now : List ℕ) : Type 0 where
+    pub more : Marked
+    pub adds : given how now ≡ given how words ++ more
+    pub follows : (start : T) (l : Marked) → g.got start old l → g.got start new (l ++ more)
+
+  -- It broke at one of these.
+  pub record BrokeOn (how : Reading) (old new : T) (words now : List ℕ) : Type 0 where
+    pub front : Marked
+    pub back : Marked
+    pub some : 0 < length front
+    pub adds : given how now ≡ given how words ++ (front ++ back)
+    pub broken : (start : T) (l : Marked) → g.got start old l → g.broke start new (l ++ front)
+    pub rose : Rose (g.faults old) (g.faults new)
+
+  -- What feeding words did that came behind others, by its answer.
+  abbrev pub Fed : {X : Type 0} → Reading → T → T → List ℕ → List ℕ → Result X Fault → Type 0
+  Fed how old new words now (Ok x) = (record_refusal how now ≡ None) × GaveOn how old new words now
+  Fed how old new words now (Err fault) =
+      ((record_refusal how now ≡ Some fault) × GaveOn how old new words now) ⊎ ((fault ≡ WriteFault) × BrokeOn how old new words now)

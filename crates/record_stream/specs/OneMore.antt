@@ -1,0 +1,26 @@
+-- A summary with one more record, and with its event.
+use Rattle.std.specs.Prelude.{ℕ, ◌+◌, Bool, true, false, [], ◌∷◌, None, Some}
+use Rattle.std.specs.declared.option.Option.{Option}
+use Rattle.tally_base.specs.declared.event.Event.{Event}
+use Rattle.ptu_definitions.specs.declared.records.Summary.{Summary}
+use Rattle.ptu_definitions.specs.declared.records.Raw.{Raw}
+use Rattle.ptu_definitions.specs.declared.records.Raw.TheVariants.{Photon, Marker, Wrap, Reserved}
+use Rattle.ptu_definitions.specs.Kept.{Marked}
+
+abbrev pub with_raw : Summary → Raw → Summary
+with_raw s (Photon input time dtime) = record s { records = s.records + 1; photons = s.photons + 1 }
+with_raw s (Marker bits time) = record s { records = s.records + 1; markers = s.markers + 1 }
+with_raw s (Wrap amount) = record s { records = s.records + 1; wraps = s.wraps + 1 }
+with_raw s Reserved = record s { records = s.records + 1; reserved = s.reserved + 1 }
+
+abbrev pub or_time : Option ℕ → ℕ → Option ℕ
+or_time None time = Some time
+or_time (Some earlier) time = Some earlier
+
+abbrev pub with_event : Summary → Event → Bool → Summary
+with_event s e true = record s { late = s.late + 1 }
+with_event s e false = record s { first = or_time s.first e.time; last = Some e.time }
+
+abbrev pub with_marks : Summary → Marked → Summary
+with_marks s [] = s
+with_marks s (x ∷ xs) = with_marks (with_event s x.0 x.1) xs

@@ -1,0 +1,63 @@
+-- What a stream stands for.
+use Rattle.std.specs.Prelude.{ℕ, ◌≡◌, ◌≢◌, ◌+◌, ◌*◌, List, length, None, Some, Result, Ok, Err}
+use Rattle.std.specs.declared.option.Option.{Option}
+use Rattle.ptu_definitions.specs.declared.records.Summary.{Summary}
+use Rattle.tally_base.specs.declared.fault.Fault.{Fault}
+use Rattle.tally_base.specs.declared.fault.Fault.TheVariants.{WriteFault}
+use Rattle.ptu_definitions.specs.Streams.{Reading, reading, record_refusal}
+use Rattle.ptu_definitions.specs.Words.{words_of, rest_of}
+use Rattle.abs_time.specs.declared.clock.Clock.{Clock}
+use Rattle.abs_time.specs.Placing.{greatest_by}
+use Rattle.record_stream.specs.Feeding.{IsAt}
+use Rattle.record_stream.specs.declared.stream.RecordStream.{RecordStream}
+
+abbrev pub how_of : RecordStream → Reading
+how_of stream = reading stream.record_type stream.policy
+
+-- how many events it has given
+abbrev pub given_by : RecordStream → ℕ
+given_by stream = stream.given
+
+-- the greatest time of the ordered events that it gave and that weren't late
+abbrev pub top_of : RecordStream → ℕ
+top_of stream = greatest_by stream.clock
+
+abbrev pub refused_with : RecordStream → Option Fault
+refused_with stream = stream.refused
+
+abbrev pub carried_by : RecordStream → List ℕ
+carried_by stream = stream.carried.items
+
+abbrev pub summary_in : RecordStream → Summary
+summary_in stream = stream.summary
+
+abbrev pub records_of : RecordStream → ℕ
+records_of stream = stream.summary.records
+
+-- how many bytes it took, as long as it refused none
+abbrev pub bytes_in : RecordStream → ℕ
+bytes_in stream = 4 * stream.summary.records + length stream.carried.items
+
+abbrev pub clock_in : RecordStream → Clock
+clock_in stream = stream.clock
+
+-- It took these words and refused none.
+abbrev pub IsBehind : RecordStream → List ℕ → Type 0
+IsBehind stream words = IsAt (how_of stream) stream.clock stream.summary stream.given words
+
+-- It took these bytes and refused none.
+abbrev pub CarriesOn : RecordStream → List ℕ → Type 0
+CarriesOn stream bytes = (stream.carried.items ≡ rest_of bytes) × IsBehind stream (words_of bytes)
+
+abbrev pub fault_in : {X : Type 0} → Result X Fault → Option Fault
+fault_in (Ok x) = None
+fault_in (Err fault) = Some fault
+
+-- After a refusal nothing more is taken: the bytes are any that begin with those that were refused.
+abbrev pub Stands : Reading → Clock → Summary → ℕ → List ℕ → Option Fault → List ℕ → Type 0
+Stands how clock sum count carried None bytes = (carried ≡ rest_of bytes) × IsAt how clock sum count (words_of bytes)
+Stands how clock sum count carried (Some fault) bytes = fault ≢ WriteFault → record_refusal how (words_of bytes) ≡ Some fault
+
+-- The stream was given these bytes.
+abbrev pub HasStreamed : RecordStream → List ℕ → Type 0
+HasStreamed stream bytes = Stands (how_of stream) stream.clock stream.summary stream.given stream.carried.items stream.refused bytes

@@ -1,0 +1,11 @@
+//! Bytes to events: each photon and marker of a stream of records, once and in order.
+#![tactic(auto)]
+
+mod count;
+pub mod laws;
+mod stream;
+mod taker;
+
+pub use ptu_definitions::Summary;
+pub use stream::RecordStream;
+pub use taker::EventTaker;

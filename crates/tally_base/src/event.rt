@@ -1,0 +1,51 @@
+// The events of a file, and how its records are read.
+
+/// What an event is.
+#[derive(Clone, Copy, Debug, PartialEq, Eq)]
+pub enum EventKind {
+    /// A photon of an input channel. In T3 `dtime` counts ticks after its sync, at most 32,767. In T2 it
+    /// is 0, and the input 0 is the sync input.
+    Photon { input: u8, dtime: u16 },
+    /// A marker of one to four bits, so `bits` is 1 to 15.
+    Marker { bits: u8 },
+}
+
+/// A photon or a marker at its absolute time.
+#[derive(Clone, Copy, Debug, PartialEq, Eq)]
+pub struct Event {
+    /// The number of its record in the file, where the first record has the number 1.
+    pub place: u64,
+    /// What it is.
+    pub kind: EventKind,
+    /// Ticks in T2 and sync periods in T3, from the beginning of the file on.
+    pub time: u64,
+}
+
+/// What becomes of a late event: one in order of time that comes behind a greater time.
+#[derive(Clone, Copy, Debug, PartialEq, Eq)]
+pub enum Order {
+    /// It is counted as late and left out.
+    Drop,
+    /// It is refused.
+    Stop,
+}
+
+/// What becomes of a reserved record.
+#[derive(Clone, Copy, Debug, PartialEq, Eq)]
+pub enum OnReserved {
+    /// It is counted and left out.
+    Skip,
+    /// It is refused.
+    Stop,
+}
+
+/// Which records of a file are refused.
+#[derive(Clone, Copy, Debug, PartialEq, Eq)]
+pub struct Policy {
+    /// What becomes of late events.
+    pub order: Order,
+    /// What becomes of reserved records.
+    pub reserved: OnReserved,
+    /// The greatest number of records. One record more is refused.
+    pub records: u64,
+}
