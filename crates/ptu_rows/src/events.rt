@@ -273,9 +273,8 @@ fn up_to_the_greatest_time(rt: HostRuntime) -> Result<(), Fail> {
 #[test]
 fn past_the_greatest_time(rt: HostRuntime) -> Result<(), Fail> {
     let alloc = rt.alloc();
-    let words: [&[u32]; 3] = [&[u32::MAX], &[u32::MAX, 0], &[0xFE00_1001, 0]];
-    for last in words {
-        let file = behind_great_wraps(alloc, last)?;
+    for word in [u32::MAX, 0xFE00_1001] {
+        let file = behind_great_wraps(alloc, &[word, 0])?;
         lists(
             &rt,
             alloc,
