@@ -1,7 +1,7 @@
 -- The record refusal is that of the least record that is refused.
-use Rattle.std.proofs.Common.{◌≡◌, ◌<◌, ℕ, zero, suc, List, [], ◌∷◌, ◌++◌, None, Some, length, take, get_or, refl, ap, ◌∙◌, append_assoc, append-nil, arith}
+use Rattle.std.proofs.Common.{◌≡◌, ◌<◌, ℕ, zero, suc, List, [], ◌∷◌, ◌++◌, None, Some, length, take, get_or, refl, sym, ap, ◌∙◌, append_assoc, append-nil, arith}
 use Rattle.std.specs.declared.option.Option.{Option}
-use Rattle.std.specs.Prelude.{Bool, true, false, ◌&&◌, ◌+◌, nat_le, map, if◌then◌else◌}
+use Rattle.std.specs.Prelude.{◌↔◌, Bool, true, false, ◌&&◌, ◌+◌, nat_le, map, if◌then◌else◌}
 use Rattle.tally_base.specs.declared.event.Event.{Event}
 use Rattle.tally_base.specs.declared.header.Mode.{Mode}
 use Rattle.tally_base.specs.Faults.{is_outside}
@@ -12,8 +12,9 @@ use Rattle.ptu_definitions.specs.Times.{events, event_after, passes}
 use Rattle.ptu_definitions.specs.Kept.{is_late, greatest}
 use Rattle.tally_base.specs.declared.fault.Fault.{Fault}
 use Rattle.ptu_definitions.specs.Prefixes.{each_after, listed, first}
-use Rattle.ptu_definitions.specs.Streams.{Reading, late_refusal, refusal, refusals, record_refusal}
+use Rattle.ptu_definitions.specs.Streams.{Reading, late_refusal, refusal, refusals, record_refusal, events_in, given}
 use Rattle.ptu_definitions.specs.Firsts.{IsFirst}
+use Rattle.ptu_definitions.proofs.StreamLemmas.{listed-none, listed-rest, refused-push, refused-more, given-clear, given-refused, given-stays}
 
 abbrev after : Reading → List ℕ → List ℕ → List Fault
 after how before ws = each_after (λ before word. listed (refusal how before word)) before ws
@@ -44,6 +45,60 @@ first_after how fault before (w ∷ ws) h = first_here how fault before w ws (re
 pub first-refusal : (how : Reading) (words : List ℕ) (fault : Fault) → record_refusal how words ≡ Some fault → IsFirst how fault [] words
 unfolding refusals
 first-refusal how words fault h = first_after how fault [] words h
+
+-- Words have no refusal exactly where none of them is refused.
+abbrev NoneRefused : Reading → List ℕ → List ℕ → Type 0
+NoneRefused how before ws = (k d : ℕ) → k < length ws → refusal how (before ++ take k ws) (get_or ws k d) ≡ None
+
+clear_after : (how : Reading) (before ws : List ℕ) → NoneRefused how before ws → after how before ws ≡ []
+clear_after how before [] none = refl
+clear_after how before (w ∷ ws) none =
+    let here : refusal how before w ≡ None = rw (append-nil before) at (none 0 0 (omega arith)) in
+    let rest = clear_after how (before ++ w ∷ []) ws (λ k d within. rw (append_assoc before (w ∷ []) (take k ws)) (none (suc k) d (omega arith))) in
+    rw (here, rest) refl
+
+none_after : (how : Reading) (before ws : List ℕ) → after how before ws ≡ [] → NoneRefused how before ws
+none_after how before [] clear k d within = absurd (omega arith)
+none_after how before (w ∷ ws) clear zero d within = rw (append-nil before) (listed-none (refusal how before w) _ clear)
+none_after how before (w ∷ ws) clear (suc k) d within =
+    let h = none_after how (before ++ w ∷ []) ws (listed-rest (refusal how before w) _ clear) k d (omega arith) in
+    rw (append_assoc before (w ∷ []) (take k ws)) at h
+
+first-none : (faults : List Fault) → first faults ≡ None → faults ≡ []
+first-none [] h = refl
+first-none (fault ∷ faults) h = cc
+
+clear : (how : Reading) (ws : List ℕ) → NoneRefused how [] ws → refusals how ws ≡ []
+unfolding refusals
+clear how ws none = clear_after how [] ws none
+
+none-where-clear : (how : Reading) (ws : List ℕ) → refusals how ws ≡ [] → NoneRefused how [] ws
+unfolding refusals
+none-where-clear how ws h = none_after how [] ws h
+
+pub none-refused : (how : Reading) (words : List ℕ) → record_refusal how words ≡ None ↔ ((k d : ℕ) → k < length words → refusal how (take k words) (get_or words k d) ≡ None)
+none-refused how words = (λ h. none-where-clear how words (first-none _ h), λ none. ap first (clear how words none))
+
+pub given-all : (how : Reading) (words : List ℕ) → record_refusal how words ≡ None → given how words ≡ events_in how words
+given-all how words h = given-clear how words (first-none _ h)
+
+-- The stream up to its first refused word, and the whole stream from there.
+upto : (front : List ℕ) (w : ℕ) (more words : List ℕ) → words ≡ front ++ w ∷ more → words ≡ (front ++ w ∷ []) ++ more
+upto front w more words parts = parts ∙ sym (append_assoc front (w ∷ []) more)
+
+refused-upto : (how : Reading) (fault : Fault) (words : List ℕ) (least : IsFirst how fault [] words) → record_refusal how (least.front ++ least.word ∷ []) ≡ Some fault
+refused-upto how fault words least = refused-push how least.front least.word fault (clear how least.front least.unrefused) least.refused
+
+pub refused-first : (how : Reading) (words : List ℕ) (fault : Fault) → IsFirst how fault [] words → record_refusal how words ≡ Some fault
+refused-first how words fault least =
+    ap (record_refusal how) (upto least.front least.word least.more words least.parts)
+    ∙ refused-more how (least.front ++ least.word ∷ []) least.more fault (refused-upto how fault words least)
+
+pub given-before : (how : Reading) (words : List ℕ) (fault : Fault) (least : IsFirst how fault [] words) → given how words ≡ events_in how least.front
+given-before how words fault least =
+    ap (given how) (upto least.front least.word least.more words least.parts)
+    ∙ given-stays how (least.front ++ least.word ∷ []) least.more fault (refused-upto how fault words least)
+    ∙ given-refused how least.front least.word fault (clear how least.front least.unrefused) least.refused
 
 -- Each refusal of a record is one that the bytes call for.
 abbrev Inside : Option Fault → Type 0

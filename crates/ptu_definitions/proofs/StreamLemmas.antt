@@ -66,11 +66,11 @@ pub refused-more : (how : Reading) (ws more : List ℕ) (fault : Fault) → reco
 unfolding refusals
 refused-more how ws more fault h = rw each_after-append (first-append _ _ fault h)
 
-listed-none : (o : Option Fault) (more : List Fault) → listed o ++ more ≡ [] → o ≡ None
+pub listed-none : (o : Option Fault) (more : List Fault) → listed o ++ more ≡ [] → o ≡ None
 listed-none None more h = refl
 listed-none (Some fault) more h = cc
 
-listed-rest : (o : Option Fault) (more : List Fault) → listed o ++ more ≡ [] → more ≡ []
+pub listed-rest : (o : Option Fault) (more : List Fault) → listed o ++ more ≡ [] → more ≡ []
 listed-rest None more h = h
 listed-rest (Some fault) more h = cc
 

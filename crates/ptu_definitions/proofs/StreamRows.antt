@@ -28,6 +28,12 @@ pub row-stop : record_refusal (how HydraHarp2T3 Stop Skip 100) (5 ∷ 9 ∷ 7 �
 unfolding refusals refusal events hydra_t3
 row-stop = refl
 
+-- with the events before it given, and neither it nor those behind it
+pub row-before : given (how HydraHarp2T3 Stop Skip 100) (5 ∷ 9 ∷ 7 ∷ 9 ∷ [])
+    ≡ (record { place = 1; kind = Photon 0 0; time = 5 }, false) ∷ (record { place = 2; kind = Photon 0 0; time = 9 }, false) ∷ []
+unfolding given events marked refusal hydra_t3
+row-before = refl
+
 -- wraps of zero and of three units
 pub row-wraps : given (how MultiHarpT3 Drop Skip 100) (0xFE000000 ∷ 0xFE000003 ∷ 5 ∷ []) ≡ (record { place = 3; kind = Photon 0 0; time = 4101 }, false) ∷ []
 unfolding given events marked refusal hydra_t3

@@ -1,5 +1,5 @@
 //! Laws of the definitions, each as the contract of a function that does nothing.
-ghost use Rattle.std.specs.Prelude.{◌≡◌, ◌≢◌, ◌↔◌, ◌⊎◌, ◌++◌, ◌∷◌, [], ◌<◌, ◌≤◌, ◌^◌, ℕ, List, Result, length, true, false, Some};
+ghost use Rattle.std.specs.Prelude.{◌≡◌, ◌≢◌, ◌↔◌, ◌⊎◌, ◌++◌, ◌∷◌, [], ◌<◌, ◌≤◌, ◌^◌, ℕ, List, Result, length, take, get_or, true, false, Some};
 ghost use Rattle.tally_base.specs.declared.fault.Fault.TheVariants as Fault;
 ghost use Rattle.tally_base.specs.declared.fault.Fault.{Fault};
 ghost use Rattle.tally_base.specs.declared.header.Header.{Header};
@@ -12,7 +12,7 @@ ghost use Rattle.ptu_definitions.specs.Endings.{Ending, EndsAs, HasHeader};
 ghost use Rattle.tally_base.specs.declared.event.Event.{Event};
 ghost use Rattle.tally_base.specs.declared.header.Mode.{Mode};
 ghost use Rattle.ptu_definitions.specs.Kept.{marked, greatest, floor_of};
-ghost use Rattle.ptu_definitions.specs.Streams.{Reading, record_refusal, given};
+ghost use Rattle.ptu_definitions.specs.Streams.{Reading, refusal, record_refusal, events_in, given};
 ghost use Rattle.ptu_definitions.specs.Firsts.{IsFirst};
 
 /// Exactly one answer applies to a file, and it is the one that the function finds.
@@ -98,11 +98,21 @@ pub fn no_cut_is_shown()
         → Shows header_answer bytes (Err (Fault.TruncatedHeader count)) → ⊥ }
 {}
 
-/// A stream is refused for its least record that is refused, and whatever comes behind changes neither
-/// the refusal nor what is given.
+/// A stream is refused for its least record that is refused, and for that record whenever there is
+/// one. What is given are the events of the records before it, and those of all records where none is
+/// refused. Whatever comes behind a refused record changes neither the refusal nor what is given.
 pub fn first_refusal()
     ensures first { (how : Reading) (words : List ℕ) (fault : Fault)
         → record_refusal how words ≡ Some fault → IsFirst how fault [] words }
+    ensures refused { (how : Reading) (words : List ℕ) (fault : Fault)
+        → IsFirst how fault [] words → record_refusal how words ≡ Some fault }
+    ensures none { (how : Reading) (words : List ℕ)
+        → record_refusal how words ≡ None
+        ↔ ((k d : ℕ) → k < length words → refusal how (take k words) (get_or words k d) ≡ None) }
+    ensures before { (how : Reading) (words : List ℕ) (fault : Fault)
+        (least : IsFirst how fault [] words) → given how words ≡ events_in how least.front }
+    ensures all { (how : Reading) (words : List ℕ)
+        → record_refusal how words ≡ None → given how words ≡ events_in how words }
     ensures stays { (how : Reading) (words more : List ℕ) (fault : Fault)
         → record_refusal how words ≡ Some fault
         → (record_refusal how (words ++ more) ≡ Some fault)

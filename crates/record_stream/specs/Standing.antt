@@ -1,5 +1,5 @@
 -- What a stream stands for.
-use Rattle.std.specs.Prelude.{ℕ, ◌≡◌, ◌≢◌, ◌+◌, ◌*◌, List, length, None, Some, Result, Ok, Err}
+use Rattle.std.specs.Prelude.{ℕ, ◌≡◌, ◌≢◌, ◌+◌, ◌*◌, List, length, None, Some}
 use Rattle.std.specs.declared.option.Option.{Option}
 use Rattle.ptu_definitions.specs.declared.records.Summary.{Summary}
 use Rattle.tally_base.specs.declared.fault.Fault.{Fault}
@@ -48,10 +48,6 @@ IsBehind stream words = IsAt (how_of stream) stream.clock stream.summary stream.
 -- It took these bytes and refused none.
 abbrev pub CarriesOn : RecordStream → List ℕ → Type 0
 CarriesOn stream bytes = (stream.carried.items ≡ rest_of bytes) × IsBehind stream (words_of bytes)
-
-abbrev pub fault_in : {X : Type 0} → Result X Fault → Option Fault
-fault_in (Ok x) = None
-fault_in (Err fault) = Some fault
 
 -- After a refusal nothing more is taken: the bytes are any that begin with those that were refused.
 abbrev pub Stands : Reading → Clock → Summary → ℕ → List ℕ → Option Fault → List ℕ → Type 0

@@ -55,7 +55,8 @@ impl RecordStream {
     ghost use Rattle.tally_base.specs.Faults.{is_outside};
     ghost use Rattle.std.specs.Prelude.{false};
     ghost use Rattle.record_stream.specs.Feeding.{Follows, Fed};
-    ghost use Rattle.record_stream.specs.Standing.{how_of, given_by, top_of, refused_with, carried_by, records_of, bytes_in, summary_in, clock_in, IsBehind, CarriesOn, fault_in, HasStreamed};
+    ghost use Rattle.record_stream.specs.Standing.{how_of, given_by, top_of, refused_with, carried_by, records_of, bytes_in, summary_in, clock_in, IsBehind, CarriesOn, HasStreamed};
+    ghost use Rattle.tally_base.specs.Faults.{fault_in};
 
     /// The stream of a file of this type, which was given no bytes. The greatest number of records is 1
     /// to 2^40.

@@ -1,3 +1,4 @@
 pub mod Digits
 pub mod Reasons
 pub mod Rows
+pub mod Cells

@@ -1,5 +1,6 @@
 -- Each fault's exit status and its line on standard error.
-use Rattle.std.specs.Prelude.{ℕ, List, ◌++◌, Bool, true, false, codes, decimal}
+use Rattle.std.specs.Prelude.{ℕ, List, ◌++◌, Bool, true, false, None, Some, Result, Ok, Err, codes, decimal}
+use Rattle.std.specs.declared.option.Option.{Option}
 use Rattle.std.specs.Fmt.{signed_decimal}
 use Rattle.std.specs.Int.{w64, cast_unsigned}
 use Rattle.tally_base.specs.Hexadecimal.{hexadecimal}
@@ -109,3 +110,8 @@ HasReason opening reading writing memory (ReadFault slot) = reading slot
 HasReason opening reading writing memory WriteFault = writing
 HasReason opening reading writing memory OutOfMemory = memory
 HasReason opening reading writing memory _ = Unit {0}
+
+-- the fault of an answer, if it has one
+abbrev pub fault_in : {X : Type 0} → Result X Fault → Option Fault
+fault_in (Ok x) = None
+fault_in (Err fault) = Some fault

@@ -3,3 +3,5 @@ pub mod RecordTypes
 pub mod Faults
 pub mod Events
 pub mod Counts
+pub mod Settings
+pub mod Tally

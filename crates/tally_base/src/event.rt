@@ -1,10 +1,12 @@
 // The events of a file, and how its records are read.
+ghost use Rattle.std.specs.Prelude.{◌≡◌, ◌<◌, ◌≤◌};
+ghost use Rattle.tally_base.specs.Events.{is_photon, is_in};
 
 /// What an event is.
 #[derive(Clone, Copy, Debug, PartialEq, Eq)]
 pub enum EventKind {
     /// A photon of an input channel. In T3 `dtime` counts ticks after its sync, at most 32,767. In T2 it
-    /// is 0, and the input 0 is the sync input.
+    /// is 0. In the T2 layout of HydraHarp and later devices the input 0 is the sync input.
     Photon { input: u8, dtime: u16 },
     /// A marker of one to four bits, so `bits` is 1 to 15.
     Marker { bits: u8 },
@@ -19,6 +21,26 @@ pub struct Event {
     pub kind: EventKind,
     /// Ticks in T2 and sync periods in T3, from the beginning of the file on.
     pub time: u64,
+}
+
+impl Event {
+    /// Whether it is a photon.
+    pub fn is_photon(&self) -> bool
+        ensures { result ≡ is_photon self.now }
+    {
+        match self.kind {
+            EventKind::Photon { .. } => true,
+            EventKind::Marker { .. } => false,
+        }
+    }
+}
+
+/// Whether a group is among these groups, where bit g - 1 stands for group g.
+pub fn is_in(groups: u64, group: u8) -> bool
+    requires { (0 < group) × (group ≤ 64) }
+    ensures { result ≡ is_in groups group }
+{
+    (groups >> (group - 1)) & 1 == 1
 }
 
 /// What becomes of a late event: one in order of time that comes behind a greater time.

@@ -1,4 +1,4 @@
-//! What every part of the program speaks of: record types, headers, events, slots, faults and their lines.
+//! What every part of the program speaks of: record types, headers, events, the settings of a plan, what every table is, slots, faults and their lines.
 #![tactic(auto)]
 
 mod event;
@@ -6,14 +6,22 @@ mod fault;
 mod header;
 mod line;
 mod part;
+mod settings;
 mod slot;
+mod steps;
+mod tally;
 
-pub use event::{Event, EventKind, OnReserved, Order, Policy};
+pub use event::{Event, EventKind, OnReserved, Order, Policy, is_in};
 pub use fault::{Fault, fault_line};
 pub use header::{Header, Mode, RecordType};
 pub use line::{put_decimal, put_hexadecimal, put_signed, put_text};
 pub use part::PartKind;
+pub use settings::{
+    CoincidenceSet, CorrelationSet, Group, HistSet, ImageSet, StartStopSet, TraceSet,
+};
 pub use slot::{Failed, Slot};
+pub use steps::Steps;
+pub use tally::Tally;
 
 #[cfg(test)]
 mod tests;

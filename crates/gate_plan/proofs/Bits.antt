@@ -1,0 +1,70 @@
+-- A number by its bits.
+use Rattle.std.proofs.Common.{◌≡◌, ap, sym, refl, ◌∙◌, ℕ, zero, suc, ◌+◌, ◌*◌, ◌/◌, ◌^◌, ◌<◌, ◌≤◌, Bool, true, false, ◌==◌, List, [], ◌∷◌, map, drop, length, get_or, arith}
+use Rattle.std.specs.Int.{bit_at}
+use Rattle.std.proofs.lemmas.Nat.Bits.{bit_at-zero, bit_at-suc, bit_at_lowest}
+use Rattle.std.proofs.lemmas.List.{drop_more}
+use Rattle.tally_base.specs.declared.event.Event.{Event}
+use Rattle.tally_base.specs.declared.settings.Group.{Group}
+use Rattle.std.proofs.lemmas.Grind.{pow_more}
+use Rattle.std.proofs.Math.Pow.{pow_mono}
+use Rattle.tally_base.specs.Settings.{group_view}
+use Rattle.gate_plan.specs.Groups.{one_if, takes, bits_of}
+
+pub bit_of_bits : (tests : List Bool) (i : ℕ) → bit_at (bits_of tests) i ≡ one_if (get_or tests i false)
+bit_of_bits [] i = bit_at-zero i
+bit_of_bits (true ∷ tests) zero = bit_at_lowest (bits_of (true ∷ tests)) ∙ omega arith
+bit_of_bits (false ∷ tests) zero = bit_at_lowest (bits_of (false ∷ tests)) ∙ omega arith
+bit_of_bits (true ∷ tests) (suc i) =
+    let half : bits_of (true ∷ tests) / 2 ≡ bits_of tests = omega arith in
+    bit_at-suc (bits_of (true ∷ tests)) i ∙ rw half (bit_of_bits tests i)
+bit_of_bits (false ∷ tests) (suc i) =
+    let half : bits_of (false ∷ tests) / 2 ≡ bits_of tests = omega arith in
+    bit_at-suc (bits_of (false ∷ tests)) i ∙ rw half (bit_of_bits tests i)
+
+one_is : (b : Bool) → (one_if b == 1) ≡ b
+one_is true = refl
+one_is false = refl
+
+pub bit_is : (tests : List Bool) (i : ℕ) → (bit_at (bits_of tests) i == 1) ≡ get_or tests i false
+bit_is tests i = rw (bit_of_bits tests i) (one_is (get_or tests i false))
+
+-- of the first test
+twice : (sum power rest : ℕ) → sum + power * (1 + 2 * rest) ≡ sum + power + power * 2 * rest
+twice sum power rest = grind arith
+
+pub bits_taken : (sum i rest : ℕ) → sum + 2 ^ i * (1 + 2 * rest) ≡ sum + 2 ^ i + 2 ^ (i + 1) * rest
+bits_taken sum i rest = rw (pow_more 2 i) (twice sum (2 ^ i) rest)
+
+not_twice : (sum power rest : ℕ) → sum + power * (0 + 2 * rest) ≡ sum + power * 2 * rest
+not_twice sum power rest = grind arith
+
+pub bits_left : (sum i rest : ℕ) → sum + 2 ^ i * (0 + 2 * rest) ≡ sum + 2 ^ (i + 1) * rest
+bits_left sum i rest = rw (pow_more 2 i) (not_twice sum (2 ^ i) rest)
+
+pub below_next : (sum i added : ℕ) → sum < 2 ^ i → added ≤ 2 ^ i → sum + added < 2 ^ (i + 1)
+below_next sum i added below most = omega (arith, pow_more 2 i)
+
+pub fits : (sum i : ℕ) → sum < 2 ^ i → i < 64 → sum + 2 ^ i < 2 ^ 64
+fits sum i below few =
+    let more : i + 1 ≤ 64 = omega arith in
+    omega (arith, pow_more 2 i, pow_mono more)
+
+pub added_most : (test : Bool) (power : ℕ) → one_if test * power ≤ power
+added_most true power = omega arith
+added_most false power = omega arith
+
+bits_step : (sum i rest added : ℕ) (test : Bool) → added ≡ one_if test * 2 ^ i → sum + 2 ^ i * (one_if test + 2 * rest) ≡ sum + added + 2 ^ (i + 1) * rest
+bits_step sum i rest added true is = omega (arith, is, bits_taken sum i rest)
+bits_step sum i rest added false is = omega (arith, is, bits_left sum i rest)
+
+first_of : (gs : List Group) (place : ℕ) (g : Group) (e : Event) → place < length gs → g ≡ get_or gs place g
+    → map (λ group. takes group e) (map group_view (drop place gs)) ≡ takes (group_view g) e ∷ map (λ group. takes group e) (map group_view (drop (place + 1) gs))
+first_of gs place g e within is = ap (λ xs. map (λ group. takes group e) (map group_view xs)) (drop_more gs place g within) ∙ ap (λ w. takes (group_view w) e ∷ map (λ group. takes group e) (map group_view (drop (place + 1) gs))) (sym is)
+
+pub bits_kept : (sum i added place : ℕ) (gs : List Group) (g : Group) (e : Event) (test : Bool) (all : ℕ) → place < length gs → g ≡ get_or gs place g → test ≡ takes (group_view g) e → added ≡ one_if test * 2 ^ i
+    → sum + 2 ^ i * bits_of (map (λ group. takes group e) (map group_view (drop place gs))) ≡ all
+    → sum + added + 2 ^ (i + 1) * bits_of (map (λ group. takes group e) (map group_view (drop (place + 1) gs))) ≡ all
+bits_kept sum i added place gs g e test all within is tests adds rest =
+    let so_far = rw (first_of gs place g e within is) at rest in
+    let step = bits_step sum i (bits_of (map (λ group. takes group e) (map group_view (drop (place + 1) gs)))) added (takes (group_view g) e) (rw tests at adds) in
+    sym step ∙ so_far

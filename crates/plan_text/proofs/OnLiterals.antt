@@ -1,0 +1,13 @@
+-- What an answer unfolds to compute the reading of a plan on a literal.
+use Rattle.std.specs.Prelude.{⊤}
+use Rattle.std.specs.Str.{is_utf8, chars}
+use Rattle.toml.proofs.OnLiterals.{toml_on_literals}
+use Rattle.plan_text.specs.Document.{document_rules, version, order, reserved, records, has_known_keys, may_have_tables, has_at_most}
+use Rattle.plan_text.specs.Groups.{group_rules, inputs, gate, has_group_keys, group}
+use Rattle.plan_text.specs.Histograms.{histogram_rules, histogram, has_histogram_keys}
+use Rattle.plan_text.specs.Plan.{plan_rules, plan}
+use Rattle.plan_text.specs.Reading.{document, plan_of_document, plan_answer}
+
+unfoldable pub plan_on_literals : ⊤
+unfolding toml_on_literals is_utf8 chars document_rules version order reserved records has_known_keys may_have_tables has_at_most group_rules inputs gate has_group_keys group histogram_rules histogram has_histogram_keys plan_rules plan document plan_of_document plan_answer
+plan_on_literals = tt

@@ -1,0 +1,12 @@
+-- The rules of a plan stand in their order.
+use Rattle.std.proofs.Common.{arith}
+use Rattle.toml.specs.Data.{Data}
+use Rattle.toml_rules.specs.Rules.{RiseFrom}
+use Rattle.plan_text.specs.Plan.{plan_rules}
+use Rattle.plan_text.specs.Document.{document_rules}
+use Rattle.plan_text.specs.Groups.{group_rules}
+use Rattle.plan_text.specs.Histograms.{histogram_rules}
+
+pub plan_rules_rise : (d : Data) → RiseFrom 0 (plan_rules d)
+unfolding plan_rules document_rules group_rules histogram_rules
+plan_rules_rise d = grind arith

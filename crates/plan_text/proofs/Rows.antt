@@ -1,0 +1,75 @@
+-- Plans with one bad thing, and small plans that are read.
+use Rattle.std.proofs.Common.{◌≡◌, ◌^◌, refl, codes, Ok, Err, Some, [], ◌∷◌}
+use Rattle.tally_base.specs.declared.fault.Fault.TheVariants.{PlanSyntax, PlanRule}
+use Rattle.tally_base.specs.declared.event.Order.TheVariants as orders
+use Rattle.tally_base.specs.declared.event.OnReserved.TheVariants as choices
+use Rattle.plan_text.specs.Reading.{plan_answer}
+use Rattle.plan_text.proofs.OnLiterals.{plan_on_literals}
+
+pub row_byte : plan_answer (255 ∷ []) ≡ Err PlanSyntax
+unfolding plan_on_literals
+row_byte = refl
+
+pub row_key : plan_answer (codes "histograms = 1") ≡ Err (PlanRule 1 0)
+unfolding plan_on_literals
+row_key = refl
+
+pub row_key_twice : plan_answer (codes "version = 1\nversion = 1\n") ≡ Err PlanSyntax
+unfolding plan_on_literals
+row_key_twice = refl
+
+pub row_limits : plan_answer (codes "limits.events = 1\n") ≡ Err (PlanRule 5 0)
+unfolding plan_on_literals
+row_limits = refl
+
+pub row_least : plan_answer (codes "[[histogram]]\n[[group]]\ninputs = [0]\n[[group]]\ninputs = [0]\ngate = [2, 1]\n[[group]]\ninputs = [0]\ngate = 1\n") ≡ Err (PlanRule 10 2)
+unfolding plan_on_literals
+row_least = refl
+
+pub row_order : plan_answer (codes "order = 1\n") ≡ Err (PlanRule 3 0)
+unfolding plan_on_literals
+row_order = refl
+
+pub row_records : plan_answer (codes "limits.records = 0\n") ≡ Err (PlanRule 5 0)
+unfolding plan_on_literals
+row_records = refl
+
+pub row_group : plan_answer (codes "group = 3\n") ≡ Err (PlanRule 6 1)
+unfolding plan_on_literals
+row_group = refl
+
+pub row_inputs : plan_answer (codes "[[group]]\ninputs = [1, 1]\n") ≡ Err (PlanRule 9 1)
+unfolding plan_on_literals
+row_inputs = refl
+
+pub row_gate : plan_answer (codes "[[group]]\ninputs = [0]\n[[group]]\ninputs = [0]\ngate = [5, 5]\n") ≡ Err (PlanRule 10 2)
+unfolding plan_on_literals
+row_gate = refl
+
+pub row_histogram : plan_answer (codes "[[group]]\ninputs = [0]\n[[histogram]]\ngroup = 2\nwidth = 1\nbins = 1\n") ≡ Err (PlanRule 12 1)
+unfolding plan_on_literals
+row_histogram = refl
+
+pub row_float : plan_answer (codes "version = 1.0\n") ≡ Err (PlanRule 2 0)
+unfolding plan_on_literals
+row_float = refl
+
+pub row_truth : plan_answer (codes "version = true\n") ≡ Err (PlanRule 2 0)
+unfolding plan_on_literals
+row_truth = refl
+
+pub row_inline : plan_answer (codes "group = [{ inputs = [0] }, 3]\n") ≡ Err (PlanRule 6 1)
+unfolding plan_on_literals
+row_inline = refl
+
+pub row_many : plan_answer (codes "group = [{inputs=[0]}, {inputs=[0]}, {inputs=[0]}, {inputs=[0]}, {inputs=[0]}, {inputs=[0]}, {inputs=[0]}, {inputs=[0]}, {inputs=[0]}, {inputs=[0]}, {inputs=[0]}, {inputs=[0]}, {inputs=[0]}, {inputs=[0]}, {inputs=[0]}, {inputs=[0]}, {inputs=[0]}, {inputs=[0]}, {inputs=[0]}, {inputs=[0]}, {inputs=[0]}, {inputs=[0]}, {inputs=[0]}, {inputs=[0]}, {inputs=[0]}, {inputs=[0]}, {inputs=[0]}, {inputs=[0]}, {inputs=[0]}, {inputs=[0]}, {inputs=[0]}, {inputs=[0]}, {inputs=[0]}, {inputs=[0]}, {inputs=[0]}, {inputs=[0]}, {inputs=[0]}, {inputs=[0]}, {inputs=[0]}, {inputs=[0]}, {inputs=[0]}, {inputs=[0]}, {inputs=[0]}, {inputs=[0]}, {inputs=[0]}, {inputs=[0]}, {inputs=[0]}, {inputs=[0]}, {inputs=[0]}, {inputs=[0]}, {inputs=[0]}, {inputs=[0]}, {inputs=[0]}, {inputs=[0]}, {inputs=[0]}, {inputs=[0]}, {inputs=[0]}, {inputs=[0]}, {inputs=[0]}, {inputs=[0]}, {inputs=[0]}, {inputs=[0]}, {inputs=[0]}, {inputs=[0]}, {inputs=[0]}]\n") ≡ Err (PlanRule 7 1)
+unfolding plan_on_literals
+row_many = refl
+
+pub row_empty : plan_answer (codes "group = []\n") ≡ Ok (record { order = orders.Drop; reserved = choices.Skip; records = 2 ^ 40; groups = []; histograms = [] })
+unfolding plan_on_literals
+row_empty = refl
+
+pub row_whole : plan_answer (codes "order = 'stop'\ngroup = [{ inputs = [0, 2], gate = [3, 9] }]\n") ≡ Ok (record { order = orders.Stop; reserved = choices.Skip; records = 2 ^ 40; groups = record { inputs = 5; gate = Some (3, 9) } ∷ []; histograms = [] })
+unfolding plan_on_literals
+row_whole = refl

@@ -1,0 +1,50 @@
+-- What the document of a plan says as a whole, and the rules on it.
+use Rattle.std.specs.Prelude.{ℕ, ◌^◌, Bool, nat_le, List, [], ◌∷◌, length, codes, Option, None, Some, is_some, if◌then◌else◌}
+use Rattle.toml.specs.Data.{Data, get}
+use Rattle.toml_rules.specs.Rules.{Rule, whole}
+use Rattle.toml_rules.specs.Values.{list_at, may_be_tables, has_keys, number_or, second_of}
+
+-- the version of the plan
+unfoldable pub version : Data → Option ℕ
+version d = number_or 1 1 1 (get (codes "version") d)
+
+-- whether late events are refused
+unfoldable pub order : Data → Option Bool
+order d = second_of (codes "drop") (codes "stop") (get (codes "order") d)
+
+-- whether reserved records are refused
+unfoldable pub reserved : Data → Option Bool
+reserved d = second_of (codes "skip") (codes "stop") (get (codes "reserved") d)
+
+-- the greatest number of records, of what may be a table of limits
+abbrev pub records_in : Option Data → Option ℕ
+records_in None = Some (2 ^ 40)
+records_in (Some d) = if has_keys [] (codes "records" ∷ []) d then number_or (2 ^ 40) 1 (2 ^ 40) (get (codes "records") d) else None
+
+-- the greatest number of records
+unfoldable pub records : Data → Option ℕ
+records d = records_in (get (codes "limits") d)
+
+-- the document has only keys of a plan
+unfoldable pub has_known_keys : Data → Bool
+has_known_keys = has_keys [] (codes "version" ∷ codes "order" ∷ codes "reserved" ∷ codes "limits" ∷ codes "group" ∷ codes "histogram" ∷ [])
+
+-- an array of tables stands at the key, or nothing
+unfoldable pub may_have_tables : List ℕ → Data → Bool
+may_have_tables key d = may_be_tables (get key d)
+
+-- the array at the key has at most so many members
+unfoldable pub has_at_most : ℕ → List ℕ → Data → Bool
+has_at_most most key d = nat_le (length (list_at key d)) most
+
+-- The rules on the document as a whole. Rules 6 and 7 have a test for each list of tables, in the order of the report.
+unfoldable pub document_rules : Data → List Rule
+document_rules d =
+    whole 1 (has_known_keys d)
+    ∷ whole 2 (is_some (version d))
+    ∷ whole 3 (is_some (order d))
+    ∷ whole 4 (is_some (reserved d))
+    ∷ whole 5 (is_some (records d))
+    ∷ record { number = 6; first = 1; tests = may_have_tables (codes "group") d ∷ may_have_tables (codes "histogram") d ∷ [] }
+    ∷ record { number = 7; first = 1; tests = has_at_most 64 (codes "group") d ∷ has_at_most 32 (codes "histogram") d ∷ [] }
+    ∷ []

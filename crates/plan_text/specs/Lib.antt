@@ -1,0 +1,6 @@
+pub mod Document
+pub mod Groups
+pub mod Histograms
+pub mod Plan
+pub mod Reading
+pub mod Fits

@@ -1,0 +1,56 @@
+-- All rules of a plan, and the plan that a document gives.
+use Rattle.std.specs.Prelude.{◌≡◌, map, ℕ, ◌^◌, Bool, true, false, List, ◌++◌, Option, None, Some, unwrap_or, filter_map}
+use Rattle.toml.specs.Data.{Data}
+use Rattle.tally_base.specs.declared.event.Order.{Order}
+use Rattle.tally_base.specs.declared.event.Order.TheVariants as orders
+use Rattle.tally_base.specs.declared.event.OnReserved.{OnReserved}
+use Rattle.tally_base.specs.declared.event.OnReserved.TheVariants as choices
+use Rattle.tally_base.specs.Settings.{GroupView, HistView, PartSettings, HistSettings}
+use Rattle.toml_rules.specs.Rules.{Rule}
+use Rattle.plan_text.specs.Document.{order, reserved, records, document_rules}
+use Rattle.plan_text.specs.Groups.{groups, group, group_rules}
+use Rattle.plan_text.specs.Histograms.{histograms, histogram, histogram_rules}
+
+-- all rules, in their order
+unfoldable pub plan_rules : Data → List Rule
+plan_rules d = document_rules d ++ group_rules d ++ histogram_rules d
+
+-- What a contract sees of a plan.
+pub record PlanView : Type 0 where
+  pub order : Order
+  pub reserved : OnReserved
+  -- the greatest number of records
+  pub records : ℕ
+  pub groups : List GroupView
+  pub histograms : List HistView
+
+-- the settings of the plan's tables, in the order of the report: by kinds, and by numbers in each
+abbrev pub parts_of : PlanView → List PartSettings
+parts_of plan = map (λ set. HistSettings set) plan.histograms
+
+-- what becomes of late events
+abbrev pub order_of : Option Bool → Order
+order_of (Some true) = orders.Stop
+order_of (Some false) = orders.Drop
+order_of None = orders.Drop
+
+-- what becomes of reserved records
+abbrev pub reserved_of : Option Bool → OnReserved
+reserved_of (Some true) = choices.Stop
+reserved_of (Some false) = choices.Skip
+reserved_of None = choices.Skip
+
+-- the plan of a document that keeps the rules
+unfoldable pub plan : Data → PlanView
+plan d = record {
+  order = order_of (order d);
+  reserved = reserved_of (reserved d);
+  records = unwrap_or (records d) (2 ^ 40);
+  groups = filter_map group (groups d);
+  histograms = filter_map (histogram d) (histograms d);
+}
+
+-- Each table of the document's lists is in the plan.
+pub record IsWhole (d : Data) : Type 0 where
+  pub groups : map (λ one. Some one) (plan d).groups ≡ map group (groups d)
+  pub histograms : map (λ one. Some one) (plan d).histograms ≡ map (histogram d) (histograms d)

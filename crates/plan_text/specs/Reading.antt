@@ -1,0 +1,58 @@
+-- What reading a plan answers.
+use Rattle.std.specs.Prelude.{◌≡◌, ◌<◌, ◌≤◌, ℕ, List, map, length, nat_le, Option, None, Some, Result, Ok, Err, if◌then◌else◌}
+use Rattle.std.specs.Str.{is_utf8}
+use Rattle.tally_base.specs.declared.fault.Fault.{Fault}
+use Rattle.tally_base.specs.declared.fault.Fault.TheVariants.{OutOfMemory, PlanTooLong, PlanSyntax, PlanRule}
+use Rattle.toml.specs.Data.{table, Members}
+use Rattle.toml.specs.Parse.{parse_document}
+use Rattle.tally_base.specs.Settings.{group_view, hist_view}
+use Rattle.toml_rules.specs.Rules.{all_kept, AllHold, IsLeast}
+use Rattle.plan_text.specs.Plan.{PlanView, plan_rules, plan, IsWhole}
+use Rattle.plan_text.specs.declared.plan.Plan.{Plan}
+
+-- what a contract sees of a plan
+abbrev pub plan_view : Plan → PlanView
+plan_view plan = record {
+  order = plan.policy.order;
+  reserved = plan.policy.reserved;
+  records = plan.policy.records;
+  groups = map group_view plan.groups.items;
+  histograms = map hist_view plan.histograms.items;
+}
+
+-- what a contract sees of a reading
+abbrev pub plan_seen : Result Plan Fault → Result PlanView Fault
+plan_seen (Ok plan) = Ok (plan_view plan)
+plan_seen (Err fault) = Err fault
+
+-- the table that these bytes are as a TOML document
+unfoldable pub document : List ℕ → Option Members
+document bytes = if is_utf8 bytes then parse_document bytes else None
+
+-- the plan, where no rule is broken
+abbrev pub if_kept : Result (Unit {0}) Fault → PlanView → Result PlanView Fault
+if_kept (Ok done) view = Ok view
+if_kept (Err fault) view = Err fault
+
+-- what reading a document answers
+unfoldable pub plan_of_document : Option Members → Result PlanView Fault
+plan_of_document None = Err PlanSyntax
+plan_of_document (Some ms) = if_kept (all_kept (plan_rules (table ms))) (plan (table ms))
+
+-- what reading a plan answers, where memory suffices
+unfoldable pub plan_answer : List ℕ → Result PlanView Fault
+plan_answer bytes = if nat_le (length bytes) 65536 then plan_of_document (document bytes) else Err PlanTooLong
+
+-- ## The same without steps
+
+-- The bytes are a document that keeps each rule, and each of its tables is in the plan.
+abbrev pub IsValid : List ℕ → Type 0
+IsValid bytes = (length bytes ≤ 65536) × (ms : Members) × (document bytes ≡ Some ms) × AllHold (plan_rules (table ms)) × IsWhole (table ms)
+
+-- The bytes call for the fault. Memory is wanted only for bytes that are not too long.
+abbrev pub IsCalledFor : List ℕ → Fault → Type 0
+IsCalledFor bytes OutOfMemory = length bytes ≤ 65536
+IsCalledFor bytes PlanTooLong = 65536 < length bytes
+IsCalledFor bytes PlanSyntax = (length bytes ≤ 65536) × (document bytes ≡ None)
+IsCalledFor bytes (PlanRule n index) = (length bytes ≤ 65536) × (ms : Members) × (document bytes ≡ Some ms) × IsLeast (plan_rules (table ms)) n index
+IsCalledFor bytes _ = ⊥

@@ -1,0 +1,13 @@
+//! Reads a plan: what a run refuses, the groups of photons, and the tables that are counted.
+#![tactic(auto)]
+
+mod document;
+mod fits;
+mod groups;
+mod histograms;
+mod plan;
+
+pub use plan::{Plan, read_plan};
+
+#[cfg(test)]
+mod tests;

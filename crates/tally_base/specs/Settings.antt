@@ -1,0 +1,34 @@
+-- What a contract sees of the settings of a plan: their numbers alone, so that definitions can make them.
+use Rattle.std.specs.Prelude.{ℕ, ◌+◌, Bool, false}
+use Rattle.std.specs.declared.option.Option.{Option}
+use Rattle.tally_base.specs.declared.settings.Group.{Group}
+use Rattle.tally_base.specs.declared.settings.HistSet.{HistSet}
+
+pub record GroupView : Type 0 where
+  -- bit n is set for the input n
+  pub inputs : ℕ
+  -- the first dtime of the group, and the first behind those of the group
+  pub gate : Option (ℕ × ℕ)
+
+pub record HistView : Type 0 where
+  pub group : ℕ
+  pub width : ℕ
+  pub bins : ℕ
+
+abbrev pub group_view : Group → GroupView
+group_view group = record { inputs = group.inputs; gate = group.gate }
+
+abbrev pub hist_view : HistSet → HistView
+hist_view set = record { group = set.group; width = set.width; bins = set.bins }
+
+-- the settings of a table of any kind
+pub data PartSettings : Type 0 where
+  HistSettings : (set : HistView) → PartSettings
+
+-- The bound of a table: how many entries it keeps at most, cells, rest counts, ring entries and open bins.
+abbrev pub entries : PartSettings → ℕ
+entries (HistSettings set) = set.bins + 1
+
+-- whether the times of markers may not fall in it either
+abbrev pub is_strict : PartSettings → Bool
+is_strict (HistSettings set) = false

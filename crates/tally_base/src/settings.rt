@@ -1,0 +1,145 @@
+// The settings of the groups and tables of a plan. Each has its ranges as facts of its type.
+ghost use Rattle.std.specs.Prelude.{◌≡◌, ◌%◌, ◌^◌, ◌<◌, ◌≤◌};
+ghost use Rattle.std.specs.Option.{ForSome};
+
+/// The photons of some inputs, and of a part of the dtimes.
+#[derive(Clone, Copy, Debug)]
+pub struct Group {
+    /// Bit n is set for the input n, 0 to 64.
+    pub inputs: u128,
+    /// The dtimes of the group, in ticks, from the first on and below the second, which is at most
+    /// 32,768. Without a gate every dtime is of the group.
+    pub gate: Option<(u16, u16)>,
+    pub ghost few_inputs: { inputs < 2 ^ 65 },
+    pub ghost some_gate: { ForSome gate (λ g. (g.0 < g.1) × (g.1 ≤ 32768)) },
+}
+
+/// A histogram of the photons of a group by their dtimes.
+#[derive(Clone, Copy, Debug)]
+pub struct HistSet {
+    /// The number of the group, from 1.
+    pub group: u8,
+    /// How many ticks of the dtime a bin has, 1 to 32,768.
+    pub width: u32,
+    /// How many bins there are, 1 to 32,768.
+    pub bins: u32,
+    pub ghost of_group: { (0 < group) × (group ≤ 64) },
+    pub ghost some_width: { (0 < width) × (width ≤ 32768) },
+    pub ghost some_bins: { (0 < bins) × (bins ≤ 32768) },
+}
+
+/// A trace of the photons of a group over the time of the file.
+#[derive(Clone, Copy, Debug)]
+pub struct TraceSet {
+    /// The number of the group, from 1.
+    pub group: u8,
+    /// The time at which the first bin begins, at most 2^62, in ticks in T2 and sync periods in T3.
+    pub origin: u64,
+    /// How much time a bin has, 1 to 2^62.
+    pub width: u64,
+    /// How many bins there are, 1 to 2^20.
+    pub bins: u32,
+    pub ghost of_group: { (0 < group) × (group ≤ 64) },
+    pub ghost some_origin: { origin ≤ 2 ^ 62 },
+    pub ghost some_width: { (0 < width) × (width ≤ 2 ^ 62) },
+    pub ghost some_bins: { (0 < bins) × (bins ≤ 2 ^ 20) },
+}
+
+/// A table of the times from a photon of one group to the next of another. For T2 files.
+#[derive(Clone, Copy, Debug)]
+pub struct StartStopSet {
+    /// The number of the group that starts, from 1.
+    pub start: u8,
+    /// The number of the group that stops, from 1.
+    pub stop: u8,
+    /// How many ticks a bin has, 1 to 2^62.
+    pub width: u64,
+    /// How many bins there are, 1 to 32,768.
+    pub bins: u32,
+    pub ghost of_start: { (0 < start) × (start ≤ 64) },
+    pub ghost of_stop: { (0 < stop) × (stop ≤ 64) },
+    pub ghost some_width: { (0 < width) × (width ≤ 2 ^ 62) },
+    pub ghost some_bins: { (0 < bins) × (bins ≤ 32768) },
+}
+
+/// A table of the pairs of photons of two groups by their difference in time. For T2 files.
+#[derive(Clone, Copy, Debug)]
+pub struct CoincidenceSet {
+    /// The number of the group of the first photon, from 1.
+    pub first: u8,
+    /// The number of the group of the second photon, from 1.
+    pub second: u8,
+    /// The greatest difference that counts, 1 to 2^20 ticks.
+    pub reach: u32,
+    /// How many ticks a cell has, 1 to 2^21.
+    pub width: u32,
+    pub ghost of_first: { (0 < first) × (first ≤ 64) },
+    pub ghost of_second: { (0 < second) × (second ≤ 64) },
+    pub ghost some_reach: { (0 < reach) × (reach ≤ 2 ^ 20) },
+    pub ghost some_width: { (0 < width) × (width ≤ 2 ^ 21) },
+}
+
+/// An image of a scan. For T3 files.
+#[derive(Clone, Copy, Debug)]
+pub struct ImageSet {
+    /// The number of the group, from 1.
+    pub group: u8,
+    /// How many columns there are, 1 to 2,048.
+    pub width: u32,
+    /// How many rows there are, 1 to 2,048.
+    pub height: u32,
+    /// How many sync periods a column takes, 1 to 2^62.
+    pub dwell: u64,
+    /// The number of the marker bit of a line, 1 to 4.
+    pub line: u8,
+    /// The number of the marker bit of a frame, 1 to 4.
+    pub frame: Option<u8>,
+    /// The number of the marker bit that ends a line, 1 to 4.
+    pub stop: Option<u8>,
+    pub ghost of_group: { (0 < group) × (group ≤ 64) },
+    pub ghost some_width: { (0 < width) × (width ≤ 2048) },
+    pub ghost some_height: { (0 < height) × (height ≤ 2048) },
+    pub ghost some_dwell: { (0 < dwell) × (dwell ≤ 2 ^ 62) },
+    pub ghost some_line: { (0 < line) × (line ≤ 4) },
+    pub ghost some_frame: { ForSome frame (λ bit. (0 < bit) × (bit ≤ 4)) },
+    pub ghost some_stop: { ForSome stop (λ bit. (0 < bit) × (bit ≤ 4)) },
+}
+
+/// A correlation of two groups, whose times are halved from level to level.
+#[derive(Clone, Copy, Debug)]
+pub struct CorrelationSet {
+    /// The number of the group of the first photon, from 1.
+    pub first: u8,
+    /// The number of the group of the second photon, from 1.
+    pub second: u8,
+    /// The greatest lag of each level, in its halved times: an even number from 2 to 128.
+    pub lags: u32,
+    /// How many levels there are, 1 to 40.
+    pub levels: u32,
+    pub ghost of_first: { (0 < first) × (first ≤ 64) },
+    pub ghost of_second: { (0 < second) × (second ≤ 64) },
+    pub ghost some_lags: { (2 ≤ lags) × (lags ≤ 128) },
+    pub ghost even_lags: { lags % 2 ≡ 0 },
+    pub ghost some_levels: { (0 < levels) × (levels ≤ 40) },
+}
+
+/// A group of no inputs, which fills unused room.
+impl Default for Group {
+    fn default() -> Group {
+        Group {
+            inputs: 0,
+            gate: None,
+        }
+    }
+}
+
+/// The least histogram, which fills unused room.
+impl Default for HistSet {
+    fn default() -> HistSet {
+        HistSet {
+            group: 1,
+            width: 1,
+            bins: 1,
+        }
+    }
+}

@@ -1,0 +1,64 @@
+// What every table is.
+ghost use Rattle.std.specs.Prelude.{◌≡◌, ℕ, Bool, true, false, ◌+◌, ◌^◌, ◌<◌, ◌≤◌, List, [], ◌∷◌, ◌++◌, IsTrue, length, if◌then◌else◌};
+ghost use Rattle.tally_base.specs.declared.event.Event.{Event};
+ghost use Rattle.tally_base.specs.Settings.{PartSettings, entries, is_strict};
+ghost use Rattle.tally_base.specs.Tally.{History, moves_floor, greatest_time};
+
+use crate::event::Event;
+use crate::steps::Steps;
+use std::sync::ledger::Ledger;
+
+/// A table that counts over the events that it is given.
+///
+/// It is given the kept events of a file in their order, each with the groups that it is in, and then
+/// it is closed. From then on its cells are the counts.
+pub trait Tally {
+    /// The table stands for these events, each with its groups.
+    ghost holds: { Self → History → Type 0 };
+
+    /// How many events it was given.
+    ghost taken: { Self → ℕ };
+
+    /// The greatest time of the photons that it was given, in a strict table of all events.
+    ghost floor: { Self → ℕ };
+
+    /// How many entries it keeps: cells, rest counts, ring entries and open bins.
+    ghost held: { Self → ℕ };
+
+    /// What it was opened with. They say how many entries it keeps at most, and whether it is strict.
+    ghost settings: { Self → PartSettings };
+
+    ghost closed: { Self → Bool };
+
+    /// Takes an event. Bit g - 1 of `groups` says that it is in group g.
+    fn event<L: Ledger>(&mut self, e: &Event, groups: u64, steps: &mut Steps<L>)
+        requires open { closed self.old ≡ false }
+        requires room { taken self.old < 2 ^ 40 }
+        requires in_time { e.now.time ≤ 2 ^ 62 + 2 ^ 28 }
+        requires in_order { IsTrue (moves_floor (is_strict (settings self.old)) e.now)
+            → floor self.old ≤ e.now.time }
+        ensures follows { (h : History) → holds self.old h
+            → holds self.new (h ++ (e.now, groups) ∷ []) }
+        ensures still_open { closed self.new ≡ false }
+        ensures one_more { taken self.new ≡ taken self.old + 1 }
+        ensures moved { floor self.new ≡ (if moves_floor (is_strict (settings self.old)) e.now
+            then e.now.time else floor self.old) }
+        ensures same_settings { settings self.new ≡ settings self.old };
+
+    /// Nothing more comes: from now on the cells are the counts.
+    fn close<L: Ledger>(&mut self, steps: &mut Steps<L>)
+        requires open { closed self.old ≡ false }
+        ensures keeps { (h : History) → holds self.old h → holds self.new h }
+        ensures now_closed { closed self.new ≡ true }
+        ensures same_taken { taken self.new ≡ taken self.old }
+        ensures same_floor { floor self.new ≡ floor self.old }
+        ensures same_settings { settings self.new ≡ settings self.old };
+
+    /// What holds of every table.
+    ghost taken_is: { (t : Self) (h : History) → holds t h → taken t ≡ length h };
+
+    ghost floor_is: { (t : Self) (h : History) → holds t h
+        → floor t ≡ greatest_time (is_strict (settings t)) h };
+
+    ghost within: { (t : Self) → held t ≤ entries (settings t) };
+}
