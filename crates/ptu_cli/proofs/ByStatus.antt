@@ -21,6 +21,6 @@ module _ (opening reading : Slot → Type 0) (writing memory : Type 0) where
   writing-from_status WriteFault e h = (refl, h)
   writing-from_status _ e h = cc
 
-  pub memory-from_status : (fault : Fault) → status_of fault ≡ 5 → Reason fault → memory
-  memory-from_status OutOfMemory e h = h
+  pub memory-from_status : (fault : Fault) → status_of fault ≡ 5 → Reason fault → (fault ≡ OutOfMemory) × memory
+  memory-from_status OutOfMemory e h = (refl, h)
   memory-from_status _ e h = cc

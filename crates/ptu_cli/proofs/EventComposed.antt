@@ -1,8 +1,8 @@
 -- A header and the lines of the events behind it.
-use Rattle.std.proofs.Common.{◌≡◌, ℕ, List, [], ◌++◌, Ok, Err, None, Some, true, ◌⊎◌, refl, sym, ap, ◌∙◌, append_assoc, inl, inr, ⊎_elim}
+use Rattle.std.proofs.Common.{◌≡◌, ℕ, List, [], ◌++◌, Err, Some, true, ◌⊎◌, refl, sym, ap, ◌∙◌, append_assoc, inl, inr, ⊎_elim}
 use Rattle.std.specs.declared.option.Option.{Option}
 use Rattle.std.specs.declared.result.Result.{Result}
-use Rattle.std.specs.Io.KnownBytes.{Appends, Consumes}
+use Rattle.std.specs.Io.KnownBytes.{Consumes}
 use Rattle.tally_base.specs.declared.fault.Fault.{Fault}
 use Rattle.tally_base.specs.declared.fault.Fault.TheVariants.{WriteFault}
 use Rattle.tally_base.specs.declared.header.Header.{Header}
@@ -13,11 +13,12 @@ use Rattle.ptu_definitions.specs.Shown.{Says}
 use Rattle.ptu_definitions.specs.Words.{words_of}
 use Rattle.ptu_definitions.specs.Times.{events}
 use Rattle.ptu_definitions.specs.Kept.{marked}
-use Rattle.ptu_definitions.specs.Streams.{Reading, record_refusal, given, streamed}
-use Rattle.ptu_cli.specs.Endings.{fault_of}
-use Rattle.ptu_cli.specs.EventPieces.{lines_of, Wrote, WroteShort, Writes}
-use Rattle.ptu_cli.specs.EventRuns.{SaysLines, EndsLines, AnswersLines}
-use Rattle.ptu_cli.specs.EventOutcomes.{EndsEvents, AnswersEvents}
+use Rattle.ptu_definitions.specs.Streams.{Reading, record_refusal, given}
+use Rattle.tally_base.specs.Faults.{fault_in}
+use Rattle.ptu_cli.specs.EventPieces.{Wrote, WroteShort, Writes}
+use Rattle.table_out.specs.EventText.{lines_of}
+use Rattle.ptu_cli.specs.EventRuns.{SaysLines, AnswersLines}
+use Rattle.ptu_cli.specs.EventOutcomes.{AnswersEvents}
 use Rattle.ptu_cli.specs.Outcomes.{listing, listed, events_outcome, events_behind}
 use Rattle.ptu_cli.proofs.Composed.{ShowsHeader}
 use Rattle.ptu_cli.proofs.EventEnds.{says-refused}
@@ -57,7 +58,7 @@ answers-behind header front behind before mid after a b c r consumes shows wrote
   says = λ more left.
       let says = ends.says more left in
       ap events_outcome (append_assoc front ends.taken more) ∙ ap events_behind (shows (ends.taken ++ more)) ∙ ap (listed (listing header)) (sym (append_assoc behind ends.taken more))
-      ∙ listed-says (listing header) ((behind ++ ends.taken) ++ more) (wrote.more ++ ends.text) (fault_of r) (record { lines = says.lines ∙ ap (λ l. l ++ ends.text) wrote.adds ∙ append_assoc (lines_of (listing header) (words_of [])) wrote.more ends.text; ends = says.ends });
+      ∙ listed-says (listing header) ((behind ++ ends.taken) ++ more) (wrote.more ++ ends.text) (fault_in r) (record { lines = says.lines ∙ ap (λ l. l ++ ends.text) wrote.adds ∙ append_assoc (lines_of (listing header) (words_of [])) wrote.more ends.text; ends = says.ends });
 })
 
 -- there is no header

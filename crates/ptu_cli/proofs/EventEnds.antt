@@ -1,29 +1,29 @@
 -- Lines of bytes that grow.
-use Rattle.std.proofs.Common.{◌≡◌, ◌≢◌, ◌≤◌, ℕ, List, [], ◌++◌, true, false, None, Some, Ok, Err, refl, sym, ap, ◌∙◌, inl, inr, ⊎_elim, append_assoc, append-nil, arith}
+use Rattle.std.proofs.Common.{◌≡◌, ◌≢◌, ℕ, List, [], ◌++◌, None, Some, Err, refl, sym, ap, ◌∙◌, inl, inr, ⊎_elim, append_assoc, append-nil}
 use Rattle.std.specs.declared.option.Option.{Option}
 use Rattle.std.specs.declared.result.Result.{Result}
-use Rattle.std.specs.Io.KnownBytes.{Appends, Consumes, IsAtEnd}
+use Rattle.std.specs.Io.KnownBytes.{Consumes, IsAtEnd}
 use Rattle.tally_base.specs.declared.fault.Fault.{Fault}
 use Rattle.tally_base.specs.declared.fault.Fault.TheVariants.{WriteFault}
-use Rattle.tally_base.specs.Faults.{is_outside, HasReason}
+use Rattle.tally_base.specs.Faults.{HasReason}
 use Rattle.tally_base.specs.declared.slot.Slot.{Slot}
 use Rattle.tally_base.proofs.Reasons.{HasReason-inside}
 use Rattle.ptu_definitions.specs.declared.records.Summary.{Summary}
 use Rattle.ptu_definitions.proofs.Firsts.{record_refusal-inside}
 use Rattle.abs_time.specs.declared.clock.Clock.{Clock}
-use Rattle.ptu_cli.specs.Endings.{fault_of}
-use Rattle.tally_base.specs.Counts.{Rose}
-use Rattle.bench_io.specs.Sinks.{AppendsShort}
+use Rattle.tally_base.specs.Faults.{fault_in}
 use Rattle.bench_io.proofs.Bytes.{Appends-nil, Appends-trans, AppendsShort-behind}
 use Rattle.ptu_definitions.specs.Words.{words_of}
-use Rattle.ptu_definitions.specs.Streams.{Reading, record_refusal, streamed, given}
+use Rattle.ptu_definitions.specs.Streams.{Reading, record_refusal, streamed}
 use Rattle.ptu_definitions.proofs.WordsLemmas.{words_of-append}
 use Rattle.ptu_definitions.proofs.StreamLemmas.{given-stays}
-use Rattle.record_stream.specs.Standing.{fault_in, Stands}
+use Rattle.record_stream.specs.Standing.{Stands}
+use Rattle.tally_base.specs.Faults.{fault_in}
 use Rattle.record_stream.proofs.Lasts.{unrefused, streamed-shown}
 use Rattle.table_out.specs.EventText.{events_text}
-use Rattle.ptu_cli.specs.EventPieces.{lines_of, Wrote, WroteShort, Writes}
-use Rattle.ptu_cli.specs.EventRuns.{SaysLines, EndsLines, AnswersLines, ReadsLines, CutsLines}
+use Rattle.ptu_cli.specs.EventPieces.{Wrote, WroteShort, Writes}
+use Rattle.table_out.specs.EventText.{lines_of}
+use Rattle.ptu_cli.specs.EventRuns.{SaysLines, AnswersLines, CutsLines}
 
 pub Wrote-none : (how : Reading) (a : Option (List ℕ)) (words : List ℕ) → Wrote how a a words words
 Wrote-none how a words = record { more = []; adds = sym (append-nil (lines_of how words)); text = Appends-nil a }
@@ -81,13 +81,13 @@ at_end how before bytes text fault (Some rest) end says more left =
     rw (none, append-nil bytes) says
 
 pub answers-end : (how : Reading) (bytes taken : List ℕ) (before after a b : Option (List ℕ)) (answer : Result Summary Fault) (done : Result (Unit {0}) Fault) → Consumes before after taken → IsAtEnd after → Wrote how a b (words_of bytes) (words_of (bytes ++ taken))
-    → answer ≡ streamed how (bytes ++ taken) → fault_in answer ≡ fault_of done → AnswersLines how bytes before after a b done
+    → answer ≡ streamed how (bytes ++ taken) → fault_in answer ≡ fault_in done → AnswersLines how bytes before after a b done
 answers-end how bytes taken before after a b answer done consumes end wrote is same = inr (record {
   taken = taken;
   consumes = consumes;
   text = wrote.more;
   written = wrote.text;
-  says = at_end how bytes (bytes ++ taken) wrote.more (fault_of done) after end (record { lines = wrote.adds; ends = ap fault_in (sym is) ∙ same });
+  says = at_end how bytes (bytes ++ taken) wrote.more (fault_in done) after end (record { lines = wrote.adds; ends = ap fault_in (sym is) ∙ same });
 })
 
 -- the fault of a piece

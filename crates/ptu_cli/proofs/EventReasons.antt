@@ -1,29 +1,30 @@
 -- What is written where listing the events of a file fails.
-use Rattle.std.proofs.Common.{◌≡◌, ℕ, List, [], ◌++◌, true, false, Ok, Err, None, Some, length, refl, sym, ap, subst, ◌∙◌, append_assoc, inl, inr, ⊎_elim}
+use Rattle.std.proofs.Common.{◌≡◌, ℕ, List, [], ◌++◌, None, length, refl, sym, ap, ◌∙◌, append_assoc, inl, inr}
 use Rattle.std.specs.Prelude.{nat_eq}
 use Rattle.std.specs.declared.option.Option.{Option}
-use Rattle.std.specs.Io.KnownBytes.{Appends, Consumes}
+use Rattle.std.specs.Io.KnownBytes.{Consumes}
 use Rattle.std.proofs.lemmas.Bool.{cases_Bool}
 use Rattle.tally_base.specs.declared.header.Header.{Header}
 use Rattle.bench_io.specs.Sinks.{AppendsShort}
 use Rattle.bench_io.proofs.Bytes.{Appends-nil, Appends-same, Appends-trans, Consumes-trans, AppendsShort-same, AppendsShort-more, AppendsShort-behind}
 use Rattle.ptu_definitions.specs.Words.{words_of, rest_of}
-use Rattle.ptu_definitions.specs.Headers.{header_answer}
 use Rattle.ptu_definitions.specs.Streams.{Reading, record_refusal, given, streamed}
 use Rattle.ptu_definitions.proofs.WordsLemmas.{words_of-append}
 use Rattle.ptu_definitions.proofs.StreamLemmas.{given-front}
-use Rattle.record_stream.specs.Standing.{fault_in}
+use Rattle.tally_base.specs.Faults.{fault_in}
 use Rattle.table_out.specs.EventText.{events_text}
 use Rattle.ptu_cli.specs.HeaderPieces.{IsCut}
-use Rattle.ptu_cli.specs.EventPieces.{lines_of, Wrote, WroteShort}
+use Rattle.ptu_cli.specs.EventPieces.{Wrote, WroteShort}
+use Rattle.table_out.specs.EventText.{lines_of}
 use Rattle.ptu_cli.specs.EventRuns.{ReadsLines, CutsLines}
-use Rattle.ptu_cli.specs.EventOutcomes.{MayGoOnFrom, ReadsEvents, CutsEvents}
+use Rattle.ptu_cli.specs.EventOutcomes.{ReadsEvents, CutsEvents}
+use Rattle.ptu_cli.specs.Outcomes.{MayGoOnFrom}
 use Rattle.ptu_cli.specs.Outcomes.{listing, listed, events_outcome, events_behind}
 use Rattle.ptu_cli.proofs.Composed.{ShowsHeader}
 use Rattle.ptu_cli.proofs.Listing.{events_text-append}
 use Rattle.ptu_cli.proofs.EventComposed.{lines_of-none}
 
-streamed-open : (how : Reading) (bytes : List ℕ) → record_refusal how (words_of bytes) ≡ None → MayGoOnFrom (fault_in (streamed how bytes))
+pub streamed-open : (how : Reading) (bytes : List ℕ) → record_refusal how (words_of bytes) ≡ None → MayGoOnFrom (fault_in (streamed how bytes))
 unfolding streamed
 streamed-open how bytes none = elim (cases_Bool (nat_eq (length (rest_of bytes)) 0)) [
   | inl whole ↦ rw (none, whole) tt

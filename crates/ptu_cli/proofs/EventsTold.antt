@@ -7,9 +7,9 @@ use Rattle.bench_io.specs.Inputs.{File, IsOpened}
 use Rattle.bench_io.specs.Sinks.{AppendsShort}
 use Rattle.bench_io.proofs.Bytes.{AppendsShort-same}
 use Rattle.ptu_cli.specs.Commands.{Events}
-use Rattle.ptu_cli.specs.Outcomes.{Outcome, events_outcome, outcome}
+use Rattle.ptu_cli.specs.Outcomes.{MayGoOnFrom, events_outcome, outcome}
 use Rattle.ptu_cli.specs.Endings.{MayGoOn}
-use Rattle.ptu_cli.specs.EventOutcomes.{MayGoOnFrom, CutsEvents}
+use Rattle.ptu_cli.specs.EventOutcomes.{CutsEvents}
 
 -- an end that may change is an outcome that may
 pub may_go_on : (name : List ℕ) (fault : Option Fault) → MayGoOnFrom fault → MayGoOn (Some (Events name)) fault

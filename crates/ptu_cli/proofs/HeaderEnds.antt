@@ -14,12 +14,13 @@ use Rattle.table_out.specs.HeaderText.{header_text}
 use Rattle.table_out.proofs.Final.{header_text-grows, header_text-refused, header_text-done}
 use Rattle.ptu_definitions.specs.declared.records.KindCounts.{KindCounts}
 use Rattle.ptu_cli.specs.Commands.{Count as CountOf, Header as HeaderOf}
-use Rattle.ptu_cli.specs.Outcomes.{header_fault, header_outcome, outcome, MayChange, count_outcome}
+use Rattle.ptu_cli.specs.Outcomes.{header_outcome, outcome, MayChange, count_outcome}
+use Rattle.tally_base.specs.Faults.{fault_in}
 use Rattle.ptu_cli.specs.Endings.{MayGoOn}
 use Rattle.ptu_cli.specs.Printing.{AppendsText, CutsText}
 use Rattle.ptu_cli.specs.HeaderRuns.{CutsFile}
 
-outcome-at : (file text : List ℕ) (fault : Option Fault) → header_text file ≡ text → header_fault (header_answer file) ≡ fault → header_outcome file ≡ record { text = text; fault = fault }
+outcome-at : (file text : List ℕ) (fault : Option Fault) → header_text file ≡ text → fault_in (header_answer file) ≡ fault → header_outcome file ≡ record { text = text; fault = fault }
 outcome-at file text fault t f = rw (t, f) refl
 
 -- the text so far and that of a piece
@@ -33,10 +34,10 @@ text-cut bytes piece more a b c p q =
     (AppendsShort-same a c _ _ (sym q.text) (AppendsShort-behind a b c (header_text bytes) q.added p q.cut)))
 
 pub outcome-done : (bytes more behind : List ℕ) (header : Header) → ((more : List ℕ) → header_answer (bytes ++ more) ≡ Ok (header, behind ++ more)) → header_outcome (bytes ++ more) ≡ record { text = header_text bytes; fault = None }
-outcome-done bytes more behind header h = outcome-at (bytes ++ more) (header_text bytes) None (header_text-done bytes more header behind h) (ap header_fault (h more))
+outcome-done bytes more behind header h = outcome-at (bytes ++ more) (header_text bytes) None (header_text-done bytes more header behind h) (ap fault_in (h more))
 
 pub outcome-refused : (bytes more : List ℕ) (fault : Fault) → Shows header_answer bytes (Err fault) → header_outcome (bytes ++ more) ≡ record { text = header_text bytes; fault = Some fault }
-outcome-refused bytes more fault h = outcome-at (bytes ++ more) (header_text bytes) (Some fault) (header_text-refused bytes more fault h) (ap header_fault (h more))
+outcome-refused bytes more fault h = outcome-at (bytes ++ more) (header_text bytes) (Some fault) (header_text-refused bytes more fault h) (ap fault_in (h more))
 
 -- the bytes taken from a file that is told
 pub taken-told : (contents : Option File) (rest new : Option (List ℕ)) (taken bytes : List ℕ) → IsOpened contents rest → Consumes rest new taken → contents ≡ Some (Some bytes) → Consumes (Some bytes) new taken

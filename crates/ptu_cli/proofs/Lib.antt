@@ -8,9 +8,15 @@ pub mod ByStatus
 pub mod Asked
 pub mod Complete
 pub mod Rows
+pub mod ByteFaults
+pub mod RunFaults
 pub mod BadWords
 pub mod Listing
 pub mod EventEnds
 pub mod EventComposed
 pub mod EventReasons
 pub mod EventsTold
+pub mod Texts
+pub mod Plans
+pub mod Runs
+pub mod RunTold

@@ -1,5 +1,5 @@
 -- One line more, and the lines of a piece.
-use Rattle.std.proofs.Common.{◌≡◌, ◌+◌, ◌≤◌, ◌<◌, ℕ, List, [], ◌∷◌, ◌++◌, Bool, true, false, Ok, Err, Some, max, refl, sym, ap, subst, ◌∙◌, inl, inr, ⊎_elim, append_assoc, append-nil, arith, length, length-append}
+use Rattle.std.proofs.Common.{◌≡◌, ◌+◌, ◌≤◌, ℕ, List, [], ◌∷◌, ◌++◌, Bool, true, false, Ok, Err, Some, max, refl, sym, ap, subst, ◌∙◌, inl, inr, ⊎_elim, append_assoc, append-nil, arith, length, length-append}
 use Rattle.std.specs.Prelude.{◌&&◌, not, IsTrue, if◌then◌else◌}
 use Rattle.std.specs.declared.option.Option.{Option}
 use Rattle.std.specs.declared.result.Result.{Result}
@@ -18,7 +18,8 @@ use Rattle.table_out.specs.EventText.{event_text, events_text}
 use Rattle.record_stream.specs.declared.taker.EventTaker.{Ghosts}
 use Rattle.record_stream.specs.Feeding.{GaveOn, BrokeOn, Fed}
 use Rattle.ptu_cli.specs.EventLines.{Listed, ListedShort}
-use Rattle.ptu_cli.specs.EventPieces.{lines_of, Wrote, WroteShort, Writes}
+use Rattle.ptu_cli.specs.EventPieces.{Writes}
+use Rattle.table_out.specs.EventText.{lines_of}
 
 pub events_text-append : (l m : Marked) → events_text (l ++ m) ≡ events_text l ++ events_text m
 events_text-append [] m = refl

@@ -1,6 +1,7 @@
 -- A piece that is fed in two parts, and what the bytes taken call for.
-use Rattle.std.proofs.Common.{◌≡◌, ◌+◌, ◌≤◌, ℕ, List, [], ◌++◌, false, Ok, Err, length, arith, take, drop, refl, sym, ap, ◌∙◌, subst, inl, inr, append_assoc, take-append-drop}
+use Rattle.std.proofs.Common.{slice_range, ◌-◌, ◌≡◌, ◌+◌, ◌≤◌, ℕ, zero, suc, List, [], ◌++◌, false, Ok, Err, length, arith, take, drop, refl, sym, ap, ◌∙◌, subst, inl, inr, append_assoc, append-nil, take-append-drop}
 use Rattle.std.proofs.Math.Seq.{take-add}
+use Rattle.std.proofs.lemmas.List.{length-drop, length-take-le}
 use Rattle.std.specs.Prelude.{nat_lt, nat_eq, ◌<◌, ◌↔◌, Result, IsErr}
 use Rattle.std.proofs.lemmas.Bool.{cases_Bool, cases_lt}
 use Rattle.std.proofs.lemmas.Bool.Decides.{nat_tests}
@@ -40,6 +41,13 @@ IsCut-nil = refl
 pub file_counts-cut : (taken : List ℕ) → IsCut taken → MayChange (file_counts taken)
 file_counts-cut taken cut = rw cut refl
 
+-- bytes that are the front of a header are no whole one, so more are needed
+pub some_used : (bytes piece : List ℕ) (used : ℕ) (header : Header) → IsCut bytes → header_answer (bytes ++ take used piece) ≡ Ok (header, []) → 0 < used
+some_used bytes piece (suc used) header cut whole = omega arith
+some_used bytes piece zero header cut whole =
+    let same : header_answer bytes ≡ Ok (header, []) = ap header_answer (sym (append-nil bytes)) ∙ whole in
+    cc
+
 -- records that aren't too many may be followed by others
 pub counted-open : (record_type : RecordType) (bytes : List ℕ) → length (words_of bytes) ≤ record_limit → MayChange (counted record_type bytes)
 unfolding counted
@@ -68,3 +76,10 @@ within_limit r bytes ok limit = elim (cases_lt record_limit (length (words_of by
     not_err : (r : Result (Unit {0}) Fault) → r ≡ Ok tt → IsErr r → ⊥
     not_err (Ok done) ok err = cc
     not_err (Err fault) ok err = cc
+
+-- fewer bytes than a buffer has stand behind a header that ends in it
+pub few_behind : (buffer : List ℕ) (used len size : ℕ) → length buffer ≡ size → 0 < used → used ≤ len → len ≤ length buffer → length (slice_range buffer used len) < size
+few_behind buffer used len size whole some within fits =
+    let left : length (drop used buffer) ≡ length buffer - used = length-drop used buffer in
+    let count : length (slice_range buffer used len) ≡ len - used = length-take-le (len - used) (drop used buffer) (omega (arith, left)) in
+    omega (arith, count)

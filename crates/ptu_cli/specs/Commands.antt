@@ -8,6 +8,7 @@ pub data Request : Type 0 where
   Count : (file : List ℕ) → Request
   Header : (file : List ℕ) → Request
   Events : (file : List ℕ) → Request
+  Run : (plan file : List ℕ) → Request
 
 -- the words behind the program's name
 abbrev pub request_of : List (List ℕ) → Option Request
@@ -16,4 +17,5 @@ request_of (word ∷ file ∷ []) =
     else if bytes_eq word (codes "header") then Some (Header file)
     else if bytes_eq word (codes "events") then Some (Events file)
     else None
+request_of (word ∷ plan ∷ file ∷ []) = if bytes_eq word (codes "run") then Some (Run plan file) else None
 request_of other = None

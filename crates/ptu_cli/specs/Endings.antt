@@ -1,11 +1,11 @@
 -- What a run of the program leaves.
-use Rattle.std.specs.Prelude.{ℕ, ◌≡◌, ◌⊎◌, ◌≤◌, List, [], length, true, None, Some, Result, Ok, Err, IsErrAnd}
+use Rattle.std.specs.Prelude.{ℕ, ◌≡◌, ◌⊎◌, ◌≤◌, ◌<◌, List, [], length, true, false, None, Some, Result, Ok, IsErrAnd}
 use Rattle.std.specs.declared.option.Option.{Option}
 use Rattle.std.specs.Io.KnownBytes.{Keeps, Appends, Consumes}
 use Rattle.tally_base.specs.declared.slot.Slot.{Slot}
 use Rattle.tally_base.specs.declared.slot.Slot.TheVariants.{Plan, Data}
 use Rattle.tally_base.specs.declared.fault.Fault.{Fault}
-use Rattle.tally_base.specs.Faults.{line_of, is_outside, HasReason}
+use Rattle.tally_base.specs.Faults.{line_of, is_outside, fault_in, HasReason}
 use Rattle.tally_base.specs.Counts.{Rose}
 use Rattle.bench_io.specs.Sinks.{AppendsShort}
 use Rattle.bench_io.specs.Inputs.{File, InputState}
@@ -13,10 +13,15 @@ use Rattle.tally_base.specs.declared.header.Header.{Header}
 use Rattle.ptu_definitions.specs.Headers.{header_answer}
 use Rattle.ptu_definitions.specs.Words.{words_of, rest_of}
 use Rattle.ptu_definitions.specs.Counted.{record_limit}
-use Rattle.ptu_definitions.specs.Streams.{record_refusal}
+use Rattle.ptu_definitions.specs.Streams.{Reading, record_refusal}
+use Rattle.tally_base.specs.RecordTypes.{mode_of}
+use Rattle.plan_text.specs.Plan.{PlanView}
+use Rattle.plan_text.specs.Reading.{plan_answer}
+use Rattle.plan_text.specs.Fits.{fits}
+use Rattle.tally_engine.specs.Plans.{reading_by}
 use Rattle.table_out.specs.HeaderText.{header_text}
-use Rattle.ptu_cli.specs.Commands.{Request, Count, Header as HeaderOf, Events as EventsOf}
-use Rattle.ptu_cli.specs.Outcomes.{Outcome, outcome, events_outcome, listing, ends_early}
+use Rattle.ptu_cli.specs.Commands.{Request, Count, Header as HeaderOf, Events as EventsOf, Run as RunOf}
+use Rattle.ptu_cli.specs.Outcomes.{Outcome, outcome, events_outcome, listing, MayGoOnFrom}
 
 -- each word FILE or PLAN is meant for its slot
 abbrev pub IsMeant : InputState → Option Request → Type 0
@@ -24,16 +29,29 @@ IsMeant state None = Unit {0}
 IsMeant state (Some (Count file)) = state.meant Data file ≡ true
 IsMeant state (Some (HeaderOf file)) = state.meant Data file ≡ true
 IsMeant state (Some (EventsOf file)) = state.meant Data file ≡ true
+IsMeant state (Some (RunOf plan file)) = (state.meant Plan plan ≡ true) × (state.meant Data file ≡ true)
+
+-- The file is there and is this plan.
+pub record IsPlan (plan_file : File) (plan : PlanView) : Type 0 where
+  pub text : List ℕ
+  pub present : plan_file ≡ Some text
+  pub answer : plan_answer text ≡ Ok plan
+
+-- the file of a name is a plan, where the inputs tell it
+abbrev pub NamesPlan : InputState → List ℕ → Type 0
+NamesPlan state name = (plan_file : File) → state.contents name ≡ Some plan_file → (plan : PlanView) × IsPlan plan_file plan
 
 -- The command asks for this slot, and no earlier case ends the run.
-abbrev pub Reaches : Option Request → Slot → Type 0
-Reaches None slot = ⊥
-Reaches (Some (Count file)) Plan = ⊥
-Reaches (Some (Count file)) Data = Unit {0}
-Reaches (Some (HeaderOf file)) Plan = ⊥
-Reaches (Some (HeaderOf file)) Data = Unit {0}
-Reaches (Some (EventsOf file)) Plan = ⊥
-Reaches (Some (EventsOf file)) Data = Unit {0}
+abbrev pub Reaches : Option Request → InputState → Slot → Type 0
+Reaches None state slot = ⊥
+Reaches (Some (Count file)) state Plan = ⊥
+Reaches (Some (Count file)) state Data = Unit {0}
+Reaches (Some (HeaderOf file)) state Plan = ⊥
+Reaches (Some (HeaderOf file)) state Data = Unit {0}
+Reaches (Some (EventsOf file)) state Plan = ⊥
+Reaches (Some (EventsOf file)) state Data = Unit {0}
+Reaches (Some (RunOf plan file)) state Plan = Unit {0}
+Reaches (Some (RunOf plan file)) state Data = NamesPlan state plan
 
 -- the inputs tell these files for the words PLAN and FILE
 abbrev pub Tells : InputState → Option Request → File → File → Type 0
@@ -41,47 +59,81 @@ Tells state None plan_file data_file = Unit {0}
 Tells state (Some (Count file)) plan_file data_file = state.contents file ≡ Some data_file
 Tells state (Some (HeaderOf file)) plan_file data_file = state.contents file ≡ Some data_file
 Tells state (Some (EventsOf file)) plan_file data_file = state.contents file ≡ Some data_file
-
-abbrev pub fault_of : Result (Unit {0}) Fault → Option Fault
-fault_of (Ok done) = None
-fault_of (Err fault) = Some fault
+Tells state (Some (RunOf plan file)) plan_file data_file = (state.contents plan ≡ Some plan_file) × (state.contents file ≡ Some data_file)
 
 -- the run ended so, and its text was written
 pub record EndsWith (outcome : Outcome) (fault : Option Fault) (old new : Option (List ℕ)) : Type 0 where
   pub same : fault ≡ outcome.fault
   pub text : Appends old new outcome.text
 
--- The text was cut short. That of `count` is cut only where the run would have ended well.
+-- The text was cut short. That of `count` and `run` is cut only where the run would have ended well.
 abbrev pub CutsShort : Option Request → Outcome → Option (List ℕ) → Option (List ℕ) → Type 0
 CutsShort None outcome old new = ⊥
 CutsShort (Some (Count file)) outcome old new = (outcome.fault ≡ None) × AppendsShort old new outcome.text
 CutsShort (Some (HeaderOf file)) outcome old new = AppendsShort old new outcome.text
 CutsShort (Some (EventsOf file)) outcome old new = AppendsShort old new outcome.text
+CutsShort (Some (RunOf plan file)) outcome old new = (outcome.fault ≡ None) × AppendsShort old new outcome.text
 
 -- These are the bytes that were taken from the file of a name, where the inputs tell it.
-abbrev pub IsTaken : InputState → InputState → List ℕ → List ℕ → Type 0
-IsTaken before after name taken = (bytes : List ℕ) → before.contents name ≡ Some (Some bytes) → Consumes (Some bytes) (after.rest Data) taken
+abbrev pub IsTakenFrom : Slot → InputState → InputState → List ℕ → List ℕ → Type 0
+IsTakenFrom slot before after name taken = (bytes : List ℕ) → before.contents name ≡ Some (Some bytes) → Consumes (Some bytes) (after.rest slot) taken
 
--- An outcome that more bytes may change: `count` and `events` have no fault yet, or only that the data end too early, and `header` only that.
+abbrev pub IsTaken : InputState → InputState → List ℕ → List ℕ → Type 0
+IsTaken = IsTakenFrom Data
+
+-- the most bytes of a plan
+abbrev pub plan_limit : ℕ
+plan_limit = 65536
+
+-- An outcome that more bytes may change: `count`, `events` and `run` have no fault yet, or only that the data end too early, and `header` only that.
 abbrev pub MayGoOn : Option Request → Option Fault → Type 0
 MayGoOn None fault = ⊥
-MayGoOn (Some (Count file)) None = Unit {0}
-MayGoOn (Some (Count file)) (Some fault) = ends_early fault ≡ true
+MayGoOn (Some (Count file)) fault = MayGoOnFrom fault
 MayGoOn (Some (HeaderOf file)) None = ⊥
-MayGoOn (Some (HeaderOf file)) (Some fault) = ends_early fault ≡ true
-MayGoOn (Some (EventsOf file)) None = Unit {0}
-MayGoOn (Some (EventsOf file)) (Some fault) = ends_early fault ≡ true
+MayGoOn (Some (HeaderOf file)) (Some fault) = MayGoOnFrom (Some fault)
+MayGoOn (Some (EventsOf file)) fault = MayGoOnFrom fault
+MayGoOn (Some (RunOf plan file)) fault = MayGoOnFrom fault
 
--- What a run leaves on standard output where a read failed: `count` nothing, `header` and `events` the text of the bytes taken. Had the file ended
+-- What a run leaves on standard output where a read failed: `count` and `run` nothing, `header` and `events` the text of the bytes taken. Had the file ended
 -- with these bytes, more of them might have changed the outcome: so they call for no refusal by themselves.
-abbrev pub LeavesUnread : Option Request → InputState → InputState → Option (List ℕ) → Option (List ℕ) → Type 0
-LeavesUnread None before after old new = ⊥
-LeavesUnread (Some (Count file)) before after old new =
+abbrev pub LeavesUnread : Option Request → Slot → InputState → InputState → Option (List ℕ) → Option (List ℕ) → Type 0
+LeavesUnread None slot before after old new = ⊥
+LeavesUnread (Some (Count file)) slot before after old new =
     Keeps old new × ((taken : List ℕ) × IsTaken before after file taken × MayGoOn (Some (Count file)) (outcome (Some (Count file)) None (Some taken)).fault)
-LeavesUnread (Some (HeaderOf file)) before after old new =
+LeavesUnread (Some (HeaderOf file)) slot before after old new =
     (taken : List ℕ) × IsTaken before after file taken × Appends old new (header_text taken) × MayGoOn (Some (HeaderOf file)) (outcome (Some (HeaderOf file)) None (Some taken)).fault
-LeavesUnread (Some (EventsOf file)) before after old new =
+LeavesUnread (Some (EventsOf file)) slot before after old new =
     (taken : List ℕ) × IsTaken before after file taken × Appends old new (events_outcome taken).text × MayGoOn (Some (EventsOf file)) (outcome (Some (EventsOf file)) None (Some taken)).fault
+LeavesUnread (Some (RunOf plan file)) Plan before after old new = Keeps old new × ((taken : List ℕ) × IsTakenFrom Plan before after plan taken × (length taken ≤ plan_limit))
+LeavesUnread (Some (RunOf plan file)) Data before after old new =
+    Keeps old new × ((taken : List ℕ) × IsTaken before after file taken × ((plan_file : File) → before.contents plan ≡ Some plan_file → MayGoOn (Some (RunOf plan file)) (outcome (Some (RunOf plan file)) plan_file (Some taken)).fault))
+
+-- The bytes that were taken from the file are a header that the plan's parts suit, and less than one piece behind it.
+pub record StopsAtHeader (plan : PlanView) (taken : List ℕ) : Type 0 where
+  pub header : Header
+  pub behind : List ℕ
+  pub answer : header_answer taken ≡ Ok (header, behind)
+  pub suits : fits (mode_of header.record_type) plan ≡ Ok (tt {0})
+  pub few : length behind < 8192
+
+-- What a run leaves where memory was refused: nothing is written, and either the data were not opened, or no more of them was taken than the read gave
+-- that gave the header's last byte. The other commands take no memory.
+abbrev pub RunsOut : Option Request → InputState → InputState → Option (List ℕ) → Option (List ℕ) → Type 0
+RunsOut None before after old new = ⊥
+RunsOut (Some (Count file)) before after old new = ⊥
+RunsOut (Some (HeaderOf file)) before after old new = ⊥
+RunsOut (Some (EventsOf file)) before after old new = ⊥
+RunsOut (Some (RunOf plan file)) before after old new =
+    Keeps old new × ((after.asked Data ≡ false)
+    ⊎ ((plan_file : File) → before.contents plan ≡ Some plan_file → (view : PlanView) × IsPlan plan_file view × ((taken : List ℕ) × IsTaken before after file taken × StopsAtHeader view taken)))
+
+-- A command without a plan never asks for one.
+abbrev pub LeavesPlan : Option Request → InputState → Type 0
+LeavesPlan None state = state.asked Plan ≡ false
+LeavesPlan (Some (Count file)) state = state.asked Plan ≡ false
+LeavesPlan (Some (HeaderOf file)) state = state.asked Plan ≡ false
+LeavesPlan (Some (EventsOf file)) state = state.asked Plan ≡ false
+LeavesPlan (Some (RunOf plan file)) state = Unit {0}
 
 -- A fault has its line on standard error, or a prefix of it where a write there failed.
 abbrev pub TellsFault : Option (List ℕ) → Option (List ℕ) → ℕ → ℕ → Option Fault → Type 0
@@ -91,7 +143,7 @@ TellsFault old new before now (Some fault) = Appends old new (line_of fault) ⊎
 -- what a command leaves where the fault is not from outside
 abbrev pub Answers : Option Request → InputState → Result (Unit {0}) Fault → Option (List ℕ) → Option (List ℕ) → Type 0
 Answers request state result old new =
-    (plan_file data_file : File) → Tells state request plan_file data_file → IsErrAnd result (λ fault. is_outside fault ≡ true) ⊎ EndsWith (outcome request plan_file data_file) (fault_of result) old new
+    (plan_file data_file : File) → Tells state request plan_file data_file → IsErrAnd result (λ fault. is_outside fault ≡ true) ⊎ EndsWith (outcome request plan_file data_file) (fault_in result) old new
 
 -- the states of the inputs and of standard output before a command and behind it
 pub record Span : Type 0 where
@@ -105,10 +157,18 @@ pub record Span : Type 0 where
 -- what a command's fault from outside says: which count rose, and what was written
 unfoldable pub HasCauses : Option Request → Span → Fault → Type 0
 HasCauses request span = HasReason
-    (λ slot. Reaches request slot × Rose (span.before.open_faults slot) (span.after.open_faults slot) × Keeps span.old span.new)
-    (λ slot. Reaches request slot × Rose (span.before.read_faults slot) (span.after.read_faults slot) × LeavesUnread request span.before span.after span.old span.new)
+    (λ slot. Reaches request span.before slot × Rose (span.before.open_faults slot) (span.after.open_faults slot) × Keeps span.old span.new)
+    (λ slot. Reaches request span.before slot × Rose (span.before.read_faults slot) (span.after.read_faults slot) × LeavesUnread request slot span.before span.after span.old span.new)
     (Rose span.faults_before span.faults_after × ((plan_file data_file : File) → Tells span.before request plan_file data_file → CutsShort request (outcome request plan_file data_file) span.old span.new))
-    ⊥
+    (RunsOut request span.before span.after span.old span.new)
+
+-- The status is the one that is called for. A command that takes memory may end with that of want of memory instead.
+abbrev pub MeansStatus : Option Request → ℕ → ℕ → Type 0
+MeansStatus None result wanted = result ≡ wanted
+MeansStatus (Some (Count file)) result wanted = result ≡ wanted
+MeansStatus (Some (HeaderOf file)) result wanted = result ≡ wanted
+MeansStatus (Some (EventsOf file)) result wanted = result ≡ wanted
+MeansStatus (Some (RunOf plan file)) result wanted = (result ≡ wanted) ⊎ (result ≡ 5)
 
 -- No opening and no read has failed in a run.
 abbrev pub NoneRose : InputState → InputState → Type 0
@@ -126,8 +186,8 @@ pub record AreWhole (behind : List ℕ) : Type 0 where
   pub whole : rest_of behind ≡ []
 
 -- The records behind a header are whole, and none is refused.
-pub record AreListed (header : Header) (behind : List ℕ) : Type 0 where
-  pub unrefused : record_refusal (listing header) (words_of behind) ≡ None
+pub record AreRead (how : Reading) (behind : List ℕ) : Type 0 where
+  pub unrefused : record_refusal how (words_of behind) ≡ None
   pub whole : rest_of behind ≡ []
 
 -- The words are a command, and its files are good ones.
@@ -135,4 +195,6 @@ abbrev pub IsGood : Option Request → File → File → Type 0
 IsGood None plan_file data_file = ⊥
 IsGood (Some (Count file)) plan_file data_file = (header : Header) × (behind : List ℕ) × IsHeaded data_file header behind × AreWhole behind
 IsGood (Some (HeaderOf file)) plan_file data_file = (header : Header) × (behind : List ℕ) × IsHeaded data_file header behind
-IsGood (Some (EventsOf file)) plan_file data_file = (header : Header) × (behind : List ℕ) × IsHeaded data_file header behind × AreListed header behind
+IsGood (Some (EventsOf file)) plan_file data_file = (header : Header) × (behind : List ℕ) × IsHeaded data_file header behind × AreRead (listing header) behind
+IsGood (Some (RunOf plan file)) plan_file data_file =
+    (view : PlanView) × IsPlan plan_file view × ((header : Header) × (behind : List ℕ) × IsHeaded data_file header behind × (fits (mode_of header.record_type) view ≡ Ok (tt {0})) × AreRead (reading_by view header) behind)

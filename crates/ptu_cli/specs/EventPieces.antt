@@ -6,12 +6,8 @@ use Rattle.tally_base.specs.declared.fault.Fault.{Fault}
 use Rattle.tally_base.specs.declared.fault.Fault.TheVariants.{WriteFault}
 use Rattle.bench_io.specs.Sinks.{AppendsShort}
 use Rattle.tally_base.specs.Counts.{Rose}
-use Rattle.ptu_definitions.specs.Streams.{Reading, record_refusal, given}
-use Rattle.table_out.specs.EventText.{events_text}
-
--- the lines of the events before the first refusal
-abbrev pub lines_of : Reading → List ℕ → List ℕ
-lines_of how words = events_text (given how words)
+use Rattle.ptu_definitions.specs.Streams.{Reading, record_refusal}
+use Rattle.table_out.specs.EventText.{lines_of}
 
 -- The lines of words that came behind others were written.
 pub record Wrote (how : Reading) (old new : Option (List ℕ)) (words now : List ℕ) : Type 0 where

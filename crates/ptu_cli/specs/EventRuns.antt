@@ -1,5 +1,5 @@
 -- What writing the lines of the events of a file leaves.
-use Rattle.std.specs.Prelude.{ℕ, ◌≡◌, ◌⊎◌, ◌^◌, List, ◌++◌, true, None, Some, Result, Ok, Err, IsErrAnd}
+use Rattle.std.specs.Prelude.{ℕ, ◌≡◌, ◌⊎◌, List, ◌++◌, true, None, Some, Result, IsErrAnd}
 use Rattle.std.specs.declared.option.Option.{Option}
 use Rattle.std.specs.Io.KnownBytes.{Appends, Consumes}
 use Rattle.tally_base.specs.declared.fault.Fault.{Fault}
@@ -7,9 +7,9 @@ use Rattle.tally_base.specs.Faults.{is_outside}
 use Rattle.bench_io.specs.Sinks.{AppendsShort}
 use Rattle.ptu_definitions.specs.Words.{words_of}
 use Rattle.ptu_definitions.specs.Streams.{Reading, record_refusal, streamed}
-use Rattle.record_stream.specs.Standing.{fault_in}
-use Rattle.ptu_cli.specs.Endings.{fault_of}
-use Rattle.ptu_cli.specs.EventPieces.{lines_of}
+use Rattle.tally_base.specs.Faults.{fault_in}
+use Rattle.tally_base.specs.Faults.{fault_in}
+use Rattle.table_out.specs.EventText.{lines_of}
 
 -- The text is what is written of the lines of some bytes behind those of others, and the bytes have this fault.
 pub record SaysLines (how : Reading) (before bytes text : List ℕ) (fault : Option Fault) : Type 0 where
@@ -26,7 +26,7 @@ pub record EndsLines (how : Reading) (bytes : List ℕ) (rest_before rest_after 
 
 -- A fault from outside, or the end that the bytes call for.
 abbrev pub AnswersLines : Reading → List ℕ → Option (List ℕ) → Option (List ℕ) → Option (List ℕ) → Option (List ℕ) → Result (Unit {0}) Fault → Type 0
-AnswersLines how bytes rest_before rest_after old new result = IsErrAnd result (λ fault. is_outside fault ≡ true) ⊎ EndsLines how bytes rest_before rest_after old new (fault_of result)
+AnswersLines how bytes rest_before rest_after old new result = IsErrAnd result (λ fault. is_outside fault ≡ true) ⊎ EndsLines how bytes rest_before rest_after old new (fault_in result)
 
 -- The lines of the bytes taken were written, and these are not refused.
 pub record ReadsLines (how : Reading) (bytes : List ℕ) (rest_before rest_after old new : Option (List ℕ)) : Type 0 where

@@ -1,5 +1,5 @@
 -- What reading the header in pieces leaves.
-use Rattle.std.specs.Prelude.{ℕ, ◌≡◌, ◌⊎◌, ◌+◌, ◌≤◌, List, ◌++◌, drop, length, slice_range, true, false, Result, Ok, Err}
+use Rattle.std.specs.Prelude.{ℕ, ◌≡◌, ◌⊎◌, ◌+◌, ◌≤◌, List, [], ◌++◌, take, drop, length, slice_range, true, false, Result, Ok, Err}
 use Rattle.std.specs.declared.option.Option.{Option}
 use Rattle.tally_base.specs.declared.fault.Fault.{Fault}
 use Rattle.tally_base.specs.declared.fault.Fault.TheVariants.{TruncatedHeader}
@@ -19,7 +19,8 @@ IsCut bytes = header_answer bytes ≡ Err (TruncatedHeader (length bytes))
 -- How a piece leaves a reader that was given these bytes before.
 abbrev pub Ends : List ℕ → List ℕ → HeaderReader → Fed → Type 0
 Ends bytes piece reader More = HasRead reader (bytes ++ piece) × (is_open reader ≡ true) × IsCut (bytes ++ piece)
-Ends bytes piece reader (Done used header) = (used ≤ length piece) × ((more : List ℕ) → header_answer (bytes ++ piece ++ more) ≡ Ok (header, drop used piece ++ more))
+Ends bytes piece reader (Done used header) =
+    (used ≤ length piece) × ((more : List ℕ) → header_answer (bytes ++ piece ++ more) ≡ Ok (header, drop used piece ++ more)) × (header_answer (bytes ++ take used piece) ≡ Ok (header, []))
 Ends bytes piece reader (Refused fault) = Shows header_answer (bytes ++ piece) (Err fault)
 
 -- A reader that goes on has taken the whole piece.

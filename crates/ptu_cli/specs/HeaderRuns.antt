@@ -9,7 +9,7 @@ use Rattle.ptu_definitions.specs.Shown.{Says}
 use Rattle.table_out.specs.HeaderText.{header_text}
 use Rattle.ptu_cli.specs.Outcomes.{header_outcome}
 use Rattle.ptu_cli.specs.HeaderPieces.{IsCut}
-use Rattle.ptu_cli.specs.Endings.{fault_of}
+use Rattle.tally_base.specs.Faults.{fault_in}
 
 -- The bytes taken and those left end so, and this text was written.
 pub record EndsText (rest_before rest_after old new : Option (List ℕ)) (fault : Option Fault) : Type 0 where
@@ -21,7 +21,7 @@ pub record EndsText (rest_before rest_after old new : Option (List ℕ)) (fault 
 
 -- A fault from outside, or the end that the bytes call for.
 abbrev pub AnswersText : Option (List ℕ) → Option (List ℕ) → Option (List ℕ) → Option (List ℕ) → Result (Unit {0}) Fault → Type 0
-AnswersText rest_before rest_after old new result = IsErrAnd result (λ fault. is_outside fault ≡ true) ⊎ EndsText rest_before rest_after old new (fault_of result)
+AnswersText rest_before rest_after old new result = IsErrAnd result (λ fault. is_outside fault ≡ true) ⊎ EndsText rest_before rest_after old new (fault_in result)
 
 -- The text of the bytes taken was written, and they are the front of a header.
 pub record ReadsText (rest_before rest_after old new : Option (List ℕ)) : Type 0 where

@@ -2,6 +2,7 @@ pub mod Commands
 pub mod CountText
 pub mod EventLines
 pub mod EventPieces
+pub mod Reports
 pub mod Outcomes
 pub mod Pieces
 pub mod HeaderPieces
@@ -13,3 +14,5 @@ pub mod HeaderRuns
 pub mod Edge
 pub mod EventRuns
 pub mod EventOutcomes
+pub mod PlanPieces
+pub mod RunPieces

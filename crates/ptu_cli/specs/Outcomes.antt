@@ -1,24 +1,27 @@
 -- What a run of the program ends with, where nothing outside fails.
-use Rattle.std.specs.Prelude.{ℕ, ◌≡◌, ◌^◌, List, [], None, Some, Bool, true, false, Result, Ok, Err}
+use Rattle.std.specs.Prelude.{ℕ, ◌≡◌, List, [], None, Some, Bool, true, false, Result, Ok, Err}
 use Rattle.std.specs.declared.option.Option.{Option}
-use Rattle.tally_base.specs.declared.slot.Slot.TheVariants.{Data}
+use Rattle.tally_base.specs.declared.slot.Slot.TheVariants.{Plan, Data}
 use Rattle.tally_base.specs.declared.fault.Fault.{Fault}
 use Rattle.tally_base.specs.declared.fault.Fault.TheVariants.{Usage, OpenFault, TruncatedHeader, TruncatedRecord}
 use Rattle.tally_base.specs.declared.header.Header.{Header}
 use Rattle.tally_base.specs.Faults.{status_of}
 use Rattle.ptu_definitions.specs.declared.records.KindCounts.{KindCounts}
 use Rattle.ptu_definitions.specs.Headers.{header_answer}
-use Rattle.ptu_definitions.specs.Counted.{counted}
+use Rattle.ptu_definitions.specs.Counted.{counted, record_limit}
 use Rattle.tally_base.specs.declared.event.Policy.{Policy}
 use Rattle.tally_base.specs.declared.event.Order.TheVariants.{Drop}
 use Rattle.tally_base.specs.declared.event.OnReserved.TheVariants.{Skip}
 use Rattle.ptu_definitions.specs.Words.{words_of}
 use Rattle.ptu_definitions.specs.Streams.{Reading, reading, streamed}
-use Rattle.record_stream.specs.Standing.{fault_in}
-use Rattle.ptu_cli.specs.EventPieces.{lines_of}
+use Rattle.tally_base.specs.Faults.{fault_in}
+use Rattle.table_out.specs.EventText.{lines_of}
 use Rattle.ptu_cli.specs.CountText.{counts_text}
 use Rattle.table_out.specs.HeaderText.{header_text}
-use Rattle.ptu_cli.specs.Commands.{Request, Count, Header as HeaderOf, Events as EventsOf}
+use Rattle.ptu_cli.specs.Commands.{Request, Count, Header as HeaderOf, Events as EventsOf, Run as RunOf}
+use Rattle.plan_text.specs.Plan.{PlanView}
+use Rattle.plan_text.specs.Reading.{plan_answer}
+use Rattle.ptu_cli.specs.Reports.{file_report}
 
 -- the text on standard output, and the fault where there is one
 pub record Outcome : Type 0 where
@@ -52,29 +55,28 @@ abbrev pub count_outcome : Result (Header × KindCounts) Fault → Outcome
 count_outcome (Ok found) = written (counts_text found.0 found.1)
 count_outcome (Err fault) = refused fault
 
--- the fault of a header, where it is refused or cut
-abbrev pub header_fault : Result (Header × List ℕ) Fault → Option Fault
-header_fault (Ok found) = None
-header_fault (Err fault) = Some fault
-
 -- The data end too early. More bytes may do away with such a fault.
 abbrev pub ends_early : Fault → Bool
 ends_early (TruncatedHeader bytes) = true
 ends_early (TruncatedRecord bytes) = true
 ends_early _ = false
 
+-- An end that more bytes may change.
+abbrev pub MayGoOnFrom : Option Fault → Type 0
+MayGoOnFrom None = Unit {0}
+MayGoOnFrom (Some fault) = ends_early fault ≡ true
+
 -- An answer that more bytes may change.
 abbrev pub MayChange : {A : Type 0} → Result A Fault → Type 0
-MayChange (Ok value) = Unit {0}
-MayChange (Err fault) = ends_early fault ≡ true
+MayChange answer = MayGoOnFrom (fault_in answer)
 
 -- A header is printed as far as it goes.
 abbrev pub header_outcome : List ℕ → Outcome
-header_outcome file = record { text = header_text file; fault = header_fault (header_answer file) }
+header_outcome file = record { text = header_text file; fault = fault_in (header_answer file) }
 
 -- late events are marked, and reserved records are left out
 abbrev pub listing_policy : Policy
-listing_policy = record { order = Drop; reserved = Skip; records = 2 ^ 40 }
+listing_policy = record { order = Drop; reserved = Skip; records = record_limit }
 
 abbrev pub listing : Header → Reading
 listing header = reading header.record_type listing_policy
@@ -91,6 +93,16 @@ events_behind (Err fault) = refused fault
 abbrev pub events_outcome : List ℕ → Outcome
 events_outcome file = events_behind (header_answer file)
 
+abbrev pub report_outcome : Result (List ℕ) Fault → Outcome
+report_outcome (Ok text) = written text
+report_outcome (Err fault) = refused fault
+
+-- the data are not looked at before the plan is good
+abbrev pub planned : Result PlanView Fault → Option (List ℕ) → Outcome
+planned (Err fault) file = refused fault
+planned (Ok plan) None = refused (OpenFault Data)
+planned (Ok plan) (Some bytes) = report_outcome (file_report plan bytes)
+
 -- `plan` and `file` are the files of the command's names, or None where there is none
 unfoldable pub outcome : Option Request → Option (List ℕ) → Option (List ℕ) → Outcome
 outcome None plan file = refused Usage
@@ -100,3 +112,5 @@ outcome (Some (HeaderOf name)) plan None = refused (OpenFault Data)
 outcome (Some (HeaderOf name)) plan (Some bytes) = header_outcome bytes
 outcome (Some (EventsOf name)) plan None = refused (OpenFault Data)
 outcome (Some (EventsOf name)) plan (Some bytes) = events_outcome bytes
+outcome (Some (RunOf plan_name name)) None file = refused (OpenFault Plan)
+outcome (Some (RunOf plan_name name)) (Some text) file = planned (plan_answer text) file

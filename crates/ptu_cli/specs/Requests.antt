@@ -3,15 +3,16 @@ use Rattle.std.specs.Prelude.{List, None, Some, map, string_bytes}
 use Rattle.std.specs.declared.string.String.{String}
 use Rattle.std.specs.declared.alloc.Global.{Global}
 use Rattle.std.specs.declared.option.Option.{Option}
-use Rattle.ptu_cli.specs.Commands.{Request, Count as CountOf, Header as HeaderOf, Events as EventsOf, request_of}
+use Rattle.ptu_cli.specs.Commands.{Request, Count as CountOf, Header as HeaderOf, Events as EventsOf, Run as RunOf, request_of}
 use Rattle.ptu_cli.specs.declared.words.Command.{Command}
-use Rattle.ptu_cli.specs.declared.words.Command.TheVariants.{Count, Header, Events}
+use Rattle.ptu_cli.specs.declared.words.Command.TheVariants.{Count, Header, Events, Run}
 
 abbrev pub asked_for : Option Command → Option Request
 asked_for None = None
 asked_for (Some (Count file)) = Some (CountOf file.now)
 asked_for (Some (Header file)) = Some (HeaderOf file.now)
 asked_for (Some (Events file)) = Some (EventsOf file.now)
+asked_for (Some (Run plan file)) = Some (RunOf plan.now file.now)
 
 -- what the words ask for
 abbrev pub request_in : List (String Global) → Option Request

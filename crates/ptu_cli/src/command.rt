@@ -1,12 +1,17 @@
 // The commands.
 ghost use Rattle.std.specs.Prelude.{◌≡◌, true, false, Some, IfErr};
+ghost use Rattle.tally_base.specs.declared.slot.Slot.{Slot};
 ghost use Rattle.tally_base.specs.declared.slot.Slot.TheVariants.{Plan, Data};
-ghost use Rattle.ptu_cli.specs.Commands.{Count, Header, Events};
+ghost use Rattle.ptu_cli.specs.Commands.{Count, Header, Events, Run};
 ghost use Rattle.ptu_cli.specs.Endings.{Answers, HasCauses};
 
 use crate::counts::write_counts;
 use crate::data::{count_data, list_data, print_data};
+use crate::plan::plan_of;
+use crate::run::run_data;
 use bench_io::{Inputs, Sink};
+use std::alloc::Global;
+use table_out::write_report;
 use tally_base::{Failed, Fault, Slot};
 
 const OPEN_FAULT: Fault = Fault::OpenFault { slot: Slot::Data };
@@ -95,4 +100,37 @@ pub(crate) fn events<I: Inputs, O: Sink>(
         Ok(()) => {}
     }
     list_data(inputs, out)
+}
+
+/// Counts what a plan asks for in a file, and writes the report. The plan is read whole before the data
+/// are opened, and nothing is written before the data are read to their end.
+#[tactic(auto, unfolding(crate::specs::Outcomes::outcome, crate::specs::Endings::HasCauses))]
+pub(crate) fn run<I: Inputs, O: Sink>(
+    alloc: Global,
+    inputs: &mut I,
+    out: &mut O,
+    plan: &str,
+    file: &str,
+) -> Result<(), Fault>
+    requires meant_plan { (I.state inputs.old).meant Plan plan.now ≡ true }
+    requires meant_data { (I.state inputs.old).meant Data file.now ≡ true }
+    requires first { (slot : Slot) → (I.state inputs.old).asked slot ≡ false }
+    ensures answer { Answers (Some (Run plan.now file.now)) (I.state inputs.old) result
+        (O.written out.old) (O.written out.new) }
+    ensures causes { IfErr result (HasCauses (Some (Run plan.now file.now)) (record {
+      before = I.state inputs.old;
+      after = I.state inputs.new;
+      old = O.written out.old;
+      new = O.written out.new;
+      faults_before = O.faults out.old;
+      faults_after = O.faults out.new;
+    })) }
+{
+    let plan = plan_of(alloc, inputs, plan)?;
+    match inputs.open(Slot::Data, file) {
+        Err(Failed) => return Err(OPEN_FAULT),
+        Ok(()) => {}
+    }
+    let results = run_data(alloc, inputs, &plan)?;
+    write_report(&results, out)
 }

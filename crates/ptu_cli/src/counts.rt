@@ -1,53 +1,15 @@
 // The lines of `count`.
-ghost use Rattle.std.specs.Prelude.{◌≡◌, ◌+◌, ◌≤◌, ◌++◌, length, decimal, codes, IfErr, OnOk, OnErr};
-ghost use Rattle.arrayvec.specs.ArrayVec.{array_vec_len};
+ghost use Rattle.std.specs.Prelude.{◌≡◌, IfErr, OnOk, OnErr};
 ghost use Rattle.std.specs.Io.KnownBytes.{Appends};
 ghost use Rattle.tally_base.specs.Counts.{HasCause};
 ghost use Rattle.bench_io.specs.Sinks.{AppendsShort};
-ghost use Rattle.ptu_cli.specs.CountText.{counts_text, line, announced};
+ghost use Rattle.ptu_cli.specs.CountText.{counts_text};
 
 use arrayvec::ArrayVec;
 use bench_io::{Sink, write_all};
-use itoa::Buffer;
 use record_layout::KindCounts;
-use tally_base::{Fault, Header, put_decimal, put_text};
-
-/// Appends a line of a word and a value.
-fn put_line(into: &mut ArrayVec<u8, 256>, word: &[u8], value: &[u8])
-    requires { array_vec_len into.old + length word.now + length value.now + 2 ≤ 256 }
-    ensures items { into.new.items ≡ into.old.items ++ line word.now value.now }
-    ensures len { array_vec_len into.new ≡ array_vec_len into.old + length word.now + length value.now + 2 }
-{
-    put_text(into, word);
-    put_text(into, b" ");
-    put_text(into, value);
-    put_text(into, b"\n");
-}
-
-/// Appends a line of a word and a number.
-fn put_count(into: &mut ArrayVec<u8, 256>, word: &[u8], count: u64)
-    requires { array_vec_len into.old + length word.now + 22 ≤ 256 }
-    ensures items { into.new.items ≡ into.old.items ++ line word.now (decimal count) }
-    ensures len { array_vec_len into.new ≤ array_vec_len into.old + length word.now + 22 }
-{
-    let mut buffer = Buffer::new();
-    put_line(into, word, buffer.format(count).as_bytes());
-}
-
-/// Appends the line of the number of records that a header announces.
-fn put_announced(into: &mut ArrayVec<u8, 256>, count: Option<i64>)
-    requires { array_vec_len into.old + 40 ≤ 256 }
-    ensures items { into.new.items ≡ into.old.items ++ line (codes "announced") (announced count) }
-    ensures len { array_vec_len into.new ≤ array_vec_len into.old + 40 }
-{
-    match count {
-        Some(count) => {
-            let mut buffer = Buffer::new();
-            put_line(into, b"announced", buffer.format(count).as_bytes());
-        }
-        None => put_line(into, b"announced", b"-"),
-    }
-}
+use table_out::{put_announced, put_count, put_line};
+use tally_base::{Fault, Header};
 
 /// Leaves the seven lines of `count` in `into`.
 #[tactic(auto, unfolding(crate::specs::CountText::counts_text))]

@@ -25,7 +25,7 @@ use record_stream::RecordStream;
 use tally_base::{Failed, Fault, Header, OnReserved, Order, Policy, Slot};
 
 /// The bytes that one read takes at most.
-const PIECE: usize = 8192;
+pub(crate) const PIECE: usize = 8192;
 
 /// How the records are read that are listed: late events are marked, and reserved records are left out.
 const LISTING: Policy = Policy {
@@ -34,7 +34,7 @@ const LISTING: Policy = Policy {
     records: 1 << 40,
 };
 
-const READ_FAULT: Fault = Fault::ReadFault { slot: Slot::Data };
+pub(crate) const READ_FAULT: Fault = Fault::ReadFault { slot: Slot::Data };
 
 /// Counts the records behind those that the counter was given, up to the end of the data.
 fn count_rest<I: Inputs>(
@@ -69,20 +69,24 @@ fn count_rest<I: Inputs>(
 
 /// A header, and the bytes behind it that were read with its last ones: those of the buffer from `used` to `len`.
 #[derive(Clone, Copy, Debug)]
-struct FoundHeader {
-    header: Header,
-    used: usize,
-    len: usize,
+pub(crate) struct FoundHeader {
+    pub(crate) header: Header,
+    pub(crate) used: usize,
+    pub(crate) len: usize,
 }
 
 /// Reads the data up to the end of its header.
-fn read_header<I: Inputs>(inputs: &mut I, buffer: &mut [u8]) -> Result<FoundHeader, Fault>
+pub(crate) fn read_header<I: Inputs>(
+    inputs: &mut I,
+    buffer: &mut [u8],
+) -> Result<FoundHeader, Fault>
     requires opened { (I.state inputs.old).opened Data ≡ true }
     requires room { 0 < length buffer.old }
     ensures reads { OnlyReads Data (I.state inputs.old) (I.state inputs.new) }
     ensures reason { IfErr result (ReadReason (I.state inputs.old) (I.state inputs.new)) }
     ensures part { IfOk result (λ found. (found.used ≤ found.len)
         × (found.len ≤ length buffer.new)) }
+    ensures ended { IfOk result (λ found. 0 < found.used) }
     ensures answer { (taken : List ℕ)
         × Consumes ((I.state inputs.old).rest Data) ((I.state inputs.new).rest Data) taken
         × HeaderEnds buffer.new taken ((I.state inputs.new).rest Data) result }

@@ -7,7 +7,9 @@ mod data;
 mod edge;
 mod events;
 mod header;
+mod plan;
 mod print;
+mod run;
 mod top;
 mod words;
 

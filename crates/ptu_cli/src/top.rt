@@ -5,14 +5,14 @@ ghost use Rattle.std.specs.declared.option.Option.{Option};
 ghost use Rattle.tally_base.specs.declared.slot.Slot.{Slot};
 ghost use Rattle.tally_base.specs.declared.fault.Fault.{Fault};
 ghost use Rattle.tally_base.specs.declared.slot.Slot.TheVariants.{Plan};
-ghost use Rattle.tally_base.specs.declared.fault.Fault.TheVariants.{OpenFault, ReadFault, WriteFault};
+ghost use Rattle.tally_base.specs.declared.fault.Fault.TheVariants.{OpenFault, ReadFault, WriteFault, OutOfMemory};
 ghost use Rattle.tally_base.specs.Counts.{Rose};
 ghost use Rattle.bench_io.specs.Inputs.{File};
 ghost use Rattle.ptu_cli.specs.Outcomes.{outcome, status};
-ghost use Rattle.ptu_cli.specs.Endings.{IsMeant, Tells, TellsFault, CutsShort, Answers, HasCauses, Reaches, LeavesUnread, NoneRose, IsGood};
+ghost use Rattle.ptu_cli.specs.Endings.{IsMeant, Tells, TellsFault, CutsShort, Answers, HasCauses, Reaches, LeavesUnread, RunsOut, LeavesPlan, MeansStatus, NoneRose, IsGood};
 ghost use Rattle.ptu_cli.specs.Requests.{request_in};
 
-use crate::command::{count, events, header};
+use crate::command::{count, events, header, run};
 use crate::words::{Command, read_words};
 use arrayvec::ArrayVec;
 use bench_io::{Inputs, Sink, write_all};
@@ -21,7 +21,12 @@ use tally_base::{Fault, fault_line};
 
 /// Does what the words ask for.
 #[tactic(auto, unfolding(crate::specs::Outcomes::outcome, crate::specs::Endings::HasCauses))]
-fn obey<I: Inputs, O: Sink>(words: &[String], inputs: &mut I, out: &mut O) -> Result<(), Fault>
+fn obey<I: Inputs, O: Sink>(
+    alloc: Global,
+    words: &[String],
+    inputs: &mut I,
+    out: &mut O,
+) -> Result<(), Fault>
     requires meant { IsMeant (I.state inputs.old) (request_in words.now) }
     requires first { (slot : Slot) → (I.state inputs.old).asked slot ≡ false }
     ensures answer { Answers (request_in words.now) (I.state inputs.old) result
@@ -34,7 +39,7 @@ fn obey<I: Inputs, O: Sink>(words: &[String], inputs: &mut I, out: &mut O) -> Re
       faults_before = O.faults out.old;
       faults_after = O.faults out.new;
     })) }
-    ensures plan { (I.state inputs.new).asked Plan ≡ false }
+    ensures plan { LeavesPlan (request_in words.now) (I.state inputs.new) }
     ensures usage { request_in words.now ≡ None → result ≡ Err Fault.Usage }
 {
     let Some(command) = read_words(words) else {
@@ -44,6 +49,7 @@ fn obey<I: Inputs, O: Sink>(words: &[String], inputs: &mut I, out: &mut O) -> Re
         Command::Count { file } => count(inputs, out, file),
         Command::Header { file } => header(inputs, out, file),
         Command::Events { file } => events(inputs, out, file),
+        Command::Run { plan, file } => run(alloc, inputs, out, plan, file),
     }
 }
 
@@ -60,12 +66,11 @@ pub fn tell<E: Sink>(fault: &Fault, err: &mut E)
 /// Does all that the program does, and answers its exit status: 0, or that of the one fault whose line
 /// is written to `err`. The words are those behind the program's name.
 ///
-/// For inputs that tell the file, the statuses are 0 to 4, 10 to 17, 20 and 21. The outcome of the words and
-/// the file, `outcome`, is their text and their fault by the definitions, after PicoQuant's unified TTTR
-/// format.
+/// The outcome of the words and the file, `outcome`, is their text and their fault by the definitions, after
+/// PicoQuant's unified TTTR format.
 ///
-/// Nothing may have been asked of the inputs before, and the word FILE of the command must be meant for
-/// the slot Data.
+/// Nothing may have been asked of the inputs before, and the words FILE and PLAN of the command must be
+/// meant for the slots Data and Plan.
 pub fn ptu_main<I: Inputs, O: Sink, E: Sink>(
     alloc: Global,
     words: &[String],
@@ -102,7 +107,7 @@ pub fn ptu_main<I: Inputs, O: Sink, E: Sink>(
     // An opening failed.
     ensures unopened { result ≡ 2
         → (slot : Slot)
-        × Reaches (request_in words.now) slot
+        × Reaches (request_in words.now) (I.state inputs.old) slot
         × Rose ((I.state inputs.old).open_faults slot) ((I.state inputs.new).open_faults slot)
         × Keeps (O.written out.old) (O.written out.new)
         × TellsFault (E.written err.old) (E.written err.new)
@@ -111,9 +116,9 @@ pub fn ptu_main<I: Inputs, O: Sink, E: Sink>(
     // A read failed.
     ensures unread { result ≡ 3
         → (slot : Slot)
-        × Reaches (request_in words.now) slot
+        × Reaches (request_in words.now) (I.state inputs.old) slot
         × Rose ((I.state inputs.old).read_faults slot) ((I.state inputs.new).read_faults slot)
-        × LeavesUnread (request_in words.now) (I.state inputs.old) (I.state inputs.new)
+        × LeavesUnread (request_in words.now) slot (I.state inputs.old) (I.state inputs.new)
         (O.written out.old) (O.written out.new)
         × TellsFault (E.written err.old) (E.written err.new)
         (E.faults err.old) (E.faults err.new) (Some (ReadFault slot)) }
@@ -128,9 +133,15 @@ pub fn ptu_main<I: Inputs, O: Sink, E: Sink>(
         × TellsFault (E.written err.old) (E.written err.new)
         (E.faults err.old) (E.faults err.new) (Some WriteFault) }
 
-    ensures memory { result ≢ 5 }
+    // Memory was refused.
+    ensures memory { result ≡ 5
+        → RunsOut (request_in words.now) (I.state inputs.old) (I.state inputs.new)
+        (O.written out.old) (O.written out.new)
+        × TellsFault (E.written err.old) (E.written err.new)
+        (E.faults err.old) (E.faults err.new) (Some OutOfMemory) }
+
     ensures quiet { result ≡ 0 → Keeps (E.written err.old) (E.written err.new) }
-    ensures plan { (I.state inputs.new).asked Plan ≡ false }
+    ensures plan { LeavesPlan (request_in words.now) (I.state inputs.new) }
 
     // Where no count of the inputs and of `out` rose, the run ends as the words and the files call
     // for, and well where they are good.
@@ -138,16 +149,16 @@ pub fn ptu_main<I: Inputs, O: Sink, E: Sink>(
         → Tells (I.state inputs.old) (request_in words.now) plan_file data_file
         → NoneRose (I.state inputs.old) (I.state inputs.new)
         → ¬ (Rose (O.faults out.old) (O.faults out.new))
-        → result ≡ status (outcome (request_in words.now) plan_file data_file).fault }
+        → MeansStatus (request_in words.now) result
+        (status (outcome (request_in words.now) plan_file data_file).fault) }
     ensures good { (plan_file data_file : File)
         → Tells (I.state inputs.old) (request_in words.now) plan_file data_file
         → IsGood (request_in words.now) plan_file data_file
         → NoneRose (I.state inputs.old) (I.state inputs.new)
         → ¬ (Rose (O.faults out.old) (O.faults out.new))
-        → result ≡ 0 }
+        → MeansStatus (request_in words.now) result 0 }
 {
-    let _ = alloc;
-    match obey(words, inputs, out) {
+    match obey(alloc, words, inputs, out) {
         Ok(()) => 0,
         Err(fault) => {
             tell(&fault, err);

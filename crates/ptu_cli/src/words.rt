@@ -12,10 +12,12 @@ pub enum Command<'a> {
     Header { file: &'a str },
     /// Lists the events of a file with their absolute times.
     Events { file: &'a str },
+    /// Counts what a plan asks for in a file, and prints the report.
+    Run { plan: &'a str, file: &'a str },
 }
 
-/// The command of the words behind the program's name: `count FILE`, `header FILE` or `events FILE`. None
-/// exactly where the words are none of these.
+/// The command of the words behind the program's name: `count FILE`, `header FILE`, `events FILE` or
+/// `run PLAN FILE`. None exactly where the words are none of these.
 pub fn read_words(words: &[String]) -> Option<Command<'_>>
     ensures { asked_for result ≡ request_of (map (λ word. string_bytes word) words.now) }
 {
@@ -28,6 +30,16 @@ pub fn read_words(words: &[String]) -> Option<Command<'_>>
                 Some(Command::Header { file })
             } else if word.as_str() == "events" {
                 Some(Command::Events { file })
+            } else {
+                None
+            }
+        }
+        [word, plan, file] => {
+            if word.as_str() == "run" {
+                Some(Command::Run {
+                    plan: plan.as_str(),
+                    file: file.as_str(),
+                })
             } else {
                 None
             }

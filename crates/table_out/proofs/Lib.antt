@@ -4,3 +4,8 @@ pub mod Final
 pub mod StepTexts
 pub mod Rows
 pub mod EventRows
+pub mod Putting
+pub mod Histograms
+pub mod Tables
+pub mod Reports
+pub mod ReportRows

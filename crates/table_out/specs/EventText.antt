@@ -5,6 +5,7 @@ use Rattle.tally_base.specs.declared.event.Event.{Event}
 use Rattle.tally_base.specs.declared.event.EventKind.{EventKind}
 use Rattle.tally_base.specs.declared.event.EventKind.TheVariants.{Photon, Marker}
 use Rattle.ptu_definitions.specs.Kept.{Marked}
+use Rattle.ptu_definitions.specs.Streams.{Reading, given}
 
 -- what an event is, with its time
 abbrev pub kind_text : EventKind → ℕ → List ℕ
@@ -22,3 +23,7 @@ event_text event late = decimal event.place ++ kind_text event.kind event.time +
 -- the lines of events with their marks
 abbrev pub events_text : Marked → List ℕ
 events_text events = flat_map (λ x. event_text x.0 x.1) events
+
+-- the lines of the events before the first refusal of these words
+abbrev pub lines_of : Reading → List ℕ → List ℕ
+lines_of how words = events_text (given how words)

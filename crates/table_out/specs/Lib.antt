@@ -1,3 +1,6 @@
 pub mod HeaderText
 pub mod Body
 pub mod EventText
+pub mod Lines
+pub mod Report
+pub mod Puts

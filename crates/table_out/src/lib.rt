@@ -1,12 +1,18 @@
-//! What the program prints of a header: its first lines, its tags and their bodies.
+//! What the program prints: headers with their tags and bodies, events, and the report of a run.
 #![tactic(auto)]
 
 mod body;
 mod event;
 mod head;
+mod histogram;
+mod line;
 mod preamble;
+mod report;
+mod report_head;
 
 pub use body::BodyText;
 pub use event::event_line;
 pub use head::header_line;
+pub use line::{put_announced, put_count, put_line};
 pub use preamble::preamble_lines;
+pub use report::write_report;

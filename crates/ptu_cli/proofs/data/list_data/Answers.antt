@@ -1,4 +1,4 @@
-use Rattle.std.proofs.Common.{◌++◌, [], Ok, Err, inr}
+use Rattle.std.proofs.Common.{[]}
 use Rattle.std.proofs.lemmas.Result.{IfErr-weaker, err_from_is_err_and}
 use Rattle.tally_base.proofs.Reasons.{HasReason-follows, HasReason-with}
 use Rattle.bench_io.proofs.Rises.{Rose-behind}

@@ -3,7 +3,7 @@ use Rattle.std.proofs.lemmas.Slice.{between_is}
 use Rattle.tally_base.proofs.Reasons.{HasReason-inside}
 use Rattle.bench_io.proofs.Bytes.{Consumes-nil, Consumes-trans}
 use Rattle.bench_io.proofs.States.{OnlyReads-refl}
-use Rattle.ptu_cli.proofs.Pieces.{IsCut-nil}
+use Rattle.ptu_cli.proofs.Pieces.{IsCut-nil, some_used}
 use Rattle.ptu_cli.proofs.data.read_header.Goals as goal
 
 pub returns-then-len-eq0-clause-reason : goal.returns-then-len-eq0-clause-reason
@@ -21,6 +21,14 @@ returns-in-Done-clause-answer g c =
       Consumes-trans _ _ _ so_far.0 piece so_far.1 c.in-Ok.ensures.bytes.0,
       λ more. step.1 more ∙ ap (λ l. Ok (c.in-Done.header, l ++ more)) (sym (between_is c.read.new.into c.in-Done.used c.in-Ok.len)),
     )
+
+-- a header that ended before this piece would not be cut
+pub returns-in-Done-clause-ended : goal.returns-in-Done-clause-ended
+returns-in-Done-clause-ended g c =
+    let so_far = c.pieces.invariant.taken in
+    let piece = take c.in-Ok.len c.read.new.into in
+    let step = c.in-Done.ensures.ends so_far.0 so_far.2 in
+    some_used so_far.0 piece c.in-Done.used c.in-Done.header so_far.3 step.2
 
 pub returns-in-Refused-clause-answer : goal.returns-in-Refused-clause-answer
 returns-in-Refused-clause-answer g c =

@@ -1,13 +1,11 @@
-use Rattle.std.proofs.Common.{◌≡◌, [], refl, sym, ap, ◌∙◌, append-nil, arith, ◌++◌, ℕ, List, Ok, Err, take, append_assoc, subst, inl}
-use Rattle.std.proofs.lemmas.Result.{IfErr-weaker, err_from_is_err_and}
-use Rattle.tally_base.proofs.Reasons.{HasReason-inside}
+use Rattle.std.proofs.Common.{◌≡◌, [], refl, ap, ◌∙◌, append-nil, arith, ◌++◌, Ok, Err, take, append_assoc}
+use Rattle.std.proofs.lemmas.Result.{err_from_is_err_and}
 use Rattle.bench_io.proofs.Bytes.{Consumes-nil, Consumes-kept, Consumes-trans}
 use Rattle.bench_io.proofs.Rises.{Rose-behind}
 use Rattle.bench_io.proofs.States.{OnlyReads-refl, OnlyReads-trans}
 use Rattle.ptu_definitions.specs.Words.{words_of}
 use Rattle.tally_base.specs.declared.slot.Slot.TheVariants.{Data}
-use Rattle.record_stream.specs.Standing.{how_of, fault_in, HasStreamed}
-use Rattle.ptu_cli.specs.EventPieces.{Wrote, WroteShort}
+use Rattle.tally_base.specs.Faults.{fault_in}
 use Rattle.ptu_cli.proofs.EventEnds.{Wrote-none, Wrote-trans, answers-piece, cuts-piece, streamed-clear, answers-end, reason-piece, not_written}
 use Rattle.ptu_cli.proofs.events.list_rest.Goals as goal
 

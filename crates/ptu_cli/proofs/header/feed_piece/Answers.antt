@@ -1,4 +1,4 @@
-use Rattle.std.proofs.Common.{◌++◌, take, drop, ap, sym, ◌∙◌, arith}
+use Rattle.std.proofs.Common.{[], ◌++◌, take, drop, ap, sym, ◌∙◌, append-nil, arith}
 use Rattle.ptu_definitions.specs.Headers.{header_answer}
 use Rattle.ptu_cli.proofs.Pieces.{HasRead-further, whole-piece-more}
 use Rattle.ptu_cli.proofs.header.feed_piece.Goals as goal
@@ -57,4 +57,5 @@ returns-in-Done-clause-ends c = λ bytes h.
     let step = c.in-Done.ensures.step (bytes ++ take c.steps.used piece) (c.steps.invariant.read bytes h) in (
       c.steps.invariant.fits,
       λ more. ap header_answer (sym (whole-piece-more bytes piece more c.steps.used)) ∙ step.2 (drop c.steps.used piece ++ more),
+      ap header_answer (sym (append-nil (bytes ++ take c.steps.used piece))) ∙ step.2 [],
     )

@@ -18,3 +18,9 @@ returns-in-Events-clause-answer g c = answers_as _ _ (g.I.Inputs.state c.args.in
 
 pub returns-in-Events-clause-causes : goal.returns-in-Events-clause-causes
 returns-in-Events-clause-causes g c = causes_as _ _ _ _ (rw c.in-Events.is at c.in-Some.ensures) c.events.ensures.causes
+
+pub returns-in-Run-clause-answer : goal.returns-in-Run-clause-answer
+returns-in-Run-clause-answer g c = answers_as _ _ (g.I.Inputs.state c.args.inputs.now) _ _ _ (rw c.in-Run.is at c.in-Some.ensures) c.run.ensures.answer
+
+pub returns-in-Run-clause-causes : goal.returns-in-Run-clause-causes
+returns-in-Run-clause-causes g c = causes_as _ _ _ _ (rw c.in-Run.is at c.in-Some.ensures) c.run.ensures.causes

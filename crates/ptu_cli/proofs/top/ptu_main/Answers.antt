@@ -1,7 +1,6 @@
-use Rattle.std.proofs.Common.{Some, sym, ap, ◌∙◌}
+use Rattle.std.proofs.Common.{Some, sym, ◌∙◌}
 use Rattle.ptu_cli.specs.Endings.{HasCauses}
-use Rattle.ptu_cli.specs.Outcomes.{status}
-use Rattle.ptu_cli.proofs.Complete.{good-ends, inside-ends}
+use Rattle.ptu_cli.proofs.Complete.{good-ends, inside-ends, means_as, means_good}
 use Rattle.ptu_cli.proofs.BadWords.{bad-words}
 use Rattle.ptu_cli.proofs.Asked.{tells_as}
 use Rattle.ptu_cli.proofs.ByStatus.{opening-from_status, reading-from_status, writing-from_status, memory-from_status}
@@ -18,7 +17,9 @@ returns-in-Err-clause-unopened g c = λ two.
 
 pub returns-in-Err-clause-memory : goal.returns-in-Err-clause-memory
 unfolding HasCauses
-returns-in-Err-clause-memory g c = λ five. memory-from_status _ _ _ _ c.in-Err.fault (sym c.status.ensures ∙ five) c.in-Err.ensures.causes
+returns-in-Err-clause-memory g c = λ five.
+    let h = memory-from_status _ _ _ _ c.in-Err.fault (sym c.status.ensures ∙ five) c.in-Err.ensures.causes in
+    (h.1, tells_as _ _ _ _ _ _ h.0 c.tell.ensures)
 
 pub returns-in-Err-clause-unread : goal.returns-in-Err-clause-unread
 unfolding HasCauses
@@ -34,12 +35,12 @@ returns-in-Err-clause-unwritten g c = λ four.
 
 pub returns-in-Err-clause-complete : goal.returns-in-Err-clause-complete
 returns-in-Err-clause-complete g c = λ plan_file data_file tells none quiet.
-    c.status.ensures ∙ inside-ends _ _ c.in-Err.fault plan_file data_file none quiet c.in-Err.ensures.causes (c.in-Err.ensures.answer plan_file data_file tells)
+    means_as _ _ _ _ c.status.ensures (inside-ends _ _ c.in-Err.fault plan_file data_file none quiet c.in-Err.ensures.causes (c.in-Err.ensures.answer plan_file data_file tells))
 
 pub returns-in-Err-clause-good : goal.returns-in-Err-clause-good
 returns-in-Err-clause-good g c = λ plan_file data_file tells good none quiet.
-    c.status.ensures ∙ inside-ends _ _ c.in-Err.fault plan_file data_file none quiet c.in-Err.ensures.causes (c.in-Err.ensures.answer plan_file data_file tells)
-    ∙ ap status (good-ends _ plan_file data_file good)
+    means_good _ _ 0 _ (good-ends _ plan_file data_file good)
+    (means_as _ _ _ _ c.status.ensures (inside-ends _ _ c.in-Err.fault plan_file data_file none quiet c.in-Err.ensures.causes (c.in-Err.ensures.answer plan_file data_file tells)))
 
 pub returns-in-Err-clause-words : goal.returns-in-Err-clause-words
 returns-in-Err-clause-words g c = λ plan_file data_file tells one.

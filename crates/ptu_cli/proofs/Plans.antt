@@ -1,0 +1,56 @@
+-- What was read of a plan is what its file answers.
+use Rattle.std.proofs.Common.{◌≡◌, ◌<◌, ◌≤◌, ◌+◌, ℕ, List, [], ◌++◌, length, take, true, false, None, Some, Ok, Err, refl, sym, ap, ◌∙◌, arith, inl, inr, append-nil}
+use Rattle.std.specs.Prelude.{◌≢◌, ◌⊎◌, Result, IsErrAnd}
+use Rattle.std.specs.declared.option.Option.{Option}
+use Rattle.std.specs.Io.KnownBytes.{Consumes, IsAtEnd}
+use Rattle.std.proofs.lemmas.Bool.{cases_Bool, cases_lt}
+use Rattle.std.proofs.lemmas.List.{length-append, length-take-le}
+use Rattle.tally_base.specs.declared.fault.Fault.{Fault}
+use Rattle.tally_base.specs.declared.fault.Fault.TheVariants.{OpenFault, ReadFault, WriteFault, OutOfMemory}
+use Rattle.tally_base.specs.declared.slot.Slot.{Slot}
+use Rattle.tally_base.specs.Faults.{is_outside, HasReason}
+use Rattle.bench_io.specs.Inputs.{File, IsOpened}
+use Rattle.plan_text.specs.declared.plan.Plan.{Plan}
+use Rattle.plan_text.specs.Reading.{plan_answer, plan_seen}
+use Rattle.plan_text.proofs.Documents.{plan_answer_long}
+use Rattle.ptu_cli.specs.PlanPieces.{IsRead}
+use Rattle.ptu_cli.proofs.HeaderEnds.{taken-told}
+
+-- bytes that end the file, or are too many for a plan by themselves
+same_answer : (taken more : List ℕ) → (length taken < 65537 → more ≡ []) → plan_answer (taken ++ more) ≡ plan_answer taken
+same_answer taken more ended = elim (cases_lt (length taken) 65537) [
+  | inl short ↦ ap (λ l. plan_answer (taken ++ l)) (ended short) ∙ ap plan_answer (append-nil taken)
+  | inr long ↦ plan_answer_long (taken ++ more) (let size : length (taken ++ more) ≡ length taken + length more = length-append taken more in omega arith) ∙ sym (plan_answer_long taken (omega arith))
+]
+
+read_told : (bytes taken : List ℕ) (rest : Option (List ℕ)) → Consumes (Some bytes) rest taken → (length taken < 65537 → IsAtEnd rest) → plan_answer bytes ≡ plan_answer taken
+read_told bytes taken None took ended = absurd took
+read_told bytes taken (Some more) took ended = ap plan_answer took ∙ same_answer taken more ended
+
+answers : (plan_file : File) (text : List ℕ) (r : Result Plan Fault) → plan_file ≡ Some text → (r ≢ Err OutOfMemory → plan_answer text ≡ plan_seen r) → IsErrAnd r (λ fault. is_outside fault ≡ true) ⊎ IsRead plan_file r
+answers plan_file text (Ok plan) present answer = inr (record { text = text; present = present; answer = answer (λ e. cc) })
+answers plan_file text (Err fault) present answer = elim (cases_Bool (is_outside fault)) [
+  | inl outside ↦ inl outside
+  | inr inside ↦ inr (record { text = text; present = present; answer = answer (λ e. let same : fault ≡ OutOfMemory = cc in let bad : is_outside OutOfMemory ≡ false = rw same at inside in cc) })
+]
+
+pub plan_told : (contents : Option File) (rest new : Option (List ℕ)) (taken : List ℕ) (plan_file : File) (r : Result Plan Fault) → IsOpened contents rest → Consumes rest new taken → (length taken < 65537 → IsAtEnd new)
+    → (r ≢ Err OutOfMemory → plan_seen r ≡ plan_answer taken) → contents ≡ Some plan_file → IsErrAnd r (λ fault. is_outside fault ≡ true) ⊎ IsRead plan_file r
+plan_told None rest new taken plan_file r opened took ended answer known = cc
+plan_told (Some None) rest new taken plan_file r opened took ended answer known = let none = opened.1 in cc
+plan_told (Some (Some bytes)) rest new taken plan_file r opened took ended answer known =
+    let same : plan_file ≡ Some bytes = cc in
+    answers plan_file bytes r same (λ enough. read_told bytes taken new (taken-told (Some (Some bytes)) rest new taken bytes opened took refl) ended ∙ sym (answer enough))
+
+pub plan_reason : (opening reading : Slot → Type 0) (writing : Type 0) (fault : Fault) → (fault ≢ OutOfMemory → is_outside fault ≡ false) → HasReason opening reading writing (Unit {0}) fault
+plan_reason o r w (OpenFault slot) h = let inside = h (λ e. cc) in cc
+plan_reason o r w (ReadFault slot) h = let inside = h (λ e. cc) in cc
+plan_reason o r w WriteFault h = let inside = h (λ e. cc) in cc
+plan_reason o r w OutOfMemory h = tt
+plan_reason o r w _ h = tt
+
+-- the text that is read ends the file, or is full
+pub ended_short : (size len : ℕ) (text : List ℕ) (rest : Option (List ℕ)) → length text ≡ size → len ≤ length text → (len < length text → IsAtEnd rest) → length (take len text) < size → IsAtEnd rest
+ended_short size len text rest whole room ended short =
+    let count : length (take len text) ≡ len = length-take-le len text room in
+    ended (omega arith)

@@ -1,0 +1,14 @@
+use Rattle.std.proofs.Common.{[], slice_range, append-nil}
+use Rattle.std.proofs.lemmas.Result.{err_from_is_err_and}
+use Rattle.bench_io.proofs.Bytes.{Consumes-nil}
+use Rattle.ptu_cli.proofs.Runs.{SameEngine-refl, ends-refused}
+use Rattle.ptu_cli.proofs.run.feed_data.Goals as goal
+
+pub returns-in_err-feed-clause-answer : goal.returns-in_err-feed-clause-answer
+returns-in_err-feed-clause-answer g c =
+    let behind = slice_range c.args.buffer.now c.args.used c.args.len in
+    let p = err_from_is_err_and c.from_residual.result c.from_residual.ensures.1 in (
+      [],
+      Consumes-nil _,
+      rw (p.1, p.2, append-nil behind) (ends-refused c.args.engine c.args.engine behind _ c.in_err-feed.field-0.0 (SameEngine-refl c.args.engine) (c.in_err-feed.ensures.shown [] c.requires.fresh)),
+    )

@@ -1,0 +1,28 @@
+-- What reading a plan leaves.
+use Rattle.std.specs.Prelude.{ℕ, ◌≡◌, ◌⊎◌, ◌≤◌, List, length, true, Some, Result, IsErrAnd}
+use Rattle.tally_base.specs.declared.slot.Slot.TheVariants.{Plan as PlanSlot}
+use Rattle.tally_base.specs.declared.fault.Fault.{Fault}
+use Rattle.tally_base.specs.Faults.{is_outside, HasReason}
+use Rattle.tally_base.specs.Counts.{Rose}
+use Rattle.bench_io.specs.Inputs.{File, InputState}
+use Rattle.plan_text.specs.declared.plan.Plan.{Plan}
+use Rattle.plan_text.specs.Reading.{plan_answer, plan_seen}
+use Rattle.ptu_cli.specs.Endings.{IsTakenFrom, plan_limit}
+
+-- The file is there, and this is what its bytes answer as a plan.
+pub record IsRead (plan_file : File) (result : Result Plan Fault) : Type 0 where
+  pub text : List ℕ
+  pub present : plan_file ≡ Some text
+  pub answer : plan_answer text ≡ plan_seen result
+
+-- A fault from outside, or what the file of the name answers as a plan.
+abbrev pub AnswersPlan : InputState → List ℕ → Result Plan Fault → Type 0
+AnswersPlan before name result = (plan_file : File) → before.contents name ≡ Some plan_file → IsErrAnd result (λ fault. is_outside fault ≡ true) ⊎ IsRead plan_file result
+
+-- The plan could not be opened, or a read failed where no more bytes were taken than a plan may have, or memory was refused.
+abbrev pub PlanReason : InputState → InputState → List ℕ → Fault → Type 0
+PlanReason before after name = HasReason
+    (λ slot. (slot ≡ PlanSlot) × Rose (before.open_faults slot) (after.open_faults slot))
+    (λ slot. (slot ≡ PlanSlot) × Rose (before.read_faults slot) (after.read_faults slot) × ((taken : List ℕ) × IsTakenFrom PlanSlot before after name taken × (length taken ≤ plan_limit)))
+    ⊥
+    (Unit {0})

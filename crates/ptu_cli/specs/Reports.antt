@@ -1,0 +1,32 @@
+-- What running a plan over a file reports.
+use Rattle.std.specs.Prelude.{ℕ, List, Result, Ok, Err}
+use Rattle.tally_base.specs.declared.fault.Fault.{Fault}
+use Rattle.tally_base.specs.declared.header.Header.{Header}
+use Rattle.tally_base.specs.RecordTypes.{mode_of}
+use Rattle.ptu_definitions.specs.declared.records.Summary.{Summary}
+use Rattle.ptu_definitions.specs.Headers.{header_answer}
+use Rattle.ptu_definitions.specs.Words.{words_of}
+use Rattle.ptu_definitions.specs.Streams.{streamed}
+use Rattle.plan_text.specs.Plan.{PlanView, parts_of}
+use Rattle.plan_text.specs.Fits.{fits}
+use Rattle.tally_engine.specs.Histories.{history}
+use Rattle.tally_engine.specs.Plans.{reading_by}
+use Rattle.table_out.specs.Report.{report}
+
+-- the report of the records behind a header, where none is refused
+abbrev pub report_of : PlanView → Header → List ℕ → Result Summary Fault → Result (List ℕ) Fault
+report_of plan header bytes (Ok summary) = Ok (report header summary (parts_of plan) (history plan.groups (reading_by plan header) (words_of bytes)))
+report_of plan header bytes (Err fault) = Err fault
+
+-- the same, by whether the plan's parts suit the file
+abbrev pub if_fits : PlanView → Header → List ℕ → Result (Unit {0}) Fault → Result (List ℕ) Fault
+if_fits plan header bytes (Ok done) = report_of plan header bytes (streamed (reading_by plan header) bytes)
+if_fits plan header bytes (Err fault) = Err fault
+
+abbrev pub report_behind : PlanView → Result (Header × List ℕ) Fault → Result (List ℕ) Fault
+report_behind plan (Ok found) = if_fits plan found.0 found.1 (fits (mode_of found.0.record_type) plan)
+report_behind plan (Err fault) = Err fault
+
+-- The report of a plan over a whole file, or why there is none.
+abbrev pub file_report : PlanView → List ℕ → Result (List ℕ) Fault
+file_report plan file = report_behind plan (header_answer file)

@@ -1,0 +1,46 @@
+-- What counting the records of a file by a plan leaves.
+use Rattle.std.specs.Prelude.{ℕ, ◌≡◌, ◌⊎◌, List, [], true, Result, Ok, Err}
+use Rattle.std.specs.declared.option.Option.{Option}
+use Rattle.std.specs.Io.KnownBytes.{Consumes, IsAtEnd}
+use Rattle.tally_base.specs.declared.slot.Slot.TheVariants.{Data}
+use Rattle.tally_base.specs.declared.fault.Fault.{Fault}
+use Rattle.tally_base.specs.Faults.{is_outside, HasReason}
+use Rattle.tally_base.specs.Counts.{Rose}
+use Rattle.tally_base.specs.Tally.{History}
+use Rattle.bench_io.specs.Inputs.{InputState}
+use Rattle.ptu_definitions.specs.Shown.{Says}
+use Rattle.ptu_definitions.specs.Streams.{streamed}
+use Rattle.plan_text.specs.Plan.{PlanView}
+use Rattle.tally_engine.specs.declared.engine.Engine.{Engine}
+use Rattle.tally_engine.specs.declared.engine.Results.{Results}
+use Rattle.tally_engine.specs.Engine.{reading_of, settings_of, IsCounted}
+use Rattle.tally_engine.specs.Parts.{AllHold, AllClosed}
+use Rattle.table_out.specs.Report.{report}
+use Rattle.ptu_cli.specs.Reports.{file_report}
+use Rattle.ptu_cli.specs.Pieces.{TakesOpen}
+use Rattle.ptu_cli.specs.Endings.{StopsAtHeader}
+
+-- The engine counted all of these bytes, and none are left; or a fault from outside, or what the bytes taken and those left call for.
+abbrev pub EndsEngine : Engine → List ℕ → Option (List ℕ) → Result Results Fault → Type 0
+EndsEngine engine bytes left (Ok results) = IsCounted engine bytes results × IsAtEnd left
+EndsEngine engine bytes left (Err fault) = (is_outside fault ≡ true) ⊎ Says (streamed (reading_of engine)) bytes left (Err fault)
+
+-- The tables are closed and stand for some events, and the report of the file is that of these.
+pub record IsReport (plan : PlanView) (taken : List ℕ) (left : Option (List ℕ)) (results : Results) : Type 0 where
+  pub events : History
+  pub closed : AllClosed results.parts.items
+  pub counts : AllHold results.parts.items events
+  pub says : Says (file_report plan) taken left (Ok (report results.header results.summary (settings_of results) events))
+
+-- The results of the bytes taken and those left; or a fault from outside, or the one that they call for.
+abbrev pub AnswersReport : PlanView → List ℕ → Option (List ℕ) → Result Results Fault → Type 0
+AnswersReport plan taken left (Ok results) = IsReport plan taken left results
+AnswersReport plan taken left (Err fault) = (is_outside fault ≡ true) ⊎ Says (file_report plan) taken left (Err fault)
+
+-- A read of the data failed, and the bytes taken call for nothing by themselves; or memory was refused behind the header.
+abbrev pub RunReason : PlanView → InputState → InputState → Fault → Type 0
+RunReason plan before after = HasReason
+    (λ slot. ⊥)
+    (λ slot. (slot ≡ Data) × Rose (before.read_faults slot) (after.read_faults slot) × TakesOpen (file_report plan) [] (before.rest Data) (after.rest Data))
+    ⊥
+    ((taken : List ℕ) × Consumes (before.rest Data) (after.rest Data) taken × StopsAtHeader plan taken)

@@ -1,0 +1,92 @@
+// Reads the plan of a command.
+ghost use Rattle.std.specs.Prelude.{◌≡◌, ◌≤◌, ◌<◌, ◌^◌, List, ℕ, length, take, true, false, IfErr, IfOk};
+ghost use Rattle.std.specs.Io.KnownBytes.{Consumes, IsAtEnd};
+ghost use Rattle.tally_base.specs.declared.slot.Slot.TheVariants.{Plan as PlanSlot};
+ghost use Rattle.tally_base.specs.declared.fault.Fault.TheVariants.{ReadFault};
+ghost use Rattle.tally_base.specs.Counts.{Rose};
+ghost use Rattle.bench_io.specs.Inputs.{OnlyReads, Keeps, KeepsOther};
+ghost use Rattle.ptu_cli.specs.PlanPieces.{AnswersPlan, PlanReason};
+
+use bench_io::Inputs;
+use plan_text::{Plan, read_plan};
+use std::alloc::Global;
+use tally_base::{Failed, Fault, Slot};
+
+/// The bytes of a plan that are read at most: one more than a plan may have.
+const TEXT_SIZE: usize = 65_537;
+
+const OPEN_FAULT: Fault = Fault::OpenFault { slot: Slot::Plan };
+
+const READ_FAULT: Fault = Fault::ReadFault { slot: Slot::Plan };
+
+/// Reads the plan to its end, or until the text is full, and answers how many bytes it has.
+fn read_text<I: Inputs>(inputs: &mut I, text: &mut [u8]) -> Result<usize, Fault>
+    requires opened { (I.state inputs.old).opened PlanSlot ≡ true }
+    ensures reads { OnlyReads PlanSlot (I.state inputs.old) (I.state inputs.new) }
+    ensures room { IfOk result (λ len. len ≤ length text.new) }
+    ensures taken { IfOk result (λ len. Consumes ((I.state inputs.old).rest PlanSlot)
+        ((I.state inputs.new).rest PlanSlot) (take len text.new)) }
+    ensures ended { IfOk result (λ len. len < length text.new
+        → IsAtEnd ((I.state inputs.new).rest PlanSlot)) }
+    ensures reason { IfErr result (λ fault. (fault ≡ ReadFault PlanSlot)
+        × Rose ((I.state inputs.old).read_faults PlanSlot)
+        ((I.state inputs.new).read_faults PlanSlot)) }
+    ensures unread { IfErr result (λ fault. (taken : List ℕ)
+        × Consumes ((I.state inputs.old).rest PlanSlot)
+        ((I.state inputs.new).rest PlanSlot) taken
+        × (length taken < length text.old)) }
+{
+    let mut len = 0;
+    'pieces: while len < text.len() {
+        let Ok(more) = inputs.read(Slot::Plan, &mut text[len..]) else {
+            return Err(READ_FAULT);
+        };
+        if more == 0 {
+            return Ok(len);
+        }
+        len += more;
+    }
+    Ok(len)
+}
+
+/// Reads the plan of a name into the text.
+fn plan_in<I: Inputs>(
+    alloc: Global,
+    inputs: &mut I,
+    name: &str,
+    text: &mut [u8],
+) -> Result<Plan, Fault>
+    requires meant { (I.state inputs.old).meant PlanSlot name.now ≡ true }
+    requires first { (I.state inputs.old).asked PlanSlot ≡ false }
+    requires size { length text.old ≡ TEXT_SIZE }
+    ensures keeps { Keeps (I.state inputs.old) (I.state inputs.new) }
+    ensures keeps_other { KeepsOther PlanSlot (I.state inputs.old) (I.state inputs.new) }
+    ensures answer { AnswersPlan (I.state inputs.old) name.now result }
+    ensures reason { IfErr result (PlanReason (I.state inputs.old) (I.state inputs.new) name.now) }
+    ensures records { IfOk result (λ plan. (0 < plan.policy.records)
+        × (plan.policy.records ≤ 2 ^ 40)) }
+{
+    match inputs.open(Slot::Plan, name) {
+        Err(Failed) => return Err(OPEN_FAULT),
+        Ok(()) => {}
+    }
+    let len = read_text(inputs, text)?;
+    read_plan(alloc, &text[..len])
+}
+
+/// Reads the plan of a name. Its text takes memory before the plan is opened.
+pub(crate) fn plan_of<I: Inputs>(alloc: Global, inputs: &mut I, name: &str) -> Result<Plan, Fault>
+    requires meant { (I.state inputs.old).meant PlanSlot name.now ≡ true }
+    requires first { (I.state inputs.old).asked PlanSlot ≡ false }
+    ensures keeps { Keeps (I.state inputs.old) (I.state inputs.new) }
+    ensures keeps_other { KeepsOther PlanSlot (I.state inputs.old) (I.state inputs.new) }
+    ensures answer { AnswersPlan (I.state inputs.old) name.now result }
+    ensures reason { IfErr result (PlanReason (I.state inputs.old) (I.state inputs.new) name.now) }
+    ensures records { IfOk result (λ plan. (0 < plan.policy.records)
+        × (plan.policy.records ≤ 2 ^ 40)) }
+{
+    let Ok(mut text) = vec![in alloc; 0u8; TEXT_SIZE] else {
+        return Err(Fault::OutOfMemory);
+    };
+    plan_in(alloc, inputs, name, &mut text)
+}

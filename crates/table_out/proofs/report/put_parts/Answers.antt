@@ -1,0 +1,19 @@
+use Rattle.std.proofs.Common.{rules, arith}
+use Rattle.std.proofs.lemmas.List.{take_all}
+use Rattle.std.proofs.lemmas.Result.{err_from_is_err_and}
+use Rattle.table_out.proofs.Tables.{puts-part, cuts-part}
+use Rattle.table_out.proofs.report.put_parts.Goals as goal
+
+pub returns-in_err-put_part-clause-short : goal.returns-in_err-put_part-clause-short
+returns-in_err-put_part-clause-short g c =
+    let e = err_from_is_err_and c.from_residual.result c.from_residual.ensures.1 in
+    rw e.1 (cuts-part c.args.parts.now c.loop-place.place c.number_of-number.result c.index-parts-place.result c.loop-place-test.true c.index-parts-place.is c.number_of-number.ensures _ _ _ c.args.block.now c.loop-place.block c.loop-place.invariant.put c.in_err-put_part.ensures.short)
+
+pub loop-place-preserved : goal.loop-place-preserved
+loop-place-preserved g c = record {
+  put = puts-part c.args.parts.now c.loop-place.place c.number_of-number.result c.index-parts-place.result c.loop-place-test.true c.index-parts-place.is c.number_of-number.ensures _ _ _ c.args.block.now c.loop-place.block _ c.loop-place.invariant.put c.in_ok-put_part.ensures.all;
+  later = omega (arith, c.loop-place.invariant.later, c.put_part.ensures.cause.later);
+}
+
+pub returns-clause-all : goal.returns-clause-all
+returns-clause-all g c = λ h is. rw (take_all c.loop-place.place c.args.parts.now (search rules)) at (c.loop-place.invariant.put h is)

@@ -1,0 +1,57 @@
+-- What the report of a run prints.
+use Rattle.std.specs.Prelude.{ℕ, zero, suc, ◌+◌, ◌==◌, Bool, true, List, [], ◌++◌, count_by, codes, decimal, if◌then◌else◌}
+use Rattle.tally_base.specs.declared.header.Header.{Header}
+use Rattle.tally_base.specs.RecordTypes.{name_of}
+use Rattle.tally_base.specs.Settings.{PartSettings, HistView}
+use Rattle.tally_base.specs.Settings.PartSettings.{HistSettings}
+use Rattle.tally_base.specs.Tally.{History}
+use Rattle.ptu_definitions.specs.declared.records.Summary.{Summary}
+use Rattle.ptu_definitions.specs.Prefixes.{each}
+use Rattle.tcspc_hist.specs.Counts.{in_bin, past_bins}
+use Rattle.table_out.specs.Lines.{line, announced, bits_text, time_text}
+
+-- what stands before the tables
+unfoldable pub head_text : Header → Summary → List ℕ
+head_text header summary =
+    line (codes "type") (name_of header.record_type)
+    ++ line (codes "announced") (announced header.count)
+    ++ line (codes "global") (bits_text header.global)
+    ++ line (codes "resolution") (bits_text header.resolution)
+    ++ line (codes "records") (decimal summary.records)
+    ++ line (codes "photons") (decimal summary.photons)
+    ++ line (codes "markers") (decimal summary.markers)
+    ++ line (codes "wraps") (decimal summary.wraps)
+    ++ line (codes "reserved") (decimal summary.reserved)
+    ++ line (codes "late") (decimal summary.late)
+    ++ line (codes "first") (time_text summary.first)
+    ++ line (codes "last") (time_text summary.last)
+
+-- A cell that is 0 has no line.
+abbrev pub cell_line : ℕ → ℕ → List ℕ
+cell_line cell count = if count == 0 then [] else line (decimal cell) (decimal count)
+
+-- the lines of the first cells, in rising order
+abbrev pub cells_text : (ℕ → ℕ) → ℕ → List ℕ
+cells_text cell zero = []
+cells_text cell (suc n) = cells_text cell n ++ cell_line n (cell n)
+
+abbrev pub histogram_line : ℕ → HistView → List ℕ
+histogram_line number set = codes "histogram " ++ decimal number ++ codes " width " ++ decimal set.width ++ codes " bins " ++ decimal set.bins ++ codes "\n"
+
+-- a histogram by its number, its settings, its cells and how much is past the last of them
+unfoldable pub histogram_text : ℕ → HistView → (ℕ → ℕ) → ℕ → List ℕ
+histogram_text number set cell over = histogram_line number set ++ cells_text cell set.bins ++ line (codes "over") (decimal over)
+
+abbrev pub same_kind : PartSettings → PartSettings → Bool
+same_kind (HistSettings set) (HistSettings other) = true
+
+-- a table by its number and its settings, over the events that it was given
+abbrev pub part_text : ℕ → PartSettings → History → List ℕ
+part_text number (HistSettings set) h = histogram_text number set (λ b. in_bin set b h) (past_bins set h)
+
+-- Tables one behind the other. The number of a table is its place among those of its kind, from 1.
+abbrev pub parts_text : List PartSettings → History → List ℕ
+parts_text parts h = each (λ before part. part_text (count_by (same_kind part) before + 1) part h) parts
+
+unfoldable pub report : Header → Summary → List PartSettings → History → List ℕ
+report header summary parts h = head_text header summary ++ parts_text parts h

@@ -1,0 +1,108 @@
+// The report of a run.
+ghost use Rattle.std.specs.Prelude.{◌≡◌, ◌+◌, ◌≤◌, count_by, OnOk, OnErr, IfErr};
+ghost use Rattle.std.specs.Io.KnownBytes.{Appends};
+ghost use Rattle.tally_base.specs.Counts.{HasCause};
+ghost use Rattle.tally_base.specs.Tally.{History};
+ghost use Rattle.bench_io.specs.Sinks.{AppendsShort};
+ghost use Rattle.tally_engine.specs.Parts.{settings_in, AllHold, AllClosed};
+ghost use Rattle.tally_engine.specs.Engine.{settings_of};
+ghost use Rattle.table_out.specs.Report.{same_kind, part_text, parts_text, report};
+ghost use Rattle.table_out.specs.Puts.{PutsText, CutsText};
+
+use crate::histogram::put_histogram;
+use crate::report_head::report_head;
+use bench_io::{Block, Sink};
+use tally_base::{Failed, Fault, Tally};
+use tally_engine::{Part, Results};
+
+/// Whether two tables are of one kind.
+fn same_kind(part: &Part, other: &Part) -> bool
+    ensures { result ≡ same_kind (⟦<Part as Tally>⟧.settings part.now)
+        (⟦<Part as Tally>⟧.settings other.now) }
+{
+    match (part, other) {
+        (Part::Hist(_), Part::Hist(_)) => true,
+    }
+}
+
+/// The place of a table among those of its kind, from 1. `before` has all tables before it.
+fn number_of(before: &[Part], part: &Part) -> u64
+    ensures { result ≡ count_by (same_kind (⟦<Part as Tally>⟧.settings part.now))
+        (settings_in before.now) + 1 }
+{
+    let mut number = 1;
+    for other in before {
+        if same_kind(part, other) {
+            number += 1;
+        }
+    }
+    number
+}
+
+/// Puts the lines of a table.
+fn put_part<O: Sink>(number: u64, part: &Part, block: &mut Block, out: &mut O) -> Result<(), Failed>
+    ensures all { OnOk result (PutsText (⟦<Part as Tally>⟧.holds part.now)
+        (part_text number (⟦<Part as Tally>⟧.settings part.now))
+        (O.written out.old) (O.written out.new) block.old block.new) }
+    ensures short { OnErr result (CutsText (⟦<Part as Tally>⟧.holds part.now)
+        (part_text number (⟦<Part as Tally>⟧.settings part.now))
+        (O.written out.old) (O.written out.new) block.old) }
+    ensures cause { HasCause (O.faults out.old) (O.faults out.new) result }
+{
+    match part {
+        Part::Hist(table) => put_histogram(number, table, block, out),
+    }
+}
+
+/// Puts the lines of all tables.
+fn put_parts<O: Sink>(parts: &[Part], block: &mut Block, out: &mut O) -> Result<(), Failed>
+    ensures all { OnOk result (PutsText (AllHold parts.now) (parts_text (settings_in parts.now))
+        (O.written out.old) (O.written out.new) block.old block.new) }
+    ensures short { OnErr result (CutsText (AllHold parts.now) (parts_text (settings_in parts.now))
+        (O.written out.old) (O.written out.new) block.old) }
+    ensures cause { HasCause (O.faults out.old) (O.faults out.new) result }
+{
+    for (place, part) in parts.iter().enumerate() {
+        let number = number_of(&parts[..place], part);
+        put_part(number, part, block, out)?;
+    }
+    Ok(())
+}
+
+/// Writes the whole report through a block.
+fn put_report<O: Sink>(results: &Results, out: &mut O) -> Result<(), Failed>
+    ensures text { OnOk result ((h : History) → AllHold results.now.parts.items h
+        → Appends (O.written out.old) (O.written out.new)
+        (report results.now.header results.now.summary (settings_of results.now) h)) }
+    ensures short { OnErr result ((h : History) → AllHold results.now.parts.items h
+        → AppendsShort (O.written out.old) (O.written out.new)
+        (report results.now.header results.now.summary (settings_of results.now) h)) }
+    ensures cause { HasCause (O.faults out.old) (O.faults out.new) result }
+{
+    let mut block = Block::new();
+    let head = report_head(&results.header, &results.summary);
+    block.put(out, head.as_slice())?;
+    put_parts(&results.parts, &mut block, out)?;
+    block.flush(out)
+}
+
+/// Writes the report of a run: its head, and the settings and cells of each table. The tables of a kind
+/// are numbered from 1, in their order. A cell that is 0 has no line.
+///
+/// Refuses with `WriteFault` where a write fails; then a beginning of the report was written.
+pub fn write_report<O: Sink>(results: &Results, out: &mut O) -> Result<(), Fault>
+    requires closed { AllClosed results.now.parts.items }
+    ensures text { OnOk result ((h : History) → AllHold results.now.parts.items h
+        → Appends (O.written out.old) (O.written out.new)
+        (report results.now.header results.now.summary (settings_of results.now) h)) }
+    ensures short { OnErr result ((h : History) → AllHold results.now.parts.items h
+        → AppendsShort (O.written out.old) (O.written out.new)
+        (report results.now.header results.now.summary (settings_of results.now) h)) }
+    ensures fault { IfErr result (λ fault. fault ≡ Fault.WriteFault) }
+    ensures cause { HasCause (O.faults out.old) (O.faults out.new) result }
+{
+    match put_report(results, out) {
+        Ok(()) => Ok(()),
+        Err(Failed) => Err(Fault::WriteFault),
+    }
+}

@@ -1,0 +1,87 @@
+-- What an engine stands for.
+use Rattle.std.specs.Prelude.{◌≡◌, ℕ, ◌+◌, List, length, sum_by, None, Result, Ok, Err}
+use Rattle.std.specs.declared.option.Option.{Option}
+use Rattle.tally_base.specs.declared.fault.Fault.{Fault}
+use Rattle.tally_base.specs.declared.header.Header.{Header}
+use Rattle.tally_base.specs.Settings.{GroupView, PartSettings, entries}
+use Rattle.ptu_definitions.specs.Streams.{Reading, streamed}
+use Rattle.ptu_definitions.specs.Words.{words_of}
+use Rattle.record_stream.specs.Standing.{how_of, refused_with, carried_by, bytes_in, HasStreamed}
+use Rattle.plan_text.specs.Plan.{PlanView, parts_of}
+use Rattle.gate_plan.specs.Groups.{groups_of}
+use Rattle.tally_engine.specs.Histories.{history}
+use Rattle.tally_engine.specs.Parts.{settings_in, AllHold, AllClosed, entries_in}
+use Rattle.tally_engine.specs.Plans.{reading_by}
+use Rattle.tally_engine.specs.declared.engine.Engine.{Engine}
+use Rattle.tally_engine.specs.declared.engine.Results.{Results}
+
+-- ## What it was opened with
+
+abbrev pub header_of : Engine → Header
+header_of engine = engine.header
+
+abbrev pub engine_groups : Engine → List GroupView
+engine_groups engine = groups_of engine.gates
+
+-- how it reads the records
+abbrev pub reading_of : Engine → Reading
+reading_of engine = how_of engine.stream
+
+-- the settings of its tables
+abbrev pub parts_in : Engine → List PartSettings
+parts_in engine = settings_in engine.parts.items
+
+-- The engine is one of this plan and this header.
+pub record IsFor (engine : Engine) (plan : PlanView) (header : Header) : Type 0 where
+  pub header_is : header_of engine ≡ header
+  pub groups_are : engine_groups engine ≡ plan.groups
+  pub parts_are : parts_in engine ≡ parts_of plan
+  pub reads : reading_of engine ≡ reading_by plan header
+
+-- Both were opened with the same.
+pub record SameEngine (old new : Engine) : Type 0 where
+  pub same_header : header_of new ≡ header_of old
+  pub same_groups : engine_groups new ≡ engine_groups old
+  pub same_parts : parts_in new ≡ parts_in old
+  pub same_reading : reading_of new ≡ reading_of old
+
+-- ## What it was given
+
+-- what it refused
+abbrev pub refused_by : Engine → Option Fault
+refused_by engine = refused_with engine.stream
+
+-- how many bytes it took, as long as it refused none
+abbrev pub bytes_fed : Engine → ℕ
+bytes_fed engine = bytes_in engine.stream
+
+-- The engine was given these bytes: where it refused none, each table holds the kept list.
+abbrev pub HasFed : Engine → List ℕ → Type 0
+HasFed engine bytes = HasStreamed engine.stream bytes × (refused_by engine ≡ None → AllHold engine.parts.items (history (engine_groups engine) (reading_of engine) (words_of bytes)))
+
+-- ## How much it keeps
+
+-- how many entries it keeps: those of its tables, and the carried bytes
+abbrev pub held : Engine → ℕ
+held engine = entries_in engine.parts.items + length (carried_by engine.stream)
+
+-- how many it keeps at most
+abbrev pub bound : Engine → ℕ
+bound engine = 48 + sum_by entries (parts_in engine)
+
+-- ## What comes of it
+
+abbrev pub settings_of : Results → List PartSettings
+settings_of results = settings_in results.parts.items
+
+-- The results of an engine that was given these bytes.
+pub record IsCounted (engine : Engine) (bytes : List ℕ) (results : Results) : Type 0 where
+  pub header_is : results.header ≡ header_of engine
+  pub summary_is : streamed (reading_of engine) bytes ≡ Ok results.summary
+  pub parts_are : settings_of results ≡ parts_in engine
+  pub closed : AllClosed results.parts.items
+  pub counts : AllHold results.parts.items (history (engine_groups engine) (reading_of engine) (words_of bytes))
+
+abbrev pub Finishes : Engine → List ℕ → Result Results Fault → Type 0
+Finishes engine bytes (Ok results) = IsCounted engine bytes results
+Finishes engine bytes (Err fault) = streamed (reading_of engine) bytes ≡ Err fault

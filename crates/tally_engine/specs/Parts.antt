@@ -1,0 +1,28 @@
+-- The tables of an engine.
+use Rattle.std.specs.Prelude.{◌≡◌, ℕ, List, [], All, map, sum_by, true, false}
+use Rattle.tally_base.specs.Settings.{PartSettings}
+use Rattle.tally_base.specs.Tally.{History}
+use Rattle.tally_engine.specs.declared.part.Part.{Part}
+use Rattle.tally_engine.specs.contracts.part.PartTally.TheImpl.{ghosts}
+
+-- what the tables were opened with
+abbrev pub settings_in : List Part → List PartSettings
+settings_in parts = map ghosts.settings parts
+
+-- Every table stands for these events.
+abbrev pub AllHold : List Part → History → Type 0
+AllHold parts h = All (λ p. ghosts.holds p h) parts
+
+-- Every table is closed: its cells are the counts.
+abbrev pub AllClosed : List Part → Type 0
+AllClosed parts = All (λ p. ghosts.closed p ≡ true) parts
+
+-- how many entries the tables keep
+abbrev pub entries_in : List Part → ℕ
+entries_in parts = sum_by ghosts.held parts
+
+-- A table that was opened with these settings and was given nothing.
+pub record IsOpened (settings : PartSettings) (p : Part) : Type 0 where
+  pub settings_are : ghosts.settings p ≡ settings
+  pub empty : ghosts.holds p []
+  pub opened : ghosts.closed p ≡ false

@@ -1,0 +1,152 @@
+// All tables of a plan, and the stream that feeds them.
+ghost use Rattle.std.specs.Prelude.{◌≡◌, ℕ, ◌≤◌, All, List, None, Some, false};
+ghost use Rattle.tally_base.specs.declared.fault.Fault.{Fault};
+ghost use Rattle.tally_base.specs.Faults.{is_outside};
+ghost use Rattle.tally_base.specs.RecordTypes.{mode_of};
+ghost use Rattle.record_stream.specs.Standing.{how_of, given_by, top_of, refused_with, HasStreamed};
+ghost use Rattle.tally_engine.specs.Taker.{Standing};
+
+use crate::give::close_all;
+use crate::part::Part;
+use crate::taker::{Reached, feed_parts};
+use gate_plan::Gates;
+use plan_text::Plan;
+use record_stream::{RecordStream, Summary};
+use std::alloc::{AllocError, Global};
+use std::sync::ledger::Ledger;
+use tally_base::{Fault, Header, Steps, Tally};
+
+/// What a run counted.
+#[derive(Drop)]
+pub struct Results {
+    /// The header of the file.
+    pub header: Header,
+    /// The counts of its records.
+    pub summary: Summary,
+    /// The tables, all closed, in the order of the report: by kinds, and by numbers in each.
+    pub parts: Vec<Part>,
+}
+
+/// All tables of a plan, and the stream of a file's records that feeds them.
+///
+/// It takes all its memory when it is opened. Beside the tables it keeps at most three bytes of a record.
+#[derive(Drop)]
+pub struct Engine {
+    header: Header,
+    gates: Gates,
+    stream: RecordStream,
+    parts: Vec<Part>,
+    reached: Reached,
+    ghost same_mode: { (how_of stream).mode ≡ mode_of header.record_type },
+    ghost standing: { All (Standing ⟦<Part as Tally>⟧ (mode_of header.record_type) reached.taken
+        reached.floor) parts.items },
+    ghost few: { refused_with stream ≡ None → reached.taken ≤ given_by stream },
+    ghost before: { refused_with stream ≡ None → reached.floor ≤ top_of stream },
+    ghost streams: { ∥ ((bytes : List ℕ) × HasStreamed stream bytes) ∥₁ },
+    ghost inside: { (fault : Fault) → refused_with stream ≡ Some fault
+        → is_outside fault ≡ false },
+}
+
+impl Engine {
+    ghost use Rattle.std.specs.Prelude.{◌+◌, ◌*◌, ◌^◌, ◌<◌, [], ◌++◌, length, Err, OnOk, IfOk, IfErr};
+    ghost use Rattle.plan_text.specs.Fits.{fits};
+    ghost use Rattle.plan_text.specs.Reading.{plan_view};
+    ghost use Rattle.tally_engine.specs.Plans.{plan_bound, OpensAs};
+    ghost use Rattle.ptu_definitions.specs.Shown.{Shows};
+    ghost use Rattle.ptu_definitions.specs.Streams.{record_refusal, streamed};
+    ghost use Rattle.ptu_definitions.specs.Words.{words_of};
+    ghost use Rattle.tally_base.specs.Faults.{fault_in};
+    ghost use Rattle.tally_engine.specs.Engine.{reading_of, refused_by, bytes_fed, HasFed, IsFor, SameEngine, Finishes, held, bound};
+
+    /// An engine of no bytes, for a plan and the header of a file.
+    ///
+    /// Refuses with `PlanMode` a part of the plan that doesn't suit the mode of the file, and else with
+    /// `OutOfMemory` where memory for a table is wanting. The greatest number of records is 1 to 2^40.
+    pub fn open(alloc: Global, plan: &Plan, header: &Header) -> Result<Engine, Fault>
+        requires records { (0 < plan.now.policy.records) × (plan.now.policy.records ≤ 2 ^ 40) }
+        ensures answer { OpensAs (fits (mode_of header.now.record_type) (plan_view plan.now)) result }
+        ensures made { IfOk result (λ engine. IsFor engine (plan_view plan.now) header.now) }
+        ensures empty { IfOk result (λ engine. HasFed engine []) }
+        ensures going { IfOk result (λ engine. refused_by engine ≡ None) }
+        ensures bound { IfOk result (λ engine. bound engine ≡ plan_bound (plan_view plan.now)) }
+        ensures within { IfOk result (λ engine. held engine ≤ bound engine) }
+        ensures none { IfOk result (λ engine. bytes_fed engine ≡ 0) }
+    {
+        if let Err(fault) = plan.fits(header.record_type.mode()) {
+            return Err(fault);
+        }
+        match Part::open_all(alloc, plan) {
+            Ok(parts) => Ok(Engine {
+                header: *header,
+                gates: Gates::of(plan),
+                stream: RecordStream::new(header.record_type, plan.policy),
+                parts,
+                reached: Reached { taken: 0, floor: 0 },
+            }),
+            Err(AllocError) => Err(Fault::OutOfMemory),
+        }
+    }
+
+    /// Takes a piece of the bytes behind the header, and gives each event that isn't late to every table.
+    ///
+    /// Refuses one record more than the greatest number, and a wrap that makes the sum of wraps greater
+    /// than 2^62. By the policy it refuses a reserved record or a late event. After a refusal it answers
+    /// the same refusal to each piece.
+    pub fn feed<L: Ledger>(&mut self, piece: &[u8], steps: &mut Steps<L>) -> Result<(), Fault>
+        ensures taken { (bytes : List ℕ) → HasFed self.old bytes
+            → HasFed self.new (bytes ++ piece.now) }
+        ensures answer { refused_by self.old ≡ None → (bytes : List ℕ) → HasFed self.old bytes
+            → fault_in result ≡ record_refusal (reading_of self.old)
+            (words_of (bytes ++ piece.now)) }
+        ensures kept { (fault : Fault) → refused_by self.old ≡ Some fault
+            → (result ≡ Err fault) × (self.new ≡ self.old) }
+        ensures refused { refused_by self.new ≡ fault_in result }
+        ensures shown { (bytes : List ℕ) → HasFed self.old bytes
+            → IfErr result (λ fault. Shows (streamed (reading_of self.old)) (bytes ++ piece.now)
+            (Err fault)) }
+        ensures inside { IfErr result (λ fault. is_outside fault ≡ false) }
+        ensures counted { OnOk result (bytes_fed self.new ≡ bytes_fed self.old + length piece.now) }
+        ensures limit { bytes_fed self.new ≤ 4 * 2 ^ 40 + 3 }
+        ensures same { SameEngine self.old self.new }
+        ensures within { held self.new ≤ bound self.new }
+    {
+        let mode = self.header.record_type.mode();
+        feed_parts(
+            &mut self.stream,
+            piece,
+            mode,
+            &self.gates,
+            &mut self.parts,
+            &mut self.reached,
+            steps,
+        )
+    }
+
+    /// Closes every table, and gives what was counted.
+    ///
+    /// Refuses bytes that end within a record, and answers again what a piece was refused for.
+    pub fn finish<L: Ledger>(self, steps: &mut Steps<L>) -> Result<Results, Fault>
+        ensures answer { (bytes : List ℕ) → HasFed self bytes → Finishes self bytes result }
+        ensures kept { (fault : Fault) → refused_by self ≡ Some fault → result ≡ Err fault }
+        ensures inside { IfErr result (λ fault. is_outside fault ≡ false) }
+    {
+        let Engine {
+            header,
+            gates: _,
+            stream,
+            mut parts,
+            reached: _,
+        } = self;
+        match stream.finish() {
+            Ok(summary) => {
+                close_all(&mut parts, steps);
+                Ok(Results {
+                    header,
+                    summary,
+                    parts,
+                })
+            }
+            Err(fault) => Err(fault),
+        }
+    }
+}

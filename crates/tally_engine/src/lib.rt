@@ -1,0 +1,14 @@
+//! All tables of a plan, fed by one stream of records.
+#![tactic(auto)]
+
+mod engine;
+mod give;
+pub mod laws;
+mod part;
+mod taker;
+
+pub use engine::{Engine, Results};
+pub use part::Part;
+
+#[cfg(test)]
+mod tests;
