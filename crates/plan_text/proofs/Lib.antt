@@ -5,3 +5,5 @@ pub mod Rise
 pub mod Rows
 pub mod Whole
 pub mod Misfits
+pub mod Called
+pub mod Firsts

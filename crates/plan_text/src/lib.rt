@@ -5,6 +5,7 @@ mod document;
 mod fits;
 mod groups;
 mod histograms;
+pub mod laws;
 mod plan;
 
 pub use plan::{Plan, read_plan};

@@ -8,7 +8,6 @@ use Rattle.tally_base.specs.declared.fault.Fault.TheVariants.{WriteFault}
 use Rattle.tally_base.specs.declared.slot.Slot.TheVariants.{Plan as PlanSlot, Data}
 use Rattle.tally_base.specs.Counts.{Rose}
 use Rattle.tally_base.specs.Faults.{is_outside, fault_in}
-use Rattle.tally_base.specs.Tally.{History}
 use Rattle.tally_base.proofs.Reasons.{HasReason-follows}
 use Rattle.bench_io.specs.Inputs.{File, InputState, IsOpened, KeepsOther, NoneFalls}
 use Rattle.bench_io.specs.Sinks.{AppendsShort}
@@ -19,9 +18,7 @@ use Rattle.plan_text.specs.declared.plan.Plan.{Plan}
 use Rattle.plan_text.specs.Plan.{PlanView}
 use Rattle.plan_text.specs.Reading.{plan_view}
 use Rattle.tally_engine.specs.declared.engine.Results.{Results}
-use Rattle.tally_engine.specs.Engine.{settings_of}
-use Rattle.tally_engine.specs.Parts.{AllHold}
-use Rattle.table_out.specs.Report.{report}
+use Rattle.table_out.specs.Report.{Table, report, EachHolds}
 use Rattle.ptu_cli.specs.Commands.{Run}
 use Rattle.ptu_cli.specs.Reports.{file_report}
 use Rattle.ptu_cli.specs.Outcomes.{MayGoOnFrom, MayChange, outcome, report_outcome, refused}
@@ -143,16 +140,16 @@ uncounted-causes plan_name name plan before opened after contents old faults fau
 -- a report that was written, or cut short
 pub ends-reported : (plan_name name : List ℕ) (plan : PlanView) (contents : Option File) (rest left : Option (List ℕ)) (taken : List ℕ) (results : Results) (plan_file data_file : File) (r : Result (Unit {0}) Fault) (old new : Option (List ℕ)) → IsPlan plan_file plan
     → IsOpened contents rest → contents ≡ Some data_file → Consumes rest left taken → IsReport plan taken left results → IfErr r (λ fault. fault ≡ WriteFault)
-    → OnOk r ((h : History) → AllHold results.parts.items h → Appends old new (report results.header results.summary (settings_of results) h))
+    → OnOk r ((tables : List Table) → EachHolds results.parts.items tables → Appends old new (report results.header results.summary tables))
     → IsErrAnd r (λ fault. is_outside fault ≡ true) ⊎ EndsWith (outcome (Some (Run plan_name name)) plan_file data_file) (fault_in r) old new
 ends-reported plan_name name plan contents rest left taken results plan_file data_file (Ok done) old new is opened known took counted fault text =
-    inr (rw (outcome-told plan_name name plan contents rest left taken plan_file data_file _ is opened known took counted.says) (record { same = refl; text = text counted.events counted.counts }))
+    inr (rw (outcome-told plan_name name plan contents rest left taken plan_file data_file _ is opened known took counted.says) (record { same = refl; text = text counted.tables counted.counts }))
 ends-reported plan_name name plan contents rest left taken results plan_file data_file (Err fault) old new is opened known took counted write text = inl (rw write refl)
 
 pub unreported-causes : (plan_name name : List ℕ) (plan : PlanView) (before after : InputState) (contents : Option File) (rest left : Option (List ℕ)) (taken : List ℕ) (results : Results) (r : Result (Unit {0}) Fault) (old new : Option (List ℕ)) (faults now : ℕ)
     → ((plan_file : File) → before.contents plan_name ≡ Some plan_file → IsPlan plan_file plan) → before.contents name ≡ contents → IsOpened contents rest → Consumes rest left taken → IsReport plan taken left results
     → IfErr r (λ fault. fault ≡ WriteFault) → OnErr r (Rose faults now)
-    → OnErr r ((h : History) → AllHold results.parts.items h → AppendsShort old new (report results.header results.summary (settings_of results) h))
+    → OnErr r ((tables : List Table) → EachHolds results.parts.items tables → AppendsShort old new (report results.header results.summary tables))
     → IfErr r (HasCauses (Some (Run plan_name name)) (record { before = before; after = after; old = old; new = new; faults_before = faults; faults_after = now }))
 unfolding HasCauses
 unreported-causes plan_name name plan before after contents rest left taken results (Ok done) old new faults now is same opened took counted write rose short = tt
@@ -160,5 +157,5 @@ unreported-causes plan_name name plan before after contents rest left taken resu
     rw write (
       rose,
       λ plan_file data_file tells.
-          rw (outcome-told plan_name name plan contents rest left taken plan_file data_file _ (is plan_file tells.0) opened (sym same ∙ tells.1) took counted.says) (refl, short counted.events counted.counts),
+          rw (outcome-told plan_name name plan contents rest left taken plan_file data_file _ (is plan_file tells.0) opened (sym same ∙ tells.1) took counted.says) (refl, short counted.tables counted.counts),
     )

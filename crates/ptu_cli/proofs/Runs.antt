@@ -29,7 +29,10 @@ use Rattle.tally_engine.specs.declared.engine.Results.{Results}
 use Rattle.tally_engine.specs.Engine.{engine_groups, reading_of, IsFor, SameEngine, IsCounted, Finishes}
 use Rattle.tally_engine.specs.Plans.{reading_by, OpensAs}
 use Rattle.tally_engine.specs.Histories.{history}
+use Rattle.tally_engine.specs.Parts.{settings_in}
 use Rattle.ptu_definitions.specs.Words.{words_of}
+use Rattle.table_out.specs.Report.{with_events}
+use Rattle.table_out.proofs.Tables.{each_holds_all}
 use Rattle.ptu_cli.specs.HeaderPieces.{IsCut}
 use Rattle.ptu_cli.specs.Outcomes.{MayChange}
 use Rattle.ptu_cli.specs.Pieces.{ReadReason, TakesOpen}
@@ -60,11 +63,12 @@ counted-report : (plan : PlanView) (header : Header) (engine : Engine) (taken be
 counted-report plan header engine taken behind next left results shows fit is counted end =
     let how = reading_by plan header in
     let bytes = behind ++ next in
+    let events = history (engine_groups engine) (reading_of engine) (words_of bytes) in
     let answer : streamed how bytes ≡ Ok results.summary = rw is.reads at counted.summary_is in
     record {
-      events = history (engine_groups engine) (reading_of engine) (words_of bytes);
+      tables = with_events (settings_in results.parts.items) events;
       closed = counted.closed;
-      counts = counted.counts;
+      counts = each_holds_all results.parts.items events counted.counts;
       says = Says-at_end (file_report plan) (taken ++ next) left _ end
           (file-behind plan header taken behind shows fit next
           ∙ ap (report_of plan header bytes) answer

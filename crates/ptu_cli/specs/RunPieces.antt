@@ -6,16 +6,15 @@ use Rattle.tally_base.specs.declared.slot.Slot.TheVariants.{Data}
 use Rattle.tally_base.specs.declared.fault.Fault.{Fault}
 use Rattle.tally_base.specs.Faults.{is_outside, HasReason}
 use Rattle.tally_base.specs.Counts.{Rose}
-use Rattle.tally_base.specs.Tally.{History}
 use Rattle.bench_io.specs.Inputs.{InputState}
 use Rattle.ptu_definitions.specs.Shown.{Says}
 use Rattle.ptu_definitions.specs.Streams.{streamed}
 use Rattle.plan_text.specs.Plan.{PlanView}
 use Rattle.tally_engine.specs.declared.engine.Engine.{Engine}
 use Rattle.tally_engine.specs.declared.engine.Results.{Results}
-use Rattle.tally_engine.specs.Engine.{reading_of, settings_of, IsCounted}
-use Rattle.tally_engine.specs.Parts.{AllHold, AllClosed}
-use Rattle.table_out.specs.Report.{report}
+use Rattle.tally_engine.specs.Engine.{reading_of, IsCounted}
+use Rattle.tally_engine.specs.Parts.{AllClosed}
+use Rattle.table_out.specs.Report.{Table, report, EachHolds}
 use Rattle.ptu_cli.specs.Reports.{file_report}
 use Rattle.ptu_cli.specs.Pieces.{TakesOpen}
 use Rattle.ptu_cli.specs.Endings.{StopsAtHeader}
@@ -25,12 +24,12 @@ abbrev pub EndsEngine : Engine → List ℕ → Option (List ℕ) → Result Res
 EndsEngine engine bytes left (Ok results) = IsCounted engine bytes results × IsAtEnd left
 EndsEngine engine bytes left (Err fault) = (is_outside fault ≡ true) ⊎ Says (streamed (reading_of engine)) bytes left (Err fault)
 
--- The tables are closed and stand for some events, and the report of the file is that of these.
+-- The tables are closed and each stands for some events, and the report of the file is that of these.
 pub record IsReport (plan : PlanView) (taken : List ℕ) (left : Option (List ℕ)) (results : Results) : Type 0 where
-  pub events : History
+  pub tables : List Table
   pub closed : AllClosed results.parts.items
-  pub counts : AllHold results.parts.items events
-  pub says : Says (file_report plan) taken left (Ok (report results.header results.summary (settings_of results) events))
+  pub counts : EachHolds results.parts.items tables
+  pub says : Says (file_report plan) taken left (Ok (report results.header results.summary tables))
 
 -- The results of the bytes taken and those left; or a fault from outside, or the one that they call for.
 abbrev pub AnswersReport : PlanView → List ℕ → Option (List ℕ) → Result Results Fault → Type 0

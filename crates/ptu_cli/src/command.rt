@@ -109,15 +109,15 @@ pub(crate) fn run<I: Inputs, O: Sink>(
     alloc: Global,
     inputs: &mut I,
     out: &mut O,
-    plan: &str,
-    file: &str,
+    plan_name: &str,
+    data_name: &str,
 ) -> Result<(), Fault>
-    requires meant_plan { (I.state inputs.old).meant Plan plan.now ≡ true }
-    requires meant_data { (I.state inputs.old).meant Data file.now ≡ true }
+    requires meant_plan { (I.state inputs.old).meant Plan plan_name.now ≡ true }
+    requires meant_data { (I.state inputs.old).meant Data data_name.now ≡ true }
     requires first { (slot : Slot) → (I.state inputs.old).asked slot ≡ false }
-    ensures answer { Answers (Some (Run plan.now file.now)) (I.state inputs.old) result
+    ensures answer { Answers (Some (Run plan_name.now data_name.now)) (I.state inputs.old) result
         (O.written out.old) (O.written out.new) }
-    ensures causes { IfErr result (HasCauses (Some (Run plan.now file.now)) (record {
+    ensures causes { IfErr result (HasCauses (Some (Run plan_name.now data_name.now)) (record {
       before = I.state inputs.old;
       after = I.state inputs.new;
       old = O.written out.old;
@@ -126,8 +126,8 @@ pub(crate) fn run<I: Inputs, O: Sink>(
       faults_after = O.faults out.new;
     })) }
 {
-    let plan = plan_of(alloc, inputs, plan)?;
-    match inputs.open(Slot::Data, file) {
+    let plan = plan_of(alloc, inputs, plan_name)?;
+    match inputs.open(Slot::Data, data_name) {
         Err(Failed) => return Err(OPEN_FAULT),
         Ok(()) => {}
     }

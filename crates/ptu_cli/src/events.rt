@@ -58,6 +58,7 @@ impl<'o, O: Sink> EventTaker for EventLines<'o, O> {
 
     ghost floor_is = { λ s t l is. is.moved };
 
+    #[inline(always)]
     fn take(&mut self, event: &Event, late: bool) -> Result<(), Failed> {
         let mut line = ArrayVec::<u8, 96>::new();
         event_line(event, late, &mut line);
@@ -69,6 +70,7 @@ impl<'o, O: Sink> EventTaker for EventLines<'o, O> {
 }
 
 /// The greatest time of the events in order that were not late, with one event more.
+#[inline(always)]
 fn moved(mode: Mode, event: &Event, late: bool, floor: u64) -> u64
     ensures { result ≡ (if is_ordered mode event.now && not late then event.now.time else floor) }
 {

@@ -66,8 +66,9 @@ pub fn tell<E: Sink>(fault: &Fault, err: &mut E)
 /// Does all that the program does, and answers its exit status: 0, or that of the one fault whose line
 /// is written to `err`. The words are those behind the program's name.
 ///
-/// The outcome of the words and the file, `outcome`, is their text and their fault by the definitions, after
-/// PicoQuant's unified TTTR format.
+/// The outcome of the words and their files, `outcome`, is a text and a fault or none by the definitions,
+/// after PicoQuant's unified TTTR format. Only `run` takes memory: it may end with 5 before the data are
+/// opened, or right behind the header.
 ///
 /// Nothing may have been asked of the inputs before, and the words FILE and PLAN of the command must be
 /// meant for the slots Data and Plan.

@@ -248,7 +248,7 @@ fn a_record_that_is_cut(rt: HostRuntime) -> Result<(), Fail> {
 }
 
 /// A file of 4096 wraps, each of the greatest amount, which make 2^62 - 2^37, and words behind them.
-fn behind_great_wraps(alloc: Global, last: &[u32]) -> Result<Vec<u8>, AllocError> {
+pub(crate) fn behind_great_wraps(alloc: Global, last: &[u32]) -> Result<Vec<u8>, AllocError> {
     let mut words = vec![in alloc; u32::MAX; 4096]?;
     words.extend_from_slice(last)?;
     short(alloc, 0x0101_0204, words.as_slice())
@@ -273,8 +273,9 @@ fn up_to_the_greatest_time(rt: HostRuntime) -> Result<(), Fail> {
 #[test]
 fn past_the_greatest_time(rt: HostRuntime) -> Result<(), Fail> {
     let alloc = rt.alloc();
-    for word in [u32::MAX, 0xFE00_1001] {
-        let file = behind_great_wraps(alloc, &[word, 0])?;
+    let words: [&[u32]; 3] = [&[u32::MAX], &[u32::MAX, 0], &[0xFE00_1001, 0]];
+    for last in words {
+        let file = behind_great_wraps(alloc, last)?;
         lists(
             &rt,
             alloc,

@@ -12,6 +12,10 @@ mod files;
 #[cfg(test)]
 mod headers;
 #[cfg(test)]
+mod refusals;
+#[cfg(test)]
+mod reports;
+#[cfg(test)]
 mod run;
 #[cfg(test)]
 mod written;

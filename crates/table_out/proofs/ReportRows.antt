@@ -10,7 +10,7 @@ use Rattle.tally_base.specs.Hexadecimal.{hexadecimal}
 use Rattle.tally_base.specs.Settings.PartSettings.{HistSettings}
 use Rattle.tally_base.specs.Tally.{History}
 use Rattle.ptu_definitions.specs.declared.records.Summary.{Summary}
-use Rattle.table_out.specs.Report.{head_text, histogram_text, parts_text, report}
+use Rattle.table_out.specs.Report.{head_text, histogram_text, parts_text, report, with_events}
 
 abbrev bench_header : Header
 bench_header = record { record_type = HydraHarp2T3; count = Some (pos 9); global = Some 0x3E6AD7F29ABCAF48; resolution = Some 0x3DC19799812DEA11; version = codes "1.0.00" ++ 0 ∷ 0 ∷ [] }
@@ -34,7 +34,7 @@ abbrev bench_head : List ℕ
 bench_head =
     codes "type HydraHarp2T3\nannounced 9\nglobal 3E6AD7F29ABCAF48\nresolution 3DC19799812DEA11\nrecords 9\nphotons 5\nmarkers 2\nwraps 2\nreserved 0\nlate 0\nfirst 1030\nlast 2050\n"
 
-pub row-bench : report bench_header bench_summary (HistSettings (record { group = 1; width = 64; bins = 64 }) ∷ []) bench_events ≡ bench_head ++ codes "histogram 1 width 64 bins 64\n1 2\nover 1\n"
+pub row-bench : report bench_header bench_summary ((HistSettings (record { group = 1; width = 64; bins = 64 }), bench_events) ∷ []) ≡ bench_head ++ codes "histogram 1 width 64 bins 64\n1 2\nover 1\n"
 unfolding report head_text histogram_text hexadecimal digits
 row-bench = refl
 
@@ -42,7 +42,7 @@ abbrev bare_header : Header
 bare_header = record { record_type = HydraHarp2T3; count = None; global = None; resolution = None; version = codes "1.0.00" ++ 0 ∷ 0 ∷ [] }
 
 -- a file of no records, and a plan of no tables
-pub row-nothing : report bare_header (record { records = 0; photons = 0; markers = 0; wraps = 0; reserved = 0; late = 0; first = None; last = None }) [] []
+pub row-nothing : report bare_header (record { records = 0; photons = 0; markers = 0; wraps = 0; reserved = 0; late = 0; first = None; last = None }) []
     ≡ codes "type HydraHarp2T3\nannounced -\nglobal -\nresolution -\nrecords 0\nphotons 0\nmarkers 0\nwraps 0\nreserved 0\nlate 0\nfirst -\nlast -\n"
 unfolding report head_text digits
 row-nothing = refl
@@ -54,12 +54,18 @@ photon place dtime = (record { place = place; kind = Photon 0 dtime; time = 1 },
 abbrev five_photons : History
 five_photons = photon 1 0 ∷ photon 2 3 ∷ photon 3 4 ∷ photon 4 7 ∷ photon 5 8 ∷ []
 
-pub row-histogram : parts_text (HistSettings (record { group = 1; width = 4; bins = 2 }) ∷ []) five_photons ≡ codes "histogram 1 width 4 bins 2\n0 2\n1 2\nover 1\n"
+pub row-histogram : parts_text ((HistSettings (record { group = 1; width = 4; bins = 2 }), five_photons) ∷ []) ≡ codes "histogram 1 width 4 bins 2\n0 2\n1 2\nover 1\n"
 unfolding histogram_text digits
 row-histogram = refl
 
 -- Two histograms have the numbers 1 and 2. A cell that is 0 has no line.
-pub row-two : parts_text (HistSettings (record { group = 1; width = 3; bins = 4 }) ∷ HistSettings (record { group = 2; width = 32768; bins = 1 }) ∷ []) (photon 1 0 ∷ photon 2 8 ∷ [])
+pub row-two : parts_text (with_events (HistSettings (record { group = 1; width = 3; bins = 4 }) ∷ HistSettings (record { group = 2; width = 32768; bins = 1 }) ∷ []) (photon 1 0 ∷ photon 2 8 ∷ []))
     ≡ codes "histogram 1 width 3 bins 4\n0 1\n2 1\nover 0\nhistogram 2 width 32768 bins 1\nover 0\n"
 unfolding histogram_text digits
 row-two = refl
+
+-- two histograms that were given different events
+pub row-apart : parts_text ((HistSettings (record { group = 1; width = 4; bins = 2 }), five_photons) ∷ (HistSettings (record { group = 1; width = 4; bins = 2 }), photon 1 5 ∷ []) ∷ [])
+    ≡ codes "histogram 1 width 4 bins 2\n0 2\n1 2\nover 1\nhistogram 2 width 4 bins 2\n1 1\nover 0\n"
+unfolding histogram_text digits
+row-apart = refl

@@ -1,9 +1,9 @@
 -- Tables by their kinds, and one behind the other.
-use Rattle.std.proofs.Common.{◌≡◌, ℕ, ◌+◌, ◌<◌, List, [], ◌∷◌, ◌++◌, take, drop, get_or, length, sym, ap, subst, ◌∙◌, take-append-drop}
-use Rattle.std.specs.Prelude.{count_by}
+use Rattle.std.proofs.Common.{◌≡◌, ℕ, zero, suc, ◌+◌, ◌<◌, ◌≤◌, List, [], ◌∷◌, ◌++◌, take, drop, get_or, length, refl, sym, ap, subst, ◌∙◌, take-append-drop, arith}
+use Rattle.std.specs.Prelude.{Bool, count_by, cond, fold}
 use Rattle.std.specs.declared.option.Option.{Option}
-use Rattle.std.proofs.lemmas.List.{map-append, take_more}
-use Rattle.std.proofs.lemmas.List.Elements.{All-get_or}
+use Rattle.std.proofs.lemmas.List.{take_all, take_more}
+use Rattle.std.proofs.lemmas.List.Elements.{All-head, All-tail}
 use borrow.Enum.Known.{ValuesAt}
 use borrow.Enum.Total.{values_d}
 use Rattle.tally_base.specs.Settings.{PartSettings}
@@ -16,54 +16,93 @@ use Rattle.tally_engine.specs.declared.part.Part.{Part}
 use Rattle.tally_engine.specs.declared.part.Part.TheVariants.{Hist as InHist}
 use Rattle.tally_engine.specs.Parts.{settings_in, AllHold}
 use Rattle.table_out.specs.Puts.{PutsText, CutsText}
-use Rattle.table_out.specs.Report.{same_kind, part_text, parts_text}
+use Rattle.table_out.specs.Report.{Table, StandsFor, EachHolds, same_kind, part_text, table_text, parts_text, with_events}
 use Rattle.table_out.proofs.Putting.{puts-more, cuts-behind, cuts-front}
 
 -- while there is one kind of tables, a match has no other case
 pub by_hist : (P : Part → Type 0) (otherwise : ValuesAt enum.parts 0) (p : Part) → P (InHist (values_d enum 0 otherwise p).0) → P p
 by_hist P otherwise (InHist t) h = h
 
--- the lines of a table behind these
-abbrev pub next_text : List Part → Part → History → List ℕ
-next_text before p = part_text (count_by (same_kind (ghosts.settings p)) (settings_in before) + 1) (ghosts.settings p)
+-- ## The tables, each with what it stands for
 
--- the same, of settings
-abbrev text_behind : History → List PartSettings → PartSettings → List ℕ
-text_behind h before part = part_text (count_by (same_kind part) before + 1) part h
+-- tables that all stand for the same events
+pub each_holds_all : (parts : List Part) (h : History) → AllHold parts h → EachHolds parts (with_events (settings_in parts) h)
+each_holds_all [] h all = tt {0}
+each_holds_all (p ∷ parts) h all =
+    let holds : Part → Type 0 = λ x. ghosts.holds x h in
+    ((refl, All-head holds p parts all), each_holds_all parts h (All-tail holds p parts all))
+
+pub each-length : (parts : List Part) (tables : List Table) → EachHolds parts tables → length tables ≡ length parts
+each-length [] [] each = refl
+each-length [] (table ∷ tables) each = absurd each
+each-length (p ∷ parts) [] each = absurd each
+each-length (p ∷ parts) (table ∷ tables) each = let rest = each-length parts tables each.1 in omega arith
+
+-- the tables at one place
+each-at : (parts : List Part) (tables : List Table) (n : ℕ) (p : Part) (table : Table) → EachHolds parts tables → n < length parts → StandsFor (get_or parts n p) (get_or tables n table)
+each-at [] tables n p table each inside = absurd (omega (arith, inside))
+each-at (q ∷ parts) [] n p table each inside = absurd each
+each-at (q ∷ parts) (x ∷ tables) zero p table each inside = each.0
+each-at (q ∷ parts) (x ∷ tables) (suc n) p table each inside = each-at parts tables n p table each.1 (omega (arith, inside))
+
+-- how many of the first tables pass a test of their settings
+each-count : (test : PartSettings → Bool) (a : ℕ) (parts : List Part) (tables : List Table) (n : ℕ) → EachHolds parts tables
+    → fold (λ k x. k + cond (test x.0) 1 0) a (take n tables) ≡ fold (λ k x. k + cond (test x) 1 0) a (settings_in (take n parts))
+each-count test a [] [] zero each = refl
+each-count test a [] [] (suc n) each = refl
+each-count test a [] (table ∷ tables) n each = absurd each
+each-count test a (p ∷ parts) [] n each = absurd each
+each-count test a (p ∷ parts) (table ∷ tables) zero each = refl
+each-count test a (p ∷ parts) (table ∷ tables) (suc n) each = rw each.0.0 (each-count test (a + cond (test table.0) 1 0) parts tables n each.1)
+
+-- ## Their lines
 
 -- the lines of the first tables
-abbrev pub first_texts : List Part → ℕ → History → List ℕ
-first_texts parts n = parts_text (settings_in (take n parts))
+abbrev pub first_texts : ℕ → List Table → List ℕ
+first_texts n tables = parts_text (take n tables)
 
-pub parts_text-push : (before : List Part) (p : Part) (h : History) → parts_text (settings_in (before ++ p ∷ [])) h ≡ parts_text (settings_in before) h ++ next_text before p h
-parts_text-push before p h = rw (map-append ghosts.settings before (p ∷ [])) (each-push (text_behind h) (settings_in before) (ghosts.settings p))
+-- the lines of the first tables are those of all, where there are no more
+pub first_texts-all : (parts : List Part) (tables : List Table) (n : ℕ) → length parts ≤ n → EachHolds parts tables → first_texts n tables ≡ parts_text tables
+first_texts-all parts tables n all each = ap parts_text (take_all n tables (let same = each-length parts tables each in omega (arith, all)))
 
 -- the lines of all tables begin with those of the first
-pub first_texts-front : (parts : List Part) (n : ℕ) (h : History) → (rest : List ℕ) × (parts_text (settings_in parts) h ≡ first_texts parts n h ++ rest)
-first_texts-front parts n h =
-    let first = settings_in (take n parts) in
-    let behind = settings_in (drop n parts) in
-    let both : settings_in parts ≡ first ++ behind = ap settings_in (sym (take-append-drop n parts)) ∙ map-append ghosts.settings (take n parts) (drop n parts) in
-    (each_after (text_behind h) first behind, ap (λ l. parts_text l h) both ∙ each_after-append (text_behind h) [] first behind)
+pub first_texts-front : (tables : List Table) (n : ℕ) → (rest : List ℕ) × (parts_text tables ≡ first_texts n tables ++ rest)
+first_texts-front tables n =
+    let first = take n tables in
+    let behind = drop n tables in
+    (each_after table_text first behind, ap parts_text (sym (take-append-drop n tables)) ∙ each_after-append table_text [] first behind)
 
 module _ (parts : List Part) (n number : ℕ) (p : Part) (inside : n < length parts) (there : p ≡ get_or parts n p) (counted : number ≡ count_by (same_kind (ghosts.settings p)) (settings_in (take n parts)) + 1) where
-  more : (h : History) → first_texts parts (n + 1) h ≡ first_texts parts n h ++ part_text number (ghosts.settings p) h
-  more h =
-      let one : take (n + 1) parts ≡ take n parts ++ p ∷ [] = take_more parts n p inside ∙ ap (λ x. take n parts ++ x ∷ []) (sym there) in
-      ap (λ l. parts_text (settings_in l) h) one ∙ parts_text-push (take n parts) p h ∙ ap (λ k. first_texts parts n h ++ part_text k (ghosts.settings p) h) (sym counted)
+  -- the table at this place, by its settings and the events that it stands for
+  abbrev table_there : List Table → Table
+  table_there tables = get_or tables n (ghosts.settings p, [])
 
-  holds-it : (h : History) → AllHold parts h → ghosts.holds p h
-  holds-it h all = subst (λ x. ghosts.holds x h) (sym there) (All-get_or (λ x. ghosts.holds x h) parts n p inside all)
+  stands : (tables : List Table) → EachHolds parts tables → StandsFor p (table_there tables)
+  stands tables each = subst (λ x. StandsFor x (table_there tables)) (sym there) (each-at parts tables n p (ghosts.settings p, []) each inside)
+
+  abbrev text_there : List Table → List ℕ
+  text_there tables = part_text number (ghosts.settings p) (table_there tables).1
+
+  more : (tables : List Table) → EachHolds parts tables → first_texts (n + 1) tables ≡ first_texts n tables ++ text_there tables
+  more tables each =
+      let it = table_there tables in
+      let long : n < length tables = let same = each-length parts tables each in omega (arith, inside) in
+      let one : take (n + 1) tables ≡ take n tables ++ it ∷ [] = take_more tables n (ghosts.settings p, []) long in
+      let settings : it.0 ≡ ghosts.settings p = sym (stands tables each).0 in
+      let place : count_by (λ other. same_kind (ghosts.settings p) other.0) (take n tables) + 1 ≡ number = ap (λ k. k + 1) (each-count (same_kind (ghosts.settings p)) 0 parts tables n each) ∙ sym counted in
+      ap parts_text one ∙ each-push table_text (take n tables) it
+      ∙ ap (λ s. first_texts n tables ++ part_text (count_by (λ other. same_kind s other.0) (take n tables) + 1) s it.1) settings
+      ∙ ap (λ k. first_texts n tables ++ part_text k (ghosts.settings p) it.1) place
 
   -- one table more
-  pub puts-part : (a b c : Option (List ℕ)) (held mid now : List ℕ) → PutsText (AllHold parts) (first_texts parts n) a b held mid
-      → PutsText (ghosts.holds p) (part_text number (ghosts.settings p)) b c mid now → PutsText (AllHold parts) (first_texts parts (n + 1)) a c held now
-  puts-part a b c held mid now so_far put h is =
-      rw (more h) (puts-more (AllHold parts) (first_texts parts n) (part_text number (ghosts.settings p)) a b c held mid now so_far (λ h is. put h (holds-it h is)) h is)
+  pub puts-part : (a b c : Option (List ℕ)) (held mid now : List ℕ) → PutsText (EachHolds parts) (first_texts n) a b held mid
+      → PutsText (ghosts.holds p) (part_text number (ghosts.settings p)) b c mid now → PutsText (EachHolds parts) (first_texts (n + 1)) a c held now
+  puts-part a b c held mid now so_far put tables each =
+      rw (more tables each) (puts-more (EachHolds parts) (first_texts n) text_there a b c held mid now so_far (λ tables each. put (table_there tables).1 (stands tables each).1) tables each)
 
   -- the sink fails in a table
-  pub cuts-part : (a b c : Option (List ℕ)) (held mid : List ℕ) → PutsText (AllHold parts) (first_texts parts n) a b held mid
-      → CutsText (ghosts.holds p) (part_text number (ghosts.settings p)) b c mid → CutsText (AllHold parts) (parts_text (settings_in parts)) a c held
+  pub cuts-part : (a b c : Option (List ℕ)) (held mid : List ℕ) → PutsText (EachHolds parts) (first_texts n) a b held mid
+      → CutsText (ghosts.holds p) (part_text number (ghosts.settings p)) b c mid → CutsText (EachHolds parts) parts_text a c held
   cuts-part a b c held mid so_far cut =
-      cuts-front (AllHold parts) (first_texts parts (n + 1)) (parts_text (settings_in parts)) a c held (first_texts-front parts (n + 1))
-      (λ h is. rw (more h) (cuts-behind (AllHold parts) (first_texts parts n) (part_text number (ghosts.settings p)) a b c held mid so_far (λ h is. cut h (holds-it h is)) h is))
+      cuts-front (EachHolds parts) (first_texts (n + 1)) parts_text a c held (λ tables. first_texts-front tables (n + 1))
+      (λ tables each. rw (more tables each) (cuts-behind (EachHolds parts) (first_texts n) text_there a b c held mid so_far (λ tables each. cut (table_there tables).1 (stands tables each).1) tables each))

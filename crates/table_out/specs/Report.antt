@@ -1,5 +1,5 @@
 -- What the report of a run prints.
-use Rattle.std.specs.Prelude.{ℕ, zero, suc, ◌+◌, ◌==◌, Bool, true, List, [], ◌++◌, count_by, codes, decimal, if◌then◌else◌}
+use Rattle.std.specs.Prelude.{ℕ, zero, suc, ◌≡◌, ◌+◌, ◌==◌, Bool, true, List, [], ◌∷◌, ◌++◌, count_by, map, codes, decimal, if◌then◌else◌}
 use Rattle.tally_base.specs.declared.header.Header.{Header}
 use Rattle.tally_base.specs.RecordTypes.{name_of}
 use Rattle.tally_base.specs.Settings.{PartSettings, HistView}
@@ -8,6 +8,8 @@ use Rattle.tally_base.specs.Tally.{History}
 use Rattle.ptu_definitions.specs.declared.records.Summary.{Summary}
 use Rattle.ptu_definitions.specs.Prefixes.{each}
 use Rattle.tcspc_hist.specs.Counts.{in_bin, past_bins}
+use Rattle.tally_engine.specs.declared.part.Part.{Part}
+use Rattle.tally_engine.specs.contracts.part.PartTally.TheImpl.{ghosts}
 use Rattle.table_out.specs.Lines.{line, announced, bits_text, time_text}
 
 -- what stands before the tables
@@ -49,9 +51,33 @@ same_kind (HistSettings set) (HistSettings other) = true
 abbrev pub part_text : ℕ → PartSettings → History → List ℕ
 part_text number (HistSettings set) h = histogram_text number set (λ b. in_bin set b h) (past_bins set h)
 
--- Tables one behind the other. The number of a table is its place among those of its kind, from 1.
-abbrev pub parts_text : List PartSettings → History → List ℕ
-parts_text parts h = each (λ before part. part_text (count_by (same_kind part) before + 1) part h) parts
+-- a table's settings, with the events that it stands for
+abbrev pub Table : Type 0
+Table = PartSettings × History
 
-unfoldable pub report : Header → Summary → List PartSettings → History → List ℕ
-report header summary parts h = head_text header summary ++ parts_text parts h
+-- a table behind others: its number is its place among those of its kind, from 1
+abbrev pub table_text : List Table → Table → List ℕ
+table_text before table = part_text (count_by (λ other. same_kind table.0 other.0) before + 1) table.0 table.1
+
+-- tables one behind the other
+abbrev pub parts_text : List Table → List ℕ
+parts_text tables = each table_text tables
+
+-- the report of a run: its head, and its tables
+unfoldable pub report : Header → Summary → List Table → List ℕ
+report header summary tables = head_text header summary ++ parts_text tables
+
+-- tables that all stand for the same events
+abbrev pub with_events : List PartSettings → History → List Table
+with_events parts h = map (λ settings. (settings, h)) parts
+
+-- A table has these settings, and stands for these events.
+abbrev pub StandsFor : Part → Table → Type 0
+StandsFor p table = (ghosts.settings p ≡ table.0) × ghosts.holds p table.1
+
+-- The tables of the two lists are as many, and each stands for the one at its place.
+abbrev pub EachHolds : List Part → List Table → Type 0
+EachHolds [] [] = Unit {0}
+EachHolds [] (table ∷ tables) = ⊥
+EachHolds (p ∷ parts) [] = ⊥
+EachHolds (p ∷ parts) (table ∷ tables) = StandsFor p table × EachHolds parts tables

@@ -7,7 +7,7 @@ use arrayvec::ArrayVec;
 use itoa::Buffer;
 use tally_base::{put_hexadecimal, put_text};
 
-/// Appends a line of a word and a value.
+/// Appends a line of a word and a value, which wants room for both and two bytes more.
 pub fn put_line<const N: usize>(into: &mut ArrayVec<u8, N>, word: &[u8], value: &[u8])
     requires { array_vec_len into.old + length word.now + length value.now + 2 ≤ N }
     ensures items { into.new.items ≡ into.old.items ++ line word.now value.now }
@@ -20,7 +20,8 @@ pub fn put_line<const N: usize>(into: &mut ArrayVec<u8, N>, word: &[u8], value: 
     put_text(into, b"\n");
 }
 
-/// Appends a line of a word and a number, which has at most 20 digits.
+/// Appends a line of a word and a number, which has at most 20 digits. It wants room for the word and 22
+/// bytes more.
 pub fn put_count<const N: usize>(into: &mut ArrayVec<u8, N>, word: &[u8], count: u64)
     requires { array_vec_len into.old + length word.now + 22 ≤ N }
     ensures items { into.new.items ≡ into.old.items ++ line word.now (decimal count) }
@@ -30,7 +31,8 @@ pub fn put_count<const N: usize>(into: &mut ArrayVec<u8, N>, word: &[u8], count:
     put_line(into, word, buffer.format(count).as_bytes());
 }
 
-/// Appends the line of the number of records that a header announces: at most 31 bytes.
+/// Appends the line of the number of records that a header announces, or `-`. It has at most 31 bytes, and
+/// wants room for all of these.
 pub fn put_announced<const N: usize>(into: &mut ArrayVec<u8, N>, count: Option<i64>)
     requires { array_vec_len into.old + 31 ≤ N }
     ensures items { into.new.items ≡ into.old.items ++ line (codes "announced") (announced count) }

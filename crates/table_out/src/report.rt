@@ -1,12 +1,10 @@
 // The report of a run.
-ghost use Rattle.std.specs.Prelude.{◌≡◌, ◌+◌, ◌≤◌, count_by, OnOk, OnErr, IfErr};
+ghost use Rattle.std.specs.Prelude.{◌≡◌, ◌+◌, ◌≤◌, List, count_by, OnOk, OnErr, IfErr};
 ghost use Rattle.std.specs.Io.KnownBytes.{Appends};
 ghost use Rattle.tally_base.specs.Counts.{HasCause};
-ghost use Rattle.tally_base.specs.Tally.{History};
 ghost use Rattle.bench_io.specs.Sinks.{AppendsShort};
-ghost use Rattle.tally_engine.specs.Parts.{settings_in, AllHold, AllClosed};
-ghost use Rattle.tally_engine.specs.Engine.{settings_of};
-ghost use Rattle.table_out.specs.Report.{same_kind, part_text, parts_text, report};
+ghost use Rattle.tally_engine.specs.Parts.{settings_in, AllClosed};
+ghost use Rattle.table_out.specs.Report.{Table, EachHolds, same_kind, part_text, parts_text, report};
 ghost use Rattle.table_out.specs.Puts.{PutsText, CutsText};
 
 use crate::histogram::put_histogram;
@@ -56,9 +54,9 @@ fn put_part<O: Sink>(number: u64, part: &Part, block: &mut Block, out: &mut O) -
 
 /// Puts the lines of all tables.
 fn put_parts<O: Sink>(parts: &[Part], block: &mut Block, out: &mut O) -> Result<(), Failed>
-    ensures all { OnOk result (PutsText (AllHold parts.now) (parts_text (settings_in parts.now))
+    ensures all { OnOk result (PutsText (EachHolds parts.now) parts_text
         (O.written out.old) (O.written out.new) block.old block.new) }
-    ensures short { OnErr result (CutsText (AllHold parts.now) (parts_text (settings_in parts.now))
+    ensures short { OnErr result (CutsText (EachHolds parts.now) parts_text
         (O.written out.old) (O.written out.new) block.old) }
     ensures cause { HasCause (O.faults out.old) (O.faults out.new) result }
 {
@@ -71,12 +69,12 @@ fn put_parts<O: Sink>(parts: &[Part], block: &mut Block, out: &mut O) -> Result<
 
 /// Writes the whole report through a block.
 fn put_report<O: Sink>(results: &Results, out: &mut O) -> Result<(), Failed>
-    ensures text { OnOk result ((h : History) → AllHold results.now.parts.items h
+    ensures text { OnOk result ((tables : List Table) → EachHolds results.now.parts.items tables
         → Appends (O.written out.old) (O.written out.new)
-        (report results.now.header results.now.summary (settings_of results.now) h)) }
-    ensures short { OnErr result ((h : History) → AllHold results.now.parts.items h
+        (report results.now.header results.now.summary tables)) }
+    ensures short { OnErr result ((tables : List Table) → EachHolds results.now.parts.items tables
         → AppendsShort (O.written out.old) (O.written out.new)
-        (report results.now.header results.now.summary (settings_of results.now) h)) }
+        (report results.now.header results.now.summary tables)) }
     ensures cause { HasCause (O.faults out.old) (O.faults out.new) result }
 {
     let mut block = Block::new();
@@ -89,15 +87,19 @@ fn put_report<O: Sink>(results: &Results, out: &mut O) -> Result<(), Failed>
 /// Writes the report of a run: its head, and the settings and cells of each table. The tables of a kind
 /// are numbered from 1, in their order. A cell that is 0 has no line.
 ///
-/// Refuses with `WriteFault` where a write fails; then a beginning of the report was written.
+/// Every table must be closed, since only then are its cells the counts. Tables need not stand for the
+/// same events: each one's lines are those of its own.
+///
+/// Refuses with `WriteFault` where a write fails, and nothing else: then a beginning of the report that
+/// is not all of it was written.
 pub fn write_report<O: Sink>(results: &Results, out: &mut O) -> Result<(), Fault>
     requires closed { AllClosed results.now.parts.items }
-    ensures text { OnOk result ((h : History) → AllHold results.now.parts.items h
+    ensures text { OnOk result ((tables : List Table) → EachHolds results.now.parts.items tables
         → Appends (O.written out.old) (O.written out.new)
-        (report results.now.header results.now.summary (settings_of results.now) h)) }
-    ensures short { OnErr result ((h : History) → AllHold results.now.parts.items h
+        (report results.now.header results.now.summary tables)) }
+    ensures short { OnErr result ((tables : List Table) → EachHolds results.now.parts.items tables
         → AppendsShort (O.written out.old) (O.written out.new)
-        (report results.now.header results.now.summary (settings_of results.now) h)) }
+        (report results.now.header results.now.summary tables)) }
     ensures fault { IfErr result (λ fault. fault ≡ Fault.WriteFault) }
     ensures cause { HasCause (O.faults out.old) (O.faults out.new) result }
 {

@@ -1,4 +1,4 @@
-//! A law of engines, as the contract of a function that does nothing.
+// A law of engines, as the contract of a function that does nothing.
 ghost use Rattle.std.specs.Prelude.{◌≤◌};
 ghost use Rattle.tally_engine.specs.declared.engine.Engine.{Engine};
 ghost use Rattle.tally_engine.specs.Engine.{held, bound};

@@ -71,6 +71,7 @@ impl<'g, 'p, 's, T: Tally, L: Ledger> EventTaker for Taker<'g, 'p, 's, T, L> {
 
     ghost same_more = { λ t u v. same_taker_more T.Tally.own _ _ _ _ _ _ _ _ _ };
 
+    #[inline(always)]
     fn take(&mut self, event: &Event, late: bool) -> Result<(), Failed> {
         give(self.gates, event, late, self.parts, self.steps);
         self.taken += 1;
@@ -99,6 +100,7 @@ fn give<T: Tally, L: Ledger>(
 }
 
 /// The greatest time of the events in order that were not late, with one event more.
+#[inline(always)]
 fn moved(mode: Mode, event: &Event, late: bool, floor: u64) -> u64
     ensures { result ≡ (if is_ordered mode event.now && not late then event.now.time else floor) }
 {

@@ -1,7 +1,6 @@
 use Rattle.std.proofs.Common.{rules, arith}
-use Rattle.std.proofs.lemmas.List.{take_all}
 use Rattle.std.proofs.lemmas.Result.{err_from_is_err_and}
-use Rattle.table_out.proofs.Tables.{puts-part, cuts-part}
+use Rattle.table_out.proofs.Tables.{first_texts-all, puts-part, cuts-part}
 use Rattle.table_out.proofs.report.put_parts.Goals as goal
 
 pub returns-in_err-put_part-clause-short : goal.returns-in_err-put_part-clause-short
@@ -16,4 +15,4 @@ loop-place-preserved g c = record {
 }
 
 pub returns-clause-all : goal.returns-clause-all
-returns-clause-all g c = λ h is. rw (take_all c.loop-place.place c.args.parts.now (search rules)) at (c.loop-place.invariant.put h is)
+returns-clause-all g c = λ tables each. rw (first_texts-all c.args.parts.now tables c.loop-place.place (search rules) each) at (c.loop-place.invariant.put tables each)

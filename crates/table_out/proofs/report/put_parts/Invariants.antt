@@ -1,11 +1,11 @@
 use Rattle.std.proofs.Common.{◌≤◌}
-use Rattle.tally_engine.specs.Parts.{AllHold}
+use Rattle.table_out.specs.Report.{EachHolds}
 use Rattle.table_out.specs.Puts.{PutsText}
 use Rattle.table_out.proofs.Tables.{first_texts}
 use Rattle.table_out.proofs.report.put_parts.Given as goal
 
 abbrev pub invariant-loop-place : goal.invariant-loop-place
 invariant-loop-place g l = record {
-  put : PutsText (AllHold l.parts) (first_texts l.parts l.place) (g.O.Sink.written l.initial.out) (g.O.Sink.written l.out) l.initial.block l.block;
+  put : PutsText (EachHolds l.parts) (first_texts l.place) (g.O.Sink.written l.initial.out) (g.O.Sink.written l.out) l.initial.block l.block;
   later : g.O.Sink.faults l.initial.out ≤ g.O.Sink.faults l.out;
 }

@@ -1,0 +1,108 @@
+-- What bytes answer as a plan, and what they call for.
+use Rattle.std.proofs.Common.{◌≡◌, ◌<◌, ◌≤◌, ◌∙◌, refl, sym, ap, ℕ, List, length, Option, None, Some, Ok, Err, inl, inr, arith}
+use Rattle.std.specs.Prelude.{◌≢◌, ◌⊎◌, Result}
+use Rattle.std.proofs.lemmas.Bool.{cases_lt}
+use Rattle.tally_base.specs.declared.fault.Fault.{Fault}
+use Rattle.tally_base.specs.declared.fault.Fault.TheVariants.{OutOfMemory, PlanTooLong, PlanSyntax, PlanRule, PlanMode}
+use Rattle.tally_base.specs.declared.header.Mode.{Mode}
+use Rattle.tally_base.specs.declared.header.Mode.TheVariants.{T2, T3}
+use Rattle.tally_base.specs.declared.part.PartKind.TheVariants.{Gate, Histogram}
+use Rattle.toml.specs.Data.{table, Members}
+use Rattle.toml_rules.specs.Rules.{Rule, all_kept, AllHold, IsLeast, Names}
+use Rattle.toml_rules.proofs.Least.{names_least, all_kept_nowhere}
+use Rattle.plan_text.specs.Plan.{PlanView, plan_rules, plan}
+use Rattle.plan_text.specs.Reading.{document, if_kept, plan_of_document, plan_answer, IsCalledFor, IsValid}
+use Rattle.plan_text.proofs.Documents.{plan_answer_long, answer_in_time, answer_none, answer_some}
+use Rattle.plan_text.proofs.Rise.{plan_rules_rise}
+use Rattle.plan_text.proofs.Whole.{plan_is_whole}
+
+abbrev Calls : List ℕ → Fault → Type 0
+Calls bytes fault = IsCalledFor bytes fault × (fault ≢ OutOfMemory)
+
+named : (bytes : List ℕ) (ms : Members) (fault : Fault) → length bytes ≤ 65536 → document bytes ≡ Some ms → Names (plan_rules (table ms)) fault → Calls bytes fault
+named bytes ms (PlanRule n index) short is names = ((short, ms, is, names), λ e. cc)
+named bytes ms _ short is names = absurd names
+
+by_rules : (bytes : List ℕ) (ms : Members) (r : Result (Unit {0}) Fault) (fault : Fault) → length bytes ≤ 65536 → document bytes ≡ Some ms → all_kept (plan_rules (table ms)) ≡ r → if_kept r (plan (table ms)) ≡ Err fault → Calls bytes fault
+by_rules bytes ms (Ok done) fault short is kept err = cc
+by_rules bytes ms (Err other) fault short is kept err =
+    let same : fault ≡ other = cc in
+    rw same (named bytes ms other short is (names_least 0 (plan_rules (table ms)) other (plan_rules_rise (table ms)) kept))
+
+by_document : (bytes : List ℕ) (read : Option Members) (fault : Fault) → length bytes ≤ 65536 → document bytes ≡ read → plan_of_document read ≡ Err fault → Calls bytes fault
+unfolding plan_of_document
+by_document bytes None fault short is err =
+    let same : fault ≡ PlanSyntax = cc in
+    rw same ((short, is), λ e. cc)
+by_document bytes (Some ms) fault short is err = by_rules bytes ms (all_kept (plan_rules (table ms))) fault short is refl err
+
+pub called : (bytes : List ℕ) (fault : Fault) → plan_answer bytes ≡ Err fault → Calls bytes fault
+called bytes fault err = elim (cases_lt 65536 (length bytes)) [
+  | inl long ↦ too_long (plan_answer_long bytes long) long
+  | inr short ↦ by_document bytes (document bytes) fault short refl (sym (answer_in_time bytes short) ∙ err)
+]
+  where
+    too_long : plan_answer bytes ≡ Err PlanTooLong → 65536 < length bytes → Calls bytes fault
+    too_long is long = let same : fault ≡ PlanTooLong = cc in rw same (long, λ e. cc)
+
+valid_rules : (bytes : List ℕ) (ms : Members) (r : Result (Unit {0}) Fault) (view : PlanView) → length bytes ≤ 65536 → document bytes ≡ Some ms → all_kept (plan_rules (table ms)) ≡ r → if_kept r (plan (table ms)) ≡ Ok view → IsValid bytes
+valid_rules bytes ms (Ok done) view short is kept ok =
+    let all = all_kept_nowhere (plan_rules (table ms)) kept in
+    (short, ms, is, all, plan_is_whole (table ms) all)
+valid_rules bytes ms (Err fault) view short is kept ok = cc
+
+valid_document : (bytes : List ℕ) (read : Option Members) (view : PlanView) → length bytes ≤ 65536 → document bytes ≡ read → plan_of_document read ≡ Ok view → IsValid bytes
+unfolding plan_of_document
+valid_document bytes None view short is ok = cc
+valid_document bytes (Some ms) view short is ok = valid_rules bytes ms (all_kept (plan_rules (table ms))) view short is refl ok
+
+pub valid : (bytes : List ℕ) (view : PlanView) → plan_answer bytes ≡ Ok view → IsValid bytes
+valid bytes view ok = elim (cases_lt 65536 (length bytes)) [
+  | inl long ↦ let e = plan_answer_long bytes long in cc
+  | inr short ↦ valid_document bytes (document bytes) view short refl (sym (answer_in_time bytes short) ∙ ok)
+]
+
+-- ## From what the bytes are to the answer
+
+-- the least broken rule with its least index is one
+same_least : (rules : List Rule) (n index other at' : ℕ) → IsLeast rules n index → IsLeast rules other at' → (n ≡ other) × (index ≡ at')
+same_least rules n index other at' p q = both (p.least other at' q.broken) (q.least n index p.broken)
+  where
+    both : ((n < other) ⊎ ((n ≡ other) × (index ≤ at'))) → ((other < n) ⊎ ((other ≡ n) × (at' ≤ index))) → (n ≡ other) × (index ≡ at')
+    both (inl a) (inl b) = absurd (omega (arith, a, b))
+    both (inl a) (inr b) = absurd (omega (arith, a, b.0))
+    both (inr a) (inl b) = absurd (omega (arith, a.0, b))
+    both (inr a) (inr b) = (a.0, omega (arith, a.1, b.1))
+
+least_named : (rules : List Rule) (n index : ℕ) (fault : Fault) → IsLeast rules n index → Names rules fault → fault ≡ PlanRule n index
+least_named rules n index (PlanRule other at') least names = let e = same_least rules n index other at' least names in rw (e.0, e.1) refl
+least_named rules n index _ least names = absurd names
+
+least_kept : (rules : List Rule) (n index : ℕ) (r : Result (Unit {0}) Fault) → IsLeast rules n index → all_kept rules ≡ r → ((fault : Fault) → r ≡ Err fault → Names rules fault) → all_kept rules ≡ Err (PlanRule n index)
+least_kept rules n index (Ok done) least kept named = absurd (all_kept_nowhere rules kept n index least.broken)
+least_kept rules n index (Err fault) least kept named = kept ∙ ap (λ f. Err f) (least_named rules n index fault least (named fault refl))
+
+pub answers : (bytes : List ℕ) (fault : Fault) → Calls bytes fault → plan_answer bytes ≡ Err fault
+answers bytes OutOfMemory h = absurd (h.1 refl)
+answers bytes PlanTooLong h = plan_answer_long bytes h.0
+answers bytes PlanSyntax h = answer_none bytes h.0.0 h.0.1
+answers bytes (PlanRule n index) h =
+    let rules = plan_rules (table h.0.1) in
+    answer_some bytes h.0.1 (table h.0.1) h.0.0 h.0.2 refl
+    ∙ ap (λ r. if_kept r (plan (table h.0.1))) (least_kept rules n index (all_kept rules) h.0.3 refl (λ fault err. names_least 0 rules fault (plan_rules_rise (table h.0.1)) err))
+answers bytes _ h = absurd h.0
+
+all_hold_kept : (rules : List Rule) (r : Result (Unit {0}) Fault) → AllHold rules → all_kept rules ≡ r → ((fault : Fault) → r ≡ Err fault → Names rules fault) → all_kept rules ≡ Ok tt
+all_hold_kept rules (Ok done) all kept named = kept
+all_hold_kept rules (Err fault) all kept named = absurd (no_fault fault (named fault refl))
+  where
+    no_fault : (fault : Fault) → Names rules fault → ⊥
+    no_fault (PlanRule n index) least = all n index least.broken
+    no_fault _ names = names
+
+pub plans : (bytes : List ℕ) (ms : Members) → IsValid bytes → document bytes ≡ Some ms → plan_answer bytes ≡ Ok (plan (table ms))
+plans bytes ms good is =
+    let same : ms ≡ good.1 = let e = good.2 in cc in
+    let rules = plan_rules (table ms) in
+    answer_some bytes ms (table ms) good.0 is refl
+    ∙ ap (λ r. if_kept r (plan (table ms))) (all_hold_kept rules (all_kept rules) (rw same good.3) refl (λ fault err. names_least 0 rules fault (plan_rules_rise (table ms)) err))

@@ -1,0 +1,26 @@
+// Laws of plans, as the contracts of functions that do nothing.
+ghost use Rattle.std.specs.Prelude.{◌≡◌, ◌≢◌, ◌↔◌, ℕ, List, Some, Ok, Err};
+ghost use Rattle.toml.specs.Data.{Members, table};
+ghost use Rattle.tally_base.specs.declared.fault.Fault.{Fault};
+ghost use Rattle.tally_base.specs.declared.fault.Fault.TheVariants.{OutOfMemory};
+ghost use Rattle.tally_base.specs.declared.header.Mode.{Mode};
+ghost use Rattle.plan_text.specs.Plan.{PlanView, plan};
+ghost use Rattle.plan_text.specs.Reading.{document, plan_answer, IsCalledFor, IsValid};
+ghost use Rattle.plan_text.specs.Fits.{fits, IsMisfit};
+
+/// What bytes answer as a plan is the one fault that they call for, or the plan of a document that breaks
+/// no rule.
+pub fn one_answer()
+    ensures refused { (bytes : List ℕ) (fault : Fault)
+        → (plan_answer bytes ≡ Err fault) ↔ (IsCalledFor bytes fault × (fault ≢ OutOfMemory)) }
+    ensures valid { (bytes : List ℕ) (view : PlanView) → plan_answer bytes ≡ Ok view
+        → IsValid bytes }
+    ensures plan { (bytes : List ℕ) (ms : Members) → IsValid bytes → document bytes ≡ Some ms
+        → plan_answer bytes ≡ Ok (plan (table ms)) }
+{}
+
+/// The fault of a plan that doesn't suit a mode is that of its first part that doesn't.
+pub fn first_misfit()
+    ensures { (mode : Mode) (view : PlanView) (fault : Fault)
+        → (fits mode view ≡ Err fault) ↔ IsMisfit mode view fault }
+{}

@@ -1,0 +1,303 @@
+// What `run` is refused for.
+use crate::events::behind_great_wraps;
+use crate::files::short;
+use crate::reports::{EMPTY_REPORT, reports};
+use crate::run::run_plan_in_pieces;
+use std::alloc::{AllocError, Global};
+use std::process::Abort;
+use std::test::Fail;
+
+/// `run` with the plan on the file is refused so, with nothing on standard output.
+fn is_refused(
+    rt: &impl Abort,
+    alloc: Global,
+    plan: &[u8],
+    file: &[u8],
+    status: u8,
+    line: &[u8],
+) -> Result<(), Fail> {
+    for pieces in [&[][..], &[1], &[3], &[47, 5]] {
+        let left = run_plan_in_pieces(alloc, plan, file, pieces)?;
+        assert_eq!(rt; left.status, status);
+        assert_eq!(rt; left.out.bytes(), b"".as_slice());
+        assert_eq!(rt; left.err.bytes(), line);
+    }
+    Ok(())
+}
+
+/// A plan that breaks a rule, and the line.
+struct Broken {
+    plan: &'static [u8],
+    line: &'static [u8],
+}
+
+const BROKEN: [Broken; 10] = [
+    Broken {
+        plan: b"histograms = 1\n",
+        line: b"ptu: plan breaks rule 1 at 0\n",
+    },
+    Broken {
+        plan: b"version = 2\n",
+        line: b"ptu: plan breaks rule 2 at 0\n",
+    },
+    Broken {
+        plan: b"order = 1\n",
+        line: b"ptu: plan breaks rule 3 at 0\n",
+    },
+    Broken {
+        plan: b"limits.records = 0\n",
+        line: b"ptu: plan breaks rule 5 at 0\n",
+    },
+    Broken {
+        plan: b"group = 3\n",
+        line: b"ptu: plan breaks rule 6 at 1\n",
+    },
+    Broken {
+        plan: b"[[group]]\ninputs = [1, 1]\n",
+        line: b"ptu: plan breaks rule 9 at 1\n",
+    },
+    Broken {
+        plan: b"[[group]]\ninputs = [0]\n[[group]]\ninputs = [0]\ngate = [5, 5]\n",
+        line: b"ptu: plan breaks rule 10 at 2\n",
+    },
+    Broken {
+        plan: b"[[group]]\ninputs = [0]\n[[histogram]]\ngroup = 1\nwidth = 1\n",
+        line: b"ptu: plan breaks rule 11 at 1\n",
+    },
+    Broken {
+        plan: b"[[group]]\ninputs = [0]\n[[histogram]]\ngroup = 2\nwidth = 1\nbins = 1\n",
+        line: b"ptu: plan breaks rule 12 at 1\n",
+    },
+    // The least rule is named, though another part is named first.
+    Broken {
+        plan: b"[[histogram]]\ngroup = 2\nwidth = 1\nbins = 1\n[[group]]\ninputs = []\n",
+        line: b"ptu: plan breaks rule 9 at 1\n",
+    },
+];
+
+#[test]
+fn plans_that_break_a_rule(rt: HostRuntime) -> Result<(), Fail> {
+    let alloc = rt.alloc();
+    let file = short(alloc, 0x0101_0304, &[])?;
+    for row in &BROKEN {
+        is_refused(&rt, alloc, row.plan, file.as_slice(), 8, row.line)?;
+    }
+    is_refused(
+        &rt,
+        alloc,
+        b"\xFF",
+        file.as_slice(),
+        7,
+        b"ptu: plan is not TOML\n",
+    )?;
+    is_refused(
+        &rt,
+        alloc,
+        b"[[group]\n",
+        file.as_slice(),
+        7,
+        b"ptu: plan is not TOML\n",
+    )
+}
+
+/// A plan of so many groups.
+fn groups(alloc: Global, count: usize) -> Result<Vec<u8>, AllocError> {
+    let mut plan = Vec::new(alloc);
+    for _ in 0..count {
+        plan.extend_from_slice(b"[[group]]\ninputs = [0]\n")?;
+    }
+    Ok(plan)
+}
+
+#[test]
+fn plans_of_too_much(rt: HostRuntime) -> Result<(), Fail> {
+    let alloc = rt.alloc();
+    let file = short(alloc, 0x0101_0304, &[])?;
+    let longest = vec![in alloc; b'#'; 65_536]?;
+    reports(
+        &rt,
+        alloc,
+        longest.as_slice(),
+        file.as_slice(),
+        EMPTY_REPORT,
+    )?;
+    let longer = vec![in alloc; b'#'; 65_537]?;
+    is_refused(
+        &rt,
+        alloc,
+        longer.as_slice(),
+        file.as_slice(),
+        6,
+        b"ptu: plan longer than 65536 bytes\n",
+    )?;
+    let most = groups(alloc, 64)?;
+    reports(&rt, alloc, most.as_slice(), file.as_slice(), EMPTY_REPORT)?;
+    let more = groups(alloc, 65)?;
+    is_refused(
+        &rt,
+        alloc,
+        more.as_slice(),
+        file.as_slice(),
+        8,
+        b"ptu: plan breaks rule 7 at 1\n",
+    )
+}
+
+/// A plan, a record type, words of a file and bytes behind them, and what they are refused for.
+struct Refused {
+    plan: &'static [u8],
+    code: u64,
+    words: &'static [u32],
+    rest: &'static [u8],
+    status: u8,
+    line: &'static [u8],
+}
+
+const HISTOGRAM: &[u8] = b"[[group]]\ninputs = [1]\n\
+[[histogram]]\ngroup = 1\nwidth = 1\nbins = 1\n";
+
+const REFUSED: [Refused; 12] = [
+    Refused {
+        plan: HISTOGRAM,
+        code: 0x0101_0204,
+        words: &[],
+        rest: b"",
+        status: 9,
+        line: b"ptu: histogram 1 does not suit T2\n",
+    },
+    Refused {
+        plan: b"[[group]]\ninputs = [1]\ngate = [0, 1]\n",
+        code: 0x0101_0204,
+        words: &[],
+        rest: b"",
+        status: 9,
+        line: b"ptu: gate 1 does not suit T2\n",
+    },
+    // Gates are named before histograms, and both before what is behind the header.
+    Refused {
+        plan: b"order = \"stop\"\n[[histogram]]\ngroup = 1\nwidth = 1\nbins = 1\n\
+[[group]]\ninputs = [1]\n[[group]]\ninputs = [2]\ngate = [0, 1]\n",
+        code: 0x0001_0203,
+        words: &[0x0000_0009, 0x0000_0007],
+        rest: b"\x01",
+        status: 9,
+        line: b"ptu: gate 2 does not suit T2\n",
+    },
+    // The header is judged before the plan's parts are held against it.
+    Refused {
+        plan: HISTOGRAM,
+        code: 0x0001_0208,
+        words: &[],
+        rest: b"",
+        status: 15,
+        line: b"ptu: record type 0000000000010208\n",
+    },
+    Refused {
+        plan: b"[limits]\nrecords = 3\n",
+        code: 0x0101_0304,
+        words: &[1, 2, 3, 4],
+        rest: b"",
+        status: 20,
+        line: b"ptu: more than 3 records\n",
+    },
+    Refused {
+        plan: b"[limits]\nrecords = 3\n",
+        code: 0x0101_0304,
+        words: &[1, 2, 3],
+        rest: b"\x05\x06",
+        status: 17,
+        line: b"ptu: 2 bytes of a record at the end\n",
+    },
+    Refused {
+        plan: b"reserved = \"stop\"\n",
+        code: 0x0101_0204,
+        words: &[0x8000_0007, 0xA000_0000],
+        rest: b"",
+        status: 18,
+        line: b"ptu: record 2 is reserved: A0000000\n",
+    },
+    Refused {
+        plan: b"order = \"stop\"\n",
+        code: 0x0101_0304,
+        words: &[0x0000_0005, 0x0000_0009, 0x0000_0007, 0x0000_0009],
+        rest: b"",
+        status: 19,
+        line: b"ptu: record 3 goes back from 9 to 7\n",
+    },
+    // One past the limit is not looked at.
+    Refused {
+        plan: b"reserved = \"stop\"\n[limits]\nrecords = 3\n",
+        code: 0x0101_0304,
+        words: &[1, 2, 3, 0xA000_0000],
+        rest: b"",
+        status: 20,
+        line: b"ptu: more than 3 records\n",
+    },
+    // The first record that calls for it ends the run.
+    Refused {
+        plan: b"reserved = \"stop\"\n[limits]\nrecords = 3\n",
+        code: 0x0101_0304,
+        words: &[1, 2, 0xA000_0000, 4],
+        rest: b"\x01",
+        status: 18,
+        line: b"ptu: record 3 is reserved: A0000000\n",
+    },
+    Refused {
+        plan: b"reserved = \"stop\"\norder = \"stop\"\n",
+        code: 0x0101_0304,
+        words: &[2, 1, 0xA000_0000],
+        rest: b"",
+        status: 19,
+        line: b"ptu: record 2 goes back from 2 to 1\n",
+    },
+    // A time may go back where the plan lets it.
+    Refused {
+        plan: HISTOGRAM,
+        code: 0x0101_0304,
+        words: &[2, 1, 0xA000_0000],
+        rest: b"\x01",
+        status: 17,
+        line: b"ptu: 1 bytes of a record at the end\n",
+    },
+];
+
+#[test]
+fn files_that_do_not_suit_a_plan(rt: HostRuntime) -> Result<(), Fail> {
+    let alloc = rt.alloc();
+    for row in &REFUSED {
+        let mut file = short(alloc, row.code, row.words)?;
+        file.extend_from_slice(row.rest)?;
+        is_refused(&rt, alloc, row.plan, file.as_slice(), row.status, row.line)?;
+    }
+    Ok(())
+}
+
+#[test]
+fn fronts_that_are_not_counted(rt: HostRuntime) -> Result<(), Fail> {
+    let alloc = rt.alloc();
+    is_refused(&rt, alloc, b"", b"PQTTTS", 10, b"ptu: not a PTU file\n")?;
+    let mut front = short(alloc, 0x0101_0204, &[])?;
+    front.truncate(100);
+    is_refused(
+        &rt,
+        alloc,
+        HISTOGRAM,
+        front.as_slice(),
+        11,
+        b"ptu: header cut after 100 bytes\n",
+    )
+}
+
+#[test]
+fn a_time_that_is_too_great(rt: HostRuntime) -> Result<(), Fail> {
+    let alloc = rt.alloc();
+    let file = behind_great_wraps(alloc, &[u32::MAX, 0])?;
+    is_refused(
+        &rt,
+        alloc,
+        b"",
+        file.as_slice(),
+        21,
+        b"ptu: record 4097 passes the greatest time\n",
+    )
+}
