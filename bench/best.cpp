@@ -1,7 +1,8 @@
 // Runs a command several times and prints the least seconds: best TIMES OUTPUT COMMAND WORD..
 //
-// The line has two numbers: the least wall seconds of a run, and the least processor seconds of a
-// run and of all that it started. What the last run wrote stands in OUTPUT. A run that fails ends it all.
+// The line has three numbers: the least wall seconds of a run, the least processor seconds of a run and of
+// all that it started, and the most memory that any of these held at a time, in KiB. What the last run wrote
+// stands in OUTPUT. A run that fails ends it all.
 #include <algorithm>
 #include <chrono>
 #include <cstdio>
@@ -13,12 +14,14 @@
 
 static double seconds(const timeval &time) { return time.tv_sec + time.tv_usec / 1e6; }
 
-// Processor seconds of all children that have ended.
-static double children() {
+// What all children used that have ended.
+static rusage children() {
     rusage usage{};
     getrusage(RUSAGE_CHILDREN, &usage);
-    return seconds(usage.ru_utime) + seconds(usage.ru_stime);
+    return usage;
 }
+
+static double processor_seconds(const rusage &usage) { return seconds(usage.ru_utime) + seconds(usage.ru_stime); }
 
 static void become(const char *output, char **command) {
     const int file = open(output, O_WRONLY | O_CREAT | O_TRUNC, 0666);
@@ -39,7 +42,7 @@ int main(int argc, char **argv) {
     }
     double wall = 1e9, processor = 1e9;
     for (int turn = 0; turn < times; turn++) {
-        const double before = children();
+        const double before = processor_seconds(children());
         const auto begun = std::chrono::steady_clock::now();
         const pid_t child = fork();
         if (child == 0)
@@ -51,8 +54,8 @@ int main(int argc, char **argv) {
         }
         const std::chrono::duration<double> spent = std::chrono::steady_clock::now() - begun;
         wall = std::min(wall, spent.count());
-        processor = std::min(processor, children() - before);
+        processor = std::min(processor, processor_seconds(children()) - before);
     }
-    std::printf("%.3f %.3f\n", wall, processor);
+    std::printf("%.3f %.3f %ld\n", wall, processor, children().ru_maxrss);
     return 0;
 }
