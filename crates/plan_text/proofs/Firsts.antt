@@ -7,7 +7,7 @@ use Rattle.tally_base.specs.declared.fault.Fault.TheVariants.{PlanMode}
 use Rattle.tally_base.specs.declared.header.Mode.{Mode}
 use Rattle.tally_base.specs.declared.header.Mode.TheVariants.{T2, T3}
 use Rattle.tally_base.specs.declared.part.PartKind.{PartKind}
-use Rattle.tally_base.specs.declared.part.PartKind.TheVariants.{Gate, Histogram}
+use Rattle.tally_base.specs.declared.part.PartKind.TheVariants.{Gate, Histogram, StartStop}
 use Rattle.toml_rules.specs.Rules.{held_from, or_next, BreaksFirst, BreaksAt}
 use Rattle.toml_rules.proofs.Least.{breaks_first, kept_nowhere}
 use Rattle.plan_text.specs.Plan.{PlanView}
@@ -37,4 +37,5 @@ is_first T2 plan (PlanMode Gate number T2) h =
     rw (first_by (λ number. PlanMode Gate number T2) 1 (suit_T2 plan) number (suit Gate T2 (suit_T2 plan)) h refl) refl
 is_first T2 plan (PlanMode Histogram number T2) h =
     rw (none_by (λ number. PlanMode Gate number T2) 1 (suit_T2 plan) (suit Gate T2 (suit_T2 plan)) h.2 refl, some_suits Histogram T2 (length plan.histograms) h.1, h.0) refl
+is_first T3 plan (PlanMode StartStop number T3) h = rw (some_suits StartStop T3 (length plan.startstops) h.1, h.0) refl
 is_first _ plan _ h = absurd h

@@ -7,7 +7,7 @@ use Rattle.tally_base.specs.declared.fault.Fault.TheVariants.{PlanMode}
 use Rattle.tally_base.specs.declared.header.Mode.{Mode}
 use Rattle.tally_base.specs.declared.header.Mode.TheVariants.{T2, T3}
 use Rattle.tally_base.specs.declared.part.PartKind.{PartKind}
-use Rattle.tally_base.specs.declared.part.PartKind.TheVariants.{Gate, Histogram}
+use Rattle.tally_base.specs.declared.part.PartKind.TheVariants.{Gate, Histogram, StartStop}
 use Rattle.toml_rules.proofs.Least.{or_next_err, breaks_first, kept_nowhere}
 use Rattle.plan_text.specs.Plan.{PlanView}
 use Rattle.plan_text.specs.Fits.{fits, suit, suit_none, suit_T2, IsMisfit}
@@ -39,4 +39,10 @@ misfit T2 plan fault err =
             | inr done ↦ search (rules, done.1)
           ]
     ]
-misfit T3 plan fault err = search (rules, err)
+misfit T3 plan fault err =
+    elim (or_next_err (suit_none StartStop T3 (length plan.startstops)) _ fault err) [
+      | inl stops ↦
+          let (some, names) = none_suits StartStop T3 (length plan.startstops) fault stops in
+          rw names (refl, some)
+      | inr done ↦ search (rules, done.1)
+    ]

@@ -1,5 +1,5 @@
 -- Plans with one bad thing, and small plans that are read.
-use Rattle.std.proofs.Common.{◌≡◌, ◌^◌, refl, codes, Ok, Err, Some, [], ◌∷◌}
+use Rattle.std.proofs.Common.{◌≡◌, ◌^◌, refl, codes, Ok, Err, Some, None, [], ◌∷◌}
 use Rattle.tally_base.specs.declared.fault.Fault.TheVariants.{PlanSyntax, PlanRule}
 use Rattle.tally_base.specs.declared.event.Order.TheVariants as orders
 use Rattle.tally_base.specs.declared.event.OnReserved.TheVariants as choices
@@ -66,10 +66,43 @@ pub row_many : plan_answer (codes "group = [{inputs=[0]}, {inputs=[0]}, {inputs=
 unfolding plan_on_literals
 row_many = refl
 
-pub row_empty : plan_answer (codes "group = []\n") ≡ Ok (record { order = orders.Drop; reserved = choices.Skip; records = 2 ^ 40; groups = []; histograms = [] })
+pub row_empty : plan_answer (codes "group = []\n") ≡ Ok (record { order = orders.Drop; reserved = choices.Skip; records = 2 ^ 40; groups = []; histograms = []; traces = []; startstops = [] })
 unfolding plan_on_literals
 row_empty = refl
 
-pub row_whole : plan_answer (codes "order = 'stop'\ngroup = [{ inputs = [0, 2], gate = [3, 9] }]\n") ≡ Ok (record { order = orders.Stop; reserved = choices.Skip; records = 2 ^ 40; groups = record { inputs = 5; gate = Some (3, 9) } ∷ []; histograms = [] })
+pub row_whole : plan_answer (codes "order = 'stop'\ngroup = [{ inputs = [0, 2], gate = [3, 9] }]\n") ≡ Ok (record { order = orders.Stop; reserved = choices.Skip; records = 2 ^ 40; groups = record { inputs = 5; gate = Some (3, 9) } ∷ []; histograms = []; traces = []; startstops = [] })
 unfolding plan_on_literals
 row_whole = refl
+
+pub row_trace : plan_answer (codes "trace = 3\n") ≡ Err (PlanRule 6 3)
+unfolding plan_on_literals
+row_trace = refl
+
+pub row_startstop : plan_answer (codes "startstop = 3\n") ≡ Err (PlanRule 6 4)
+unfolding plan_on_literals
+row_startstop = refl
+
+pub row_trace_keys : plan_answer (codes "group = [{ inputs = [0] }]\ntrace = [{ group = 1, width = 1 }]\n") ≡ Err (PlanRule 13 1)
+unfolding plan_on_literals
+row_trace_keys = refl
+
+pub row_trace_values : plan_answer (codes "group = [{ inputs = [0] }]\ntrace = [{ group = 1, width = 1, bins = 1 }, { group = 1, origin = 4611686018427387905, width = 1, bins = 1 }]\n") ≡ Err (PlanRule 14 2)
+unfolding plan_on_literals
+row_trace_values = refl
+
+pub row_startstop_keys : plan_answer (codes "group = [{ inputs = [0] }]\nstartstop = [{ start = 1, stop = 1, width = 1, bins = 1, group = 1 }]\n") ≡ Err (PlanRule 15 1)
+unfolding plan_on_literals
+row_startstop_keys = refl
+
+pub row_startstop_values : plan_answer (codes "group = [{ inputs = [0] }]\nstartstop = [{ start = 1, stop = 2, width = 1, bins = 1 }]\n") ≡ Err (PlanRule 16 1)
+unfolding plan_on_literals
+row_startstop_values = refl
+
+pub row_histogram_and_trace : plan_answer (codes "group = [{ inputs = [0] }]\nhistogram = [{ group = 1, width = 0, bins = 1 }]\ntrace = [{ group = 1, width = 1 }]\n") ≡ Err (PlanRule 12 1)
+unfolding plan_on_literals
+row_histogram_and_trace = refl
+
+-- a trace without an origin, one with it, and a start-stop
+pub row_times : plan_answer (codes "group = [{ inputs = [0] }]\ntrace = [{ group = 1, width = 5, bins = 2 }, { group = 1, origin = 7, width = 4611686018427387904, bins = 1048576 }]\nstartstop = [{ start = 1, stop = 1, width = 3, bins = 4 }]\n") ≡ Ok (record { order = orders.Drop; reserved = choices.Skip; records = 2 ^ 40; groups = record { inputs = 1; gate = None } ∷ []; histograms = []; traces = record { group = 1; origin = 0; width = 5; bins = 2 } ∷ record { group = 1; origin = 7; width = 2 ^ 62; bins = 2 ^ 20 } ∷ []; startstops = record { start = 1; stop = 1; width = 3; bins = 4 } ∷ [] })
+unfolding plan_on_literals
+row_times = refl

@@ -8,6 +8,8 @@ use Rattle.plan_text.specs.Plan.{plan_rules, plan, IsWhole}
 use Rattle.plan_text.specs.Document.{document_rules}
 use Rattle.plan_text.specs.Groups.{group_rules, groups, group, group_of, inputs, gate}
 use Rattle.plan_text.specs.Histograms.{histogram_rules, histograms, histogram}
+use Rattle.plan_text.specs.Traces.{trace_rules, traces, trace}
+use Rattle.plan_text.specs.StartStops.{startstop_rules, startstops, startstop}
 
 -- rules of a part are rules of the whole
 broken_after : (before after : List Rule) (n at : ℕ) → IsBroken after n at → IsBroken (before ++ after) n at
@@ -18,6 +20,13 @@ broken_before : (before after : List Rule) (n at : ℕ) → IsBroken before n at
 broken_before [] after n at b = absurd b
 broken_before (rule ∷ before) after n at (inl here) = inl here
 broken_before (rule ∷ before) after n at (inr later) = inr (broken_before before after n at later)
+
+-- where all rules of a whole hold, those of its parts do
+all_before : (before after : List Rule) → AllHold (before ++ after) → AllHold before
+all_before before after all = λ n at b. all n at (broken_before before after n at b)
+
+all_after : (before after : List Rule) → AllHold (before ++ after) → AllHold after
+all_after before after all = λ n at b. all n at (broken_after before after n at b)
 
 -- a rule on each thing of a list
 each_holds : {X : Type 0} (test : X → Bool) (first : ℕ) (xs : List X) → ((at : ℕ) → BreaksAt first (map test xs) at → ⊥) → AllByRecursion (λ x. test x ≡ true) xs
@@ -47,20 +56,37 @@ group_read None gate first second = first
 group_read (Some set) None first second = second
 group_read (Some set) (Some range) first second = refl
 
-groups_in : (d : Data) → AllHold (plan_rules d) → map (λ y. Some y) (filter_map group (groups d)) ≡ map group (groups d)
-unfolding plan_rules group_rules group
+groups_in : (d : Data) → AllHold (group_rules d) → map (λ y. Some y) (filter_map group (groups d)) ≡ map group (groups d)
+unfolding group_rules group
 groups_in d all =
-    let of : (n at : ℕ) → IsBroken (group_rules d) n at → ⊥ = λ n at b. all n at (broken_before (document_rules d ++ group_rules d) (histogram_rules d) n at (broken_after (document_rules d) (group_rules d) n at b)) in
-    let sets = each_holds (λ g. is_some (inputs g)) 1 (groups d) (λ at b. of 9 at (inr (inl (refl, b)))) in
-    let gates = each_holds (λ g. is_some (gate g)) 1 (groups d) (λ at b. of 10 at (inr (inr (inl (refl, b))))) in
+    let sets = each_holds (λ g. is_some (inputs g)) 1 (groups d) (λ at b. all 9 at (inr (inl (refl, b)))) in
+    let gates = each_holds (λ g. is_some (gate g)) 1 (groups d) (λ at b. all 10 at (inr (inr (inl (refl, b))))) in
     all_kept_in group (groups d) (both_hold (λ g. is_some (inputs g)) (λ g. is_some (gate g)) (λ g. is_some (group g)) (groups d) (λ g a b. group_read (inputs g) (gate g) a b) sets gates)
 
-histograms_in : (d : Data) → AllHold (plan_rules d) → map (λ y. Some y) (filter_map (histogram d) (histograms d)) ≡ map (histogram d) (histograms d)
-unfolding plan_rules histogram_rules
-histograms_in d all =
-    let of : (n at : ℕ) → IsBroken (histogram_rules d) n at → ⊥ = λ n at b. all n at (broken_after (document_rules d ++ group_rules d) (histogram_rules d) n at b) in
-    all_kept_in (histogram d) (histograms d) (each_holds (λ h. is_some (histogram d h)) 1 (histograms d) (λ at b. of 12 at (inr (inl (refl, b)))))
+histograms_in : (d : Data) → AllHold (histogram_rules d) → map (λ y. Some y) (filter_map (histogram d) (histograms d)) ≡ map (histogram d) (histograms d)
+unfolding histogram_rules
+histograms_in d all = all_kept_in (histogram d) (histograms d) (each_holds (λ h. is_some (histogram d h)) 1 (histograms d) (λ at b. all 12 at (inr (inl (refl, b)))))
+
+traces_in : (d : Data) → AllHold (trace_rules d) → map (λ y. Some y) (filter_map (trace d) (traces d)) ≡ map (trace d) (traces d)
+unfolding trace_rules
+traces_in d all = all_kept_in (trace d) (traces d) (each_holds (λ t. is_some (trace d t)) 1 (traces d) (λ at b. all 14 at (inr (inl (refl, b)))))
+
+startstops_in : (d : Data) → AllHold (startstop_rules d) → map (λ y. Some y) (filter_map (startstop d) (startstops d)) ≡ map (startstop d) (startstops d)
+unfolding startstop_rules
+startstops_in d all = all_kept_in (startstop d) (startstops d) (each_holds (λ s. is_some (startstop d s)) 1 (startstops d) (λ at b. all 16 at (inr (inl (refl, b)))))
 
 pub plan_is_whole : (d : Data) → AllHold (plan_rules d) → IsWhole d
-unfolding plan
-plan_is_whole d all = record { groups = groups_in d all; histograms = histograms_in d all }
+unfolding plan_rules plan
+plan_is_whole d all =
+    let to_groups = document_rules d ++ group_rules d in
+    let to_histograms = to_groups ++ histogram_rules d in
+    let to_traces = to_histograms ++ trace_rules d in
+    let traces_hold = all_before to_traces (startstop_rules d) all in
+    let histograms_hold = all_before to_histograms (trace_rules d) traces_hold in
+    let groups_hold = all_before to_groups (histogram_rules d) histograms_hold in
+    record {
+      groups = groups_in d (all_after (document_rules d) (group_rules d) groups_hold);
+      histograms = histograms_in d (all_after to_groups (histogram_rules d) histograms_hold);
+      traces = traces_in d (all_after to_histograms (trace_rules d) traces_hold);
+      startstops = startstops_in d (all_after to_traces (startstop_rules d) all);
+    }

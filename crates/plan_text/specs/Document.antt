@@ -27,7 +27,7 @@ records d = records_in (get (codes "limits") d)
 
 -- the document has only keys of a plan
 unfoldable pub has_known_keys : Data → Bool
-has_known_keys = has_keys [] (codes "version" ∷ codes "order" ∷ codes "reserved" ∷ codes "limits" ∷ codes "group" ∷ codes "histogram" ∷ [])
+has_known_keys = has_keys [] (codes "version" ∷ codes "order" ∷ codes "reserved" ∷ codes "limits" ∷ codes "group" ∷ codes "histogram" ∷ codes "trace" ∷ codes "startstop" ∷ [])
 
 -- an array of tables stands at the key, or nothing
 unfoldable pub may_have_tables : List ℕ → Data → Bool
@@ -45,6 +45,6 @@ document_rules d =
     ∷ whole 3 (is_some (order d))
     ∷ whole 4 (is_some (reserved d))
     ∷ whole 5 (is_some (records d))
-    ∷ record { number = 6; first = 1; tests = may_have_tables (codes "group") d ∷ may_have_tables (codes "histogram") d ∷ [] }
-    ∷ record { number = 7; first = 1; tests = has_at_most 64 (codes "group") d ∷ has_at_most 32 (codes "histogram") d ∷ [] }
+    ∷ record { number = 6; first = 1; tests = may_have_tables (codes "group") d ∷ may_have_tables (codes "histogram") d ∷ may_have_tables (codes "trace") d ∷ may_have_tables (codes "startstop") d ∷ [] }
+    ∷ record { number = 7; first = 1; tests = has_at_most 64 (codes "group") d ∷ has_at_most 32 (codes "histogram") d ∷ has_at_most 32 (codes "trace") d ∷ has_at_most 16 (codes "startstop") d ∷ [] }
     ∷ []

@@ -5,15 +5,17 @@ use Rattle.tally_base.specs.declared.event.Order.{Order}
 use Rattle.tally_base.specs.declared.event.Order.TheVariants as orders
 use Rattle.tally_base.specs.declared.event.OnReserved.{OnReserved}
 use Rattle.tally_base.specs.declared.event.OnReserved.TheVariants as choices
-use Rattle.tally_base.specs.Settings.{GroupView, HistView, PartSettings, HistSettings}
+use Rattle.tally_base.specs.Settings.{GroupView, HistView, TraceView, StartStopView, PartSettings, HistSettings, TraceSettings, StartStopSettings}
 use Rattle.toml_rules.specs.Rules.{Rule}
 use Rattle.plan_text.specs.Document.{order, reserved, records, document_rules}
 use Rattle.plan_text.specs.Groups.{groups, group, group_rules}
 use Rattle.plan_text.specs.Histograms.{histograms, histogram, histogram_rules}
+use Rattle.plan_text.specs.Traces.{traces, trace, trace_rules}
+use Rattle.plan_text.specs.StartStops.{startstops, startstop, startstop_rules}
 
 -- all rules, in their order
 unfoldable pub plan_rules : Data → List Rule
-plan_rules d = document_rules d ++ group_rules d ++ histogram_rules d
+plan_rules d = document_rules d ++ group_rules d ++ histogram_rules d ++ trace_rules d ++ startstop_rules d
 
 -- What a contract sees of a plan.
 pub record PlanView : Type 0 where
@@ -23,10 +25,12 @@ pub record PlanView : Type 0 where
   pub records : ℕ
   pub groups : List GroupView
   pub histograms : List HistView
+  pub traces : List TraceView
+  pub startstops : List StartStopView
 
 -- the settings of the plan's tables, in the order of the report: by kinds, and by numbers in each
 abbrev pub parts_of : PlanView → List PartSettings
-parts_of plan = map (λ set. HistSettings set) plan.histograms
+parts_of plan = map (λ set. HistSettings set) plan.histograms ++ map (λ set. TraceSettings set) plan.traces ++ map (λ set. StartStopSettings set) plan.startstops
 
 -- what becomes of late events
 abbrev pub order_of : Option Bool → Order
@@ -48,9 +52,13 @@ plan d = record {
   records = unwrap_or (records d) (2 ^ 40);
   groups = filter_map group (groups d);
   histograms = filter_map (histogram d) (histograms d);
+  traces = filter_map (trace d) (traces d);
+  startstops = filter_map (startstop d) (startstops d);
 }
 
 -- Each table of the document's lists is in the plan.
 pub record IsWhole (d : Data) : Type 0 where
   pub groups : map (λ one. Some one) (plan d).groups ≡ map group (groups d)
   pub histograms : map (λ one. Some one) (plan d).histograms ≡ map (histogram d) (histograms d)
+  pub traces : map (λ one. Some one) (plan d).traces ≡ map (trace d) (traces d)
+  pub startstops : map (λ one. Some one) (plan d).startstops ≡ map (startstop d) (startstops d)

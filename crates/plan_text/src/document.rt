@@ -6,6 +6,8 @@ ghost use Rattle.toml_rules.specs.Values.{list_at};
 ghost use Rattle.plan_text.specs.Document.{version, order, reserved, records, has_known_keys, may_have_tables, has_at_most, document_rules};
 ghost use Rattle.plan_text.specs.Groups.{groups};
 ghost use Rattle.plan_text.specs.Histograms.{histograms};
+ghost use Rattle.plan_text.specs.StartStops.{startstops};
+ghost use Rattle.plan_text.specs.Traces.{traces};
 
 use tally_base::Fault;
 use toml::Value;
@@ -68,6 +70,8 @@ fn has_known_keys(document: &Value) -> bool
             "limits",
             "group",
             "histogram",
+            "trace",
+            "startstop",
         ],
     )
 }
@@ -93,7 +97,7 @@ fn has_at_most(most: usize, document: &Value, key: &str) -> bool
 #[tactic(auto, unfolding(crate::specs::Document::document_rules))]
 pub(crate) fn keeps_document_rules(document: &Value) -> Result<(), Fault>
     ensures kept { result ≡ all_kept (document_rules (view document.now)) }
-    ensures few { OnOk result ((length (groups (view document.now)) ≤ 64) × (length (histograms (view document.now)) ≤ 32)) }
+    ensures few { OnOk result ((length (groups (view document.now)) ≤ 64) × (length (histograms (view document.now)) ≤ 32) × (length (traces (view document.now)) ≤ 32) × (length (startstops (view document.now)) ≤ 16)) }
 {
     held(1, 0, has_known_keys(document))?;
     held(2, 0, version(document).is_some())?;
@@ -102,7 +106,11 @@ pub(crate) fn keeps_document_rules(document: &Value) -> Result<(), Fault>
     held(5, 0, records(document).is_some())?;
     held(6, 1, may_have_tables(document, "group"))?;
     held(6, 2, may_have_tables(document, "histogram"))?;
+    held(6, 3, may_have_tables(document, "trace"))?;
+    held(6, 4, may_have_tables(document, "startstop"))?;
     held(7, 1, has_at_most(64, document, "group"))?;
     held(7, 2, has_at_most(32, document, "histogram"))?;
+    held(7, 3, has_at_most(32, document, "trace"))?;
+    held(7, 4, has_at_most(16, document, "startstop"))?;
     Ok(())
 }

@@ -1,6 +1,6 @@
 // Whether the parts of a plan suit a file's mode.
 ghost use Rattle.std.specs.Prelude.{◌≡◌, IfErr, ◌≤◌, map, length, is_none, false};
-ghost use Rattle.tally_base.specs.Settings.{group_view, hist_view};
+ghost use Rattle.tally_base.specs.Settings.{group_view, hist_view, startstop_view};
 ghost use Rattle.plan_text.specs.Fits.{fits, suit, suit_none, IsMisfit};
 ghost use Rattle.plan_text.specs.Reading.{plan_view};
 
@@ -9,8 +9,8 @@ use tally_base::{Fault, Group, Mode, PartKind};
 
 impl Plan {
     /// Whether each part suits files of a mode. T2 has no dtimes, so it suits no gate and no histogram.
-    /// `PlanMode` names the first part that does not suit: gates before histograms, and of a kind the
-    /// least number. For a gate it is its group's.
+    /// T3 suits no start-stop. `PlanMode` names the first part that does not suit: gates before
+    /// histograms, and of a kind the least number. For a gate it is its group's.
     pub fn fits(&self, mode: Mode) -> Result<(), Fault>
         ensures answer { result ≡ fits mode (plan_view self.now) }
         ensures first { IfErr result (IsMisfit mode (plan_view self.now)) }
@@ -32,7 +32,10 @@ impl Plan {
                 suit_none(PartKind::Histogram, mode, self.histograms.len())?;
                 Ok(())
             }
-            Mode::T3 => Ok(()),
+            Mode::T3 => {
+                suit_none(PartKind::StartStop, mode, self.startstops.len())?;
+                Ok(())
+            }
         }
     }
 }

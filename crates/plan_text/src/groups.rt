@@ -1,14 +1,15 @@
 // The groups of a plan.
 ghost use Rattle.std.specs.Prelude.{◌≡◌, ◌<◌, ◌≤◌, ◌^◌, IfSome, map, length, is_some, option_map, codes};
 ghost use Rattle.std.specs.Option.{ForSome};
+ghost use Rattle.toml.specs.Data.{get};
 ghost use Rattle.toml.specs.View.{view};
 ghost use Rattle.tally_base.specs.Settings.{group_view};
 ghost use Rattle.toml_rules.specs.Rules.{all_kept};
-ghost use Rattle.plan_text.specs.Groups.{inputs_from, inputs_among, inputs, gate, range_in, groups, has_group_keys, group_rules, group};
+ghost use Rattle.plan_text.specs.Groups.{inputs_from, inputs_among, inputs, gate, range_in, groups, has_group_keys, group_rules, group, group_number};
 
 use tally_base::{Fault, Group};
 use toml::Value;
-use toml_rules::{ListRule, each, has_keys, integer_in, list_at};
+use toml_rules::{ListRule, each, has_keys, integer_in, list_at, number_in};
 
 /// The bit of an input.
 fn bit(input: u64) -> u128
@@ -22,6 +23,7 @@ fn bit(input: u64) -> u128
 fn inputs_from(items: &[Value]) -> Option<u128>
     ensures set { result ≡ inputs_from 0 (map view items.now) }
     ensures range { IfSome result (λ set. set < 2 ^ 65) }
+    ensures some { IfSome result (λ set. 0 < length items.now → 0 < set) }
 {
     let mut inputs: u128 = 0;
     let mut low: u64 = 0;
@@ -40,7 +42,7 @@ fn inputs_from(items: &[Value]) -> Option<u128>
 /// The bit set of 1 to 65 such integers.
 fn inputs_among(items: &[Value]) -> Option<u128>
     ensures set { result ≡ inputs_among (map view items.now) }
-    ensures range { IfSome result (λ set. set < 2 ^ 65) }
+    ensures range { IfSome result (λ set. (0 < set) × (set < 2 ^ 65)) }
 {
     if items.is_empty() || 65 < items.len() {
         return None;
@@ -52,7 +54,7 @@ fn inputs_among(items: &[Value]) -> Option<u128>
 #[tactic(auto, using(toml_rules::proofs::Lists::list_of_view), unfolding(crate::specs::Groups::inputs))]
 fn inputs(group: &Value) -> Option<u128>
     ensures set { result ≡ inputs (view group.now) }
-    ensures range { IfSome result (λ set. set < 2 ^ 65) }
+    ensures range { IfSome result (λ set. (0 < set) × (set < 2 ^ 65)) }
 {
     match group.get("inputs") {
         Some(value) => match value.as_array() {
@@ -159,4 +161,12 @@ pub(crate) fn keeps_group_rules(document: &Value) -> Result<(), Fault>
     each::<GroupInputs>(9, document, "group")?;
     each::<GroupGate>(10, document, "group")?;
     Ok(())
+}
+
+/// The number of one of the document's groups, at a key.
+pub(crate) fn group_number(document: &Value, table: &Value, key: &str) -> Option<u64>
+    ensures number { result ≡ group_number (view document.now) (get key.now (view table.now)) }
+    ensures range { IfSome result (λ n. (1 ≤ n) × (n ≤ length (groups (view document.now)))) }
+{
+    number_in(table, key, 1, list_at(document, "group").len() as u64)
 }

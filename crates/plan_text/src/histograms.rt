@@ -1,23 +1,15 @@
 // The histograms of a plan.
-ghost use Rattle.std.specs.Prelude.{◌≡◌, ◌≤◌, length, is_some, option_map, IfSome};
-ghost use Rattle.toml.specs.Data.{get};
+ghost use Rattle.std.specs.Prelude.{◌≡◌, ◌≤◌, length, is_some, option_map};
 ghost use Rattle.toml.specs.View.{view};
 ghost use Rattle.tally_base.specs.Settings.{hist_view};
 ghost use Rattle.toml_rules.specs.Rules.{all_kept};
-ghost use Rattle.plan_text.specs.Groups.{groups, group_number};
+ghost use Rattle.plan_text.specs.Groups.{groups};
 ghost use Rattle.plan_text.specs.Histograms.{histograms, has_histogram_keys, histogram_rules, histogram};
 
+use crate::groups::group_number;
 use tally_base::{Fault, HistSet};
 use toml::Value;
-use toml_rules::{ListRule, each, has_keys, list_at, number_in};
-
-/// The number of one of the document's groups, at a key.
-pub(crate) fn group_number(document: &Value, table: &Value, key: &str) -> Option<u64>
-    ensures number { result ≡ group_number (view document.now) (get key.now (view table.now)) }
-    ensures range { IfSome result (λ n. (1 ≤ n) × (n ≤ length (groups (view document.now)))) }
-{
-    number_in(table, key, 1, list_at(document, "group").len() as u64)
-}
+use toml_rules::{ListRule, each, has_keys, number_in};
 
 /// The histogram that a table gives.
 #[tactic(auto, unfolding(crate::specs::Histograms::histogram))]

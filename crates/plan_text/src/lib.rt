@@ -7,6 +7,8 @@ mod groups;
 mod histograms;
 pub mod laws;
 mod plan;
+mod startstops;
+mod traces;
 
 pub use plan::{Plan, read_plan};
 

@@ -3,10 +3,12 @@ ghost use Rattle.std.specs.Prelude.{◌≡◌, ◌≤◌, ◌<◌, ◌≢◌, �
 ghost use Rattle.tally_base.specs.Faults.{is_outside};
 ghost use Rattle.toml.specs.Data.{Members, table};
 ghost use Rattle.toml.specs.View.{view};
-ghost use Rattle.tally_base.specs.Settings.{group_view, hist_view};
+ghost use Rattle.tally_base.specs.Settings.{group_view, hist_view, trace_view, startstop_view};
 ghost use Rattle.toml_rules.specs.Rules.{all_kept, Names, AllHold};
 ghost use Rattle.plan_text.specs.Groups.{groups, group};
 ghost use Rattle.plan_text.specs.Histograms.{histograms, histogram};
+ghost use Rattle.plan_text.specs.Traces.{traces, trace};
+ghost use Rattle.plan_text.specs.StartStops.{startstops, startstop};
 ghost use Rattle.plan_text.specs.Document.{order, reserved, records};
 ghost use Rattle.plan_text.specs.Plan.{order_of, reserved_of, plan_rules, plan, IsWhole};
 ghost use Rattle.plan_text.specs.Reading.{document, plan_answer, plan_view, plan_seen, if_kept, IsCalledFor, IsValid};
@@ -14,9 +16,11 @@ ghost use Rattle.plan_text.specs.Reading.{document, plan_answer, plan_view, plan
 use crate::document::{keeps_document_rules, order, records, reserved};
 use crate::groups::{group, keeps_group_rules};
 use crate::histograms::{histogram, keeps_histogram_rules};
+use crate::startstops::{keeps_startstop_rules, startstop};
+use crate::traces::{keeps_trace_rules, trace};
 use arrayvec::ArrayVec;
 use std::alloc::Global;
-use tally_base::{Fault, Group, HistSet, OnReserved, Order, Policy};
+use tally_base::{Fault, Group, HistSet, OnReserved, Order, Policy, StartStopSet, TraceSet};
 use toml::Value;
 use toml_rules::list_at;
 
@@ -29,6 +33,10 @@ pub struct Plan {
     pub groups: ArrayVec<Group, 64>,
     /// The histograms of dtimes. Each is of one of the groups.
     pub histograms: ArrayVec<HistSet, 32>,
+    /// The traces over the time of the file. Each is of one of the groups.
+    pub traces: ArrayVec<TraceSet, 32>,
+    /// The tables of the times from a photon of one group to the next of another.
+    pub startstops: ArrayVec<StartStopSet, 16>,
 }
 
 /// Reads a plan, a TOML document of at most 65,536 bytes. It is refused, by the first that applies,
@@ -95,18 +103,20 @@ fn read_document(alloc: Global, bytes: &[u8]) -> Result<Value, Fault>
 #[tactic(auto, using(toml_rules::proofs::Least::all_kept_after), unfolding(crate::specs::Plan::plan_rules))]
 fn keeps_rules(document: &Value) -> Result<(), Fault>
     ensures kept { result ≡ all_kept (plan_rules (view document.now)) }
-    ensures few { OnOk result ((length (groups (view document.now)) ≤ 64) × (length (histograms (view document.now)) ≤ 32)) }
+    ensures few { OnOk result ((length (groups (view document.now)) ≤ 64) × (length (histograms (view document.now)) ≤ 32) × (length (traces (view document.now)) ≤ 32) × (length (startstops (view document.now)) ≤ 16)) }
 {
     keeps_document_rules(document)?;
     keeps_group_rules(document)?;
     keeps_histogram_rules(document)?;
+    keeps_trace_rules(document)?;
+    keeps_startstop_rules(document)?;
     Ok(())
 }
 
 /// The plan that a valid document gives.
 #[tactic(auto, unfolding(crate::specs::Plan::plan))]
 fn plan_of(document: &Value) -> Plan
-    requires few { (length (groups (view document.now)) ≤ 64) × (length (histograms (view document.now)) ≤ 32) }
+    requires few { (length (groups (view document.now)) ≤ 64) × (length (histograms (view document.now)) ≤ 32) × (length (traces (view document.now)) ≤ 32) × (length (startstops (view document.now)) ≤ 16) }
     ensures plan { plan_view result ≡ plan (view document.now) }
     ensures records { (0 < result.policy.records) × (result.policy.records ≤ 2 ^ 40) }
 {
@@ -114,6 +124,8 @@ fn plan_of(document: &Value) -> Plan
         policy: policy_of(document),
         groups: groups_of(list_at(document, "group")),
         histograms: histograms_of(document, list_at(document, "histogram")),
+        traces: traces_of(document, list_at(document, "trace")),
+        startstops: startstops_of(document, list_at(document, "startstop")),
     }
 }
 
@@ -183,6 +195,36 @@ fn histograms_of(document: &Value, items: &[Value]) -> ArrayVec<HistSet, 32>
     let mut found: ArrayVec<HistSet, 32> = ArrayVec::new();
     'items: for item in items {
         if let Some(part) = histogram(document, item) {
+            found.push(part);
+        }
+    }
+    found
+}
+
+/// The traces of the tables that give one, in their order.
+fn traces_of(document: &Value, items: &[Value]) -> ArrayVec<TraceSet, 32>
+    requires groups { length (groups (view document.now)) ≤ 64 }
+    requires few { length items.now ≤ 32 }
+    ensures { map trace_view result.items ≡ filter_map (trace (view document.now)) (map view items.now) }
+{
+    let mut found: ArrayVec<TraceSet, 32> = ArrayVec::new();
+    'items: for item in items {
+        if let Some(part) = trace(document, item) {
+            found.push(part);
+        }
+    }
+    found
+}
+
+/// The start-stops of the tables that give one, in their order.
+fn startstops_of(document: &Value, items: &[Value]) -> ArrayVec<StartStopSet, 16>
+    requires groups { length (groups (view document.now)) ≤ 64 }
+    requires few { length items.now ≤ 16 }
+    ensures { map startstop_view result.items ≡ filter_map (startstop (view document.now)) (map view items.now) }
+{
+    let mut found: ArrayVec<StartStopSet, 16> = ArrayVec::new();
+    'items: for item in items {
+        if let Some(part) = startstop(document, item) {
             found.push(part);
         }
     }

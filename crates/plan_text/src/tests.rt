@@ -22,7 +22,7 @@ const NO_DOCUMENTS: &[&str] = &[
 const BROKEN: &[(&str, u8, u16)] = &[
     ("histograms = 1", 1, 0),
     ("Version = 1", 1, 0),
-    ("trace = []", 1, 0),
+    ("image = []", 1, 0),
     ("[[histogram]]\n[[marker]]\n[[group]]\n", 1, 0),
     ("version = 2", 2, 0),
     ("version = 0", 2, 0),
@@ -60,6 +60,10 @@ const BROKEN: &[(&str, u8, u16)] = &[
     ("group = [{ inputs = [0] }, 3]", 6, 1),
     ("histogram = 1", 6, 2),
     ("[histogram]\n", 6, 2),
+    ("trace = 3", 6, 3),
+    ("[trace]\n", 6, 3),
+    ("startstop = 3", 6, 4),
+    ("startstop = [1]", 6, 4),
     ("[[group]]\n", 8, 1),
     ("[[group]]\ngate = [0, 1]\n", 8, 1),
     (
@@ -139,6 +143,8 @@ const BROKEN_OFTEN: &[(&str, u8, u16)] = &[
     ("order = 1\nversion = 2\nhistograms = 1\n", 1, 0),
     ("histogram = 1\ngroup = 1\n", 6, 1),
     ("histogram = 1\n[[group]]\n", 6, 2),
+    ("startstop = 1\ntrace = 1\n[[group]]\n", 6, 3),
+    ("startstop = 1\n[[trace]]\n", 6, 4),
     ("[[group]]\ninputs = []\n[[group]]\n[[group]]\n", 8, 2),
     (
         "[[group]]\ninputs = [0]\ngate = 1\n[[group]]\ninputs = [0]\n[[group]]\ninputs = [1, 0]\n",
@@ -158,7 +164,124 @@ const BROKEN_OFTEN: &[(&str, u8, u16)] = &[
     ),
 ];
 
-/// Plans without groups and histograms that say nothing else than the defaults.
+/// What follows a plan of one group: the rule that is named and its index.
+const BROKEN_TIMES: &[(&str, u8, u16)] = &[
+    ("trace = [{ group = 1, width = 1 }]", 13, 1),
+    ("trace = [{ group = 1, bins = 1 }]", 13, 1),
+    ("trace = [{ width = 1, bins = 1 }]", 13, 1),
+    ("trace = [{}]", 13, 1),
+    (
+        "trace = [{ group = 1, width = 1, bins = 1, gate = 1 }]",
+        13,
+        1,
+    ),
+    (
+        "trace = [{ group = 1, width = 1, bins = 1 }, { group = 1, width = 1 }]",
+        13,
+        2,
+    ),
+    (
+        "trace = [{ group = 1, width = 0, bins = 1 }, { group = 1, width = 1 }]",
+        13,
+        2,
+    ),
+    ("trace = [{ group = 0, width = 1, bins = 1 }]", 14, 1),
+    ("trace = [{ group = 2, width = 1, bins = 1 }]", 14, 1),
+    (
+        "trace = [{ group = 1, origin = 4611686018427387905, width = 1, bins = 1 }]",
+        14,
+        1,
+    ),
+    (
+        "trace = [{ group = 1, origin = -1, width = 1, bins = 1 }]",
+        14,
+        1,
+    ),
+    (
+        "trace = [{ group = 1, origin = 0.0, width = 1, bins = 1 }]",
+        14,
+        1,
+    ),
+    ("trace = [{ group = 1, width = 0, bins = 1 }]", 14, 1),
+    (
+        "trace = [{ group = 1, width = 4611686018427387905, bins = 1 }]",
+        14,
+        1,
+    ),
+    ("trace = [{ group = 1, width = 1, bins = 0 }]", 14, 1),
+    ("trace = [{ group = 1, width = 1, bins = 1048577 }]", 14, 1),
+    ("trace = [{ group = 1, width = 1, bins = '1' }]", 14, 1),
+    (
+        "trace = [{ group = 1, width = 1, bins = 1 }, { group = 1, width = 1, bins = 0 }]",
+        14,
+        2,
+    ),
+    ("startstop = [{ start = 1, stop = 1, width = 1 }]", 15, 1),
+    ("startstop = [{ start = 1, width = 1, bins = 1 }]", 15, 1),
+    ("startstop = [{ stop = 1, width = 1, bins = 1 }]", 15, 1),
+    ("startstop = [{ start = 1, stop = 1, bins = 1 }]", 15, 1),
+    (
+        "startstop = [{ start = 1, stop = 1, width = 1, bins = 1, origin = 0 }]",
+        15,
+        1,
+    ),
+    (
+        "startstop = [{ start = 2, stop = 1, width = 1, bins = 1 }]",
+        16,
+        1,
+    ),
+    (
+        "startstop = [{ start = 1, stop = 2, width = 1, bins = 1 }]",
+        16,
+        1,
+    ),
+    (
+        "startstop = [{ start = 1, stop = 0, width = 1, bins = 1 }]",
+        16,
+        1,
+    ),
+    (
+        "startstop = [{ start = 1, stop = 1, width = 0, bins = 1 }]",
+        16,
+        1,
+    ),
+    (
+        "startstop = [{ start = 1, stop = 1, width = 4611686018427387905, bins = 1 }]",
+        16,
+        1,
+    ),
+    (
+        "startstop = [{ start = 1, stop = 1, width = 1, bins = 0 }]",
+        16,
+        1,
+    ),
+    (
+        "startstop = [{ start = 1, stop = 1, width = 1, bins = 32769 }]",
+        16,
+        1,
+    ),
+    (
+        "histogram = [{ group = 1, width = 0, bins = 1 }]\ntrace = [{ group = 1, width = 1 }]",
+        12,
+        1,
+    ),
+    (
+        "startstop = [{}]\ntrace = [{ group = 1, width = 1, bins = 1 }, { group = 2, width = 1, bins = 1 }]",
+        14,
+        2,
+    ),
+];
+
+/// What follows a plan of one group, at the ends of the ranges.
+const GOOD_TIMES: &[&str] = &[
+    "trace = [{ group = 1, width = 1, bins = 1 }]",
+    "trace = [{ bins = 1048576, width = 4611686018427387904, origin = 4611686018427387904, group = 1 }]",
+    "trace = [{ group = 1, origin = 0, width = 1, bins = 1 }, { group = 1, width = 1, bins = 1 }]",
+    "startstop = [{ start = 1, stop = 1, width = 1, bins = 1 }]",
+    "startstop = [{ bins = 32768, width = 4611686018427387904, stop = 1, start = 1 }]",
+];
+
+/// Plans without groups and tables that say nothing else than the defaults.
 const EMPTY: &[&str] = &[
     "",
     "# nothing\r\n",
@@ -166,19 +289,24 @@ const EMPTY: &[&str] = &[
     "limits = {}\n",
     "[limits]\nrecords = 1_099_511_627_776\n",
     "limits.records = 0x100_0000_0000\n",
-    "group = []\nhistogram = []\n",
+    "group = []\nhistogram = []\ntrace = []\nstartstop = []\n",
 ];
 
-/// A plan with all that a plan may say.
+/// A plan with all that a plan for T3 may say.
 const WHOLE: &str = "order = 'stop'\n\
 reserved = 'stop'\n\
 limits = { records = 1000 }\n\
 histogram = [{ group = 2, bins = 100, width = 4 }]\n\
+trace = [{ group = 1, bins = 3, width = 5 }, { group = 2, bins = 1, width = 2, origin = 7 }]\n\
 [[group]]\n\
 inputs = [0, 3, 64]\n\
 [[group]]\n\
 gate = [10, 32768]\n\
 inputs = [1]\n";
+
+/// Two start-stops.
+const TWO_STARTSTOPS: &str = "startstop = [{ start = 2, stop = 1, width = 3, bins = 8 }, \
+{ start = 1, stop = 1, width = 4611686018427387904, bins = 1 }]\n";
 
 /// What a plan is refused for.
 fn refusal(alloc: Global, bytes: &[u8]) -> Option<Fault> {
@@ -228,6 +356,8 @@ fn refused_plans(rt: HostRuntime) {
 fn long_plans(rt: HostRuntime) -> Result<(), Fail> {
     let group = "[[group]]\ninputs = [0]\n";
     let histogram = "[[histogram]]\ngroup = 1\nwidth = 1\nbins = 1\n";
+    let trace = "[[trace]]\ngroup = 1\nwidth = 1\nbins = 1\n";
+    let startstop = "[[startstop]]\nstart = 1\nstop = 1\nwidth = 1\nbins = 1\n";
     for (before, part, times, fault) in [
         ("", "#", 65536, None),
         ("", "#", 65537, Some(Fault::PlanTooLong)),
@@ -241,9 +371,41 @@ fn long_plans(rt: HostRuntime) -> Result<(), Fail> {
             33,
             Some(Fault::PlanRule { rule: 7, index: 2 }),
         ),
+        (group, trace, 32, None),
+        (
+            group,
+            trace,
+            33,
+            Some(Fault::PlanRule { rule: 7, index: 3 }),
+        ),
+        (group, startstop, 16, None),
+        (
+            group,
+            startstop,
+            17,
+            Some(Fault::PlanRule { rule: 7, index: 4 }),
+        ),
     ] {
         let bytes = repeated(rt.alloc(), before, part, times)?;
         assert_eq!(rt; refusal(rt.alloc(), &bytes), fault, "{times} times {part}");
+    }
+    Ok(())
+}
+
+#[test]
+fn tables_of_times(rt: HostRuntime) -> Result<(), Fail> {
+    let group = "group = [{ inputs = [0] }]\n";
+    for (text, rule, index) in BROKEN_TIMES {
+        let bytes = repeated(rt.alloc(), group, text, 1)?;
+        let fault = Fault::PlanRule {
+            rule: *rule,
+            index: *index,
+        };
+        assert_eq!(rt; refusal(rt.alloc(), &bytes), Some(fault), "{text}");
+    }
+    for text in GOOD_TIMES {
+        let bytes = repeated(rt.alloc(), group, text, 1)?;
+        assert_eq!(rt; refusal(rt.alloc(), &bytes), None, "{text}");
     }
     Ok(())
 }
@@ -262,6 +424,11 @@ fn is_default(rt: &impl Abort, alloc: Global, text: &str) {
     assert_eq!(rt; plan.policy, policy, "{text}");
     assert_eq!(rt;
         (plan.groups.len(), plan.histograms.len()),
+        (0, 0),
+        "{text}"
+    );
+    assert_eq!(rt;
+        (plan.traces.len(), plan.startstops.len()),
         (0, 0),
         "{text}"
     );
@@ -294,6 +461,24 @@ fn is_whole(rt: &impl Abort, plan: &Plan) {
         (histogram.group, histogram.width, histogram.bins),
         (2, 4, 100)
     );
+    has_traces(rt, plan);
+    assert!(rt; plan.startstops.is_empty());
+}
+
+/// The traces of `WHOLE`.
+fn has_traces(rt: &impl Abort, plan: &Plan) {
+    let [first, second] = plan.traces.as_slice() else {
+        assert!(rt; false, "two traces");
+        return;
+    };
+    assert_eq!(rt;
+        (first.group, first.origin, first.width, first.bins),
+        (1, 0, 5, 3)
+    );
+    assert_eq!(rt;
+        (second.group, second.origin, second.width, second.bins),
+        (2, 7, 2, 1)
+    );
 }
 
 #[test]
@@ -310,4 +495,51 @@ fn a_plan_of_each_setting(rt: HostRuntime) {
     };
     assert_eq!(rt; plan.fits(Mode::T2), Err(gate));
     assert_eq!(rt; plan.fits(Mode::T3), Ok(()));
+}
+
+/// What `TWO_STARTSTOPS` says.
+fn has_startstops(rt: &impl Abort, plan: &Plan) {
+    let [first, second] = plan.startstops.as_slice() else {
+        assert!(rt; false, "two start-stops");
+        return;
+    };
+    assert_eq!(rt;
+        (first.start, first.stop, first.width, first.bins),
+        (2, 1, 3, 8)
+    );
+    assert_eq!(rt;
+        (second.start, second.stop, second.width, second.bins),
+        (1, 1, 1 << 62, 1)
+    );
+}
+
+/// What a part of a plan is refused for in files of a mode.
+fn misfit(kind: PartKind, index: u8, mode: Mode) -> Result<(), Fault> {
+    Err(Fault::PlanMode { kind, index, mode })
+}
+
+#[test]
+fn modes_of_startstops(rt: HostRuntime) -> Result<(), Fail> {
+    let stops = misfit(PartKind::StartStop, 1, Mode::T3);
+    for (before, in_t2) in [
+        ("group = [{ inputs = [0] }, { inputs = [1] }]\n", Ok(())),
+        (
+            "group = [{ inputs = [0] }, { inputs = [1] }]\nhistogram = [{ group = 1, width = 1, bins = 1 }]\n",
+            misfit(PartKind::Histogram, 1, Mode::T2),
+        ),
+        (
+            "group = [{ inputs = [0] }, { inputs = [1], gate = [0, 1] }]\n",
+            misfit(PartKind::Gate, 2, Mode::T2),
+        ),
+    ] {
+        let bytes = repeated(rt.alloc(), before, TWO_STARTSTOPS, 1)?;
+        let Ok(plan) = read_plan(rt.alloc(), &bytes) else {
+            assert!(rt; false, "{before}");
+            return Ok(());
+        };
+        has_startstops(&rt, &plan);
+        assert_eq!(rt; plan.fits(Mode::T2), in_t2, "{before}");
+        assert_eq!(rt; plan.fits(Mode::T3), stops, "{before}");
+    }
+    Ok(())
 }

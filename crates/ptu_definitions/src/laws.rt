@@ -1,4 +1,4 @@
-//! Laws of the definitions, each as the contract of a function that does nothing.
+// Laws of the definitions, each as the contract of a function that does nothing.
 ghost use Rattle.std.specs.Prelude.{◌≡◌, ◌≢◌, ◌↔◌, ◌⊎◌, ◌++◌, ◌∷◌, [], ◌<◌, ◌≤◌, ◌^◌, ℕ, List, Result, length, take, get_or, true, false, Some};
 ghost use Rattle.tally_base.specs.declared.fault.Fault.TheVariants as Fault;
 ghost use Rattle.tally_base.specs.declared.fault.Fault.{Fault};

@@ -142,7 +142,7 @@ fn a_plan_or_data_that_are_not_there(rt: HostRuntime) -> Result<(), Fail> {
     Ok(())
 }
 
-/// In pieces of 100 bytes, the 108 bytes of the plan take three reads up to their end, and the 783 bytes
+/// In pieces of 100 bytes, the 150 bytes of the plan take three reads up to their end, and the 783 bytes
 /// of the file nine.
 #[test]
 fn each_call_of_a_run_fails(rt: HostRuntime) -> Result<(), Fail> {

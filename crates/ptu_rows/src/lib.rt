@@ -18,4 +18,8 @@ mod reports;
 #[cfg(test)]
 mod run;
 #[cfg(test)]
+mod startstops;
+#[cfg(test)]
+mod traces;
+#[cfg(test)]
 mod written;

@@ -75,13 +75,117 @@ const BROKEN: [Broken; 10] = [
     },
 ];
 
+const BROKEN_TRACES: [Broken; 9] = [
+    Broken {
+        plan: b"[[trace]]\ngroup = 1\nwidth = 1\nbins = 1\nstart = 0\n",
+        line: b"ptu: plan breaks rule 13 at 1\n",
+    },
+    // Of two rules the lesser is named, though another trace breaks it.
+    Broken {
+        plan: b"[[group]]\ninputs = [0]\n\
+[[trace]]\ngroup = 1\nwidth = 0\nbins = 1\n[[trace]]\ngroup = 1\nwidth = 1\n",
+        line: b"ptu: plan breaks rule 13 at 2\n",
+    },
+    Broken {
+        plan: b"[[group]]\ninputs = [0]\n[[trace]]\ngroup = 2\nwidth = 1\nbins = 1\n",
+        line: b"ptu: plan breaks rule 14 at 1\n",
+    },
+    Broken {
+        plan: b"[[group]]\ninputs = [0]\n[[trace]]\ngroup = 1\nwidth = 0\nbins = 1\n",
+        line: b"ptu: plan breaks rule 14 at 1\n",
+    },
+    Broken {
+        plan: b"[[group]]\ninputs = [0]\n\
+[[trace]]\ngroup = 1\nwidth = 4611686018427387905\nbins = 1\n",
+        line: b"ptu: plan breaks rule 14 at 1\n",
+    },
+    Broken {
+        plan: b"[[group]]\ninputs = [0]\n\
+[[trace]]\ngroup = 1\norigin = -1\nwidth = 1\nbins = 1\n",
+        line: b"ptu: plan breaks rule 14 at 1\n",
+    },
+    Broken {
+        plan: b"[[group]]\ninputs = [0]\n\
+[[trace]]\ngroup = 1\norigin = 4611686018427387905\nwidth = 1\nbins = 1\n",
+        line: b"ptu: plan breaks rule 14 at 1\n",
+    },
+    Broken {
+        plan: b"[[group]]\ninputs = [0]\n[[trace]]\ngroup = 1\nwidth = 1\nbins = 1048576\n\
+[[trace]]\ngroup = 1\nwidth = 1\nbins = 1048577\n",
+        line: b"ptu: plan breaks rule 14 at 2\n",
+    },
+    // The rules of histograms come before those of traces.
+    Broken {
+        plan: b"[[group]]\ninputs = [0]\n[[trace]]\ngroup = 1\nwidth = 1\n\
+[[histogram]]\ngroup = 1\nwidth = 0\nbins = 1\n",
+        line: b"ptu: plan breaks rule 12 at 1\n",
+    },
+];
+
+const BROKEN_STARTSTOPS: [Broken; 8] = [
+    Broken {
+        plan: b"[[startstop]]\nstart = 1\nwidth = 1\nbins = 1\n",
+        line: b"ptu: plan breaks rule 15 at 1\n",
+    },
+    Broken {
+        plan: b"[[startstop]]\nstart = 1\nstop = 1\nwidth = 1\nbins = 1\norigin = 0\n",
+        line: b"ptu: plan breaks rule 15 at 1\n",
+    },
+    Broken {
+        plan: b"[[group]]\ninputs = [0]\n\
+[[startstop]]\nstart = 0\nstop = 1\nwidth = 1\nbins = 1\n",
+        line: b"ptu: plan breaks rule 16 at 1\n",
+    },
+    Broken {
+        plan: b"[[group]]\ninputs = [0]\n\
+[[startstop]]\nstart = 1\nstop = 2\nwidth = 1\nbins = 1\n",
+        line: b"ptu: plan breaks rule 16 at 1\n",
+    },
+    Broken {
+        plan: b"[[group]]\ninputs = [0]\n\
+[[startstop]]\nstart = 1\nstop = 1\nwidth = 0\nbins = 1\n",
+        line: b"ptu: plan breaks rule 16 at 1\n",
+    },
+    Broken {
+        plan: b"[[group]]\ninputs = [0]\n\
+[[startstop]]\nstart = 1\nstop = 1\nwidth = 4611686018427387905\nbins = 1\n",
+        line: b"ptu: plan breaks rule 16 at 1\n",
+    },
+    Broken {
+        plan: b"[[group]]\ninputs = [0]\n\
+[[startstop]]\nstart = 1\nstop = 1\nwidth = 1\nbins = 32768\n\
+[[startstop]]\nstart = 1\nstop = 1\nwidth = 1\nbins = 32769\n",
+        line: b"ptu: plan breaks rule 16 at 2\n",
+    },
+    // The rules of traces come before those of start-stop tables.
+    Broken {
+        plan: b"[[group]]\ninputs = [0]\n[[startstop]]\nstart = 1\n\
+[[trace]]\ngroup = 1\nwidth = 0\nbins = 1\n",
+        line: b"ptu: plan breaks rule 14 at 1\n",
+    },
+];
+
+/// Each of the plans is refused with its line.
+fn are_broken(rt: &impl Abort, alloc: Global, file: &[u8], plans: &[Broken]) -> Result<(), Fail> {
+    for row in plans {
+        is_refused(rt, alloc, row.plan, file, 8, row.line)?;
+    }
+    Ok(())
+}
+
+#[test]
+fn tables_that_break_a_rule(rt: HostRuntime) -> Result<(), Fail> {
+    let alloc = rt.alloc();
+    let file = short(alloc, 0x0101_0304, &[])?;
+    are_broken(&rt, alloc, file.as_slice(), &BROKEN_TRACES)?;
+    are_broken(&rt, alloc, file.as_slice(), &BROKEN_STARTSTOPS)
+}
+
 #[test]
 fn plans_that_break_a_rule(rt: HostRuntime) -> Result<(), Fail> {
     let alloc = rt.alloc();
     let file = short(alloc, 0x0101_0304, &[])?;
-    for row in &BROKEN {
-        is_refused(&rt, alloc, row.plan, file.as_slice(), 8, row.line)?;
-    }
+    are_broken(&rt, alloc, file.as_slice(), &BROKEN)?;
     is_refused(
         &rt,
         alloc,
@@ -100,13 +204,18 @@ fn plans_that_break_a_rule(rt: HostRuntime) -> Result<(), Fail> {
     )
 }
 
-/// A plan of so many groups.
-fn groups(alloc: Global, count: usize) -> Result<Vec<u8>, AllocError> {
+/// A plan of so many tables like this one.
+fn repeated(alloc: Global, table: &[u8], count: usize) -> Result<Vec<u8>, AllocError> {
     let mut plan = Vec::new(alloc);
     for _ in 0..count {
-        plan.extend_from_slice(b"[[group]]\ninputs = [0]\n")?;
+        plan.extend_from_slice(table)?;
     }
     Ok(plan)
+}
+
+/// A plan of so many groups.
+fn groups(alloc: Global, count: usize) -> Result<Vec<u8>, AllocError> {
+    repeated(alloc, b"[[group]]\ninputs = [0]\n", count)
 }
 
 #[test]
@@ -141,6 +250,34 @@ fn plans_of_too_much(rt: HostRuntime) -> Result<(), Fail> {
         8,
         b"ptu: plan breaks rule 7 at 1\n",
     )
+}
+
+/// So many tables without keys break a rule of tables, and one more is too many.
+#[test]
+fn plans_of_too_many_tables(rt: HostRuntime) -> Result<(), Fail> {
+    let alloc = rt.alloc();
+    let file = short(alloc, 0x0101_0304, &[])?;
+    let rows: [(&[u8], usize, &[u8], &[u8]); 2] = [
+        (
+            b"[[trace]]\n",
+            32,
+            b"ptu: plan breaks rule 13 at 1\n",
+            b"ptu: plan breaks rule 7 at 3\n",
+        ),
+        (
+            b"[[startstop]]\n",
+            16,
+            b"ptu: plan breaks rule 15 at 1\n",
+            b"ptu: plan breaks rule 7 at 4\n",
+        ),
+    ];
+    for (table, most, line, too_many) in rows {
+        let full = repeated(alloc, table, most)?;
+        is_refused(&rt, alloc, full.as_slice(), file.as_slice(), 8, line)?;
+        let more = repeated(alloc, table, most + 1)?;
+        is_refused(&rt, alloc, more.as_slice(), file.as_slice(), 8, too_many)?;
+    }
+    Ok(())
 }
 
 /// A plan, a record type, words of a file and bytes behind them, and what they are refused for.
@@ -261,15 +398,73 @@ const REFUSED: [Refused; 12] = [
     },
 ];
 
-#[test]
-fn files_that_do_not_suit_a_plan(rt: HostRuntime) -> Result<(), Fail> {
-    let alloc = rt.alloc();
-    for row in &REFUSED {
+const STARTSTOP: &[u8] = b"[[group]]\ninputs = [1]\n\
+[[startstop]]\nstart = 1\nstop = 1\nwidth = 1\nbins = 1\n";
+
+const GATE_AND_STARTSTOP: &[u8] = b"[[startstop]]\nstart = 1\nstop = 2\nwidth = 1\nbins = 1\n\
+[[group]]\ninputs = [1]\n[[group]]\ninputs = [2]\ngate = [0, 1]\n";
+
+const HISTOGRAM_AND_STARTSTOP: &[u8] = b"[[startstop]]\nstart = 1\nstop = 1\nwidth = 1\nbins = 1\n\
+[[histogram]]\ngroup = 1\nwidth = 1\nbins = 1\n[[group]]\ninputs = [1]\n";
+
+/// Plans with start-stop tables. What is behind the header is not looked at.
+const MISFITS: [Refused; 5] = [
+    Refused {
+        plan: STARTSTOP,
+        code: 0x0101_0304,
+        words: &[],
+        rest: b"",
+        status: 9,
+        line: b"ptu: startstop 1 does not suit T3\n",
+    },
+    Refused {
+        plan: GATE_AND_STARTSTOP,
+        code: 0x0101_0204,
+        words: &[],
+        rest: b"\x01",
+        status: 9,
+        line: b"ptu: gate 2 does not suit T2\n",
+    },
+    Refused {
+        plan: GATE_AND_STARTSTOP,
+        code: 0x0001_0303,
+        words: &[],
+        rest: b"\x01",
+        status: 9,
+        line: b"ptu: startstop 1 does not suit T3\n",
+    },
+    Refused {
+        plan: HISTOGRAM_AND_STARTSTOP,
+        code: 0x0101_0204,
+        words: &[1, 0],
+        rest: b"",
+        status: 9,
+        line: b"ptu: histogram 1 does not suit T2\n",
+    },
+    Refused {
+        plan: HISTOGRAM_AND_STARTSTOP,
+        code: 0x0101_0304,
+        words: &[1, 0],
+        rest: b"",
+        status: 9,
+        line: b"ptu: startstop 1 does not suit T3\n",
+    },
+];
+
+/// Each of the files is refused with its line.
+fn are_refused(rt: &impl Abort, alloc: Global, rows: &[Refused]) -> Result<(), Fail> {
+    for row in rows {
         let mut file = short(alloc, row.code, row.words)?;
         file.extend_from_slice(row.rest)?;
-        is_refused(&rt, alloc, row.plan, file.as_slice(), row.status, row.line)?;
+        is_refused(rt, alloc, row.plan, file.as_slice(), row.status, row.line)?;
     }
     Ok(())
+}
+
+#[test]
+fn files_that_do_not_suit_a_plan(rt: HostRuntime) -> Result<(), Fail> {
+    are_refused(&rt, rt.alloc(), &REFUSED)?;
+    are_refused(&rt, rt.alloc(), &MISFITS)
 }
 
 #[test]

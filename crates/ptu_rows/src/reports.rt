@@ -14,6 +14,10 @@ gate = [0, 4096]
 group = 1
 width = 64
 bins = 64
+[[trace]]
+group = 1
+width = 1024
+bins = 2
 ";
 
 pub(crate) const BENCH_REPORT: &[u8] = b"type HydraHarp2T3
@@ -31,6 +35,10 @@ last 2050
 histogram 1 width 64 bins 64
 1 2
 over 1
+trace 1 origin 0 width 1024 bins 2
+1 2
+before 0
+beyond 1
 ";
 
 /// The bench plan with a histogram of the second group, whose gate leaves out one of its two photons.
@@ -70,11 +78,11 @@ over 0
 ";
 
 /// A plan, a record type, words of a file, and the report.
-struct Row {
-    plan: &'static [u8],
-    code: u64,
-    words: &'static [u32],
-    text: &'static [u8],
+pub(crate) struct Row {
+    pub(crate) plan: &'static [u8],
+    pub(crate) code: u64,
+    pub(crate) words: &'static [u32],
+    pub(crate) text: &'static [u8],
 }
 
 /// Photons of channel 0 at sync 1 with the dtimes 0, 3, 4, 7 and 8.
@@ -325,24 +333,23 @@ pub(crate) fn reports(
     Ok(())
 }
 
-#[test]
-fn histograms(rt: HostRuntime) -> Result<(), Fail> {
-    let alloc = rt.alloc();
-    for row in &HISTOGRAMS {
+/// `run` with the plan of each row on its short file reports its text.
+pub(crate) fn report_each(rt: &impl Abort, alloc: Global, rows: &[Row]) -> Result<(), Fail> {
+    for row in rows {
         let file = short(alloc, row.code, row.words)?;
-        reports(&rt, alloc, row.plan, file.as_slice(), row.text)?;
+        reports(rt, alloc, row.plan, file.as_slice(), row.text)?;
     }
     Ok(())
 }
 
 #[test]
+fn histograms(rt: HostRuntime) -> Result<(), Fail> {
+    report_each(&rt, rt.alloc(), &HISTOGRAMS)
+}
+
+#[test]
 fn reports_without_parts(rt: HostRuntime) -> Result<(), Fail> {
-    let alloc = rt.alloc();
-    for row in &HEADS {
-        let file = short(alloc, row.code, row.words)?;
-        reports(&rt, alloc, row.plan, file.as_slice(), row.text)?;
-    }
-    Ok(())
+    report_each(&rt, rt.alloc(), &HEADS)
 }
 
 #[test]

@@ -1,4 +1,4 @@
-//! Laws of streams, each as the contract of a function that does nothing.
+// Laws of streams, each as the contract of a function that does nothing.
 ghost use Rattle.std.specs.Prelude.{◌≡◌, ℕ, List, length, None};
 ghost use Rattle.ptu_definitions.specs.Words.{words_of};
 ghost use Rattle.ptu_definitions.specs.Kept.{floor_of};

@@ -5,7 +5,7 @@ pub mod StepTexts
 pub mod Rows
 pub mod EventRows
 pub mod Putting
-pub mod Histograms
+pub mod TableTexts
 pub mod Tables
 pub mod Reports
 pub mod ReportRows

@@ -42,3 +42,10 @@ module _ {A : Type 0} (holds : A → Type 0) where
   cuts-front text whole a b held begins cut h is =
       let more = begins h in
       AppendsShort-same a b _ _ (append_assoc held (text h) more.0 ∙ ap (λ l. held ++ l) (sym more.1)) (AppendsShort-more a b (held ++ text h) more.0 (cut h is))
+
+  -- a text that is the same, whatever they stand for
+  pub puts-same : (text same : A → List ℕ) (a b : Option (List ℕ)) (held now : List ℕ) → ((h : A) → holds h → text h ≡ same h) → PutsText holds text a b held now → PutsText holds same a b held now
+  puts-same text same a b held now eq put h is = rw (← eq h is) (put h is)
+
+  pub cuts-same : (text same : A → List ℕ) (a b : Option (List ℕ)) (held : List ℕ) → ((h : A) → holds h → text h ≡ same h) → CutsText holds text a b held → CutsText holds same a b held
+  cuts-same text same a b held eq cut h is = rw (← eq h is) (cut h is)

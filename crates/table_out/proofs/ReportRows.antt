@@ -7,10 +7,11 @@ use Rattle.tally_base.specs.declared.event.EventKind.TheVariants.{Photon, Marker
 use Rattle.tally_base.specs.declared.header.Header.{Header}
 use Rattle.tally_base.specs.declared.header.RecordType.TheVariants.{HydraHarp2T3}
 use Rattle.tally_base.specs.Hexadecimal.{hexadecimal}
-use Rattle.tally_base.specs.Settings.PartSettings.{HistSettings}
+use Rattle.tally_base.specs.Settings.{PartSettings}
+use Rattle.tally_base.specs.Settings.PartSettings.{HistSettings, TraceSettings, StartStopSettings}
 use Rattle.tally_base.specs.Tally.{History}
 use Rattle.ptu_definitions.specs.declared.records.Summary.{Summary}
-use Rattle.table_out.specs.Report.{head_text, histogram_text, parts_text, report, with_events}
+use Rattle.table_out.specs.Report.{head_text, histogram_text, trace_text, startstop_text, parts_text, report, with_events}
 
 abbrev bench_header : Header
 bench_header = record { record_type = HydraHarp2T3; count = Some (pos 9); global = Some 0x3E6AD7F29ABCAF48; resolution = Some 0x3DC19799812DEA11; version = codes "1.0.00" ++ 0 ∷ 0 ∷ [] }
@@ -69,3 +70,37 @@ pub row-apart : parts_text ((HistSettings (record { group = 1; width = 4; bins =
     ≡ codes "histogram 1 width 4 bins 2\n0 2\n1 2\nover 1\nhistogram 2 width 4 bins 2\n1 1\nover 0\n"
 unfolding histogram_text digits
 row-apart = refl
+
+-- a photon of input 0 in group 1
+abbrev timed : ℕ → ℕ → Event × ℕ
+timed place time = (record { place = place; kind = Photon 0 0; time = time }, 1)
+
+-- a trace of two bins, from 100 on and below 120
+abbrev short_trace : PartSettings
+short_trace = TraceSettings (record { group = 1; origin = 100; width = 10; bins = 2 })
+
+-- The time 99 is before the origin, 100 and 109 are in the first bin, 110 in the second, 120 and 121 past it.
+pub row-trace : parts_text ((short_trace, timed 1 99 ∷ timed 2 100 ∷ timed 3 109 ∷ timed 4 110 ∷ timed 5 120 ∷ timed 6 121 ∷ []) ∷ [])
+    ≡ codes "trace 1 origin 100 width 10 bins 2\n0 2\n1 1\nbefore 1\nbeyond 2\n"
+unfolding trace_text digits
+row-trace = refl
+
+-- a start-stop table of two bins, from photons of group 1 to those of group 2
+abbrev short_startstop : PartSettings
+short_startstop = StartStopSettings (record { start = 1; stop = 2; width = 10; bins = 2 })
+
+-- a photon of input 1 in group 2
+abbrev stopping : ℕ → ℕ → Event × ℕ
+stopping place time = (record { place = place; kind = Photon 1 0; time = time }, 2)
+
+-- The intervals are 19 and 20 long; the last stop has no start.
+pub row-startstop : parts_text ((short_startstop, timed 1 100 ∷ stopping 2 119 ∷ timed 3 130 ∷ stopping 4 150 ∷ stopping 5 151 ∷ []) ∷ [])
+    ≡ codes "startstop 1 width 10 bins 2\n1 1\nover 1\n"
+unfolding startstop_text digits
+row-startstop = refl
+
+-- each kind has numbers of its own
+pub row-kinds : parts_text (with_events (HistSettings (record { group = 1; width = 4; bins = 2 }) ∷ short_trace ∷ short_trace ∷ short_startstop ∷ []) (timed 1 100 ∷ stopping 2 105 ∷ []))
+    ≡ codes "histogram 1 width 4 bins 2\n0 1\nover 0\ntrace 1 origin 100 width 10 bins 2\n0 1\nbefore 0\nbeyond 0\ntrace 2 origin 100 width 10 bins 2\n0 1\nbefore 0\nbeyond 0\nstartstop 1 width 10 bins 2\n0 1\nover 0\n"
+unfolding histogram_text trace_text startstop_text digits
+row-kinds = refl

@@ -4,24 +4,16 @@ use Rattle.std.specs.Prelude.{Bool, count_by, cond, fold}
 use Rattle.std.specs.declared.option.Option.{Option}
 use Rattle.std.proofs.lemmas.List.{take_all, take_more}
 use Rattle.std.proofs.lemmas.List.Elements.{All-head, All-tail}
-use borrow.Enum.Known.{ValuesAt}
-use borrow.Enum.Total.{values_d}
 use Rattle.tally_base.specs.Settings.{PartSettings}
 use Rattle.tally_base.specs.Tally.{History}
 use Rattle.ptu_definitions.specs.Prefixes.{each_after}
 use Rattle.ptu_definitions.proofs.PrefixLemmas.{each-push, each_after-append}
-use Rattle.tally_engine.specs.contracts.part.Part.{enum}
 use Rattle.tally_engine.specs.contracts.part.PartTally.TheImpl.{ghosts}
 use Rattle.tally_engine.specs.declared.part.Part.{Part}
-use Rattle.tally_engine.specs.declared.part.Part.TheVariants.{Hist as InHist}
 use Rattle.tally_engine.specs.Parts.{settings_in, AllHold}
 use Rattle.table_out.specs.Puts.{PutsText, CutsText}
 use Rattle.table_out.specs.Report.{Table, StandsFor, EachHolds, same_kind, part_text, table_text, parts_text, with_events}
 use Rattle.table_out.proofs.Putting.{puts-more, cuts-behind, cuts-front}
-
--- while there is one kind of tables, a match has no other case
-pub by_hist : (P : Part → Type 0) (otherwise : ValuesAt enum.parts 0) (p : Part) → P (InHist (values_d enum 0 otherwise p).0) → P p
-by_hist P otherwise (InHist t) h = h
 
 -- ## The tables, each with what it stands for
 

@@ -2,12 +2,7 @@
 use Rattle.std.specs.Prelude.{ℕ, List, ◌++◌}
 use Rattle.std.specs.declared.option.Option.{Option}
 use Rattle.bench_io.specs.Sinks.{AppendsShort, PassesOn}
-use Rattle.tally_base.specs.Settings.{hist_view}
-use Rattle.tally_base.specs.Tally.{History}
-use Rattle.tcspc_hist.specs.declared.hist.Hist.{Hist}
-use Rattle.tcspc_hist.specs.Counts.{in_bin, past_bins}
-use Rattle.tcspc_hist.specs.Hist.{set_of}
-use Rattle.table_out.specs.Report.{cells_text, histogram_text}
+use Rattle.table_out.specs.Report.{cells_text}
 
 -- For everything that the table or the tables may stand for, the text is put behind the bytes that the block held.
 abbrev pub PutsText : {A : Type 0} → (A → Type 0) → (A → List ℕ) → Option (List ℕ) → Option (List ℕ) → List ℕ → List ℕ → Type 0
@@ -17,10 +12,10 @@ PutsText {A} holds text old new held now = (h : A) → holds h → PassesOn old 
 abbrev pub CutsText : {A : Type 0} → (A → Type 0) → (A → List ℕ) → Option (List ℕ) → Option (List ℕ) → List ℕ → Type 0
 CutsText {A} holds text old new held = (h : A) → holds h → AppendsShort old new (held ++ text h)
 
--- the lines of the first cells of a histogram
-abbrev pub cells_of : Hist → ℕ → History → List ℕ
-cells_of t n h = cells_text (λ b. in_bin (hist_view (set_of t)) b h) n
+-- the lines of the first cells of a table, by their counts over what it stands for
+abbrev pub cells_of : {A : Type 0} → (ℕ → A → ℕ) → ℕ → A → List ℕ
+cells_of count size h = cells_text (λ cell. count cell h) size
 
--- the lines of a histogram
-abbrev pub text_of : ℕ → Hist → History → List ℕ
-text_of number t h = histogram_text number (hist_view (set_of t)) (λ b. in_bin (hist_view (set_of t)) b h) (past_bins (hist_view (set_of t)) h)
+-- the lines of a table: its first line, its cells, and its rest lines
+abbrev pub table_lines : {A : Type 0} → List ℕ → (ℕ → A → ℕ) → ℕ → List ℕ → A → List ℕ
+table_lines first count size rest h = first ++ cells_of count size h ++ rest

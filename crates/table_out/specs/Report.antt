@@ -1,13 +1,15 @@
 -- What the report of a run prints.
-use Rattle.std.specs.Prelude.{ℕ, zero, suc, ◌≡◌, ◌+◌, ◌==◌, Bool, true, List, [], ◌∷◌, ◌++◌, count_by, map, codes, decimal, if◌then◌else◌}
+use Rattle.std.specs.Prelude.{ℕ, zero, suc, ◌≡◌, ◌+◌, ◌==◌, Bool, List, [], ◌∷◌, ◌++◌, count_by, map, codes, decimal, if◌then◌else◌}
 use Rattle.tally_base.specs.declared.header.Header.{Header}
 use Rattle.tally_base.specs.RecordTypes.{name_of}
-use Rattle.tally_base.specs.Settings.{PartSettings, HistView}
-use Rattle.tally_base.specs.Settings.PartSettings.{HistSettings}
+use Rattle.tally_base.specs.Settings.{PartSettings, HistView, TraceView, StartStopView}
+use Rattle.tally_base.specs.Settings.PartSettings.{HistSettings, TraceSettings, StartStopSettings}
 use Rattle.tally_base.specs.Tally.{History}
 use Rattle.ptu_definitions.specs.declared.records.Summary.{Summary}
 use Rattle.ptu_definitions.specs.Prefixes.{each}
 use Rattle.tcspc_hist.specs.Counts.{in_bin, past_bins}
+use Rattle.count_trace.specs.Counts.{in_trace_bin, before_origin, past_trace}
+use Rattle.coincidence.specs.Intervals.{in_interval, past_intervals}
 use Rattle.tally_engine.specs.declared.part.Part.{Part}
 use Rattle.tally_engine.specs.contracts.part.PartTally.TheImpl.{ghosts}
 use Rattle.table_out.specs.Lines.{line, announced, bits_text, time_text}
@@ -44,12 +46,38 @@ histogram_line number set = codes "histogram " ++ decimal number ++ codes " widt
 unfoldable pub histogram_text : ℕ → HistView → (ℕ → ℕ) → ℕ → List ℕ
 histogram_text number set cell over = histogram_line number set ++ cells_text cell set.bins ++ line (codes "over") (decimal over)
 
+abbrev pub trace_line : ℕ → TraceView → List ℕ
+trace_line number set = codes "trace " ++ decimal number ++ codes " origin " ++ decimal set.origin ++ codes " width " ++ decimal set.width ++ codes " bins " ++ decimal set.bins ++ codes "\n"
+
+-- how much is before the first cell, and how much past the last
+abbrev pub outside_lines : ℕ → ℕ → List ℕ
+outside_lines before beyond = line (codes "before") (decimal before) ++ line (codes "beyond") (decimal beyond)
+
+-- a trace by its number, its settings, its cells, and how much is before the first and past the last of them
+unfoldable pub trace_text : ℕ → TraceView → (ℕ → ℕ) → ℕ → ℕ → List ℕ
+trace_text number set cell before beyond = trace_line number set ++ cells_text cell set.bins ++ outside_lines before beyond
+
+abbrev pub startstop_line : ℕ → StartStopView → List ℕ
+startstop_line number set = codes "startstop " ++ decimal number ++ codes " width " ++ decimal set.width ++ codes " bins " ++ decimal set.bins ++ codes "\n"
+
+-- a start-stop table by its number, its settings, its cells and how much is past the last of them
+unfoldable pub startstop_text : ℕ → StartStopView → (ℕ → ℕ) → ℕ → List ℕ
+startstop_text number set cell over = startstop_line number set ++ cells_text cell set.bins ++ line (codes "over") (decimal over)
+
+-- the place of a kind in the report
+abbrev pub kind_place : PartSettings → ℕ
+kind_place (HistSettings set) = 0
+kind_place (TraceSettings set) = 1
+kind_place (StartStopSettings set) = 2
+
 abbrev pub same_kind : PartSettings → PartSettings → Bool
-same_kind (HistSettings set) (HistSettings other) = true
+same_kind settings other = kind_place settings == kind_place other
 
 -- a table by its number and its settings, over the events that it was given
 abbrev pub part_text : ℕ → PartSettings → History → List ℕ
 part_text number (HistSettings set) h = histogram_text number set (λ b. in_bin set b h) (past_bins set h)
+part_text number (TraceSettings set) h = trace_text number set (λ b. in_trace_bin set b h) (before_origin set h) (past_trace set h)
+part_text number (StartStopSettings set) h = startstop_text number set (λ b. in_interval set b h) (past_intervals set h)
 
 -- a table's settings, with the events that it stands for
 abbrev pub Table : Type 0

@@ -1,17 +1,34 @@
 // The lines of a histogram.
-ghost use Rattle.std.specs.Prelude.{◌≡◌, ◌≤◌, OnOk, OnErr, codes, decimal};
+ghost use Rattle.std.specs.Prelude.{◌≡◌, ◌≤◌, OnOk, OnErr};
 ghost use Rattle.tally_base.specs.Counts.{HasCause};
 ghost use Rattle.tally_base.specs.Settings.{hist_view};
-ghost use Rattle.tcspc_hist.specs.Hist.{Holds, set_of};
-ghost use Rattle.table_out.specs.Lines.{line};
-ghost use Rattle.table_out.specs.Report.{cell_line, histogram_line};
-ghost use Rattle.table_out.specs.Puts.{PutsText, CutsText, cells_of, text_of};
+ghost use Rattle.table_out.specs.Report.{histogram_line, part_text};
+ghost use Rattle.table_out.specs.Puts.{PutsText, CutsText};
 
-use crate::line::put_count;
+use crate::cells::{Cells, over_line, put_table};
 use arrayvec::ArrayVec;
 use bench_io::{Block, Sink};
-use tally_base::{Failed, HistSet, put_decimal, put_text};
+use tally_base::{Failed, HistSet, Tally, put_decimal, put_text};
 use tcspc_hist::Hist;
+
+impl Cells for Hist {
+    ghost use Rattle.tcspc_hist.specs.Counts.{in_bin};
+    ghost use Rattle.tcspc_hist.specs.Hist.{Holds, set_of};
+
+    ghost holds = { Holds };
+
+    ghost size = { λ t. (set_of t).bins };
+
+    ghost count = { λ t at h. in_bin (hist_view (set_of t)) at h };
+
+    fn cell_count(&self) -> u32 {
+        self.set().bins
+    }
+
+    fn count_in(&self, at: u32) -> u64 {
+        self.cell(at)
+    }
+}
 
 /// The first line of a histogram.
 fn first_line(number: u64, set: &HistSet) -> ArrayVec<u8, 96>
@@ -28,45 +45,6 @@ fn first_line(number: u64, set: &HistSet) -> ArrayVec<u8, 96>
     line
 }
 
-/// The line of a cell. A cell that is 0 has none.
-fn cell_line(cell: u32, count: u64) -> ArrayVec<u8, 48>
-    ensures { result.items ≡ cell_line cell count }
-{
-    let mut line = ArrayVec::new();
-    if count > 0 {
-        put_decimal(&mut line, cell as u64);
-        put_text(&mut line, b" ");
-        put_decimal(&mut line, count);
-        put_text(&mut line, b"\n");
-    }
-    line
-}
-
-/// Puts the lines of the cells, in rising order.
-fn put_cells<O: Sink>(table: &Hist, block: &mut Block, out: &mut O) -> Result<(), Failed>
-    ensures all { OnOk result (PutsText (Holds table.now)
-        (cells_of table.now (set_of table.now).bins)
-        (O.written out.old) (O.written out.new) block.old block.new) }
-    ensures short { OnErr result (CutsText (Holds table.now)
-        (cells_of table.now (set_of table.now).bins)
-        (O.written out.old) (O.written out.new) block.old) }
-    ensures cause { HasCause (O.faults out.old) (O.faults out.new) result }
-{
-    for cell in 0..table.set().bins {
-        block.put(out, cell_line(cell, table.cell(cell)).as_slice())?;
-    }
-    Ok(())
-}
-
-/// The last line of a histogram.
-fn over_line(over: u64) -> ArrayVec<u8, 32>
-    ensures { result.items ≡ line (codes "over") (decimal over) }
-{
-    let mut line = ArrayVec::new();
-    put_count(&mut line, b"over", over);
-    line
-}
-
 /// Puts the lines of a histogram: its number and settings, its cells, and what is past the last of them.
 pub(crate) fn put_histogram<O: Sink>(
     number: u64,
@@ -74,13 +52,15 @@ pub(crate) fn put_histogram<O: Sink>(
     block: &mut Block,
     out: &mut O,
 ) -> Result<(), Failed>
-    ensures all { OnOk result (PutsText (Holds table.now) (text_of number table.now)
+    ensures all { OnOk result (PutsText (⟦<Hist as Tally>⟧.holds table.now)
+        (part_text number (⟦<Hist as Tally>⟧.settings table.now))
         (O.written out.old) (O.written out.new) block.old block.new) }
-    ensures short { OnErr result (CutsText (Holds table.now) (text_of number table.now)
+    ensures short { OnErr result (CutsText (⟦<Hist as Tally>⟧.holds table.now)
+        (part_text number (⟦<Hist as Tally>⟧.settings table.now))
         (O.written out.old) (O.written out.new) block.old) }
     ensures cause { HasCause (O.faults out.old) (O.faults out.new) result }
 {
-    block.put(out, first_line(number, table.set()).as_slice())?;
-    put_cells(table, block, out)?;
-    block.put(out, over_line(table.over()).as_slice())
+    let first = first_line(number, table.set());
+    let rest = over_line(table.over());
+    put_table(first.as_slice(), table, rest.as_slice(), block, out)
 }

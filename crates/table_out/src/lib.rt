@@ -2,6 +2,7 @@
 #![tactic(auto)]
 
 mod body;
+mod cells;
 mod event;
 mod head;
 mod histogram;
@@ -9,6 +10,8 @@ mod line;
 mod preamble;
 mod report;
 mod report_head;
+mod start_stop;
+mod trace;
 
 pub use body::BodyText;
 pub use event::event_line;

@@ -4,23 +4,34 @@ ghost use Rattle.std.specs.Io.KnownBytes.{Appends};
 ghost use Rattle.tally_base.specs.Counts.{HasCause};
 ghost use Rattle.bench_io.specs.Sinks.{AppendsShort};
 ghost use Rattle.tally_engine.specs.Parts.{settings_in, AllClosed};
-ghost use Rattle.table_out.specs.Report.{Table, EachHolds, same_kind, part_text, parts_text, report};
+ghost use Rattle.table_out.specs.Report.{Table, EachHolds, kind_place, same_kind, part_text, parts_text, report};
 ghost use Rattle.table_out.specs.Puts.{PutsText, CutsText};
 
 use crate::histogram::put_histogram;
 use crate::report_head::report_head;
+use crate::start_stop::put_startstop;
+use crate::trace::put_trace;
 use bench_io::{Block, Sink};
 use tally_base::{Failed, Fault, Tally};
 use tally_engine::{Part, Results};
+
+/// The place of a table's kind in the report.
+fn kind_place(part: &Part) -> u64
+    ensures { result ≡ kind_place (⟦<Part as Tally>⟧.settings part.now) }
+{
+    match part {
+        Part::Hist(_) => 0,
+        Part::Trace(_) => 1,
+        Part::StartStop(_) => 2,
+    }
+}
 
 /// Whether two tables are of one kind.
 fn same_kind(part: &Part, other: &Part) -> bool
     ensures { result ≡ same_kind (⟦<Part as Tally>⟧.settings part.now)
         (⟦<Part as Tally>⟧.settings other.now) }
 {
-    match (part, other) {
-        (Part::Hist(_), Part::Hist(_)) => true,
-    }
+    kind_place(part) == kind_place(other)
 }
 
 /// The place of a table among those of its kind, from 1. `before` has all tables before it.
@@ -49,6 +60,8 @@ fn put_part<O: Sink>(number: u64, part: &Part, block: &mut Block, out: &mut O) -
 {
     match part {
         Part::Hist(table) => put_histogram(number, table, block, out),
+        Part::Trace(table) => put_trace(number, table, block, out),
+        Part::StartStop(table) => put_startstop(number, table, block, out),
     }
 }
 

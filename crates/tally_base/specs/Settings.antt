@@ -3,6 +3,8 @@ use Rattle.std.specs.Prelude.{ℕ, ◌+◌, Bool, false}
 use Rattle.std.specs.declared.option.Option.{Option}
 use Rattle.tally_base.specs.declared.settings.Group.{Group}
 use Rattle.tally_base.specs.declared.settings.HistSet.{HistSet}
+use Rattle.tally_base.specs.declared.settings.TraceSet.{TraceSet}
+use Rattle.tally_base.specs.declared.settings.StartStopSet.{StartStopSet}
 
 pub record GroupView : Type 0 where
   -- bit n is set for the input n
@@ -15,20 +17,44 @@ pub record HistView : Type 0 where
   pub width : ℕ
   pub bins : ℕ
 
+pub record TraceView : Type 0 where
+  pub group : ℕ
+  pub origin : ℕ
+  pub width : ℕ
+  pub bins : ℕ
+
+pub record StartStopView : Type 0 where
+  pub start : ℕ
+  pub stop : ℕ
+  pub width : ℕ
+  pub bins : ℕ
+
 abbrev pub group_view : Group → GroupView
 group_view group = record { inputs = group.inputs; gate = group.gate }
 
 abbrev pub hist_view : HistSet → HistView
 hist_view set = record { group = set.group; width = set.width; bins = set.bins }
 
+abbrev pub trace_view : TraceSet → TraceView
+trace_view set = record { group = set.group; origin = set.origin; width = set.width; bins = set.bins }
+
+abbrev pub startstop_view : StartStopSet → StartStopView
+startstop_view set = record { start = set.start; stop = set.stop; width = set.width; bins = set.bins }
+
 -- the settings of a table of any kind
 pub data PartSettings : Type 0 where
   HistSettings : (set : HistView) → PartSettings
+  TraceSettings : (set : TraceView) → PartSettings
+  StartStopSettings : (set : StartStopView) → PartSettings
 
 -- The bound of a table: how many entries it keeps at most, cells, rest counts, ring entries and open bins.
 abbrev pub entries : PartSettings → ℕ
 entries (HistSettings set) = set.bins + 1
+entries (TraceSettings set) = set.bins + 3
+entries (StartStopSettings set) = set.bins + 2
 
 -- whether the times of markers may not fall in it either
 abbrev pub is_strict : PartSettings → Bool
 is_strict (HistSettings set) = false
+is_strict (TraceSettings set) = false
+is_strict (StartStopSettings set) = false

@@ -35,7 +35,7 @@ impl Event {
     }
 }
 
-/// Whether a group is among these groups, where bit g - 1 stands for group g.
+/// Whether a group, 1 to 64, is among these groups, where bit g - 1 stands for group g.
 pub fn is_in(groups: u64, group: u8) -> bool
     requires { (0 < group) × (group ≤ 64) }
     ensures { result ≡ is_in groups group }

@@ -5,12 +5,12 @@ ghost use Rattle.std.specs.Option.{ForSome};
 /// The photons of some inputs, and of a part of the dtimes.
 #[derive(Clone, Copy, Debug)]
 pub struct Group {
-    /// Bit n is set for the input n, 0 to 64.
+    /// Bit n is set for the input n, 0 to 64. There is at least one.
     pub inputs: u128,
     /// The dtimes of the group, in ticks, from the first on and below the second, which is at most
     /// 32,768. Without a gate every dtime is of the group.
     pub gate: Option<(u16, u16)>,
-    pub ghost few_inputs: { inputs < 2 ^ 65 },
+    pub ghost some_inputs: { (0 < inputs) × (inputs < 2 ^ 65) },
     pub ghost some_gate: { ForSome gate (λ g. (g.0 < g.1) × (g.1 ≤ 32768)) },
 }
 
@@ -123,11 +123,11 @@ pub struct CorrelationSet {
     pub ghost some_levels: { (0 < levels) × (levels ≤ 40) },
 }
 
-/// A group of no inputs, which fills unused room.
+/// The group of the input 0, which fills unused room.
 impl Default for Group {
     fn default() -> Group {
         Group {
-            inputs: 0,
+            inputs: 1,
             gate: None,
         }
     }
@@ -138,6 +138,30 @@ impl Default for HistSet {
     fn default() -> HistSet {
         HistSet {
             group: 1,
+            width: 1,
+            bins: 1,
+        }
+    }
+}
+
+/// The least trace, which fills unused room.
+impl Default for TraceSet {
+    fn default() -> TraceSet {
+        TraceSet {
+            group: 1,
+            origin: 0,
+            width: 1,
+            bins: 1,
+        }
+    }
+}
+
+/// The least table of times between photons, which fills unused room.
+impl Default for StartStopSet {
+    fn default() -> StartStopSet {
+        StartStopSet {
+            start: 1,
+            stop: 1,
             width: 1,
             bins: 1,
         }

@@ -28,9 +28,12 @@ pub trait Tally {
     /// What it was opened with. They say how many entries it keeps at most, and whether it is strict.
     ghost settings: { Self → PartSettings };
 
+    /// Nothing more comes.
     ghost closed: { Self → Bool };
 
-    /// Takes an event. Bit g - 1 of `groups` says that it is in group g.
+    /// Takes an event. Bit g - 1 of `groups` says that it is in group g. The table is open and was given
+    /// fewer than 2^40 events, the time is at most 2^62 + 2^28, and no photon, in a strict table no event,
+    /// comes at a smaller time than one before it.
     fn event<L: Ledger>(&mut self, e: &Event, groups: u64, steps: &mut Steps<L>)
         requires open { closed self.old ≡ false }
         requires room { taken self.old < 2 ^ 40 }

@@ -1,5 +1,4 @@
 pub mod Takes
-pub mod OfKinds
 pub mod Feeds
 pub mod Slices
 pub mod Refusals

@@ -1,5 +1,8 @@
 -- An engine of no bytes.
-use Rattle.std.proofs.Common.{◌≡◌, ◌+◌, ◌*◌, ℕ, List, [], false, None, Some, length, refl, ap, arith}
+use Rattle.std.proofs.Common.{◌≡◌, ◌<◌, ◌+◌, ◌*◌, ℕ, suc, take, get_or, List, [], ◌∷◌, ◌++◌, map, sym, ◌∙◌, append_assoc, false, None, Some, length, refl, ap, arith}
+use Rattle.std.proofs.Math.Seq.{take-suc}
+use Rattle.std.proofs.lemmas.List.{map-append}
+use Rattle.std.proofs.lemmas.List.Elements.{All-push}
 use Rattle.std.specs.declared.option.Option.{Option}
 use Rattle.tally_base.specs.declared.fault.Fault.{Fault}
 use Rattle.tally_base.specs.declared.header.Mode.{Mode}
@@ -11,12 +14,14 @@ use Rattle.ptu_definitions.specs.Times.{events}
 use Rattle.ptu_definitions.specs.Streams.{Reading, summary}
 use Rattle.abs_time.specs.declared.clock.Clock.{Clock}
 use Rattle.record_stream.specs.Standing.{Stands}
+use Rattle.coincidence.specs.Laws as startstop
+use Rattle.count_trace.specs.Laws as trace
 use Rattle.tcspc_hist.specs.Laws as hist
 use Rattle.tally_engine.specs.declared.part.Part.{Part}
 use Rattle.tally_engine.specs.contracts.part.PartTally.TheImpl.{ghosts}
 use Rattle.tally_engine.specs.Histories.{history}
 use Rattle.tally_engine.specs.Part.{for_each_kind}
-use Rattle.tally_engine.specs.Parts.{IsOpened}
+use Rattle.tally_engine.specs.Parts.{settings_in, IsOpened, AllOpened}
 use Rattle.tally_engine.specs.Taker.{Standing}
 
 pub history-none : (groups : List GroupView) (how : Reading) → history groups how [] ≡ []
@@ -31,16 +36,40 @@ none_taken how clock sum count carried (Some fault) stands none = cc
 -- ## What holds of a table of any kind
 
 part_taken : (p : Part) (h : History) → ghosts.holds p h → ghosts.taken p ≡ length h
-part_taken = for_each_kind _ hist.taken_is
+part_taken = for_each_kind _ hist.taken_is trace.taken_is startstop.taken_is
 
 part_floor : (p : Part) (h : History) → ghosts.holds p h → ghosts.floor p ≡ greatest_time (is_strict (ghosts.settings p)) h
-part_floor = for_each_kind _ hist.floor_is
+part_floor = for_each_kind _ hist.floor_is trace.floor_is startstop.floor_is
 
 part_loose : (p : Part) → is_strict (ghosts.settings p) ≡ false
-part_loose = for_each_kind _ (λ t. refl)
+part_loose = for_each_kind _ (λ t. refl) (λ t. refl) (λ t. refl)
 
 pub standing_first : (mode : Mode) (settings : PartSettings) (p : Part) → IsOpened settings p → Standing ghosts mode 0 0 p
 standing_first mode settings p opened =
     let none = part_taken p [] opened.empty in
     let early = part_floor p [] opened.empty in
     record { still_open = opened.opened; few = omega (arith, none); before = omega (arith, early); suits = λ is. part_loose p }
+
+-- ## Tables that are opened one behind the other
+
+settings_push : (items : List Part) (part : Part) → settings_in (items ++ part ∷ []) ≡ settings_in items ++ ghosts.settings part ∷ []
+settings_push items part = map-append ghosts.settings items (part ∷ [])
+
+mapped_push : {S V : Type 0} (kind : V → PartSettings) (view : S → V) (sets : List S) (set : S) → map kind (map view (sets ++ set ∷ [])) ≡ map kind (map view sets) ++ kind (view set) ∷ []
+mapped_push kind view sets set = ap (map kind) (map-append view sets (set ∷ [])) ∙ map-append kind (map view sets) (view set ∷ [])
+
+pub settings_more : {S V : Type 0} (kind : V → PartSettings) (view : S → V) (sets more : List S) (set : S) (front : List PartSettings) (items new : List Part) (part : Part) → more ≡ sets ++ set ∷ [] → new ≡ items ++ part ∷ []
+    → settings_in items ≡ front ++ map kind (map view sets) → ghosts.settings part ≡ kind (view set) → settings_in new ≡ front ++ map kind (map view more)
+settings_more kind view sets more set front items new part taken pushed so_far is =
+    ap settings_in pushed
+    ∙ settings_push items part
+    ∙ ap (λ l. l ++ ghosts.settings part ∷ []) so_far
+    ∙ append_assoc front (map kind (map view sets)) (ghosts.settings part ∷ [])
+    ∙ ap (λ l. front ++ l) (ap (λ x. map kind (map view sets) ++ x ∷ []) is ∙ sym (mapped_push kind view sets set) ∙ ap (λ l. map kind (map view l)) (sym taken))
+
+pub opened_more : (settings : PartSettings) (items new : List Part) (part : Part) → new ≡ items ++ part ∷ [] → IsOpened settings part → AllOpened items → AllOpened new
+opened_more settings items new part pushed opened all =
+    rw pushed (All-push (λ p. IsOpened (ghosts.settings p) p) items part all (record { settings_are = refl; empty = opened.empty; opened = opened.opened }))
+
+pub take_more : {S : Type 0} (sets : List S) (k : ℕ) (set d : S) → k < length sets → set ≡ get_or sets k d → take (k + 1) sets ≡ take k sets ++ set ∷ []
+take_more sets k set d within is = let more : k + 1 ≡ suc k = omega arith in rw (more, is) (take-suc sets k d within)

@@ -26,3 +26,7 @@ pub record IsOpened (settings : PartSettings) (p : Part) : Type 0 where
   pub settings_are : ghosts.settings p ≡ settings
   pub empty : ghosts.holds p []
   pub opened : ghosts.closed p ≡ false
+
+-- All tables were given nothing.
+abbrev pub AllOpened : List Part → Type 0
+AllOpened parts = All (λ p. IsOpened (ghosts.settings p) p) parts

@@ -1,14 +1,16 @@
 // A table of any kind.
-ghost use Rattle.std.specs.Prelude.{◌≡◌, All, IfOk};
-ghost use Rattle.tally_base.specs.Settings.{hist_view};
-ghost use Rattle.tally_base.specs.Settings.PartSettings.{HistSettings};
+ghost use Rattle.std.specs.Prelude.{◌≡◌, ◌++◌, All, map, IfOk, OnOk};
+ghost use Rattle.tally_base.specs.Settings.{hist_view, trace_view, startstop_view};
+ghost use Rattle.tally_base.specs.Settings.PartSettings.{HistSettings, TraceSettings, StartStopSettings};
 ghost use Rattle.plan_text.specs.Plan.{parts_of};
 ghost use Rattle.plan_text.specs.Reading.{plan_view};
 
+use coincidence::StartStop;
+use count_trace::Trace;
 use plan_text::Plan;
 use std::alloc::{AllocError, Global};
 use std::sync::ledger::Ledger;
-use tally_base::{Event, HistSet, Steps, Tally};
+use tally_base::{Event, HistSet, StartStopSet, Steps, Tally, TraceSet};
 use tcspc_hist::Hist;
 
 /// A table of any kind.
@@ -16,45 +18,61 @@ use tcspc_hist::Hist;
 pub enum Part {
     /// A histogram of dtimes.
     Hist(Hist),
+    /// A trace over the time of the file.
+    Trace(Trace),
+    /// A table of the times from a photon to the next.
+    StartStop(StartStop),
 }
 
 impl Tally for Part {
+    ghost use Rattle.coincidence.specs.Laws as startstop;
+    ghost use Rattle.count_trace.specs.Laws as trace;
     ghost use Rattle.tcspc_hist.specs.Laws as hist;
     ghost use Rattle.tally_engine.specs.Part.{by_kind, for_each_kind};
 
-    ghost holds = { by_kind ⟦<Hist as Tally>⟧.holds };
+    ghost holds = { by_kind ⟦<Hist as Tally>⟧.holds ⟦<Trace as Tally>⟧.holds
+        ⟦<StartStop as Tally>⟧.holds };
 
-    ghost taken = { by_kind ⟦<Hist as Tally>⟧.taken };
+    ghost taken = { by_kind ⟦<Hist as Tally>⟧.taken ⟦<Trace as Tally>⟧.taken
+        ⟦<StartStop as Tally>⟧.taken };
 
-    ghost floor = { by_kind ⟦<Hist as Tally>⟧.floor };
+    ghost floor = { by_kind ⟦<Hist as Tally>⟧.floor ⟦<Trace as Tally>⟧.floor
+        ⟦<StartStop as Tally>⟧.floor };
 
-    ghost held = { by_kind ⟦<Hist as Tally>⟧.held };
+    ghost held = { by_kind ⟦<Hist as Tally>⟧.held ⟦<Trace as Tally>⟧.held
+        ⟦<StartStop as Tally>⟧.held };
 
-    ghost settings = { by_kind ⟦<Hist as Tally>⟧.settings };
+    ghost settings = { by_kind ⟦<Hist as Tally>⟧.settings ⟦<Trace as Tally>⟧.settings
+        ⟦<StartStop as Tally>⟧.settings };
 
-    ghost closed = { by_kind ⟦<Hist as Tally>⟧.closed };
+    ghost closed = { by_kind ⟦<Hist as Tally>⟧.closed ⟦<Trace as Tally>⟧.closed
+        ⟦<StartStop as Tally>⟧.closed };
 
-    ghost taken_is = { for_each_kind _ hist.taken_is };
+    ghost taken_is = { for_each_kind _ hist.taken_is trace.taken_is startstop.taken_is };
 
-    ghost floor_is = { for_each_kind _ hist.floor_is };
+    ghost floor_is = { for_each_kind _ hist.floor_is trace.floor_is startstop.floor_is };
 
-    ghost within = { for_each_kind _ hist.within_bound };
+    ghost within = { for_each_kind _ hist.within_bound trace.within_bound startstop.within_bound };
 
     fn event<L: Ledger>(&mut self, e: &Event, groups: u64, steps: &mut Steps<L>) {
         match self {
             Part::Hist(t) => t.event(e, groups, steps),
+            Part::Trace(t) => t.event(e, groups, steps),
+            Part::StartStop(t) => t.event(e, groups, steps),
         }
     }
 
     fn close<L: Ledger>(&mut self, steps: &mut Steps<L>) {
         match self {
             Part::Hist(t) => t.close(steps),
+            Part::Trace(t) => t.close(steps),
+            Part::StartStop(t) => t.close(steps),
         }
     }
 }
 
 impl Part {
-    ghost use Rattle.tally_engine.specs.Parts.{settings_in, IsOpened};
+    ghost use Rattle.tally_engine.specs.Parts.{settings_in, IsOpened, AllOpened};
 
     /// A histogram of no events.
     fn open_hist(alloc: Global, set: HistSet) -> Result<Part, AllocError>
@@ -66,18 +84,84 @@ impl Part {
         }
     }
 
+    /// A trace of no events.
+    fn open_trace(alloc: Global, set: TraceSet) -> Result<Part, AllocError>
+        ensures opened { IfOk result (IsOpened (TraceSettings (trace_view set))) }
+    {
+        match Trace::open(alloc, set) {
+            Ok(table) => Ok(Part::Trace(table)),
+            Err(error) => Err(error),
+        }
+    }
+
+    /// A start-stop table of no events.
+    fn open_startstop(alloc: Global, set: StartStopSet) -> Result<Part, AllocError>
+        ensures opened { IfOk result (IsOpened (StartStopSettings (startstop_view set))) }
+    {
+        match StartStop::open(alloc, set) {
+            Ok(table) => Ok(Part::StartStop(table)),
+            Err(error) => Err(error),
+        }
+    }
+
+    /// Puts the histograms of a plan behind the tables that are there.
+    fn open_hists(alloc: Global, sets: &[HistSet], parts: &mut Vec<Part>) -> Result<(), AllocError>
+        ensures settings { OnOk result (settings_in parts.new.items ≡ settings_in parts.old.items
+            ++ map (λ set. HistSettings set) (map hist_view sets.now)) }
+        ensures opened { AllOpened parts.old.items → OnOk result (AllOpened parts.new.items) }
+    {
+        for set in sets {
+            let part = Part::open_hist(alloc, *set)?;
+            parts.push(part)?;
+        }
+        Ok(())
+    }
+
+    /// Puts the traces of a plan behind the tables that are there.
+    fn open_traces(
+        alloc: Global,
+        sets: &[TraceSet],
+        parts: &mut Vec<Part>,
+    ) -> Result<(), AllocError>
+        ensures settings { OnOk result (settings_in parts.new.items ≡ settings_in parts.old.items
+            ++ map (λ set. TraceSettings set) (map trace_view sets.now)) }
+        ensures opened { AllOpened parts.old.items → OnOk result (AllOpened parts.new.items) }
+    {
+        for set in sets {
+            let part = Part::open_trace(alloc, *set)?;
+            parts.push(part)?;
+        }
+        Ok(())
+    }
+
+    /// Puts the start-stop tables of a plan behind the tables that are there.
+    fn open_startstops(
+        alloc: Global,
+        sets: &[StartStopSet],
+        parts: &mut Vec<Part>,
+    ) -> Result<(), AllocError>
+        ensures settings { OnOk result (settings_in parts.new.items ≡ settings_in parts.old.items
+            ++ map (λ set. StartStopSettings set) (map startstop_view sets.now)) }
+        ensures opened { AllOpened parts.old.items → OnOk result (AllOpened parts.new.items) }
+    {
+        for set in sets {
+            let part = Part::open_startstop(alloc, *set)?;
+            parts.push(part)?;
+        }
+        Ok(())
+    }
+
     /// The tables of a plan, in the order of the report, which were given nothing.
     pub(crate) fn open_all(alloc: Global, plan: &Plan) -> Result<Vec<Part>, AllocError>
         ensures settings { IfOk result (λ parts.
             settings_in parts.items ≡ parts_of (plan_view plan.now)) }
-        ensures opened { IfOk result (λ parts.
-            All (λ p. IsOpened (⟦<Part as Tally>⟧.settings p) p) parts.items) }
+        ensures opened { IfOk result (λ parts. AllOpened parts.items) }
     {
-        let mut parts = Vec::with_capacity(alloc, plan.histograms.len())?;
-        for set in plan.histograms.as_slice() {
-            let part = Part::open_hist(alloc, *set)?;
-            parts.push(part)?;
-        }
+        let count = plan.histograms.len() + plan.traces.len() + plan.startstops.len();
+        let mut parts = Vec::with_capacity(alloc, count)?;
+        Part::open_hists(alloc, plan.histograms.as_slice(), &mut parts)?;
+        Part::open_traces(alloc, plan.traces.as_slice(), &mut parts)?;
+        Part::open_startstops(alloc, plan.startstops.as_slice(), &mut parts)?;
         Ok(parts)
     }
 }

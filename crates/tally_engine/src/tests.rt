@@ -2,12 +2,16 @@
 ghost use Rattle.std.specs.Prelude.{◌≡◌, ◌<◌, ◌≤◌, ◌^◌};
 
 use crate::{Engine, Part, Results};
+use coincidence::StartStop;
+use count_trace::Trace;
 use plan_text::{Plan, read_plan};
-use std::alloc::Global;
+use std::alloc::{AllocError, Global};
 use std::marker::Brand;
 use std::process::Abort;
 use std::sync::ledger::{Blank, Ledger};
+use std::test::Fail;
 use tally_base::{Fault, Header, Mode, PartKind, RecordType, Steps};
+use tcspc_hist::Hist;
 
 /// Two groups with a histogram each. The second group has a gate.
 const PLAN: &str = "limits.records = 10\n\
@@ -27,6 +31,29 @@ const WORDS: [u8; 40] = [
     0x02, 0x90, 0x01, 0x00, // input 0 at 2050, dtime 100
     0x01, 0x90, 0x01, 0x00, // input 0 at 2049, dtime 100: it is late
 ];
+
+/// A trace and a start-stop table.
+const TIMES_PLAN: &str = "startstop = [{ start = 1, stop = 2, width = 2, bins = 3 }]\n\
+trace = [{ group = 1, origin = 1, width = 5, bins = 2 }]\n\
+group = [{ inputs = [1] }, { inputs = [2] }]\n";
+
+/// A wrap between two rows of photons, a marker, and a late photon of the input 1.
+const TIMES: [u8; 40] = [
+    0x00, 0x00, 0x00, 0x00, // input 1 at 0, before the trace
+    0x05, 0x00, 0x00, 0x00, // input 1 at 5
+    0x07, 0x00, 0x00, 0x86, // marker 3 at 7
+    0x09, 0x00, 0x00, 0x02, // input 2 at 9, 4 behind a start
+    0x0A, 0x00, 0x00, 0x00, // input 1 at 10
+    0x01, 0x00, 0x00, 0xFE, // a wrap of 33554432
+    0x00, 0x00, 0x00, 0x02, // input 2 at 33554432, long behind a start
+    0x01, 0x00, 0x00, 0x00, // input 1 at 33554433
+    0x00, 0x00, 0x00, 0x00, // input 1 at 33554432: it is late
+    0x02, 0x00, 0x00, 0x02, // input 2 at 33554434, 1 behind a start
+];
+
+/// A histogram without a gate.
+const HISTOGRAM: &str =
+    "group = [{ inputs = [1] }]\nhistogram = [{ group = 1, width = 1, bins = 1 }]\n";
 
 /// What a plan counts over the bytes, in pieces of this length.
 fn run<L: Ledger>(
@@ -58,77 +85,156 @@ fn run<L: Ledger>(
     engine.finish(&mut steps)
 }
 
-/// Whether a histogram has these cells and this rest.
-fn counts(part: &Part, cells: &[u64], over: u64) -> bool {
-    let Part::Hist(hist) = part;
-    if hist.set().bins as usize != cells.len() {
-        return false;
-    }
+/// The cells of a histogram, and then what lies past them.
+fn hist_counts(alloc: Global, hist: &Hist) -> Result<Vec<u64>, AllocError> {
+    let mut counts = Vec::new(alloc);
     for at in 0..hist.set().bins {
-        if hist.cell(at) != cells[at as usize] {
-            return false;
-        }
+        counts.push(hist.cell(at))?;
     }
-    hist.over() == over
+    counts.push(hist.over())?;
+    Ok(counts)
 }
 
-#[test]
-fn a_file_in_pieces(rt: HostRuntime) {
-    let Ok(plan) = read_plan(rt.alloc(), PLAN.as_bytes()) else {
+/// The cells of a trace, and then what lies before them and past them.
+fn trace_counts(alloc: Global, trace: &Trace) -> Result<Vec<u64>, AllocError> {
+    let mut counts = Vec::new(alloc);
+    for at in 0..trace.set().bins {
+        counts.push(trace.cell(at))?;
+    }
+    counts.push(trace.before())?;
+    counts.push(trace.beyond())?;
+    Ok(counts)
+}
+
+/// The cells of a start-stop table, and then what lies past them.
+fn startstop_counts(alloc: Global, table: &StartStop) -> Result<Vec<u64>, AllocError> {
+    let mut counts = Vec::new(alloc);
+    for at in 0..table.set().bins {
+        counts.push(table.cell(at))?;
+    }
+    counts.push(table.over())?;
+    Ok(counts)
+}
+
+/// The cells of a table, and then its rest counts.
+fn counts(alloc: Global, part: &Part) -> Result<Vec<u64>, AllocError> {
+    match part {
+        Part::Hist(hist) => hist_counts(alloc, hist),
+        Part::Trace(trace) => trace_counts(alloc, trace),
+        Part::StartStop(table) => startstop_counts(alloc, table),
+    }
+}
+
+/// A plan, a record type and the bytes behind a header, and what is counted in two tables.
+#[derive(Clone, Copy)]
+struct Row<'a> {
+    plan: &'a str,
+    record_type: RecordType,
+    bytes: &'a [u8],
+    last: u64,
+    tables: [&'a [u64]; 2],
+}
+
+/// The ten records of a row, of which one is late, are counted alike in pieces of each length.
+fn a_file_in_pieces(rt: &impl Abort, alloc: Global, row: &Row) -> Result<(), Fail> {
+    let Ok(plan) = read_plan(alloc, row.plan.as_bytes()) else {
         assert!(rt; false, "the plan is read");
-        return;
+        return Ok(());
     };
-    let mut first = [0; 64];
-    first[1] = 2;
     for piece in [1, 3, 40] {
         let Ok(results) = run::<Brand>(
-            rt.alloc(),
+            alloc,
             Blank::new(1),
             &plan,
-            RecordType::HydraHarp2T3,
-            &WORDS,
+            row.record_type,
+            row.bytes,
             piece,
         ) else {
             assert!(rt; false, "pieces of {piece}");
-            return;
+            return Ok(());
         };
         assert_eq!(rt; results.header.count, Some(9));
         assert_eq!(rt; results.summary.records, 10);
         assert_eq!(rt; results.summary.late, 1);
-        assert_eq!(rt; results.summary.last, Some(2050));
+        assert_eq!(rt; results.summary.last, Some(row.last));
         assert_eq!(rt; results.parts.len(), 2);
-        let all = results.parts.len() == 2
-            && counts(&results.parts[0], &first, 1)
-            && counts(&results.parts[1], &[0, 0, 1], 0);
-        assert!(rt; all, "pieces of {piece}");
+        for (part, wanted) in results.parts.iter().zip(row.tables) {
+            assert_eq!(rt;
+                counts(alloc, part)?.as_slice(),
+                wanted,
+                "pieces of {piece}"
+            );
+        }
     }
+    Ok(())
+}
+
+#[test]
+fn files_in_pieces(rt: HostRuntime) -> Result<(), Fail> {
+    let mut first = [0; 65];
+    first[1] = 2;
+    first[64] = 1;
+    for row in [
+        Row {
+            plan: PLAN,
+            record_type: RecordType::HydraHarp2T3,
+            bytes: &WORDS,
+            last: 2050,
+            tables: [&first, &[0, 0, 1, 0]],
+        },
+        Row {
+            plan: TIMES_PLAN,
+            record_type: RecordType::HydraHarp2T2,
+            bytes: &TIMES,
+            last: 33_554_434,
+            tables: [&[1, 1, 1, 1], &[1, 0, 1, 1]],
+        },
+    ] {
+        a_file_in_pieces(&rt, rt.alloc(), &row)?;
+    }
+    Ok(())
 }
 
 #[test]
 fn refusals(rt: HostRuntime) {
-    let Ok(plan) = read_plan(rt.alloc(), PLAN.as_bytes()) else {
-        assert!(rt; false, "the plan is read");
-        return;
-    };
-    let gate = Fault::PlanMode {
-        kind: PartKind::Gate,
-        index: 2,
-        mode: Mode::T2,
-    };
+    let misfit = |kind, index, mode| Fault::PlanMode { kind, index, mode };
     let full: [u8; 44] = [0; 44];
-    for (record_type, bytes, fault) in [
-        (RecordType::HydraHarp2T2, &full[..4], gate),
+    for (text, record_type, bytes, fault) in [
         (
+            PLAN,
+            RecordType::HydraHarp2T2,
+            &full[..4],
+            misfit(PartKind::Gate, 2, Mode::T2),
+        ),
+        (
+            HISTOGRAM,
+            RecordType::HydraHarp2T2,
+            &full[..4],
+            misfit(PartKind::Histogram, 1, Mode::T2),
+        ),
+        (
+            TIMES_PLAN,
+            RecordType::HydraHarp2T3,
+            &full[..4],
+            misfit(PartKind::StartStop, 1, Mode::T3),
+        ),
+        (
+            PLAN,
             RecordType::HydraHarp2T3,
             &full[..],
             Fault::RecordLimit { limit: 10 },
         ),
         (
+            PLAN,
             RecordType::HydraHarp2T3,
             &full[..39],
             Fault::TruncatedRecord { bytes: 3 },
         ),
     ] {
+        let Ok(plan) = read_plan(rt.alloc(), text.as_bytes()) else {
+            assert!(rt; false, "the plan is read");
+            return;
+        };
         match run::<Brand>(rt.alloc(), Blank::new(1), &plan, record_type, bytes, 7) {
             Ok(_results) => assert!(rt; false, "{fault:?}"),
             Err(other) => assert_eq!(rt; other, fault),

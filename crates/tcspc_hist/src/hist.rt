@@ -29,7 +29,7 @@ impl Hist {
     ghost use Rattle.tcspc_hist.specs.Counts.{in_bin, past_bins};
     ghost use Rattle.tcspc_hist.specs.Hist.{Holds, set_of};
 
-    /// A histogram of no events, with all the memory that it ever takes.
+    /// A histogram of no events, with all the memory that it ever takes, or `AllocError` where it is wanting.
     pub fn open(alloc: Global, set: HistSet) -> Result<Hist, AllocError>
         ensures set { IfOk result (λ t. set_of t ≡ set) }
         ensures settings { IfOk result (λ t.
@@ -54,7 +54,8 @@ impl Hist {
         &self.set
     }
 
-    /// How many photons of the group came in bin `at`, of those that it was given so far.
+    /// How many photons of the group came in bin `at`, which is below the number of bins, of those that it
+    /// was given so far.
     pub fn cell(&self, at: u32) -> u64
         requires { at < (set_of self.now).bins }
         ensures { (h : History) → Holds self.now h
@@ -63,7 +64,7 @@ impl Hist {
         self.cells[at as usize]
     }
 
-    /// How many photons of the group came past the last bin.
+    /// How many photons of the group came at or past the end of the last bin.
     pub fn over(&self) -> u64
         ensures { (h : History) → Holds self.now h
             → result ≡ past_bins (hist_view (set_of self.now)) h }

@@ -11,6 +11,7 @@ use toml::Value;
 
 /// What a rule asks of each table of a list, in its document.
 pub trait ListRule {
+    /// Whether the table, the second, is as the rule says in the document, the first.
     ghost asks: { Data → Data → Bool };
 
     /// Whether the table is as the rule says.

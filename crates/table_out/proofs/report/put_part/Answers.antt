@@ -1,12 +1,19 @@
-use Rattle.std.proofs.Common.{OnOk, OnErr}
-use Rattle.tally_engine.specs.contracts.part.PartTally.TheImpl.{ghosts}
-use Rattle.table_out.specs.Report.{part_text}
-use Rattle.table_out.specs.Puts.{PutsText, CutsText}
-use Rattle.table_out.proofs.Tables.{by_hist}
 use Rattle.table_out.proofs.report.put_part.Goals as goal
 
-pub returns-clause-all : goal.returns-clause-all
-returns-clause-all g c = by_hist (λ p. OnOk c.put_histogram.result (PutsText (ghosts.holds p) (part_text c.args.number (ghosts.settings p)) (g.O.Sink.written c.args.out.now) (g.O.Sink.written c.put_histogram.new.out) c.args.block.now c.put_histogram.new.block)) _ c.args.part.now c.put_histogram.ensures.all
+pub returns-in-Hist-clause-all : goal.returns-in-Hist-clause-all
+returns-in-Hist-clause-all g c = rw c.in-Hist.is c.put_histogram.ensures.all
 
-pub returns-clause-short : goal.returns-clause-short
-returns-clause-short g c = by_hist (λ p. OnErr c.put_histogram.result (CutsText (ghosts.holds p) (part_text c.args.number (ghosts.settings p)) (g.O.Sink.written c.args.out.now) (g.O.Sink.written c.put_histogram.new.out) c.args.block.now)) _ c.args.part.now c.put_histogram.ensures.short
+pub returns-in-Hist-clause-short : goal.returns-in-Hist-clause-short
+returns-in-Hist-clause-short g c = rw c.in-Hist.is c.put_histogram.ensures.short
+
+pub returns-in-Trace-clause-all : goal.returns-in-Trace-clause-all
+returns-in-Trace-clause-all g c = rw c.in-Trace.is c.put_trace.ensures.all
+
+pub returns-in-Trace-clause-short : goal.returns-in-Trace-clause-short
+returns-in-Trace-clause-short g c = rw c.in-Trace.is c.put_trace.ensures.short
+
+pub returns-in-StartStop-clause-all : goal.returns-in-StartStop-clause-all
+returns-in-StartStop-clause-all g c = rw c.in-StartStop.is c.put_startstop.ensures.all
+
+pub returns-in-StartStop-clause-short : goal.returns-in-StartStop-clause-short
+returns-in-StartStop-clause-short g c = rw c.in-StartStop.is c.put_startstop.ensures.short

@@ -1,6 +1,10 @@
-use Rattle.tcspc_hist.specs.Hist.{Holds}
-use Rattle.tally_engine.proofs.OfKinds.{of_hist, is_hist}
 use Rattle.tally_engine.proofs.part.PartTally.event.Goals as goal
 
-pub returns-clause-follows : goal.returns-clause-follows
-returns-clause-follows g c = λ h is. rw (is_hist c.args.self.now).1 (c.event.ensures.follows h (of_hist Holds _ c.args.self.now h is))
+pub returns-in-Hist-clause-follows : goal.returns-in-Hist-clause-follows
+returns-in-Hist-clause-follows g c = λ h is. c.event.ensures.follows h (rw c.in-Hist.is at is)
+
+pub returns-in-Trace-clause-follows : goal.returns-in-Trace-clause-follows
+returns-in-Trace-clause-follows g c = λ h is. c.event-in-Trace.ensures.follows h (rw c.in-Trace.is at is)
+
+pub returns-in-StartStop-clause-follows : goal.returns-in-StartStop-clause-follows
+returns-in-StartStop-clause-follows g c = λ h is. c.event-in-StartStop.ensures.follows h (rw c.in-StartStop.is at is)

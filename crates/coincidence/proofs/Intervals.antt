@@ -1,0 +1,97 @@
+-- One more photon, and the intervals.
+use Rattle.std.proofs.Common.{◌≡◌, ◌∙◌, ℕ, ◌+◌, ◌-◌, Bool, true, false, ◌&&◌, ◌||◌, cond, List, [], ◌∷◌, ◌++◌, refl, ap, sym, arith}
+use Rattle.std.specs.declared.option.Option.{Option}
+use Rattle.std.specs.Prelude.{None, Some, count_by}
+use Rattle.std.specs.List.{filter, last_or}
+use Rattle.std.specs.Option.{option_map_or, option_and_then}
+use Rattle.std.proofs.lemmas.List.{append-nil}
+use Rattle.std.proofs.lemmas.List.Elements.{filter-append}
+use Rattle.tally_base.specs.declared.event.Event.{Event}
+use Rattle.tally_base.specs.Events.{is_photon, is_in}
+use Rattle.tally_base.specs.Settings.{StartStopView}
+use Rattle.tally_base.specs.Tally.{History}
+use Rattle.coincidence.specs.Intervals.{neighbours, is_of_either, photons_of_either, is_interval, count_intervals, start_of, open_start}
+use Rattle.coincidence.proofs.Neighbours.{last_or-push, count-neighbours-push}
+
+abbrev pub one_if : Bool → ℕ
+one_if test = cond test 1 0
+
+filter-push : {X : Type 0} (p : X → Bool) (xs : List X) (y : X) (b : Bool) → p y ≡ b → filter p (xs ++ y ∷ []) ≡ filter p xs ++ cond b (y ∷ []) []
+filter-push p xs y b is = filter-append p xs (y ∷ []) ∙ ap (λ b. filter p xs ++ cond b (y ∷ []) []) is
+
+of_either : (photon starts stops : Bool) → photon ≡ true → (photon && (starts || stops)) ≡ (starts || stops)
+of_either photon starts stops is = ap (λ b. b && (starts || stops)) is
+
+-- How many intervals a photon at `time` ends, if it stops: one where a start is open, and the time since then passes the test.
+abbrev pub ends : (ℕ → Bool) → ℕ → Bool → Option ℕ → ℕ
+ends test time stops start = option_map_or (λ since. one_if (stops && test (time - since))) start 0
+
+pub one-start : (starts : Bool) (counts : ℕ → Bool) (time : ℕ) → one_if (starts && counts time) ≡ option_map_or (λ start. one_if (counts start)) (cond starts (Some time) None) 0
+one-start true counts time = refl
+one-start false counts time = refl
+
+-- the last photon and the one that comes
+last-and-next : (set : StartStopView) (test : ℕ → Bool) (last : Option (Event × ℕ)) (x : Event × ℕ) → option_map_or (λ y. one_if (is_interval set test (y, x))) last 0 ≡ ends test x.0.time (is_in x.1 set.stop) (option_and_then (start_of set) last)
+last-and-next set test None x = refl
+last-and-next set test (Some y) x = one-start (is_in y.1 set.start) (λ start. is_in x.1 set.stop && test (x.0.time - start)) y.0.time
+
+ends-none : (test : ℕ → Bool) (time : ℕ) (start : Option ℕ) → ends test time false start ≡ 0
+ends-none test time None = refl
+ends-none test time (Some since) = refl
+
+count-by_groups : (set : StartStopView) (test : ℕ → Bool) (h : History) (x : Event × ℕ) (either : Bool) → is_of_either set x ≡ either → count_intervals set test (h ++ x ∷ []) ≡ count_intervals set test h + cond either (ends test x.0.time (is_in x.1 set.stop) (open_start set h)) 0
+count-by_groups set test h x true is =
+    let kept = photons_of_either set h in
+    ap (λ xs. count_by (is_interval set test) (neighbours xs)) (filter-push (is_of_either set) h x true is)
+    ∙ (count-neighbours-push (is_interval set test) kept x
+    ∙ ap (λ n. count_intervals set test h + n) (last-and-next set test (last_or None kept) x))
+count-by_groups set test h x false is =
+    let same = ap (λ xs. count_by (is_interval set test) (neighbours xs)) (filter-push (is_of_either set) h x false is ∙ append-nil (photons_of_either set h)) in
+    omega (arith, same)
+
+either-ends : (test : ℕ → Bool) (time : ℕ) (starts stops : Bool) (start : Option ℕ) → cond (starts || stops) (ends test time stops start) 0 ≡ ends test time stops start
+either-ends test time true stops start = refl
+either-ends test time false true start = refl
+either-ends test time false false start = sym (ends-none test time start)
+
+-- A photon ends the open interval, if it stops.
+pub count-photon : (set : StartStopView) (test : ℕ → Bool) (h : History) (x : Event × ℕ) (stops : Bool) (start : Option ℕ) → is_photon x.0 ≡ true → is_in x.1 set.stop ≡ stops → open_start set h ≡ start → count_intervals set test (h ++ x ∷ []) ≡ count_intervals set test h + ends test x.0.time stops start
+count-photon set test h x stops start photon stops-is start-is =
+    let either = is_in x.1 set.start || is_in x.1 set.stop in
+    let counted = count-by_groups set test h x either (of_either (is_photon x.0) (is_in x.1 set.start) (is_in x.1 set.stop) photon) in
+    let added = either-ends test x.0.time (is_in x.1 set.start) (is_in x.1 set.stop) (open_start set h) in
+    let known = ap (λ stops. ends test x.0.time stops (open_start set h)) stops-is ∙ ap (ends test x.0.time stops) start-is in
+    counted ∙ ap (λ n. count_intervals set test h + n) (added ∙ known)
+
+-- A photon ends no interval where no start is open.
+pub count-unstarted : (set : StartStopView) (test : ℕ → Bool) (h : History) (x : Event × ℕ) → is_photon x.0 ≡ true → open_start set h ≡ None → count_intervals set test (h ++ x ∷ []) ≡ count_intervals set test h
+count-unstarted set test h x photon none =
+    let counted = count-photon set test h x (is_in x.1 set.stop) None photon refl none in
+    omega (arith, counted)
+
+-- A photon that doesn't stop ends none.
+pub count-passing : (set : StartStopView) (test : ℕ → Bool) (h : History) (x : Event × ℕ) → is_photon x.0 ≡ true → is_in x.1 set.stop ≡ false → count_intervals set test (h ++ x ∷ []) ≡ count_intervals set test h
+count-passing set test h x photon passes =
+    let counted = count-photon set test h x false (open_start set h) photon passes refl in
+    let none = ends-none test x.0.time (open_start set h) in
+    omega (arith, counted, none)
+
+start-by_groups : (set : StartStopView) (h : History) (x : Event × ℕ) (either : Bool) → is_of_either set x ≡ either → open_start set (h ++ x ∷ []) ≡ cond either (start_of set x) (open_start set h)
+start-by_groups set h x true is =
+    ap (λ xs. option_and_then (start_of set) (last_or None xs)) (filter-push (is_of_either set) h x true is)
+    ∙ ap (option_and_then (start_of set)) (last_or-push None (photons_of_either set h) x)
+start-by_groups set h x false is =
+    ap (λ xs. option_and_then (start_of set) (last_or None xs)) (filter-push (is_of_either set) h x false is ∙ append-nil (photons_of_either set h))
+
+either-starts : (starts stops : Bool) (time start : Option ℕ) → cond (starts || stops) (cond starts time None) start ≡ cond starts time (cond stops None start)
+either-starts true stops time start = refl
+either-starts false true time start = refl
+either-starts false false time start = refl
+
+-- Its own start is open from then on. Where it only stops, none is.
+pub start-photon : (set : StartStopView) (h : History) (x : Event × ℕ) (starts stops : Bool) (start : Option ℕ) → is_photon x.0 ≡ true → is_in x.1 set.start ≡ starts → is_in x.1 set.stop ≡ stops → open_start set h ≡ start → open_start set (h ++ x ∷ []) ≡ cond starts (Some x.0.time) (cond stops None start)
+start-photon set h x starts stops start photon starts-is stops-is start-is =
+    let either = is_in x.1 set.start || is_in x.1 set.stop in
+    let opened = start-by_groups set h x either (of_either (is_photon x.0) (is_in x.1 set.start) (is_in x.1 set.stop) photon) in
+    let kept = either-starts (is_in x.1 set.start) (is_in x.1 set.stop) (Some x.0.time) (open_start set h) in
+    opened ∙ (kept ∙ grind (arith, starts-is, stops-is, start-is))

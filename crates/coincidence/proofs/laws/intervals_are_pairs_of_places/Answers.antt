@@ -1,0 +1,5 @@
+use Rattle.coincidence.proofs.Places.{intervals-are-pairs}
+use Rattle.coincidence.proofs.laws.intervals_are_pairs_of_places.Goals as goal
+
+pub returns : goal.returns
+returns c = intervals-are-pairs

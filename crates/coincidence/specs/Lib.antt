@@ -1,0 +1,4 @@
+pub mod Intervals
+pub mod StartStop
+pub mod Laws
+pub mod Places

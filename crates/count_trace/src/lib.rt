@@ -1,0 +1,10 @@
+//! The count trace: how many photons of a group came in each bin of the time of the file.
+#![tactic(auto)]
+
+mod bin;
+mod trace;
+
+pub use trace::Trace;
+
+#[cfg(test)]
+mod tests;

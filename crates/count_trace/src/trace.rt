@@ -1,0 +1,140 @@
+// A trace of photons over the time of the file.
+ghost use Rattle.std.specs.Prelude.{◌≡◌, ◌+◌, ◌*◌, ◌≤◌, vec_len, sum};
+ghost use Rattle.tally_base.specs.Tally.{History};
+
+use crate::bin::Bin;
+use std::alloc::{AllocError, Global};
+use std::sync::ledger::Ledger;
+use tally_base::{Event, EventKind, Steps, Tally, TraceSet, is_in};
+
+/// Counts the photons of a group by their times, in ticks in T2 and sync periods in T3.
+///
+/// Bin b counts the times from `origin + b * width` on and below `origin + (b + 1) * width`. What comes
+/// before the origin is counted in one number, `before`, and what comes past the last bin in another,
+/// `beyond`.
+#[derive(Drop)]
+pub struct Trace {
+    set: TraceSet,
+    cells: Vec<u64>,
+    before: u64,
+    beyond: u64,
+    kept: Bin,
+    taken: u64,
+    floor: u64,
+    closed: bool,
+    ghost sized: { vec_len cells ≡ set.bins },
+    ghost small: { sum cells.items + before + beyond ≤ taken },
+    ghost edge: { kept.low ≡ set.origin + kept.index * set.width },
+}
+
+impl Trace {
+    ghost use Rattle.std.specs.Prelude.{◌≡◌, ◌<◌, IfOk, [], false};
+    ghost use Rattle.tally_base.specs.Settings.{trace_view};
+    ghost use Rattle.tally_base.specs.Settings.PartSettings.{TraceSettings};
+    ghost use Rattle.count_trace.specs.Counts.{in_trace_bin, before_origin, past_trace};
+    ghost use Rattle.count_trace.specs.Trace.{Holds, set_of};
+
+    /// A trace of no events, with all the memory that it ever takes, or `AllocError` where it is wanting.
+    pub fn open(alloc: Global, set: TraceSet) -> Result<Trace, AllocError>
+        ensures set { IfOk result (λ t. set_of t ≡ set) }
+        ensures settings { IfOk result (λ t.
+            ⟦<Trace as Tally>⟧.settings t ≡ TraceSettings (trace_view set)) }
+        ensures empty { IfOk result (λ t. Holds t []) }
+        ensures opened { IfOk result (λ t. ⟦<Trace as Tally>⟧.closed t ≡ false) }
+    {
+        Ok(Trace {
+            set,
+            cells: vec![in alloc; 0; set.bins as usize]?,
+            before: 0,
+            beyond: 0,
+            kept: Bin {
+                index: 0,
+                low: set.origin,
+            },
+            taken: 0,
+            floor: 0,
+            closed: false,
+        })
+    }
+
+    /// What it was opened with.
+    pub fn set(&self) -> &TraceSet
+        ensures { result.now ≡ set_of self.now }
+    {
+        &self.set
+    }
+
+    /// How many photons of the group came in bin `at`, which is below the number of bins, of those that it
+    /// was given so far.
+    pub fn cell(&self, at: u32) -> u64
+        requires { at < (set_of self.now).bins }
+        ensures { (h : History) → Holds self.now h
+            → result ≡ in_trace_bin (trace_view (set_of self.now)) at h }
+    {
+        self.cells[at as usize]
+    }
+
+    /// How many photons of the group came before the origin.
+    pub fn before(&self) -> u64
+        ensures { (h : History) → Holds self.now h
+            → result ≡ before_origin (trace_view (set_of self.now)) h }
+    {
+        self.before
+    }
+
+    /// How many photons of the group came at or past the end of the last bin.
+    pub fn beyond(&self) -> u64
+        ensures { (h : History) → Holds self.now h
+            → result ≡ past_trace (trace_view (set_of self.now)) h }
+    {
+        self.beyond
+    }
+}
+
+impl Tally for Trace {
+    ghost use Rattle.std.specs.Prelude.{◌+◌, length};
+    ghost use Rattle.count_trace.specs.Trace.{Holds, settings};
+    ghost use Rattle.count_trace.specs.Laws.{taken_is, floor_is, within_bound};
+
+    ghost holds = { Holds };
+
+    ghost taken = { λ t. t.taken };
+
+    ghost floor = { λ t. t.floor };
+
+    // The bin of the last photon is an entry, beside the cells and the two rest counts.
+    ghost held = { λ t. length t.cells.items + 3 };
+
+    ghost settings = { settings };
+
+    ghost closed = { λ t. t.closed };
+
+    ghost taken_is = { taken_is };
+
+    ghost floor_is = { floor_is };
+
+    ghost within = { within_bound };
+
+    fn event<L: Ledger>(&mut self, e: &Event, groups: u64, _steps: &mut Steps<L>) {
+        self.taken += 1;
+        if e.is_photon() {
+            self.floor = e.time;
+            if is_in(groups, self.set.group) {
+                if e.time < self.set.origin {
+                    self.before += 1;
+                } else {
+                    self.kept = Bin::of(&self.set, self.kept, e.time);
+                    if self.kept.index < u64::from(self.set.bins) {
+                        self.cells[self.kept.index as usize] += 1;
+                    } else {
+                        self.beyond += 1;
+                    }
+                }
+            }
+        }
+    }
+
+    fn close<L: Ledger>(&mut self, _steps: &mut Steps<L>) {
+        self.closed = true;
+    }
+}
