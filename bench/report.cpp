@@ -1,8 +1,15 @@
-// Counts the photons of a PTU file of type HydraHarp2T3 by groups, and prints the report, as 'ptu run'
-// does: report FILE [INPUTS FROM TO WIDTH BINS ..]
+// Counts the photons of a PTU file of type HydraHarp2T3 or HydraHarp2T2 by groups, and prints the report,
+// as 'ptu run' does: report FILE [PART ..]
 //
-// Each five words are a group and a histogram of it, in place of a plan: bit n of INPUTS stands for input
-// n, the gate holds the dtimes from FROM on that are less than TO, and there are BINS bins of WIDTH ticks.
+// Each PART is some words, in place of a table of a plan:
+//
+//   group INPUTS FROM TO            bit n of INPUTS stands for input n, up to 63; the gate holds the dtimes
+//                                   from FROM on that are less than TO
+//   histogram GROUP WIDTH BINS      GROUP, START and STOP are groups by their numbers, from 1
+//   trace GROUP ORIGIN WIDTH BINS
+//   startstop START STOP WIDTH BINS
+//
+// As in a plan, histograms need dtimes (T3), and start-stops the times of T2; that isn't looked at here.
 //
 // It is what a C++ programmer would write in an hour, to have something to measure ptu against. It
 // reads 8,192 bytes at a time, and writes 65,536 bytes at a time.
@@ -11,6 +18,7 @@
 #include <cstdio>
 #include <cstdlib>
 #include <fcntl.h>
+#include <string>
 #include <vector>
 
 struct Group {
@@ -19,32 +27,63 @@ struct Group {
     uint32_t to;
 
     bool takes(const Record &photon) const {
-        return (inputs >> photon.number & 1) != 0 && from <= photon.dtime && photon.dtime < to;
+        return photon.number < 64 && (inputs >> photon.number & 1) != 0 && from <= photon.dtime &&
+               photon.dtime < to;
     }
 };
 
-struct Histogram {
-    uint32_t group; // from 0
-    uint32_t width;
+// `group` is a bit of the groups of a photon, from 0.
+static bool is_in(uint64_t groups, uint32_t group) { return (groups >> group & 1) != 0; }
+
+enum class TableKind { Histogram, Trace, StartStop };
+
+// A table of any kind; one list of them costs less than a list for each kind.
+struct Table {
+    TableKind kind;
+    uint32_t group; // the start group of a start-stop
+    uint32_t stop;
+    uint64_t origin;
+    uint64_t width;
     std::vector<uint64_t> cells;
-    uint64_t over = 0;
+    uint64_t before = 0;
+    uint64_t beyond = 0;  // past the last cell
+    bool started = false; // of a start-stop: the last photon of either group is in the start group
+    uint64_t since = 0;   // its time
 
-    Histogram(uint32_t group, uint32_t width, uint32_t bins) : group(group), width(width), cells(bins) {}
-
-    void take(const Record &photon, uint64_t groups) {
-        if ((groups >> group & 1) == 0)
-            return;
-        const uint32_t bin = photon.dtime / width;
-        if (bin < cells.size())
-            cells[bin]++;
+    void add(uint64_t cell) {
+        if (cell < cells.size())
+            cells[cell]++;
         else
-            over++;
+            beyond++;
+    }
+
+    void take_start_stop(uint64_t time, uint64_t groups) {
+        const bool starts = is_in(groups, group), stops = is_in(groups, stop);
+        if (stops && started)
+            add((time - since) / width);
+        if (starts || stops) {
+            started = starts;
+            since = time;
+        }
+    }
+
+    void take(const Record &photon, uint64_t time, uint64_t groups) {
+        if (kind == TableKind::StartStop)
+            return take_start_stop(time, groups);
+        if (!is_in(groups, group))
+            return;
+        if (kind == TableKind::Histogram)
+            add(photon.dtime / static_cast<uint32_t>(width));
+        else if (time < origin)
+            before++;
+        else
+            add((time - origin) / width);
     }
 };
 
 struct Plan {
     std::vector<Group> groups;
-    std::vector<Histogram> histograms;
+    std::vector<Table> tables;
 
     // Bit g is set for group g, from 0.
     uint64_t groups_of(const Record &photon) const {
@@ -52,6 +91,13 @@ struct Plan {
         for (size_t at = 0; at < groups.size(); at++)
             bits |= uint64_t(groups[at].takes(photon)) << at;
         return bits;
+    }
+
+    // It is made part of the loop over the words: there are two of these, so g++ would make it a call.
+    [[gnu::always_inline]] void take(const Record &photon, uint64_t time) {
+        const uint64_t bits = groups_of(photon);
+        for (Table &table : tables)
+            table.take(photon, time, bits);
     }
 };
 
@@ -67,10 +113,15 @@ struct Summary {
     uint64_t last = 0;
 };
 
-using Layout = HydraT3<false>;
+// How far the times of a file have come.
+struct Clock {
+    uint64_t base = 0;     // the sum of the wraps so far
+    uint64_t greatest = 0; // the greatest time of those that must come in order
+};
 
-// Counts some words, and gives the status. `base` is the sum of the wraps before them.
-static int count_words(const unsigned char *bytes, size_t words, uint64_t &base, Summary &sums, Plan &plan) {
+// Counts some words, and gives the status.
+template <class Layout>
+static int count_words(const unsigned char *bytes, size_t words, Clock &clock, Summary &sums, Plan &plan) {
     for (size_t at = 0; at < words; at++) {
         if (sums.records == MOST_RECORDS)
             return 20;
@@ -81,31 +132,37 @@ static int count_words(const unsigned char *bytes, size_t words, uint64_t &base,
             continue;
         }
         if (record.kind == Kind::Wrap) {
-            if (record.amount > GREATEST_BASE - base)
+            if (record.amount > GREATEST_BASE - clock.base)
                 return 21;
-            base += record.amount;
+            clock.base += record.amount;
             sums.wraps++;
             continue;
         }
         const bool photon = record.kind == Kind::Photon;
         (photon ? sums.photons : sums.markers)++;
-        const uint64_t time = base + record.time;
+        const uint64_t time = clock.base + record.time;
         // Photons and markers are in order in T3, so the last time is the greatest.
-        if (time < sums.last) {
+        if (Layout::MARKERS_IN_ORDER ? time < sums.last : photon && time < clock.greatest) {
             sums.late++;
             continue;
         }
+        if (!Layout::MARKERS_IN_ORDER && photon)
+            clock.greatest = time;
         if (!sums.any)
             sums.first = time;
         sums.any = true;
         sums.last = time;
-        if (!photon)
-            continue;
-        const uint64_t groups = plan.groups_of(record);
-        for (Histogram &histogram : plan.histograms)
-            histogram.take(record, groups);
+        if (photon)
+            plan.take(record, time);
     }
     return 0;
+}
+
+template <class Layout> static int count_file(int file, Summary &sums, Plan &plan) {
+    Clock clock;
+    return read_records(file, [&](const unsigned char *bytes, size_t words) {
+        return count_words<Layout>(bytes, words, clock, sums, plan);
+    });
 }
 
 template <size_t SIZE> static bool put_line(Output &out, const char (&word)[SIZE], uint64_t number) {
@@ -129,9 +186,13 @@ template <size_t SIZE> static bool put_bits(Output &out, const char (&word)[SIZE
     return true;
 }
 
-static bool put_head(Output &out, const Header &header, const Summary &sums) {
+static bool put_head(Output &out, bool is_t2, const Header &header, const Summary &sums) {
     const int64_t announced = static_cast<int64_t>(header.announced.value);
-    out.put("type HydraHarp2T3\nannounced ");
+    out.put("type HydraHarp2");
+    if (is_t2)
+        out.put("T2\nannounced ");
+    else
+        out.put("T3\nannounced ");
     if (!header.announced.there)
         out.put('-');
     else {
@@ -151,27 +212,55 @@ static bool put_head(Output &out, const Header &header, const Summary &sums) {
     return good;
 }
 
-static bool put_histogram(Output &out, uint64_t number, const Histogram &histogram) {
-    if (!out.make_room())
-        return false;
-    out.put("histogram ");
-    out.put(number);
-    out.put(" width ");
-    out.put(uint64_t(histogram.width));
+// The first line of a table ends with its number of bins. Then come its cells that aren't 0.
+static bool put_cells(Output &out, const std::vector<uint64_t> &cells) {
     out.put(" bins ");
-    out.put(uint64_t(histogram.cells.size()));
+    out.put(uint64_t(cells.size()));
     out.put('\n');
-    for (size_t cell = 0; cell < histogram.cells.size(); cell++) {
-        if (histogram.cells[cell] == 0)
+    for (size_t cell = 0; cell < cells.size(); cell++) {
+        if (cells[cell] == 0)
             continue;
         if (!out.make_room())
             return false;
         out.put(uint64_t(cell));
         out.put(' ');
-        out.put(histogram.cells[cell]);
+        out.put(cells[cell]);
         out.put('\n');
     }
-    return put_line(out, "over ", histogram.over);
+    return true;
+}
+
+static bool put_table(Output &out, uint64_t number, const Table &table) {
+    if (!out.make_room())
+        return false;
+    const bool is_trace = table.kind == TableKind::Trace;
+    if (table.kind == TableKind::Histogram)
+        out.put("histogram ");
+    else if (is_trace)
+        out.put("trace ");
+    else
+        out.put("startstop ");
+    out.put(number);
+    if (is_trace) {
+        out.put(" origin ");
+        out.put(table.origin);
+    }
+    out.put(" width ");
+    out.put(table.width);
+    if (!put_cells(out, table.cells))
+        return false;
+    if (!is_trace)
+        return put_line(out, "over ", table.beyond);
+    return put_line(out, "before ", table.before) && put_line(out, "beyond ", table.beyond);
+}
+
+// The tables of a kind, numbered from 1.
+static bool put_tables(Output &out, const Plan &plan, TableKind kind) {
+    uint64_t number = 0;
+    for (const Table &table : plan.tables)
+        if (table.kind == kind && !put_table(out, ++number, table))
+            return false;
+    return true;
 }
 
 static int refuse(int status, const char *line) {
@@ -179,38 +268,58 @@ static int refuse(int status, const char *line) {
     return status;
 }
 
-static Plan plan_of(char **words, int count) {
-    Plan plan;
-    for (int at = 0; at + 5 <= count; at += 5) {
-        uint64_t numbers[5];
-        for (int word = 0; word < 5; word++)
-            numbers[word] = std::strtoull(words[at + word], nullptr, 0);
-        plan.groups.push_back({numbers[0], uint32_t(numbers[1]), uint32_t(numbers[2])});
-        plan.histograms.emplace_back(uint32_t(at / 5), uint32_t(numbers[3]), uint32_t(numbers[4]));
+// The number of a word, and the place in `groups` of the group that it names.
+static uint64_t number_of(const char *word) { return std::strtoull(word, nullptr, 0); }
+
+static uint32_t group_of(const char *word) { return uint32_t(number_of(word) - 1); }
+
+// Reads the words of all parts; false where they are none.
+static bool read_plan(char **words, char **end, Plan &plan) {
+    while (words < end) {
+        const std::string kind = *words++;
+        const long left = end - words;
+        if (kind == "group" && left >= 3) {
+            plan.groups.push_back({number_of(words[0]), uint32_t(number_of(words[1])), uint32_t(number_of(words[2]))});
+            words += 3;
+        } else if (kind == "histogram" && left >= 3) {
+            plan.tables.push_back({TableKind::Histogram, group_of(words[0]), 0, 0, number_of(words[1]),
+                                   std::vector<uint64_t>(number_of(words[2]))});
+            words += 3;
+        } else if (kind == "trace" && left >= 4) {
+            plan.tables.push_back({TableKind::Trace, group_of(words[0]), 0, number_of(words[1]),
+                                   number_of(words[2]), std::vector<uint64_t>(number_of(words[3]))});
+            words += 4;
+        } else if (kind == "startstop" && left >= 4) {
+            plan.tables.push_back({TableKind::StartStop, group_of(words[0]), group_of(words[1]), 0,
+                                   number_of(words[2]), std::vector<uint64_t>(number_of(words[3]))});
+            words += 4;
+        } else
+            return false;
     }
-    return plan;
+    return true;
 }
 
 int main(int argc, char **argv) {
-    if (argc < 2 || (argc - 2) % 5 != 0)
+    Plan plan;
+    if (argc < 2 || !read_plan(argv + 2, argv + argc, plan))
         return refuse(1, "bad command line");
-    Plan plan = plan_of(argv + 2, argc - 2);
     const int file = open(argv[1], O_RDONLY);
     if (file < 0)
         return refuse(2, "cannot open the data");
     Header header;
-    if (!read_header(file, header) || header.type.value != 0x01010304)
-        return refuse(10, "no header of type HydraHarp2T3");
-    uint64_t base = 0;
+    if (!read_header(file, header))
+        return refuse(10, "no header with a record type");
+    const bool is_t2 = header.type.value == 0x01010204;
+    if (!is_t2 && header.type.value != 0x01010304)
+        return refuse(15, "the type is neither HydraHarp2T3 nor HydraHarp2T2");
     Summary sums;
-    const int status = read_records(file, [&](const unsigned char *bytes, size_t words) {
-        return count_words(bytes, words, base, sums, plan);
-    });
+    const int status =
+        is_t2 ? count_file<HydraT2<false>>(file, sums, plan) : count_file<HydraT3<false>>(file, sums, plan);
     if (status != 0)
         return refuse(status, "the file is cut or bad");
     static Output out;
-    bool good = put_head(out, header, sums);
-    for (size_t at = 0; good && at < plan.histograms.size(); at++)
-        good = put_histogram(out, at + 1, plan.histograms[at]);
-    return good && out.flush() ? 0 : refuse(4, "cannot write");
+    const bool good = put_head(out, is_t2, header, sums) && put_tables(out, plan, TableKind::Histogram) &&
+                      put_tables(out, plan, TableKind::Trace) && put_tables(out, plan, TableKind::StartStop) &&
+                      out.flush();
+    return good ? 0 : refuse(4, "cannot write");
 }
