@@ -1,3 +1,12 @@
 pub mod Neighbours
 pub mod Intervals
 pub mod Places
+pub mod Rows
+pub mod Hits
+pub mod Apart
+pub mod Mirror
+pub mod Visits
+pub mod Shut
+pub mod Puts
+pub mod Gives
+pub mod Photons

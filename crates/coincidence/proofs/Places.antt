@@ -24,16 +24,16 @@ sum-shift f a (suc n) =
     omega (arith, more, here, left, right)
 
 -- a sum over places: the first, and the others, each one further
-sum-places : (f : ℕ → ℕ) (n : ℕ) → sum_by f (range_with_len 0 (suc n)) ≡ f 0 + sum_by (λ i. f (suc i)) (range_with_len 0 n)
+pub sum-places : (f : ℕ → ℕ) (n : ℕ) → sum_by f (range_with_len 0 (suc n)) ≡ f 0 + sum_by (λ i. f (suc i)) (range_with_len 0 n)
 sum-places f n = sum_by-cons f 0 (range_with_len (0 + 1) n) ∙ ap (λ m. f 0 + m) (sum-shift f 0 n)
 
-sum-agree : (f g : ℕ → ℕ) → ((i : ℕ) → f i ≡ g i) → (xs : List ℕ) → sum_by f xs ≡ sum_by g xs
+pub sum-agree : (f g : ℕ → ℕ) → ((i : ℕ) → f i ≡ g i) → (xs : List ℕ) → sum_by f xs ≡ sum_by g xs
 sum-agree f g same [] = refl
 sum-agree f g same (x ∷ xs) =
     let more = sum-agree f g same xs in
     omega (arith, more, same x, sum_by-cons f x xs, sum_by-cons g x xs)
 
-sum-none : (f : ℕ → ℕ) → ((i : ℕ) → f i ≡ 0) → (xs : List ℕ) → sum_by f xs ≡ 0
+pub sum-none : (f : ℕ → ℕ) → ((i : ℕ) → f i ≡ 0) → (xs : List ℕ) → sum_by f xs ≡ 0
 sum-none f none [] = refl
 sum-none f none (x ∷ xs) =
     let more = sum-none f none xs in

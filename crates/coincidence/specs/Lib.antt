@@ -2,3 +2,8 @@ pub mod Intervals
 pub mod StartStop
 pub mod Laws
 pub mod Places
+pub mod Pairs
+pub mod Pairing
+pub mod Counts
+pub mod Coincidence
+pub mod CoincidenceLaws

@@ -1,8 +1,11 @@
-//! Laws of the definitions, each as the contract of a function that does nothing.
-ghost use Rattle.std.specs.Prelude.{◌≡◌, ℕ, Bool};
-ghost use Rattle.tally_base.specs.Settings.{StartStopView};
+// Laws of the definitions and of tables, each as the contract of a function that does nothing.
+ghost use Rattle.std.specs.Prelude.{◌≡◌, ℕ, ◌-◌, ◌*◌, ◌≤◌, Bool};
+ghost use Rattle.tally_base.specs.Settings.{CoincidenceView, StartStopView};
 ghost use Rattle.tally_base.specs.Tally.{History};
+ghost use Rattle.coincidence.specs.declared.coincidence.Coincidence.{Coincidence};
+ghost use Rattle.coincidence.specs.Coincidence.{set_of, bins_kept};
 ghost use Rattle.coincidence.specs.Intervals.{count_intervals};
+ghost use Rattle.coincidence.specs.Pairs.{coincidences, exchanged};
 ghost use Rattle.coincidence.specs.Places.{count_pairs};
 
 /// The intervals are the pairs of places i before j in the list of events, with a photon of the start
@@ -10,4 +13,18 @@ ghost use Rattle.coincidence.specs.Places.{count_pairs};
 pub fn intervals_are_pairs_of_places()
     ensures { (set : StartStopView) (test : ℕ → Bool) (h : History)
         → count_intervals set test h ≡ count_pairs set test h }
+{}
+
+/// No table of coincidences keeps more closed bins than its reach.
+pub fn few_bins()
+    ensures { (t : Coincidence) → bins_kept t ≤ (set_of t).reach }
+{}
+
+/// Exchanged groups turn the differences: where a cell is one tick wide, each cell counts what the cell of
+/// the opposite difference counted.
+pub fn exchanged_groups_turn_the_differences()
+    ensures { (set : CoincidenceView) (c : ℕ) (h : History)
+        → set.width ≡ 1
+        → c ≤ 2 * set.reach
+        → coincidences (exchanged set) c h ≡ coincidences set (2 * set.reach - c) h }
 {}

@@ -3,10 +3,7 @@ use Rattle.std.proofs.Common.{◌≡◌, ◌<◌, ◌≤◌, ◌∙◌, refl, sy
 use Rattle.std.specs.Prelude.{◌≢◌, ◌⊎◌, Result}
 use Rattle.std.proofs.lemmas.Bool.{cases_lt}
 use Rattle.tally_base.specs.declared.fault.Fault.{Fault}
-use Rattle.tally_base.specs.declared.fault.Fault.TheVariants.{OutOfMemory, PlanTooLong, PlanSyntax, PlanRule, PlanMode}
-use Rattle.tally_base.specs.declared.header.Mode.{Mode}
-use Rattle.tally_base.specs.declared.header.Mode.TheVariants.{T2, T3}
-use Rattle.tally_base.specs.declared.part.PartKind.TheVariants.{Gate, Histogram}
+use Rattle.tally_base.specs.declared.fault.Fault.TheVariants.{OutOfMemory, PlanTooLong, PlanSyntax, PlanRule}
 use Rattle.toml.specs.Data.{table, Members}
 use Rattle.toml_rules.specs.Rules.{Rule, all_kept, AllHold, IsLeast, Names}
 use Rattle.toml_rules.proofs.Least.{names_least, all_kept_nowhere}

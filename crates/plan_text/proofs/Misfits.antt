@@ -7,7 +7,7 @@ use Rattle.tally_base.specs.declared.fault.Fault.TheVariants.{PlanMode}
 use Rattle.tally_base.specs.declared.header.Mode.{Mode}
 use Rattle.tally_base.specs.declared.header.Mode.TheVariants.{T2, T3}
 use Rattle.tally_base.specs.declared.part.PartKind.{PartKind}
-use Rattle.tally_base.specs.declared.part.PartKind.TheVariants.{Gate, Histogram, StartStop}
+use Rattle.tally_base.specs.declared.part.PartKind.TheVariants.{Gate, Histogram, StartStop, Coincidence, Image}
 use Rattle.toml_rules.proofs.Least.{or_next_err, breaks_first, kept_nowhere}
 use Rattle.plan_text.specs.Plan.{PlanView}
 use Rattle.plan_text.specs.Fits.{fits, suit, suit_none, suit_T2, IsMisfit}
@@ -26,6 +26,9 @@ none_suits kind mode parts fault err =
     let (some, names) = refused (parts == 0) (PlanMode kind 1 mode) fault err in
     (grind (arith, nat_tests, some), names)
 
+none_there : (kind : PartKind) (mode : Mode) (parts : ℕ) → suit_none kind mode parts ≡ Ok (tt {0}) → parts ≡ 0
+none_there kind mode parts ok = grind (arith, nat_tests, ok)
+
 pub misfit : (mode : Mode) (plan : PlanView) (fault : Fault) → fits mode plan ≡ Err fault → IsMisfit mode plan fault
 unfolding fits
 misfit T2 plan fault err =
@@ -36,7 +39,13 @@ misfit T2 plan fault err =
             | inl hist ↦
                 let (some, names) = none_suits Histogram T2 (length plan.histograms) fault hist in
                 rw names (refl, some, kept_nowhere (λ number. PlanMode Gate number T2) 1 (suit_T2 plan) passed.0)
-            | inr done ↦ search (rules, done.1)
+            | inr no_histograms ↦
+                elim (or_next_err (suit_none Image T2 (length plan.images)) _ fault no_histograms.1) [
+                  | inl image ↦
+                      let (some, names) = none_suits Image T2 (length plan.images) fault image in
+                      rw names (refl, some, none_there Histogram T2 (length plan.histograms) no_histograms.0, kept_nowhere (λ number. PlanMode Gate number T2) 1 (suit_T2 plan) passed.0)
+                  | inr done ↦ search (rules, done.1)
+                ]
           ]
     ]
 misfit T3 plan fault err =
@@ -44,5 +53,11 @@ misfit T3 plan fault err =
       | inl stops ↦
           let (some, names) = none_suits StartStop T3 (length plan.startstops) fault stops in
           rw names (refl, some)
-      | inr done ↦ search (rules, done.1)
+      | inr no_stops ↦
+          elim (or_next_err (suit_none Coincidence T3 (length plan.coincidences)) _ fault no_stops.1) [
+            | inl pairs ↦
+                let (some, names) = none_suits Coincidence T3 (length plan.coincidences) fault pairs in
+                rw names (refl, some, none_there StartStop T3 (length plan.startstops) no_stops.0)
+            | inr done ↦ search (rules, done.1)
+          ]
     ]

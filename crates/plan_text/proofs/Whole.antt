@@ -10,6 +10,9 @@ use Rattle.plan_text.specs.Groups.{group_rules, groups, group, group_of, inputs,
 use Rattle.plan_text.specs.Histograms.{histogram_rules, histograms, histogram}
 use Rattle.plan_text.specs.Traces.{trace_rules, traces, trace}
 use Rattle.plan_text.specs.StartStops.{startstop_rules, startstops, startstop}
+use Rattle.plan_text.specs.Coincidences.{coincidence_rules, coincidences, coincidence}
+use Rattle.plan_text.specs.Images.{image_rules, images, image}
+use Rattle.plan_text.specs.Correlations.{correlation_rules, correlations, correlation}
 
 -- rules of a part are rules of the whole
 broken_after : (before after : List Rule) (n at : ℕ) → IsBroken after n at → IsBroken (before ++ after) n at
@@ -75,18 +78,39 @@ startstops_in : (d : Data) → AllHold (startstop_rules d) → map (λ y. Some y
 unfolding startstop_rules
 startstops_in d all = all_kept_in (startstop d) (startstops d) (each_holds (λ s. is_some (startstop d s)) 1 (startstops d) (λ at b. all 16 at (inr (inl (refl, b)))))
 
+coincidences_in : (d : Data) → AllHold (coincidence_rules d) → map (λ y. Some y) (filter_map (coincidence d) (coincidences d)) ≡ map (coincidence d) (coincidences d)
+unfolding coincidence_rules
+coincidences_in d all = all_kept_in (coincidence d) (coincidences d) (each_holds (λ c. is_some (coincidence d c)) 1 (coincidences d) (λ at b. all 18 at (inr (inl (refl, b)))))
+
+images_in : (d : Data) → AllHold (image_rules d) → map (λ y. Some y) (filter_map (image d) (images d)) ≡ map (image d) (images d)
+unfolding image_rules
+images_in d all = all_kept_in (image d) (images d) (each_holds (λ i. is_some (image d i)) 1 (images d) (λ at b. all 20 at (inr (inl (refl, b)))))
+
+correlations_in : (d : Data) → AllHold (correlation_rules d) → map (λ y. Some y) (filter_map (correlation d) (correlations d)) ≡ map (correlation d) (correlations d)
+unfolding correlation_rules
+correlations_in d all = all_kept_in (correlation d) (correlations d) (each_holds (λ c. is_some (correlation d c)) 1 (correlations d) (λ at b. all 22 at (inr (inl (refl, b)))))
+
 pub plan_is_whole : (d : Data) → AllHold (plan_rules d) → IsWhole d
 unfolding plan_rules plan
 plan_is_whole d all =
     let to_groups = document_rules d ++ group_rules d in
     let to_histograms = to_groups ++ histogram_rules d in
     let to_traces = to_histograms ++ trace_rules d in
-    let traces_hold = all_before to_traces (startstop_rules d) all in
+    let to_startstops = to_traces ++ startstop_rules d in
+    let to_coincidences = to_startstops ++ coincidence_rules d in
+    let to_images = to_coincidences ++ image_rules d in
+    let images_hold = all_before to_images (correlation_rules d) all in
+    let coincidences_hold = all_before to_coincidences (image_rules d) images_hold in
+    let startstops_hold = all_before to_startstops (coincidence_rules d) coincidences_hold in
+    let traces_hold = all_before to_traces (startstop_rules d) startstops_hold in
     let histograms_hold = all_before to_histograms (trace_rules d) traces_hold in
     let groups_hold = all_before to_groups (histogram_rules d) histograms_hold in
     record {
       groups = groups_in d (all_after (document_rules d) (group_rules d) groups_hold);
       histograms = histograms_in d (all_after to_groups (histogram_rules d) histograms_hold);
       traces = traces_in d (all_after to_histograms (trace_rules d) traces_hold);
-      startstops = startstops_in d (all_after to_traces (startstop_rules d) all);
+      startstops = startstops_in d (all_after to_traces (startstop_rules d) startstops_hold);
+      coincidences = coincidences_in d (all_after to_startstops (coincidence_rules d) coincidences_hold);
+      images = images_in d (all_after to_coincidences (image_rules d) images_hold);
+      correlations = correlations_in d (all_after to_images (correlation_rules d) all);
     }

@@ -1,5 +1,5 @@
 -- What the document of a plan says as a whole, and the rules on it.
-use Rattle.std.specs.Prelude.{ℕ, ◌^◌, Bool, nat_le, List, [], ◌∷◌, length, codes, Option, None, Some, is_some, if◌then◌else◌}
+use Rattle.std.specs.Prelude.{ℕ, ◌^◌, ◌≤◌, Bool, nat_le, List, [], ◌∷◌, length, codes, Option, None, Some, is_some, if◌then◌else◌}
 use Rattle.toml.specs.Data.{Data, get}
 use Rattle.toml_rules.specs.Rules.{Rule, whole}
 use Rattle.toml_rules.specs.Values.{list_at, may_be_tables, has_keys, number_or, second_of}
@@ -27,7 +27,7 @@ records d = records_in (get (codes "limits") d)
 
 -- the document has only keys of a plan
 unfoldable pub has_known_keys : Data → Bool
-has_known_keys = has_keys [] (codes "version" ∷ codes "order" ∷ codes "reserved" ∷ codes "limits" ∷ codes "group" ∷ codes "histogram" ∷ codes "trace" ∷ codes "startstop" ∷ [])
+has_known_keys = has_keys [] (codes "version" ∷ codes "order" ∷ codes "reserved" ∷ codes "limits" ∷ codes "group" ∷ codes "histogram" ∷ codes "trace" ∷ codes "startstop" ∷ codes "coincidence" ∷ codes "image" ∷ codes "correlation" ∷ [])
 
 -- an array of tables stands at the key, or nothing
 unfoldable pub may_have_tables : List ℕ → Data → Bool
@@ -45,6 +45,10 @@ document_rules d =
     ∷ whole 3 (is_some (order d))
     ∷ whole 4 (is_some (reserved d))
     ∷ whole 5 (is_some (records d))
-    ∷ record { number = 6; first = 1; tests = may_have_tables (codes "group") d ∷ may_have_tables (codes "histogram") d ∷ may_have_tables (codes "trace") d ∷ may_have_tables (codes "startstop") d ∷ [] }
-    ∷ record { number = 7; first = 1; tests = has_at_most 64 (codes "group") d ∷ has_at_most 32 (codes "histogram") d ∷ has_at_most 32 (codes "trace") d ∷ has_at_most 16 (codes "startstop") d ∷ [] }
+    ∷ record { number = 6; first = 1; tests = may_have_tables (codes "group") d ∷ may_have_tables (codes "histogram") d ∷ may_have_tables (codes "trace") d ∷ may_have_tables (codes "startstop") d ∷ may_have_tables (codes "coincidence") d ∷ may_have_tables (codes "image") d ∷ may_have_tables (codes "correlation") d ∷ [] }
+    ∷ record { number = 7; first = 1; tests = has_at_most 64 (codes "group") d ∷ has_at_most 32 (codes "histogram") d ∷ has_at_most 32 (codes "trace") d ∷ has_at_most 16 (codes "startstop") d ∷ has_at_most 16 (codes "coincidence") d ∷ has_at_most 8 (codes "image") d ∷ has_at_most 16 (codes "correlation") d ∷ [] }
     ∷ []
+
+-- There are no more groups and tables of each kind than a plan may have.
+abbrev pub HasFewTables : Data → Type 0
+HasFewTables d = (length (list_at (codes "group") d) ≤ 64) × (length (list_at (codes "histogram") d) ≤ 32) × (length (list_at (codes "trace") d) ≤ 32) × (length (list_at (codes "startstop") d) ≤ 16) × (length (list_at (codes "coincidence") d) ≤ 16) × (length (list_at (codes "image") d) ≤ 8) × (length (list_at (codes "correlation") d) ≤ 16)

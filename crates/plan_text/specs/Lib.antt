@@ -3,6 +3,9 @@ pub mod Groups
 pub mod Histograms
 pub mod Traces
 pub mod StartStops
+pub mod Coincidences
+pub mod Images
+pub mod Correlations
 pub mod Plan
 pub mod Reading
 pub mod Fits

@@ -5,7 +5,7 @@ use Rattle.tally_base.specs.declared.fault.Fault.{Fault}
 use Rattle.tally_base.specs.declared.fault.Fault.TheVariants.{OutOfMemory, PlanTooLong, PlanSyntax, PlanRule}
 use Rattle.toml.specs.Data.{table, Members}
 use Rattle.toml.specs.Parse.{parse_document}
-use Rattle.tally_base.specs.Settings.{group_view, hist_view, trace_view, startstop_view}
+use Rattle.tally_base.specs.Settings.{group_view, hist_view, trace_view, startstop_view, coincidence_view, image_view, correlation_view}
 use Rattle.toml_rules.specs.Rules.{all_kept, AllHold, IsLeast}
 use Rattle.plan_text.specs.Plan.{PlanView, plan_rules, plan, IsWhole}
 use Rattle.plan_text.specs.declared.plan.Plan.{Plan}
@@ -20,6 +20,9 @@ plan_view plan = record {
   histograms = map hist_view plan.histograms.items;
   traces = map trace_view plan.traces.items;
   startstops = map startstop_view plan.startstops.items;
+  coincidences = map coincidence_view plan.coincidences.items;
+  images = map image_view plan.images.items;
+  correlations = map correlation_view plan.correlations.items;
 }
 
 -- what a contract sees of a reading

@@ -3,9 +3,12 @@ ghost use Rattle.std.specs.Prelude.{◌≡◌, ◌<◌, ◌≤◌, ◌^◌, IfSo
 ghost use Rattle.toml.specs.View.{view};
 ghost use Rattle.toml_rules.specs.Rules.{all_kept};
 ghost use Rattle.toml_rules.specs.Values.{list_at};
-ghost use Rattle.plan_text.specs.Document.{version, order, reserved, records, has_known_keys, may_have_tables, has_at_most, document_rules};
+ghost use Rattle.plan_text.specs.Coincidences.{coincidences};
+ghost use Rattle.plan_text.specs.Correlations.{correlations};
+ghost use Rattle.plan_text.specs.Document.{version, order, reserved, records, has_known_keys, may_have_tables, has_at_most, document_rules, HasFewTables};
 ghost use Rattle.plan_text.specs.Groups.{groups};
 ghost use Rattle.plan_text.specs.Histograms.{histograms};
+ghost use Rattle.plan_text.specs.Images.{images};
 ghost use Rattle.plan_text.specs.StartStops.{startstops};
 ghost use Rattle.plan_text.specs.Traces.{traces};
 
@@ -72,6 +75,9 @@ fn has_known_keys(document: &Value) -> bool
             "histogram",
             "trace",
             "startstop",
+            "coincidence",
+            "image",
+            "correlation",
         ],
     )
 }
@@ -97,7 +103,7 @@ fn has_at_most(most: usize, document: &Value, key: &str) -> bool
 #[tactic(auto, unfolding(crate::specs::Document::document_rules))]
 pub(crate) fn keeps_document_rules(document: &Value) -> Result<(), Fault>
     ensures kept { result ≡ all_kept (document_rules (view document.now)) }
-    ensures few { OnOk result ((length (groups (view document.now)) ≤ 64) × (length (histograms (view document.now)) ≤ 32) × (length (traces (view document.now)) ≤ 32) × (length (startstops (view document.now)) ≤ 16)) }
+    ensures few { OnOk result (HasFewTables (view document.now)) }
 {
     held(1, 0, has_known_keys(document))?;
     held(2, 0, version(document).is_some())?;
@@ -108,9 +114,15 @@ pub(crate) fn keeps_document_rules(document: &Value) -> Result<(), Fault>
     held(6, 2, may_have_tables(document, "histogram"))?;
     held(6, 3, may_have_tables(document, "trace"))?;
     held(6, 4, may_have_tables(document, "startstop"))?;
+    held(6, 5, may_have_tables(document, "coincidence"))?;
+    held(6, 6, may_have_tables(document, "image"))?;
+    held(6, 7, may_have_tables(document, "correlation"))?;
     held(7, 1, has_at_most(64, document, "group"))?;
     held(7, 2, has_at_most(32, document, "histogram"))?;
     held(7, 3, has_at_most(32, document, "trace"))?;
     held(7, 4, has_at_most(16, document, "startstop"))?;
+    held(7, 5, has_at_most(16, document, "coincidence"))?;
+    held(7, 6, has_at_most(8, document, "image"))?;
+    held(7, 7, has_at_most(16, document, "correlation"))?;
     Ok(())
 }

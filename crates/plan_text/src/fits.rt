@@ -8,9 +8,10 @@ use crate::plan::Plan;
 use tally_base::{Fault, Group, Mode, PartKind};
 
 impl Plan {
-    /// Whether each part suits files of a mode. T2 has no dtimes, so it suits no gate and no histogram.
-    /// T3 suits no start-stop. `PlanMode` names the first part that does not suit: gates before
-    /// histograms, and of a kind the least number. For a gate it is its group's.
+    /// Whether each part suits files of a mode. T2 has no dtimes and no sync periods, so it suits no
+    /// gate, no histogram and no image. T3 suits no start-stop and no coincidence. `PlanMode` names the
+    /// first part that does not suit: gates before histograms and these before images, start-stops before
+    /// coincidences, and of a kind the least number. For a gate it is its group's.
     pub fn fits(&self, mode: Mode) -> Result<(), Fault>
         ensures answer { result ≡ fits mode (plan_view self.now) }
         ensures first { IfErr result (IsMisfit mode (plan_view self.now)) }
@@ -30,10 +31,12 @@ impl Plan {
             Mode::T2 => {
                 suit_gates(self.groups.as_slice(), mode)?;
                 suit_none(PartKind::Histogram, mode, self.histograms.len())?;
+                suit_none(PartKind::Image, mode, self.images.len())?;
                 Ok(())
             }
             Mode::T3 => {
                 suit_none(PartKind::StartStop, mode, self.startstops.len())?;
+                suit_none(PartKind::Coincidence, mode, self.coincidences.len())?;
                 Ok(())
             }
         }

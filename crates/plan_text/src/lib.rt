@@ -1,10 +1,13 @@
 //! Reads a plan: what a run refuses, the groups of photons, and the tables that are counted.
 #![tactic(auto)]
 
+mod coincidences;
+mod correlations;
 mod document;
 mod fits;
 mod groups;
 mod histograms;
+mod images;
 pub mod laws;
 mod plan;
 mod startstops;
@@ -12,5 +15,7 @@ mod traces;
 
 pub use plan::{Plan, read_plan};
 
+#[cfg(test)]
+mod pair_tests;
 #[cfg(test)]
 mod tests;

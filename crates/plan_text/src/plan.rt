@@ -3,24 +3,33 @@ ghost use Rattle.std.specs.Prelude.{◌≡◌, ◌≤◌, ◌<◌, ◌≢◌, �
 ghost use Rattle.tally_base.specs.Faults.{is_outside};
 ghost use Rattle.toml.specs.Data.{Members, table};
 ghost use Rattle.toml.specs.View.{view};
-ghost use Rattle.tally_base.specs.Settings.{group_view, hist_view, trace_view, startstop_view};
+ghost use Rattle.tally_base.specs.Settings.{group_view, hist_view, trace_view, startstop_view, coincidence_view, image_view, correlation_view};
 ghost use Rattle.toml_rules.specs.Rules.{all_kept, Names, AllHold};
 ghost use Rattle.plan_text.specs.Groups.{groups, group};
 ghost use Rattle.plan_text.specs.Histograms.{histograms, histogram};
 ghost use Rattle.plan_text.specs.Traces.{traces, trace};
 ghost use Rattle.plan_text.specs.StartStops.{startstops, startstop};
-ghost use Rattle.plan_text.specs.Document.{order, reserved, records};
+ghost use Rattle.plan_text.specs.Coincidences.{coincidences, coincidence};
+ghost use Rattle.plan_text.specs.Images.{images, image};
+ghost use Rattle.plan_text.specs.Correlations.{correlations, correlation};
+ghost use Rattle.plan_text.specs.Document.{order, reserved, records, HasFewTables};
 ghost use Rattle.plan_text.specs.Plan.{order_of, reserved_of, plan_rules, plan, IsWhole};
 ghost use Rattle.plan_text.specs.Reading.{document, plan_answer, plan_view, plan_seen, if_kept, IsCalledFor, IsValid};
 
+use crate::coincidences::{coincidence, keeps_coincidence_rules};
+use crate::correlations::{correlation, keeps_correlation_rules};
 use crate::document::{keeps_document_rules, order, records, reserved};
 use crate::groups::{group, keeps_group_rules};
 use crate::histograms::{histogram, keeps_histogram_rules};
+use crate::images::{image, keeps_image_rules};
 use crate::startstops::{keeps_startstop_rules, startstop};
 use crate::traces::{keeps_trace_rules, trace};
 use arrayvec::ArrayVec;
 use std::alloc::Global;
-use tally_base::{Fault, Group, HistSet, OnReserved, Order, Policy, StartStopSet, TraceSet};
+use tally_base::{
+    CoincidenceSet, CorrelationSet, Fault, Group, HistSet, ImageSet, OnReserved, Order, Policy,
+    StartStopSet, TraceSet,
+};
 use toml::Value;
 use toml_rules::list_at;
 
@@ -35,8 +44,14 @@ pub struct Plan {
     pub histograms: ArrayVec<HistSet, 32>,
     /// The traces over the time of the file. Each is of one of the groups.
     pub traces: ArrayVec<TraceSet, 32>,
-    /// The tables of the times from a photon of one group to the next of another.
+    /// The tables of the times between neighbours among the photons of two groups.
     pub startstops: ArrayVec<StartStopSet, 16>,
+    /// The tables of the pairs of photons of two groups by their difference in time.
+    pub coincidences: ArrayVec<CoincidenceSet, 16>,
+    /// The images of a scan. Each is of one of the groups.
+    pub images: ArrayVec<ImageSet, 8>,
+    /// The correlations of two groups.
+    pub correlations: ArrayVec<CorrelationSet, 16>,
 }
 
 /// Reads a plan, a TOML document of at most 65,536 bytes. It is refused, by the first that applies,
@@ -103,20 +118,23 @@ fn read_document(alloc: Global, bytes: &[u8]) -> Result<Value, Fault>
 #[tactic(auto, using(toml_rules::proofs::Least::all_kept_after), unfolding(crate::specs::Plan::plan_rules))]
 fn keeps_rules(document: &Value) -> Result<(), Fault>
     ensures kept { result ≡ all_kept (plan_rules (view document.now)) }
-    ensures few { OnOk result ((length (groups (view document.now)) ≤ 64) × (length (histograms (view document.now)) ≤ 32) × (length (traces (view document.now)) ≤ 32) × (length (startstops (view document.now)) ≤ 16)) }
+    ensures few { OnOk result (HasFewTables (view document.now)) }
 {
     keeps_document_rules(document)?;
     keeps_group_rules(document)?;
     keeps_histogram_rules(document)?;
     keeps_trace_rules(document)?;
     keeps_startstop_rules(document)?;
+    keeps_coincidence_rules(document)?;
+    keeps_image_rules(document)?;
+    keeps_correlation_rules(document)?;
     Ok(())
 }
 
 /// The plan that a valid document gives.
 #[tactic(auto, unfolding(crate::specs::Plan::plan))]
 fn plan_of(document: &Value) -> Plan
-    requires few { (length (groups (view document.now)) ≤ 64) × (length (histograms (view document.now)) ≤ 32) × (length (traces (view document.now)) ≤ 32) × (length (startstops (view document.now)) ≤ 16) }
+    requires few { HasFewTables (view document.now) }
     ensures plan { plan_view result ≡ plan (view document.now) }
     ensures records { (0 < result.policy.records) × (result.policy.records ≤ 2 ^ 40) }
 {
@@ -126,6 +144,9 @@ fn plan_of(document: &Value) -> Plan
         histograms: histograms_of(document, list_at(document, "histogram")),
         traces: traces_of(document, list_at(document, "trace")),
         startstops: startstops_of(document, list_at(document, "startstop")),
+        coincidences: coincidences_of(document, list_at(document, "coincidence")),
+        images: images_of(document, list_at(document, "image")),
+        correlations: correlations_of(document, list_at(document, "correlation")),
     }
 }
 
@@ -225,6 +246,51 @@ fn startstops_of(document: &Value, items: &[Value]) -> ArrayVec<StartStopSet, 16
     let mut found: ArrayVec<StartStopSet, 16> = ArrayVec::new();
     'items: for item in items {
         if let Some(part) = startstop(document, item) {
+            found.push(part);
+        }
+    }
+    found
+}
+
+/// The coincidences of the tables that give one, in their order.
+fn coincidences_of(document: &Value, items: &[Value]) -> ArrayVec<CoincidenceSet, 16>
+    requires groups { length (groups (view document.now)) ≤ 64 }
+    requires few { length items.now ≤ 16 }
+    ensures { map coincidence_view result.items ≡ filter_map (coincidence (view document.now)) (map view items.now) }
+{
+    let mut found: ArrayVec<CoincidenceSet, 16> = ArrayVec::new();
+    'items: for item in items {
+        if let Some(part) = coincidence(document, item) {
+            found.push(part);
+        }
+    }
+    found
+}
+
+/// The images of the tables that give one, in their order.
+fn images_of(document: &Value, items: &[Value]) -> ArrayVec<ImageSet, 8>
+    requires groups { length (groups (view document.now)) ≤ 64 }
+    requires few { length items.now ≤ 8 }
+    ensures { map image_view result.items ≡ filter_map (image (view document.now)) (map view items.now) }
+{
+    let mut found: ArrayVec<ImageSet, 8> = ArrayVec::new();
+    'items: for item in items {
+        if let Some(part) = image(document, item) {
+            found.push(part);
+        }
+    }
+    found
+}
+
+/// The correlations of the tables that give one, in their order.
+fn correlations_of(document: &Value, items: &[Value]) -> ArrayVec<CorrelationSet, 16>
+    requires groups { length (groups (view document.now)) ≤ 64 }
+    requires few { length items.now ≤ 16 }
+    ensures { map correlation_view result.items ≡ filter_map (correlation (view document.now)) (map view items.now) }
+{
+    let mut found: ArrayVec<CorrelationSet, 16> = ArrayVec::new();
+    'items: for item in items {
+        if let Some(part) = correlation(document, item) {
             found.push(part);
         }
     }

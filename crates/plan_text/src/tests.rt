@@ -22,7 +22,7 @@ const NO_DOCUMENTS: &[&str] = &[
 const BROKEN: &[(&str, u8, u16)] = &[
     ("histograms = 1", 1, 0),
     ("Version = 1", 1, 0),
-    ("image = []", 1, 0),
+    ("images = []", 1, 0),
     ("[[histogram]]\n[[marker]]\n[[group]]\n", 1, 0),
     ("version = 2", 2, 0),
     ("version = 0", 2, 0),
@@ -64,6 +64,9 @@ const BROKEN: &[(&str, u8, u16)] = &[
     ("[trace]\n", 6, 3),
     ("startstop = 3", 6, 4),
     ("startstop = [1]", 6, 4),
+    ("coincidence = 3", 6, 5),
+    ("[image]\n", 6, 6),
+    ("correlation = [1]", 6, 7),
     ("[[group]]\n", 8, 1),
     ("[[group]]\ngate = [0, 1]\n", 8, 1),
     (
@@ -289,7 +292,7 @@ const EMPTY: &[&str] = &[
     "limits = {}\n",
     "[limits]\nrecords = 1_099_511_627_776\n",
     "limits.records = 0x100_0000_0000\n",
-    "group = []\nhistogram = []\ntrace = []\nstartstop = []\n",
+    "group = []\nhistogram = []\ntrace = []\nstartstop = []\ncoincidence = []\nimage = []\ncorrelation = []\n",
 ];
 
 /// A plan with all that a plan for T3 may say.
@@ -309,7 +312,7 @@ const TWO_STARTSTOPS: &str = "startstop = [{ start = 2, stop = 1, width = 3, bin
 { start = 1, stop = 1, width = 4611686018427387904, bins = 1 }]\n";
 
 /// What a plan is refused for.
-fn refusal(alloc: Global, bytes: &[u8]) -> Option<Fault> {
+pub(crate) fn refusal(alloc: Global, bytes: &[u8]) -> Option<Fault> {
     match read_plan(alloc, bytes) {
         Ok(_plan) => None,
         Err(fault) => Some(fault),
@@ -317,7 +320,12 @@ fn refusal(alloc: Global, bytes: &[u8]) -> Option<Fault> {
 }
 
 /// So many times the bytes, behind others.
-fn repeated(alloc: Global, before: &str, part: &str, times: usize) -> Result<Vec<u8>, AllocError> {
+pub(crate) fn repeated(
+    alloc: Global,
+    before: &str,
+    part: &str,
+    times: usize,
+) -> Result<Vec<u8>, AllocError> {
     let mut bytes = Vec::new(alloc);
     bytes.extend_from_slice(before.as_bytes())?;
     for _ in 0..times {
@@ -358,6 +366,9 @@ fn long_plans(rt: HostRuntime) -> Result<(), Fail> {
     let histogram = "[[histogram]]\ngroup = 1\nwidth = 1\nbins = 1\n";
     let trace = "[[trace]]\ngroup = 1\nwidth = 1\nbins = 1\n";
     let startstop = "[[startstop]]\nstart = 1\nstop = 1\nwidth = 1\nbins = 1\n";
+    let coincidence = "[[coincidence]]\nfirst = 1\nsecond = 1\nreach = 1\nwidth = 1\n";
+    let image = "[[image]]\ngroup = 1\nwidth = 1\nheight = 1\ndwell = 1\nline = 1\n";
+    let correlation = "[[correlation]]\nfirst = 1\nsecond = 1\nlags = 2\nlevels = 1\n";
     for (before, part, times, fault) in [
         ("", "#", 65536, None),
         ("", "#", 65537, Some(Fault::PlanTooLong)),
@@ -384,6 +395,22 @@ fn long_plans(rt: HostRuntime) -> Result<(), Fail> {
             startstop,
             17,
             Some(Fault::PlanRule { rule: 7, index: 4 }),
+        ),
+        (group, coincidence, 16, None),
+        (
+            group,
+            coincidence,
+            17,
+            Some(Fault::PlanRule { rule: 7, index: 5 }),
+        ),
+        (group, image, 8, None),
+        (group, image, 9, Some(Fault::PlanRule { rule: 7, index: 6 })),
+        (group, correlation, 16, None),
+        (
+            group,
+            correlation,
+            17,
+            Some(Fault::PlanRule { rule: 7, index: 7 }),
         ),
     ] {
         let bytes = repeated(rt.alloc(), before, part, times)?;
@@ -430,6 +457,15 @@ fn is_default(rt: &impl Abort, alloc: Global, text: &str) {
     assert_eq!(rt;
         (plan.traces.len(), plan.startstops.len()),
         (0, 0),
+        "{text}"
+    );
+    assert_eq!(rt;
+        (
+            plan.coincidences.len(),
+            plan.images.len(),
+            plan.correlations.len()
+        ),
+        (0, 0, 0),
         "{text}"
     );
     assert_eq!(rt; plan.fits(Mode::T2), Ok(()), "{text}");
@@ -514,7 +550,7 @@ fn has_startstops(rt: &impl Abort, plan: &Plan) {
 }
 
 /// What a part of a plan is refused for in files of a mode.
-fn misfit(kind: PartKind, index: u8, mode: Mode) -> Result<(), Fault> {
+pub(crate) fn misfit(kind: PartKind, index: u8, mode: Mode) -> Result<(), Fault> {
     Err(Fault::PlanMode { kind, index, mode })
 }
 

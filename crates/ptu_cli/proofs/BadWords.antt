@@ -7,7 +7,7 @@ use Rattle.tally_base.specs.declared.fault.Fault.TheVariants.{Usage, OpenFault, 
 use Rattle.tally_base.specs.Faults.{is_outside, status_of}
 use Rattle.bench_io.specs.Inputs.{File}
 use Rattle.ptu_definitions.specs.Headers.{header_answer}
-use Rattle.ptu_cli.specs.Commands.{Request, Count, Header as HeaderOf, Events as EventsOf, Run as RunOf}
+use Rattle.ptu_cli.specs.Commands.{Request, Count, Header as HeaderOf, Events as EventsOf, Run as RunOf, Demo as DemoOf}
 use Rattle.ptu_cli.specs.Outcomes.{outcome, status, file_counts}
 use Rattle.ptu_cli.specs.Endings.{EndsWith}
 use Rattle.ptu_cli.proofs.ByteFaults.{header_answer-bytes, counts_behind-bytes, count_outcome-bytes, fault_in-bytes, events_behind-bytes}
@@ -23,6 +23,7 @@ outcome-words (Some (HeaderOf name)) plan_file (Some bytes) e = absurd (fault_in
 outcome-words (Some (EventsOf name)) plan_file None e = absurd (omega arith)
 outcome-words (Some (RunOf plan name)) None data_file e = absurd (omega arith)
 outcome-words (Some (RunOf plan name)) (Some text) data_file e = absurd (planned-bytes text data_file e)
+outcome-words (Some (DemoOf seed count)) plan_file data_file e = absurd (omega arith)
 outcome-words (Some (EventsOf name)) plan_file (Some bytes) e = absurd (events_behind-bytes (header_answer bytes) (header_answer-bytes bytes) e)
 
 outside-status : (fault : Fault) → is_outside fault ≡ true → status_of fault ≢ 1

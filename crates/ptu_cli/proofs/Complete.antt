@@ -13,7 +13,7 @@ use Rattle.bench_io.specs.Inputs.{File}
 use Rattle.ptu_definitions.specs.Words.{words_of}
 use Rattle.ptu_definitions.specs.Kinds.{counts_of}
 use Rattle.ptu_definitions.specs.Counted.{counted, records_of, record_limit}
-use Rattle.ptu_cli.specs.Commands.{Request, Count, Header as HeaderOf, Events as EventsOf, Run as RunOf}
+use Rattle.ptu_cli.specs.Commands.{Request, Count, Header as HeaderOf, Events as EventsOf, Run as RunOf, Demo as DemoOf}
 use Rattle.ptu_definitions.specs.Streams.{Reading, summary, streamed}
 use Rattle.tally_engine.specs.Plans.{reading_by}
 use Rattle.tally_base.specs.Faults.{fault_in}
@@ -51,6 +51,7 @@ good-ends (Some (RunOf plan name)) (Some text) (Some bytes) h =
     let same_text : text ≡ h.1.text = let e = h.1.present in cc in
     let same : bytes ≡ h.2.2.bytes = let e = h.2.2.present in cc in
     rw (same_text, same, h.1.answer, h.2.2.answer, h.2.3, streamed-read (reading_by h.0 h.2.0) h.2.1 h.2.4) refl
+good-ends (Some (DemoOf seed count)) plan_file data_file h = refl
 
 -- only want of memory is left
 only_memory : (opening reading : Slot → Type 0) (writing memory : Type 0) (fault : Fault) → is_outside fault ≡ true → ((slot : Slot) → opening slot → ⊥) → ((slot : Slot) → reading slot → ⊥) → (writing → ⊥)
@@ -67,6 +68,7 @@ may_want (Some (Count file)) span fault wanted is h = absurd h
 may_want (Some (HeaderOf file)) span fault wanted is h = absurd h
 may_want (Some (EventsOf file)) span fault wanted is h = absurd h
 may_want (Some (RunOf plan file)) span fault wanted is h = inr (ap status_of is)
+may_want (Some (DemoOf seed count)) span fault wanted is h = inr (ap status_of is)
 
 pub means_same : (request : Option Request) (result wanted : ℕ) → result ≡ wanted → MeansStatus request result wanted
 means_same None result wanted e = e
@@ -74,6 +76,7 @@ means_same (Some (Count file)) result wanted e = e
 means_same (Some (HeaderOf file)) result wanted e = e
 means_same (Some (EventsOf file)) result wanted e = e
 means_same (Some (RunOf plan file)) result wanted e = inl e
+means_same (Some (DemoOf seed count)) result wanted e = inl e
 
 pub means_as : (request : Option Request) (result now wanted : ℕ) → result ≡ now → MeansStatus request now wanted → MeansStatus request result wanted
 means_as request result now wanted e h = subst (λ (n : ℕ). MeansStatus request n wanted) (sym e) h

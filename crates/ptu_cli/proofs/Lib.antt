@@ -20,3 +20,5 @@ pub mod Texts
 pub mod Plans
 pub mod Runs
 pub mod RunTold
+pub mod Demos
+pub mod Numbers

@@ -14,7 +14,7 @@ use Rattle.ptu_definitions.specs.Counted.{counted, records_of}
 use Rattle.ptu_definitions.specs.Seen.{seen, seen_preamble}
 use Rattle.table_out.specs.HeaderText.{shown_text, header_text}
 use Rattle.ptu_cli.specs.CountText.{counts_text}
-use Rattle.ptu_cli.specs.Commands.{Count, Header, request_of}
+use Rattle.ptu_cli.specs.Commands.{Count, Header, Demo, number_in, request_of}
 use Rattle.ptu_cli.specs.Outcomes.{outcome}
 
 abbrev known : List ℕ
@@ -34,6 +34,34 @@ row-other = refl
 
 pub row-more : request_of (codes "count" ∷ codes "f" ∷ codes "g" ∷ []) ≡ None
 row-more = refl
+
+pub row-demo : request_of (codes "demo" ∷ codes "00000000000000000007" ∷ codes "10000000" ∷ []) ≡ Some (Demo 7 10000000)
+unfolding number_in
+row-demo = refl
+
+pub row-greatest : request_of (codes "demo" ∷ codes "18446744073709551615" ∷ codes "0" ∷ []) ≡ Some (Demo 18446744073709551615 0)
+unfolding number_in
+row-greatest = refl
+
+pub row-great : request_of (codes "demo" ∷ codes "18446744073709551616" ∷ codes "1" ∷ []) ≡ None
+unfolding number_in
+row-great = refl
+
+pub row-many : request_of (codes "demo" ∷ codes "1" ∷ codes "10000001" ∷ []) ≡ None
+unfolding number_in
+row-many = refl
+
+pub row-sign : request_of (codes "demo" ∷ codes "1" ∷ codes "-5" ∷ []) ≡ None
+unfolding number_in
+row-sign = refl
+
+pub row-digits : request_of (codes "demo" ∷ codes "000000000000000000001" ∷ codes "1" ∷ []) ≡ None
+unfolding number_in
+row-digits = refl
+
+pub row-no_digit : request_of (codes "demo" ∷ [] ∷ codes "1" ∷ []) ≡ None
+unfolding number_in
+row-no_digit = refl
 
 pub row-usage : outcome None None None ≡ record { text = []; fault = Some Usage }
 unfolding outcome

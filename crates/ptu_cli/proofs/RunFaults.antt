@@ -7,7 +7,7 @@ use Rattle.tally_base.specs.declared.fault.Fault.TheVariants.{PlanTooLong, PlanR
 use Rattle.tally_base.specs.declared.header.Header.{Header}
 use Rattle.tally_base.specs.declared.header.Mode.{Mode}
 use Rattle.tally_base.specs.declared.header.Mode.TheVariants.{T2, T3}
-use Rattle.tally_base.specs.declared.part.PartKind.TheVariants.{Gate, Histogram, StartStop}
+use Rattle.tally_base.specs.declared.part.PartKind.TheVariants.{Gate, Histogram, StartStop, Coincidence, Image}
 use Rattle.tally_base.specs.Faults.{status_of, fault_in}
 use Rattle.tally_base.specs.RecordTypes.{mode_of}
 use Rattle.bench_io.specs.Inputs.{File}
@@ -52,7 +52,9 @@ plan_answer-bytes text = short-bytes (nat_le (length text) 65536) (plan_of_docum
 misfit-bytes : (mode : Mode) (view : PlanView) (fault : Fault) → IsMisfit mode view fault → status_of fault ≢ 1
 misfit-bytes T2 view (PlanMode Gate number T2) h = λ e. omega arith
 misfit-bytes T2 view (PlanMode Histogram number T2) h = λ e. omega arith
+misfit-bytes T2 view (PlanMode Image number T2) h = λ e. omega arith
 misfit-bytes T3 view (PlanMode StartStop number T3) h = λ e. omega arith
+misfit-bytes T3 view (PlanMode Coincidence number T3) h = λ e. omega arith
 misfit-bytes _ view _ h = absurd h
 
 report_of-bytes : (view : PlanView) (header : Header) (bytes : List ℕ) (r : Result Summary Fault) → status (fault_in r) ≢ 1 → IsOfBytes (report_of view header bytes r)

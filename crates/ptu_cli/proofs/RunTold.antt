@@ -73,7 +73,7 @@ unplanned-causes plan_name name before after old faults fault other first reason
 -- ## The data
 
 -- what bytes taken and left say of a file that is told
-report-told : (plan : PlanView) (contents : Option File) (rest left : Option (List ℕ)) (taken : List ℕ) (data_file : File) (answer : Result (List ℕ) Fault) → IsOpened contents rest → contents ≡ Some data_file → Consumes rest left taken
+pub report-told : (plan : PlanView) (contents : Option File) (rest left : Option (List ℕ)) (taken : List ℕ) (data_file : File) (answer : Result (List ℕ) Fault) → IsOpened contents rest → contents ≡ Some data_file → Consumes rest left taken
     → Says (file_report plan) taken left answer → (bytes : List ℕ) × (data_file ≡ Some bytes) × (file_report plan bytes ≡ answer)
 report-told plan None rest left taken data_file answer opened known took says = cc
 report-told plan (Some None) rest left taken data_file answer opened known took says = let none = opened.1 in cc
@@ -83,7 +83,7 @@ report-told plan (Some (Some bytes)) rest (Some more) taken data_file answer ope
     let split : bytes ≡ taken ++ more = subst (λ (r : Option (List ℕ)). Consumes r (Some more) taken) opened.0 took in
     (bytes, (let same : data_file ≡ Some bytes = cc in same), ap (file_report plan) split ∙ says more refl)
 
-outcome-run : (plan_name name : List ℕ) (plan_file data_file : File) (plan : PlanView) (bytes : List ℕ) (answer : Result (List ℕ) Fault) → IsPlan plan_file plan → data_file ≡ Some bytes → file_report plan bytes ≡ answer
+pub outcome-run : (plan_name name : List ℕ) (plan_file data_file : File) (plan : PlanView) (bytes : List ℕ) (answer : Result (List ℕ) Fault) → IsPlan plan_file plan → data_file ≡ Some bytes → file_report plan bytes ≡ answer
     → outcome (Some (Run plan_name name)) plan_file data_file ≡ report_outcome answer
 unfolding outcome
 outcome-run plan_name name None data_file plan bytes answer is present report = let none = is.present in cc

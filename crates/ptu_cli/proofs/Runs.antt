@@ -7,7 +7,7 @@ use Rattle.tally_base.specs.declared.fault.Fault.{Fault}
 use Rattle.tally_base.specs.declared.fault.Fault.TheVariants.{PlanMode}
 use Rattle.tally_base.specs.declared.header.Mode.{Mode}
 use Rattle.tally_base.specs.declared.header.Mode.TheVariants.{T2, T3}
-use Rattle.tally_base.specs.declared.part.PartKind.TheVariants.{Gate, Histogram, StartStop}
+use Rattle.tally_base.specs.declared.part.PartKind.TheVariants.{Gate, Histogram, StartStop, Coincidence, Image}
 use Rattle.tally_base.specs.declared.slot.Slot.TheVariants.{Data}
 use Rattle.tally_base.specs.declared.header.Header.{Header}
 use Rattle.tally_base.specs.Faults.{is_outside}
@@ -146,7 +146,9 @@ takes-on old new bytes taken before after same took none = (taken, took, streame
 fits-inside : (mode : Mode) (plan : PlanView) (fault : Fault) → IsMisfit mode plan fault → is_outside fault ≡ false
 fits-inside T2 plan (PlanMode Gate number T2) h = refl
 fits-inside T2 plan (PlanMode Histogram number T2) h = refl
+fits-inside T2 plan (PlanMode Image number T2) h = refl
 fits-inside T3 plan (PlanMode StartStop number T3) h = refl
+fits-inside T3 plan (PlanMode Coincidence number T3) h = refl
 fits-inside _ plan _ h = absurd h
 
 -- why no engine was opened: the plan does not suit the file, or memory was refused behind the header

@@ -1,6 +1,7 @@
 -- The commands of the program.
-use Rattle.std.specs.Prelude.{ℕ, List, [], ◌∷◌, None, Some, codes, if◌then◌else◌}
-use Rattle.std.specs.Str.{bytes_eq}
+use Rattle.std.specs.Prelude.{ℕ, ◌-◌, ◌^◌, ◌&&◌, Bool, nat_le, List, [], ◌∷◌, length, None, Some, codes, if◌then◌else◌}
+use Rattle.std.specs.Str.{bytes_eq, all_ascii_digits}
+use Rattle.std.specs.Str.Parse.{digits_value}
 use Rattle.std.specs.declared.option.Option.{Option}
 
 -- what the words ask for
@@ -9,6 +10,24 @@ pub data Request : Type 0 where
   Header : (file : List ℕ) → Request
   Events : (file : List ℕ) → Request
   Run : (plan file : List ℕ) → Request
+  Demo : (seed count : ℕ) → Request
+
+-- one to twenty digits
+abbrev pub is_numeral : List ℕ → Bool
+is_numeral word = nat_le 1 (length word) && nat_le (length word) 20 && all_ascii_digits word
+
+-- the number that a word writes, where it is no greater than `most`
+unfoldable pub number_in : ℕ → List ℕ → Option ℕ
+number_in most word = if is_numeral word && nat_le (digits_value 10 word) most then Some (digits_value 10 word) else None
+
+-- the most photons of a made file
+abbrev pub photon_limit : ℕ
+photon_limit = 10000000
+
+abbrev pub demo_of : Option ℕ → Option ℕ → Option Request
+demo_of (Some seed) (Some count) = Some (Demo seed count)
+demo_of (Some seed) None = None
+demo_of None count = None
 
 -- the words behind the program's name
 abbrev pub request_of : List (List ℕ) → Option Request
@@ -17,5 +36,8 @@ request_of (word ∷ file ∷ []) =
     else if bytes_eq word (codes "header") then Some (Header file)
     else if bytes_eq word (codes "events") then Some (Events file)
     else None
-request_of (word ∷ plan ∷ file ∷ []) = if bytes_eq word (codes "run") then Some (Run plan file) else None
+request_of (word ∷ first ∷ second ∷ []) =
+    if bytes_eq word (codes "run") then Some (Run first second)
+    else if bytes_eq word (codes "demo") then demo_of (number_in (2 ^ 64 - 1) first) (number_in photon_limit second)
+    else None
 request_of other = None

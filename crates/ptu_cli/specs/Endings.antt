@@ -20,7 +20,7 @@ use Rattle.plan_text.specs.Reading.{plan_answer}
 use Rattle.plan_text.specs.Fits.{fits}
 use Rattle.tally_engine.specs.Plans.{reading_by}
 use Rattle.table_out.specs.HeaderText.{header_text}
-use Rattle.ptu_cli.specs.Commands.{Request, Count, Header as HeaderOf, Events as EventsOf, Run as RunOf}
+use Rattle.ptu_cli.specs.Commands.{Request, Count, Header as HeaderOf, Events as EventsOf, Run as RunOf, Demo as DemoOf}
 use Rattle.ptu_cli.specs.Outcomes.{Outcome, outcome, events_outcome, listing, MayGoOnFrom}
 
 -- each word FILE or PLAN is meant for its slot
@@ -30,6 +30,7 @@ IsMeant state (Some (Count file)) = state.meant Data file ≡ true
 IsMeant state (Some (HeaderOf file)) = state.meant Data file ≡ true
 IsMeant state (Some (EventsOf file)) = state.meant Data file ≡ true
 IsMeant state (Some (RunOf plan file)) = (state.meant Plan plan ≡ true) × (state.meant Data file ≡ true)
+IsMeant state (Some (DemoOf seed count)) = Unit {0}
 
 -- The file is there and is this plan.
 pub record IsPlan (plan_file : File) (plan : PlanView) : Type 0 where
@@ -52,6 +53,7 @@ Reaches (Some (EventsOf file)) state Plan = ⊥
 Reaches (Some (EventsOf file)) state Data = Unit {0}
 Reaches (Some (RunOf plan file)) state Plan = Unit {0}
 Reaches (Some (RunOf plan file)) state Data = NamesPlan state plan
+Reaches (Some (DemoOf seed count)) state slot = ⊥
 
 -- the inputs tell these files for the words PLAN and FILE
 abbrev pub Tells : InputState → Option Request → File → File → Type 0
@@ -60,19 +62,21 @@ Tells state (Some (Count file)) plan_file data_file = state.contents file ≡ So
 Tells state (Some (HeaderOf file)) plan_file data_file = state.contents file ≡ Some data_file
 Tells state (Some (EventsOf file)) plan_file data_file = state.contents file ≡ Some data_file
 Tells state (Some (RunOf plan file)) plan_file data_file = (state.contents plan ≡ Some plan_file) × (state.contents file ≡ Some data_file)
+Tells state (Some (DemoOf seed count)) plan_file data_file = Unit {0}
 
 -- the run ended so, and its text was written
 pub record EndsWith (outcome : Outcome) (fault : Option Fault) (old new : Option (List ℕ)) : Type 0 where
   pub same : fault ≡ outcome.fault
   pub text : Appends old new outcome.text
 
--- The text was cut short. That of `count` and `run` is cut only where the run would have ended well.
+-- The text was cut short. That of `count`, `run` and `demo` is cut only where the run would have ended well.
 abbrev pub CutsShort : Option Request → Outcome → Option (List ℕ) → Option (List ℕ) → Type 0
 CutsShort None outcome old new = ⊥
 CutsShort (Some (Count file)) outcome old new = (outcome.fault ≡ None) × AppendsShort old new outcome.text
 CutsShort (Some (HeaderOf file)) outcome old new = AppendsShort old new outcome.text
 CutsShort (Some (EventsOf file)) outcome old new = AppendsShort old new outcome.text
 CutsShort (Some (RunOf plan file)) outcome old new = (outcome.fault ≡ None) × AppendsShort old new outcome.text
+CutsShort (Some (DemoOf seed count)) outcome old new = (outcome.fault ≡ None) × AppendsShort old new outcome.text
 
 -- These are the bytes that were taken from the file of a name, where the inputs tell it.
 abbrev pub IsTakenFrom : Slot → InputState → InputState → List ℕ → List ℕ → Type 0
@@ -93,6 +97,7 @@ MayGoOn (Some (HeaderOf file)) None = ⊥
 MayGoOn (Some (HeaderOf file)) (Some fault) = MayGoOnFrom (Some fault)
 MayGoOn (Some (EventsOf file)) fault = MayGoOnFrom fault
 MayGoOn (Some (RunOf plan file)) fault = MayGoOnFrom fault
+MayGoOn (Some (DemoOf seed count)) fault = ⊥
 
 -- What a run leaves on standard output where a read failed: `count` and `run` nothing, `header` and `events` the text of the bytes taken. Had the file ended
 -- with these bytes, more of them might have changed the outcome: so they call for no refusal by themselves.
@@ -107,6 +112,7 @@ LeavesUnread (Some (EventsOf file)) slot before after old new =
 LeavesUnread (Some (RunOf plan file)) Plan before after old new = Keeps old new × ((taken : List ℕ) × IsTakenFrom Plan before after plan taken × (length taken ≤ plan_limit))
 LeavesUnread (Some (RunOf plan file)) Data before after old new =
     Keeps old new × ((taken : List ℕ) × IsTaken before after file taken × ((plan_file : File) → before.contents plan ≡ Some plan_file → MayGoOn (Some (RunOf plan file)) (outcome (Some (RunOf plan file)) plan_file (Some taken)).fault))
+LeavesUnread (Some (DemoOf seed count)) slot before after old new = ⊥
 
 -- The bytes that were taken from the file are a header that the plan's parts suit, and less than one piece behind it.
 pub record StopsAtHeader (plan : PlanView) (taken : List ℕ) : Type 0 where
@@ -116,8 +122,8 @@ pub record StopsAtHeader (plan : PlanView) (taken : List ℕ) : Type 0 where
   pub suits : fits (mode_of header.record_type) plan ≡ Ok (tt {0})
   pub few : length behind < 8192
 
--- What a run leaves where memory was refused: nothing is written, and either the data were not opened, or no more of them was taken than the read gave
--- that gave the header's last byte. The other commands take no memory.
+-- What a run leaves where memory was refused: nothing is written, and for `run` either the data were not opened, or no more of them was taken than the read
+-- gave that gave the header's last byte. Commands without a plan take no memory.
 abbrev pub RunsOut : Option Request → InputState → InputState → Option (List ℕ) → Option (List ℕ) → Type 0
 RunsOut None before after old new = ⊥
 RunsOut (Some (Count file)) before after old new = ⊥
@@ -126,14 +132,25 @@ RunsOut (Some (EventsOf file)) before after old new = ⊥
 RunsOut (Some (RunOf plan file)) before after old new =
     Keeps old new × ((after.asked Data ≡ false)
     ⊎ ((plan_file : File) → before.contents plan ≡ Some plan_file → (view : PlanView) × IsPlan plan_file view × ((taken : List ℕ) × IsTaken before after file taken × StopsAtHeader view taken)))
+RunsOut (Some (DemoOf seed count)) before after old new = Keeps old new
 
--- A command without a plan never asks for one.
+-- A command without a word PLAN never asks for a plan.
 abbrev pub LeavesPlan : Option Request → InputState → Type 0
 LeavesPlan None state = state.asked Plan ≡ false
 LeavesPlan (Some (Count file)) state = state.asked Plan ≡ false
 LeavesPlan (Some (HeaderOf file)) state = state.asked Plan ≡ false
 LeavesPlan (Some (EventsOf file)) state = state.asked Plan ≡ false
 LeavesPlan (Some (RunOf plan file)) state = Unit {0}
+LeavesPlan (Some (DemoOf seed count)) state = state.asked Plan ≡ false
+
+-- `demo` and words that are no command leave the inputs as they were.
+abbrev pub LeavesInputs : Option Request → InputState → InputState → Type 0
+LeavesInputs None before after = after ≡ before
+LeavesInputs (Some (Count file)) before after = Unit {0}
+LeavesInputs (Some (HeaderOf file)) before after = Unit {0}
+LeavesInputs (Some (EventsOf file)) before after = Unit {0}
+LeavesInputs (Some (RunOf plan file)) before after = Unit {0}
+LeavesInputs (Some (DemoOf seed count)) before after = after ≡ before
 
 -- A fault has its line on standard error, or a prefix of it where a write there failed.
 abbrev pub TellsFault : Option (List ℕ) → Option (List ℕ) → ℕ → ℕ → Option Fault → Type 0
@@ -169,6 +186,7 @@ MeansStatus (Some (Count file)) result wanted = result ≡ wanted
 MeansStatus (Some (HeaderOf file)) result wanted = result ≡ wanted
 MeansStatus (Some (EventsOf file)) result wanted = result ≡ wanted
 MeansStatus (Some (RunOf plan file)) result wanted = (result ≡ wanted) ⊎ (result ≡ 5)
+MeansStatus (Some (DemoOf seed count)) result wanted = (result ≡ wanted) ⊎ (result ≡ 5)
 
 -- No opening and no read has failed in a run.
 abbrev pub NoneRose : InputState → InputState → Type 0
@@ -198,3 +216,4 @@ IsGood (Some (HeaderOf file)) plan_file data_file = (header : Header) × (behind
 IsGood (Some (EventsOf file)) plan_file data_file = (header : Header) × (behind : List ℕ) × IsHeaded data_file header behind × AreRead (listing header) behind
 IsGood (Some (RunOf plan file)) plan_file data_file =
     (view : PlanView) × IsPlan plan_file view × ((header : Header) × (behind : List ℕ) × IsHeaded data_file header behind × (fits (mode_of header.record_type) view ≡ Ok (tt {0})) × AreRead (reading_by view header) behind)
+IsGood (Some (DemoOf seed count)) plan_file data_file = Unit {0}

@@ -3,6 +3,7 @@ pub mod CountText
 pub mod EventLines
 pub mod EventPieces
 pub mod Reports
+pub mod Demo
 pub mod Outcomes
 pub mod Pieces
 pub mod HeaderPieces

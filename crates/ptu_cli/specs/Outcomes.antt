@@ -18,10 +18,11 @@ use Rattle.tally_base.specs.Faults.{fault_in}
 use Rattle.table_out.specs.EventText.{lines_of}
 use Rattle.ptu_cli.specs.CountText.{counts_text}
 use Rattle.table_out.specs.HeaderText.{header_text}
-use Rattle.ptu_cli.specs.Commands.{Request, Count, Header as HeaderOf, Events as EventsOf, Run as RunOf}
+use Rattle.ptu_cli.specs.Commands.{Request, Count, Header as HeaderOf, Events as EventsOf, Run as RunOf, Demo as DemoOf}
 use Rattle.plan_text.specs.Plan.{PlanView}
 use Rattle.plan_text.specs.Reading.{plan_answer}
 use Rattle.ptu_cli.specs.Reports.{file_report}
+use Rattle.ptu_cli.specs.Demo.{demo_report}
 
 -- the text on standard output, and the fault where there is one
 pub record Outcome : Type 0 where
@@ -114,3 +115,4 @@ outcome (Some (EventsOf name)) plan None = refused (OpenFault Data)
 outcome (Some (EventsOf name)) plan (Some bytes) = events_outcome bytes
 outcome (Some (RunOf plan_name name)) None file = refused (OpenFault Plan)
 outcome (Some (RunOf plan_name name)) (Some text) file = planned (plan_answer text) file
+outcome (Some (DemoOf seed count)) plan file = written (demo_report seed count)

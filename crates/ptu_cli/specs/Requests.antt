@@ -1,11 +1,11 @@
 -- What a command asks for.
-use Rattle.std.specs.Prelude.{List, None, Some, map, string_bytes}
+use Rattle.std.specs.Prelude.{◌≤◌, List, None, Some, map, string_bytes}
 use Rattle.std.specs.declared.string.String.{String}
 use Rattle.std.specs.declared.alloc.Global.{Global}
 use Rattle.std.specs.declared.option.Option.{Option}
-use Rattle.ptu_cli.specs.Commands.{Request, Count as CountOf, Header as HeaderOf, Events as EventsOf, Run as RunOf, request_of}
+use Rattle.ptu_cli.specs.Commands.{Request, Count as CountOf, Header as HeaderOf, Events as EventsOf, Run as RunOf, Demo as DemoOf, photon_limit, request_of}
 use Rattle.ptu_cli.specs.declared.words.Command.{Command}
-use Rattle.ptu_cli.specs.declared.words.Command.TheVariants.{Count, Header, Events, Run}
+use Rattle.ptu_cli.specs.declared.words.Command.TheVariants.{Count, Header, Events, Run, Demo}
 
 abbrev pub asked_for : Option Command → Option Request
 asked_for None = None
@@ -13,6 +13,12 @@ asked_for (Some (Count file)) = Some (CountOf file.now)
 asked_for (Some (Header file)) = Some (HeaderOf file.now)
 asked_for (Some (Events file)) = Some (EventsOf file.now)
 asked_for (Some (Run plan file)) = Some (RunOf plan.now file.now)
+asked_for (Some (Demo seed count)) = Some (DemoOf seed count)
+
+-- A command asks for no more photons than a made file may have.
+abbrev pub AsksFew : Command → Type 0
+AsksFew (Demo seed count) = count ≤ photon_limit
+AsksFew other = Unit {0}
 
 -- what the words ask for
 abbrev pub request_in : List (String Global) → Option Request

@@ -4,9 +4,11 @@
 mod command;
 mod counts;
 mod data;
+mod demo;
 mod edge;
 mod events;
 mod header;
+pub mod laws;
 mod plan;
 mod print;
 mod run;

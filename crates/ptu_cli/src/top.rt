@@ -9,10 +9,11 @@ ghost use Rattle.tally_base.specs.declared.fault.Fault.TheVariants.{OpenFault, R
 ghost use Rattle.tally_base.specs.Counts.{Rose};
 ghost use Rattle.bench_io.specs.Inputs.{File};
 ghost use Rattle.ptu_cli.specs.Outcomes.{outcome, status};
-ghost use Rattle.ptu_cli.specs.Endings.{IsMeant, Tells, TellsFault, CutsShort, Answers, HasCauses, Reaches, LeavesUnread, RunsOut, LeavesPlan, MeansStatus, NoneRose, IsGood};
+ghost use Rattle.ptu_cli.specs.Endings.{IsMeant, Tells, TellsFault, CutsShort, Answers, HasCauses, Reaches, LeavesUnread, RunsOut, LeavesInputs, LeavesPlan, MeansStatus, NoneRose, IsGood};
 ghost use Rattle.ptu_cli.specs.Requests.{request_in};
 
 use crate::command::{count, events, header, run};
+use crate::demo::demo;
 use crate::words::{Command, read_words};
 use arrayvec::ArrayVec;
 use bench_io::{Inputs, Sink, write_all};
@@ -40,6 +41,8 @@ fn obey<I: Inputs, O: Sink>(
       faults_after = O.faults out.new;
     })) }
     ensures plan { LeavesPlan (request_in words.now) (I.state inputs.new) }
+    ensures inputs { LeavesInputs (request_in words.now) (I.state inputs.old)
+        (I.state inputs.new) }
     ensures usage { request_in words.now ≡ None → result ≡ Err Fault.Usage }
 {
     let Some(command) = read_words(words) else {
@@ -50,6 +53,7 @@ fn obey<I: Inputs, O: Sink>(
         Command::Header { file } => header(inputs, out, file),
         Command::Events { file } => events(inputs, out, file),
         Command::Run { plan, file } => run(alloc, inputs, out, plan, file),
+        Command::Demo { seed, count } => demo(alloc, out, seed, count),
     }
 }
 
@@ -67,8 +71,8 @@ pub fn tell<E: Sink>(fault: &Fault, err: &mut E)
 /// is written to `err`. The words are those behind the program's name.
 ///
 /// The outcome of the words and their files, `outcome`, is a text and a fault or none by the definitions,
-/// after PicoQuant's unified TTTR format. Only `run` takes memory: it may end with 5 before the data are
-/// opened, or right behind the header.
+/// after PicoQuant's unified TTTR format. Only `run` and `demo` take memory: `run` may end with 5 before
+/// the data are opened, or right behind the header. `demo` asks nothing of the inputs.
 ///
 /// Nothing may have been asked of the inputs before, and the words FILE and PLAN of the command must be
 /// meant for the slots Data and Plan.
@@ -143,6 +147,8 @@ pub fn ptu_main<I: Inputs, O: Sink, E: Sink>(
 
     ensures quiet { result ≡ 0 → Keeps (E.written err.old) (E.written err.new) }
     ensures plan { LeavesPlan (request_in words.now) (I.state inputs.new) }
+    ensures inputs { LeavesInputs (request_in words.now) (I.state inputs.old)
+        (I.state inputs.new) }
 
     // Where no count of the inputs and of `out` rose, the run ends as the words and the files call
     // for, and well where they are good.

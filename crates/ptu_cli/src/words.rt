@@ -1,7 +1,8 @@
 // The words of the command line.
-ghost use Rattle.std.specs.Prelude.{◌≡◌, map, string_bytes};
-ghost use Rattle.ptu_cli.specs.Commands.{request_of};
-ghost use Rattle.ptu_cli.specs.Requests.{asked_for};
+ghost use Rattle.std.specs.Prelude.{◌≡◌, ◌≤◌, ◌-◌, ◌^◌, map, string_bytes, IfSome};
+ghost use Rattle.std.specs.Str.{all_ascii_digits};
+ghost use Rattle.ptu_cli.specs.Commands.{demo_of, number_in, photon_limit, request_of};
+ghost use Rattle.ptu_cli.specs.Requests.{asked_for, AsksFew};
 
 /// What the program is asked to do.
 #[derive(Clone, Copy, Debug)]
@@ -14,12 +15,57 @@ pub enum Command<'a> {
     Events { file: &'a str },
     /// Counts what a plan asks for in a file, and prints the report.
     Run { plan: &'a str, file: &'a str },
+    /// Counts the photons that a seed gives, and prints the report of a fixed plan. `read_words` gives
+    /// at most 10,000,000 of them.
+    Demo { seed: u64, count: u64 },
 }
 
-/// The command of the words behind the program's name: `count FILE`, `header FILE`, `events FILE` or
-/// `run PLAN FILE`. None exactly where the words are none of these.
+/// The most photons of a made file.
+const PHOTON_LIMIT: u64 = 10_000_000;
+
+/// Whether all bytes are digits.
+fn are_digits(text: &[u8]) -> bool
+    ensures { result ≡ all_ascii_digits text.now }
+{
+    for byte in text {
+        if !byte.is_ascii_digit() {
+            return false;
+        }
+    }
+    true
+}
+
+/// The number that one to twenty digits write, where it is no greater than `most`.
+fn number(word: &str, most: u64) -> Option<u64>
+    ensures value { result ≡ number_in most word.now }
+    ensures small { IfSome result (λ n. n ≤ most) }
+{
+    if word.is_empty() || 20 < word.len() || !are_digits(word.as_bytes()) {
+        return None;
+    }
+    match word.parse::<u64>() {
+        Ok(value) => { if value <= most { Some(value) } else { None } }
+        Err(_) => None,
+    }
+}
+
+/// The words behind `demo`.
+fn demo_words(seed: &str, count: &str) -> Option<Command<'static>>
+    ensures request { asked_for result
+        ≡ demo_of (number_in (2 ^ 64 - 1) seed.now) (number_in photon_limit count.now) }
+    ensures few { IfSome result AsksFew }
+{
+    let seed = number(seed, u64::MAX)?;
+    let count = number(count, PHOTON_LIMIT)?;
+    Some(Command::Demo { seed, count })
+}
+
+/// The command of the words behind the program's name: `count FILE`, `header FILE`, `events FILE`,
+/// `run PLAN FILE` or `demo SEED COUNT`. SEED and COUNT are one to twenty digits, SEED at most
+/// 2^64 - 1 and COUNT at most 10,000,000. None exactly where the words are none of these.
 pub fn read_words(words: &[String]) -> Option<Command<'_>>
-    ensures { asked_for result ≡ request_of (map (λ word. string_bytes word) words.now) }
+    ensures request { asked_for result ≡ request_of (map (λ word. string_bytes word) words.now) }
+    ensures few { IfSome result AsksFew }
 {
     match words {
         [word, file] => {
@@ -34,12 +80,14 @@ pub fn read_words(words: &[String]) -> Option<Command<'_>>
                 None
             }
         }
-        [word, plan, file] => {
+        [word, first, second] => {
             if word.as_str() == "run" {
                 Some(Command::Run {
-                    plan: plan.as_str(),
-                    file: file.as_str(),
+                    plan: first.as_str(),
+                    file: second.as_str(),
                 })
+            } else if word.as_str() == "demo" {
+                demo_words(first.as_str(), second.as_str())
             } else {
                 None
             }

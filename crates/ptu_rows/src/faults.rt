@@ -142,16 +142,16 @@ fn a_plan_or_data_that_are_not_there(rt: HostRuntime) -> Result<(), Fail> {
     Ok(())
 }
 
-/// In pieces of 100 bytes, the 150 bytes of the plan take three reads up to their end, and the 783 bytes
+/// In pieces of 100 bytes, the 287 bytes of the plan take four reads up to their end, and the 783 bytes
 /// of the file nine.
 #[test]
 fn each_call_of_a_run_fails(rt: HostRuntime) -> Result<(), Fail> {
     let alloc = rt.alloc();
-    for call in 1u64..15 {
+    for call in 1u64..16 {
         let (status, line) = match call {
             1 => (2, b"ptu: cannot open the plan\n".as_slice()),
-            2..=4 => (3, b"ptu: cannot read the plan\n".as_slice()),
-            5 => (2, b"ptu: cannot open the data\n".as_slice()),
+            2..=5 => (3, b"ptu: cannot read the plan\n".as_slice()),
+            6 => (2, b"ptu: cannot open the data\n".as_slice()),
             _ => (3, b"ptu: cannot read the data\n".as_slice()),
         };
         let left = run_bench_plan(alloc, &[100], &[call], 4096)?;
@@ -159,7 +159,7 @@ fn each_call_of_a_run_fails(rt: HostRuntime) -> Result<(), Fail> {
         assert_eq!(rt; left.out.bytes(), b"".as_slice());
         assert_eq!(rt; left.err.bytes(), line);
     }
-    let whole = run_bench_plan(alloc, &[100], &[15], 4096)?;
+    let whole = run_bench_plan(alloc, &[100], &[16], 4096)?;
     assert_eq!(rt; whole.status, 0);
     assert_eq!(rt; whole.out.bytes(), BENCH_REPORT);
     Ok(())

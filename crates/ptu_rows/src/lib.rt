@@ -2,7 +2,13 @@
 #![tactic(auto)]
 
 #[cfg(test)]
+mod coincidences;
+#[cfg(test)]
+mod correlations;
+#[cfg(test)]
 mod count;
+#[cfg(test)]
+mod demo;
 #[cfg(test)]
 mod events;
 #[cfg(test)]
@@ -11,6 +17,8 @@ mod faults;
 mod files;
 #[cfg(test)]
 mod headers;
+#[cfg(test)]
+mod images;
 #[cfg(test)]
 mod refusals;
 #[cfg(test)]

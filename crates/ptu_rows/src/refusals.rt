@@ -31,7 +31,12 @@ struct Broken {
     line: &'static [u8],
 }
 
-const BROKEN: [Broken; 10] = [
+const BROKEN: [Broken; 11] = [
+    Broken {
+        plan: b"[[group]]\ninputs = [1]\n\
+[[correlation]]\nfirst = 1\nsecond = 1\nlags = 3\nlevels = 1\n",
+        line: b"ptu: plan breaks rule 22 at 1\n",
+    },
     Broken {
         plan: b"histograms = 1\n",
         line: b"ptu: plan breaks rule 1 at 0\n",
@@ -257,7 +262,7 @@ fn plans_of_too_much(rt: HostRuntime) -> Result<(), Fail> {
 fn plans_of_too_many_tables(rt: HostRuntime) -> Result<(), Fail> {
     let alloc = rt.alloc();
     let file = short(alloc, 0x0101_0304, &[])?;
-    let rows: [(&[u8], usize, &[u8], &[u8]); 2] = [
+    let rows: [(&[u8], usize, &[u8], &[u8]); 5] = [
         (
             b"[[trace]]\n",
             32,
@@ -269,6 +274,24 @@ fn plans_of_too_many_tables(rt: HostRuntime) -> Result<(), Fail> {
             16,
             b"ptu: plan breaks rule 15 at 1\n",
             b"ptu: plan breaks rule 7 at 4\n",
+        ),
+        (
+            b"[[coincidence]]\n",
+            16,
+            b"ptu: plan breaks rule 17 at 1\n",
+            b"ptu: plan breaks rule 7 at 5\n",
+        ),
+        (
+            b"[[image]]\n",
+            8,
+            b"ptu: plan breaks rule 19 at 1\n",
+            b"ptu: plan breaks rule 7 at 6\n",
+        ),
+        (
+            b"[[correlation]]\n",
+            16,
+            b"ptu: plan breaks rule 21 at 1\n",
+            b"ptu: plan breaks rule 7 at 7\n",
         ),
     ];
     for (table, most, line, too_many) in rows {
@@ -407,8 +430,40 @@ const GATE_AND_STARTSTOP: &[u8] = b"[[startstop]]\nstart = 1\nstop = 2\nwidth = 
 const HISTOGRAM_AND_STARTSTOP: &[u8] = b"[[startstop]]\nstart = 1\nstop = 1\nwidth = 1\nbins = 1\n\
 [[histogram]]\ngroup = 1\nwidth = 1\nbins = 1\n[[group]]\ninputs = [1]\n";
 
-/// Plans with start-stop tables. What is behind the header is not looked at.
-const MISFITS: [Refused; 5] = [
+const COINCIDENCE: &[u8] = b"[[group]]\ninputs = [1]\n\
+[[coincidence]]\nfirst = 1\nsecond = 1\nreach = 4\nwidth = 1\n";
+
+const IMAGE_AND_STARTSTOP: &[u8] = b"[[group]]\ninputs = [1]\n\
+[[image]]\ngroup = 1\nwidth = 1\nheight = 1\ndwell = 1\nline = 1\n\
+[[startstop]]\nstart = 1\nstop = 1\nwidth = 1\nbins = 1\n\
+[[coincidence]]\nfirst = 1\nsecond = 1\nreach = 4\nwidth = 1\n";
+
+/// Plans of tables that are for one mode. What is behind the header is not looked at.
+const MISFITS: [Refused; 8] = [
+    Refused {
+        plan: COINCIDENCE,
+        code: 0x0101_0304,
+        words: &[],
+        rest: b"",
+        status: 9,
+        line: b"ptu: coincidence 1 does not suit T3\n",
+    },
+    Refused {
+        plan: IMAGE_AND_STARTSTOP,
+        code: 0x0101_0204,
+        words: &[],
+        rest: b"",
+        status: 9,
+        line: b"ptu: image 1 does not suit T2\n",
+    },
+    Refused {
+        plan: IMAGE_AND_STARTSTOP,
+        code: 0x0101_0304,
+        words: &[],
+        rest: b"",
+        status: 9,
+        line: b"ptu: startstop 1 does not suit T3\n",
+    },
     Refused {
         plan: STARTSTOP,
         code: 0x0101_0304,

@@ -18,6 +18,19 @@ bins = 64
 group = 1
 width = 1024
 bins = 2
+[[image]]
+group = 1
+width = 2
+height = 2
+dwell = 10
+line = 1
+frame = 2
+stop = 3
+[[correlation]]
+first = 1
+second = 2
+lags = 4
+levels = 2
 ";
 
 pub(crate) const BENCH_REPORT: &[u8] = b"type HydraHarp2T3
@@ -39,6 +52,12 @@ trace 1 origin 0 width 1024 bins 2
 1 2
 before 0
 beyond 1
+image 1 width 2 height 2 dwell 10
+0 0 1
+1 0 1
+outside 1
+correlation 1 lags 4 levels 2
+0 2 1
 ";
 
 /// The bench plan with a histogram of the second group, whose gate leaves out one of its two photons.
@@ -353,7 +372,7 @@ fn reports_without_parts(rt: HostRuntime) -> Result<(), Fail> {
 }
 
 #[test]
-fn reports_on_the_bench_file(rt: HostRuntime) -> Result<(), Fail> {
+fn run_gives_the_report(rt: HostRuntime) -> Result<(), Fail> {
     let alloc = rt.alloc();
     let file = bench(alloc)?;
     reports(&rt, alloc, BENCH_PLAN, file.as_slice(), BENCH_REPORT)?;

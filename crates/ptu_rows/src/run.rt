@@ -70,6 +70,11 @@ pub(crate) fn run_plan(
     run_on(alloc, &["run", "p", "f"], files, pieces, failing, room)
 }
 
+/// Runs a command where there are no files, and where standard output has this room.
+pub(crate) fn run_without_files(alloc: Global, words: &[&str], room: usize) -> Result<Left, Fail> {
+    run_on(alloc, words, Vec::new(alloc), &[], &[], room)
+}
+
 /// Runs a command where there are no files, and where standard error has this room.
 pub(crate) fn run_with_room(alloc: Global, words: &[&str], room: usize) -> Result<Left, Fail> {
     let mut inputs = MemoryInputs::new(Vec::new(alloc), Vec::new(alloc), Vec::new(alloc));

@@ -1,23 +1,23 @@
 -- More text is put behind a text, whatever the tables stand for.
-use Rattle.std.proofs.Common.{◌≡◌, ℕ, zero, suc, ◌+◌, List, [], ◌++◌, refl, sym, ap, ◌∙◌, append_assoc, append-nil, arith}
+use Rattle.std.proofs.Common.{◌≡◌, ℕ, zero, suc, ◌+◌, ◌-◌, ◌<◌, List, [], ◌++◌, refl, sym, ap, ◌∙◌, append_assoc, append-nil, arith}
 use Rattle.std.specs.declared.option.Option.{Option}
 use Rattle.bench_io.specs.Sinks.{AppendsShort, PassesOn}
 use Rattle.bench_io.proofs.Bytes.{PassesOn-held, PassesOn-trans, AppendsShort-passed, AppendsShort-more, AppendsShort-same}
-use Rattle.table_out.specs.Report.{cell_line, cells_text}
-use Rattle.table_out.specs.Puts.{PutsText, CutsText}
+use Rattle.table_out.specs.Report.{texts}
+use Rattle.table_out.specs.Puts.{PutsText, CutsText, texts_of}
 
--- the lines of one cell more
-pub cells-push : (cell : ℕ → ℕ) (n : ℕ) → cells_text cell (n + 1) ≡ cells_text cell n ++ cell_line n (cell n)
-cells-push cell n = let is : n + 1 ≡ suc n = omega arith in rw is refl
+-- the texts of one place more
+texts-push : (text : ℕ → List ℕ) (n : ℕ) → texts text (n + 1) ≡ texts text n ++ text n
+texts-push text n = let is : n + 1 ≡ suc n = omega arith in rw is refl
 
--- the lines of more cells begin with those of fewer
-pub cells-front : (cell : ℕ → ℕ) (n k m : ℕ) → m ≡ k + n → (rest : List ℕ) × (cells_text cell m ≡ cells_text cell n ++ rest)
-cells-front cell n zero m e = let same : m ≡ n = omega arith in ([], rw same (sym (append-nil (cells_text cell n))))
-cells-front cell n (suc k) m e =
+-- the texts of more places begin with those of fewer
+texts-front : (text : ℕ → List ℕ) (n k m : ℕ) → m ≡ k + n → (rest : List ℕ) × (texts text m ≡ texts text n ++ rest)
+texts-front text n zero m e = let same : m ≡ n = omega arith in ([], rw same (sym (append-nil (texts text n))))
+texts-front text n (suc k) m e =
     let is : m ≡ suc (k + n) = omega arith in
-    let next = cell_line (k + n) (cell (k + n)) in
-    let fewer = cells-front cell n k (k + n) refl in
-    (fewer.0 ++ next, rw is (ap (λ l. l ++ next) fewer.1 ∙ append_assoc (cells_text cell n) fewer.0 next))
+    let next = text (k + n) in
+    let fewer = texts-front text n k (k + n) refl in
+    (fewer.0 ++ next, rw is (ap (λ l. l ++ next) fewer.1 ∙ append_assoc (texts text n) fewer.0 next))
 
 module _ {A : Type 0} (holds : A → Type 0) where
   pub puts-none : (a : Option (List ℕ)) (held : List ℕ) → PutsText holds (λ h. []) a a held held
@@ -49,3 +49,13 @@ module _ {A : Type 0} (holds : A → Type 0) where
 
   pub cuts-same : (text same : A → List ℕ) (a b : Option (List ℕ)) (held : List ℕ) → ((h : A) → holds h → text h ≡ same h) → CutsText holds text a b held → CutsText holds same a b held
   cuts-same text same a b held eq cut h is = rw (← eq h is) (cut h is)
+
+  -- the text of one place more is put
+  pub puts-next : (text : ℕ → A → List ℕ) (n : ℕ) (a b c : Option (List ℕ)) (held mid now : List ℕ) → PutsText holds (texts_of text n) a b held mid → PutsText holds (text n) b c mid now → PutsText holds (texts_of text (n + 1)) a c held now
+  puts-next text n a b c held mid now so_far next h is = rw (texts-push (λ place. text place h) n) (puts-more (texts_of text n) (text n) a b c held mid now so_far next h is)
+
+  -- the sink fails in the text of a place
+  pub cuts-next : (text : ℕ → A → List ℕ) (n size : ℕ) (a b c : Option (List ℕ)) (held mid : List ℕ) → n < size → PutsText holds (texts_of text n) a b held mid → CutsText holds (text n) b c mid → CutsText holds (texts_of text size) a c held
+  cuts-next text n size a b c held mid inside so_far cut =
+      cuts-front (texts_of text (suc n)) (texts_of text size) a c held (λ h. texts-front (λ place. text place h) (suc n) (size - suc n) size (omega (arith, inside)))
+      (cuts-behind (texts_of text n) (text n) a b c held mid so_far cut)

@@ -8,10 +8,10 @@ use Rattle.tally_base.specs.declared.header.Header.{Header}
 use Rattle.tally_base.specs.declared.header.RecordType.TheVariants.{HydraHarp2T3}
 use Rattle.tally_base.specs.Hexadecimal.{hexadecimal}
 use Rattle.tally_base.specs.Settings.{PartSettings}
-use Rattle.tally_base.specs.Settings.PartSettings.{HistSettings, TraceSettings, StartStopSettings}
+use Rattle.tally_base.specs.Settings.PartSettings.{HistSettings, TraceSettings, StartStopSettings, CoincidenceSettings, ImageSettings, CorrelationSettings}
 use Rattle.tally_base.specs.Tally.{History}
 use Rattle.ptu_definitions.specs.declared.records.Summary.{Summary}
-use Rattle.table_out.specs.Report.{head_text, histogram_text, trace_text, startstop_text, parts_text, report, with_events}
+use Rattle.table_out.specs.Report.{head_text, histogram_text, trace_text, startstop_text, coincidence_text, image_text, correlation_text, parts_text, report, with_events}
 
 abbrev bench_header : Header
 bench_header = record { record_type = HydraHarp2T3; count = Some (pos 9); global = Some 0x3E6AD7F29ABCAF48; resolution = Some 0x3DC19799812DEA11; version = codes "1.0.00" ++ 0 ∷ 0 ∷ [] }
@@ -104,3 +104,25 @@ pub row-kinds : parts_text (with_events (HistSettings (record { group = 1; width
     ≡ codes "histogram 1 width 4 bins 2\n0 1\nover 0\ntrace 1 origin 100 width 10 bins 2\n0 1\nbefore 0\nbeyond 0\ntrace 2 origin 100 width 10 bins 2\n0 1\nbefore 0\nbeyond 0\nstartstop 1 width 10 bins 2\n0 1\nover 0\n"
 unfolding histogram_text trace_text startstop_text digits
 row-kinds = refl
+
+-- The two photons at 3 make two pairs of one tick, and each of them two with the one at 4, one in each order.
+pub row-coincidence : parts_text ((CoincidenceSettings (record { first = 1; second = 1; reach = 1; width = 1 }), timed 1 3 ∷ timed 2 3 ∷ timed 3 4 ∷ []) ∷ [])
+    ≡ codes "coincidence 1 reach 1 width 1\n0 2\n1 2\n2 2\n"
+unfolding coincidence_text digits
+row-coincidence = refl
+
+-- a frame and its first line
+abbrev framed : ℕ → ℕ → Event × ℕ
+framed place time = (record { place = place; kind = Marker 3; time = time }, 0)
+
+-- The photons at 100 and 119 are in the first row, and the one at 120 is past the last column.
+pub row-image : parts_text ((ImageSettings (record { group = 1; width = 2; height = 2; dwell = 10; line = 1; frame = Some 2; stop = None }), framed 1 100 ∷ timed 2 100 ∷ timed 3 119 ∷ timed 4 120 ∷ []) ∷ [])
+    ≡ codes "image 1 width 2 height 2 dwell 10\n0 0 1\n1 0 1\noutside 1\n"
+unfolding image_text digits
+row-image = refl
+
+-- Level 0 has the lags 1 and 2, and level 1 the lag 2 alone.
+pub row-correlation : parts_text ((CorrelationSettings (record { first = 1; second = 1; lags = 2; levels = 2 }), timed 1 0 ∷ timed 2 1 ∷ timed 3 3 ∷ timed 4 4 ∷ []) ∷ [])
+    ≡ codes "correlation 1 lags 2 levels 2\n0 1 2\n0 2 1\n1 2 2\n"
+unfolding correlation_text digits
+row-correlation = refl

@@ -3,10 +3,13 @@
 
 mod body;
 mod cells;
+mod correlation;
 mod event;
 mod head;
 mod histogram;
+mod image;
 mod line;
+mod pairs;
 mod preamble;
 mod report;
 mod report_head;

@@ -1,5 +1,5 @@
 // The report of a run.
-ghost use Rattle.std.specs.Prelude.{◌≡◌, ◌+◌, ◌≤◌, List, count_by, OnOk, OnErr, IfErr};
+ghost use Rattle.std.specs.Prelude.{◌≡◌, ◌+◌, ◌≤◌, true, List, count_by, OnOk, OnErr, IfErr};
 ghost use Rattle.std.specs.Io.KnownBytes.{Appends};
 ghost use Rattle.tally_base.specs.Counts.{HasCause};
 ghost use Rattle.bench_io.specs.Sinks.{AppendsShort};
@@ -7,7 +7,10 @@ ghost use Rattle.tally_engine.specs.Parts.{settings_in, AllClosed};
 ghost use Rattle.table_out.specs.Report.{Table, EachHolds, kind_place, same_kind, part_text, parts_text, report};
 ghost use Rattle.table_out.specs.Puts.{PutsText, CutsText};
 
+use crate::correlation::put_correlation;
 use crate::histogram::put_histogram;
+use crate::image::put_image;
+use crate::pairs::put_coincidence;
 use crate::report_head::report_head;
 use crate::start_stop::put_startstop;
 use crate::trace::put_trace;
@@ -23,6 +26,9 @@ fn kind_place(part: &Part) -> u64
         Part::Hist(_) => 0,
         Part::Trace(_) => 1,
         Part::StartStop(_) => 2,
+        Part::Coincidence(_) => 3,
+        Part::Image(_) => 4,
+        Part::Correlation(_) => 5,
     }
 }
 
@@ -50,6 +56,7 @@ fn number_of(before: &[Part], part: &Part) -> u64
 
 /// Puts the lines of a table.
 fn put_part<O: Sink>(number: u64, part: &Part, block: &mut Block, out: &mut O) -> Result<(), Failed>
+    requires closed { ⟦<Part as Tally>⟧.closed part.now ≡ true }
     ensures all { OnOk result (PutsText (⟦<Part as Tally>⟧.holds part.now)
         (part_text number (⟦<Part as Tally>⟧.settings part.now))
         (O.written out.old) (O.written out.new) block.old block.new) }
@@ -62,11 +69,15 @@ fn put_part<O: Sink>(number: u64, part: &Part, block: &mut Block, out: &mut O) -
         Part::Hist(table) => put_histogram(number, table, block, out),
         Part::Trace(table) => put_trace(number, table, block, out),
         Part::StartStop(table) => put_startstop(number, table, block, out),
+        Part::Coincidence(table) => put_coincidence(number, table, block, out),
+        Part::Image(table) => put_image(number, table, block, out),
+        Part::Correlation(table) => put_correlation(number, table, block, out),
     }
 }
 
 /// Puts the lines of all tables.
 fn put_parts<O: Sink>(parts: &[Part], block: &mut Block, out: &mut O) -> Result<(), Failed>
+    requires closed { AllClosed parts.now }
     ensures all { OnOk result (PutsText (EachHolds parts.now) parts_text
         (O.written out.old) (O.written out.new) block.old block.new) }
     ensures short { OnErr result (CutsText (EachHolds parts.now) parts_text
@@ -82,6 +93,7 @@ fn put_parts<O: Sink>(parts: &[Part], block: &mut Block, out: &mut O) -> Result<
 
 /// Writes the whole report through a block.
 fn put_report<O: Sink>(results: &Results, out: &mut O) -> Result<(), Failed>
+    requires closed { AllClosed results.now.parts.items }
     ensures text { OnOk result ((tables : List Table) → EachHolds results.now.parts.items tables
         → Appends (O.written out.old) (O.written out.new)
         (report results.now.header results.now.summary tables)) }

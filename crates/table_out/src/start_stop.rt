@@ -1,11 +1,11 @@
 // The lines of a start-stop table.
-ghost use Rattle.std.specs.Prelude.{◌≡◌, ◌≤◌, OnOk, OnErr};
+ghost use Rattle.std.specs.Prelude.{◌≡◌, ◌≤◌, true, OnOk, OnErr};
 ghost use Rattle.tally_base.specs.Counts.{HasCause};
 ghost use Rattle.tally_base.specs.Settings.{startstop_view};
-ghost use Rattle.table_out.specs.Report.{startstop_line, part_text};
+ghost use Rattle.table_out.specs.Report.{cell_line, startstop_line, part_text};
 ghost use Rattle.table_out.specs.Puts.{PutsText, CutsText};
 
-use crate::cells::{Cells, over_line, put_table};
+use crate::cells::{Cells, cell_line, over_line, put_table};
 use arrayvec::ArrayVec;
 use bench_io::{Block, Sink};
 use coincidence::StartStop;
@@ -17,16 +17,24 @@ impl Cells for StartStop {
 
     ghost holds = { Holds };
 
-    ghost size = { λ t. (set_of t).bins };
+    ghost closed = { ⟦<StartStop as Tally>⟧.closed };
 
-    ghost count = { λ t at h. in_interval (startstop_view (set_of t)) at h };
+    ghost rows = { λ t. 1 };
 
-    fn cell_count(&self) -> u32 {
+    ghost columns = { λ t row. (set_of t).bins };
+
+    ghost text = { λ t row column h. cell_line column (in_interval (startstop_view (set_of t)) column h) };
+
+    fn row_count(&self) -> u32 {
+        1
+    }
+
+    fn column_count(&self, _row: u32) -> u32 {
         self.set().bins
     }
 
-    fn count_in(&self, at: u32) -> u64 {
-        self.cell(at)
+    fn line_of(&self, _row: u32, column: u32) -> ArrayVec<u8, 96> {
+        cell_line(column, u128::from(self.cell(column)))
     }
 }
 
@@ -53,6 +61,7 @@ pub(crate) fn put_startstop<O: Sink>(
     block: &mut Block,
     out: &mut O,
 ) -> Result<(), Failed>
+    requires closed { ⟦<StartStop as Tally>⟧.closed table.now ≡ true }
     ensures all { OnOk result (PutsText (⟦<StartStop as Tally>⟧.holds table.now)
         (part_text number (⟦<StartStop as Tally>⟧.settings table.now))
         (O.written out.old) (O.written out.new) block.old block.new) }

@@ -1,10 +1,13 @@
 -- What a contract sees of the settings of a plan: their numbers alone, so that definitions can make them.
-use Rattle.std.specs.Prelude.{ℕ, ◌+◌, Bool, false}
+use Rattle.std.specs.Prelude.{ℕ, ◌+◌, ◌-◌, ◌*◌, ◌/◌, Bool, true, false}
 use Rattle.std.specs.declared.option.Option.{Option}
 use Rattle.tally_base.specs.declared.settings.Group.{Group}
 use Rattle.tally_base.specs.declared.settings.HistSet.{HistSet}
 use Rattle.tally_base.specs.declared.settings.TraceSet.{TraceSet}
 use Rattle.tally_base.specs.declared.settings.StartStopSet.{StartStopSet}
+use Rattle.tally_base.specs.declared.settings.CoincidenceSet.{CoincidenceSet}
+use Rattle.tally_base.specs.declared.settings.ImageSet.{ImageSet}
+use Rattle.tally_base.specs.declared.settings.CorrelationSet.{CorrelationSet}
 
 pub record GroupView : Type 0 where
   -- bit n is set for the input n
@@ -29,6 +32,28 @@ pub record StartStopView : Type 0 where
   pub width : ℕ
   pub bins : ℕ
 
+pub record CoincidenceView : Type 0 where
+  pub first : ℕ
+  pub second : ℕ
+  pub reach : ℕ
+  pub width : ℕ
+
+pub record ImageView : Type 0 where
+  pub group : ℕ
+  pub width : ℕ
+  pub height : ℕ
+  pub dwell : ℕ
+  -- the numbers of the marker bits
+  pub line : ℕ
+  pub frame : Option ℕ
+  pub stop : Option ℕ
+
+pub record CorrelationView : Type 0 where
+  pub first : ℕ
+  pub second : ℕ
+  pub lags : ℕ
+  pub levels : ℕ
+
 abbrev pub group_view : Group → GroupView
 group_view group = record { inputs = group.inputs; gate = group.gate }
 
@@ -41,20 +66,42 @@ trace_view set = record { group = set.group; origin = set.origin; width = set.wi
 abbrev pub startstop_view : StartStopSet → StartStopView
 startstop_view set = record { start = set.start; stop = set.stop; width = set.width; bins = set.bins }
 
+abbrev pub coincidence_view : CoincidenceSet → CoincidenceView
+coincidence_view set = record { first = set.first; second = set.second; reach = set.reach; width = set.width }
+
+abbrev pub image_view : ImageSet → ImageView
+image_view set = record { group = set.group; width = set.width; height = set.height; dwell = set.dwell; line = set.line; frame = set.frame; stop = set.stop }
+
+abbrev pub correlation_view : CorrelationSet → CorrelationView
+correlation_view set = record { first = set.first; second = set.second; lags = set.lags; levels = set.levels }
+
 -- the settings of a table of any kind
 pub data PartSettings : Type 0 where
   HistSettings : (set : HistView) → PartSettings
   TraceSettings : (set : TraceView) → PartSettings
   StartStopSettings : (set : StartStopView) → PartSettings
+  CoincidenceSettings : (set : CoincidenceView) → PartSettings
+  ImageSettings : (set : ImageView) → PartSettings
+  CorrelationSettings : (set : CorrelationView) → PartSettings
+
+-- how many cells the differences from - reach to reach take
+abbrev pub coincidence_cells : CoincidenceView → ℕ
+coincidence_cells set = (2 * set.reach) / set.width + 1
 
 -- The bound of a table: how many entries it keeps at most, cells, rest counts, ring entries and open bins.
 abbrev pub entries : PartSettings → ℕ
 entries (HistSettings set) = set.bins + 1
 entries (TraceSettings set) = set.bins + 3
 entries (StartStopSettings set) = set.bins + 2
+entries (CoincidenceSettings set) = coincidence_cells set + set.reach + 2
+entries (ImageSettings set) = set.width * set.height + 4
+entries (CorrelationSettings set) = set.levels * (set.lags + 1) + set.lags + (set.levels - 1) * (set.lags / 2)
 
 -- whether the times of markers may not fall in it either
 abbrev pub is_strict : PartSettings → Bool
 is_strict (HistSettings set) = false
 is_strict (TraceSettings set) = false
 is_strict (StartStopSettings set) = false
+is_strict (CoincidenceSettings set) = false
+is_strict (ImageSettings set) = true
+is_strict (CorrelationSettings set) = false

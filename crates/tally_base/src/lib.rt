@@ -21,7 +21,7 @@ pub use settings::{
 };
 pub use slot::{Failed, Slot};
 pub use steps::Steps;
-pub use tally::Tally;
+pub use tally::{Tally, floor_behind};
 
 #[cfg(test)]
 mod tests;

@@ -45,7 +45,8 @@ pub struct TraceSet {
     pub ghost some_bins: { (0 < bins) × (bins ≤ 2 ^ 20) },
 }
 
-/// A table of the times from a photon of one group to the next of another. For T2 files.
+/// A table of the times between neighbours among the photons of either group, from one of the start group
+/// to one of the stop group. For T2 files.
 #[derive(Clone, Copy, Debug)]
 pub struct StartStopSet {
     /// The number of the group that starts, from 1.
@@ -164,6 +165,45 @@ impl Default for StartStopSet {
             stop: 1,
             width: 1,
             bins: 1,
+        }
+    }
+}
+
+/// The least table of pairs of photons, which fills unused room.
+impl Default for CoincidenceSet {
+    fn default() -> CoincidenceSet {
+        CoincidenceSet {
+            first: 1,
+            second: 1,
+            reach: 1,
+            width: 1,
+        }
+    }
+}
+
+/// The least image, which fills unused room.
+impl Default for ImageSet {
+    fn default() -> ImageSet {
+        ImageSet {
+            group: 1,
+            width: 1,
+            height: 1,
+            dwell: 1,
+            line: 1,
+            frame: None,
+            stop: None,
+        }
+    }
+}
+
+/// The least correlation, which fills unused room.
+impl Default for CorrelationSet {
+    fn default() -> CorrelationSet {
+        CorrelationSet {
+            first: 1,
+            second: 1,
+            lags: 2,
+            levels: 1,
         }
     }
 }

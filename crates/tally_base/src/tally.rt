@@ -65,3 +65,10 @@ pub trait Tally {
 
     ghost within: { (t : Self) → held t ≤ entries (settings t) };
 }
+
+/// The greatest time of the photons that a table was given, once this event came.
+pub fn floor_behind(floor: u64, e: &Event) -> u64
+    ensures { result ≡ (if moves_floor false e.now then e.now.time else floor) }
+{
+    if e.is_photon() { e.time } else { floor }
+}

@@ -3,3 +3,4 @@ pub mod Feeds
 pub mod Slices
 pub mod Refusals
 pub mod Opens
+pub mod Suits

@@ -1,12 +1,15 @@
 -- An engine of no bytes.
-use Rattle.std.proofs.Common.{◌≡◌, ◌<◌, ◌+◌, ◌*◌, ℕ, suc, take, get_or, List, [], ◌∷◌, ◌++◌, map, sym, ◌∙◌, append_assoc, false, None, Some, length, refl, ap, arith}
+use Rattle.std.proofs.Common.{◌≡◌, ◌<◌, ◌≤◌, ◌+◌, ◌*◌, ℕ, suc, take, get_or, List, [], ◌∷◌, ◌++◌, map, rules, sym, ◌∙◌, append_assoc, false, None, Some, length, refl, ap, arith}
 use Rattle.std.proofs.Math.Seq.{take-suc}
 use Rattle.std.proofs.lemmas.List.{map-append}
 use Rattle.std.proofs.lemmas.List.Elements.{All-push}
 use Rattle.std.specs.declared.option.Option.{Option}
 use Rattle.tally_base.specs.declared.fault.Fault.{Fault}
 use Rattle.tally_base.specs.declared.header.Mode.{Mode}
-use Rattle.tally_base.specs.Settings.{GroupView, is_strict, PartSettings}
+use Rattle.tally_base.specs.declared.header.Mode.TheVariants.{T2}
+use Rattle.std.specs.Prelude.{sum_by}
+use Rattle.std.proofs.lemmas.List.Sums.{sum_by-cons}
+use Rattle.tally_base.specs.Settings.{GroupView, entries, is_strict, PartSettings}
 use Rattle.tally_base.specs.Tally.{History, greatest_time}
 use Rattle.ptu_definitions.specs.declared.records.Summary.{Summary}
 use Rattle.ptu_definitions.specs.Kept.{marked, kept}
@@ -14,14 +17,19 @@ use Rattle.ptu_definitions.specs.Times.{events}
 use Rattle.ptu_definitions.specs.Streams.{Reading, summary}
 use Rattle.abs_time.specs.declared.clock.Clock.{Clock}
 use Rattle.record_stream.specs.Standing.{Stands}
+use Rattle.coincidence.specs.CoincidenceLaws as pairs
 use Rattle.coincidence.specs.Laws as startstop
 use Rattle.count_trace.specs.Laws as trace
+use Rattle.scan_image.specs.Laws as image
+use Rattle.tau_cascade.specs.Laws as cascade
 use Rattle.tcspc_hist.specs.Laws as hist
+use Rattle.tally_engine.specs.declared.engine.Engine.{Engine}
 use Rattle.tally_engine.specs.declared.part.Part.{Part}
+use Rattle.tally_engine.specs.Engine.{held, bound}
 use Rattle.tally_engine.specs.contracts.part.PartTally.TheImpl.{ghosts}
 use Rattle.tally_engine.specs.Histories.{history}
 use Rattle.tally_engine.specs.Part.{for_each_kind}
-use Rattle.tally_engine.specs.Parts.{settings_in, IsOpened, AllOpened}
+use Rattle.tally_engine.specs.Parts.{settings_in, entries_in, IsOpened, AllOpened}
 use Rattle.tally_engine.specs.Taker.{Standing}
 
 pub history-none : (groups : List GroupView) (how : Reading) → history groups how [] ≡ []
@@ -36,19 +44,16 @@ none_taken how clock sum count carried (Some fault) stands none = cc
 -- ## What holds of a table of any kind
 
 part_taken : (p : Part) (h : History) → ghosts.holds p h → ghosts.taken p ≡ length h
-part_taken = for_each_kind _ hist.taken_is trace.taken_is startstop.taken_is
+part_taken = for_each_kind _ hist.taken_is trace.taken_is startstop.taken_is pairs.taken_is image.taken_is cascade.taken_is
 
 part_floor : (p : Part) (h : History) → ghosts.holds p h → ghosts.floor p ≡ greatest_time (is_strict (ghosts.settings p)) h
-part_floor = for_each_kind _ hist.floor_is trace.floor_is startstop.floor_is
+part_floor = for_each_kind _ hist.floor_is trace.floor_is startstop.floor_is pairs.floor_is image.floor_is cascade.floor_is
 
-part_loose : (p : Part) → is_strict (ghosts.settings p) ≡ false
-part_loose = for_each_kind _ (λ t. refl) (λ t. refl) (λ t. refl)
-
-pub standing_first : (mode : Mode) (settings : PartSettings) (p : Part) → IsOpened settings p → Standing ghosts mode 0 0 p
-standing_first mode settings p opened =
+pub standing_first : (mode : Mode) (settings : PartSettings) (p : Part) → (mode ≡ T2 → is_strict (ghosts.settings p) ≡ false) → IsOpened settings p → Standing ghosts mode 0 0 p
+standing_first mode settings p loose opened =
     let none = part_taken p [] opened.empty in
     let early = part_floor p [] opened.empty in
-    record { still_open = opened.opened; few = omega (arith, none); before = omega (arith, early); suits = λ is. part_loose p }
+    record { still_open = opened.opened; few = omega (arith, none); before = omega (arith, early); suits = loose }
 
 -- ## Tables that are opened one behind the other
 
@@ -73,3 +78,21 @@ opened_more settings items new part pushed opened all =
 
 pub take_more : {S : Type 0} (sets : List S) (k : ℕ) (set d : S) → k < length sets → set ≡ get_or sets k d → take (k + 1) sets ≡ take k sets ++ set ∷ []
 take_more sets k set d within is = let more : k + 1 ≡ suc k = omega arith in rw (more, is) (take-suc sets k d within)
+
+-- ## How much the tables keep
+
+part_within : (p : Part) → ghosts.held p ≤ entries (ghosts.settings p)
+part_within = for_each_kind _ hist.within_bound trace.within_bound startstop.within_bound pairs.within_bound image.within_bound cascade.within_bound
+
+-- The tables keep no more entries than their settings say.
+pub tables_within : (parts : List Part) → entries_in parts ≤ sum_by entries (settings_in parts)
+tables_within [] = omega arith
+tables_within (p ∷ parts) = omega (arith, part_within p, tables_within parts, sum_by-cons ghosts.held p parts, sum_by-cons entries (ghosts.settings p) (settings_in parts))
+
+-- What an engine of these tables keeps, with the carried bytes, is within its bound.
+pub kept_within : (parts : List Part) (carried : ℕ) → carried ≤ 48 → entries_in parts + carried ≤ 48 + sum_by entries (settings_in parts)
+kept_within parts carried few = omega (arith, tables_within parts, few)
+
+-- An engine keeps no more entries than its bound.
+pub engine_within : (engine : Engine) → held engine ≤ bound engine
+engine_within engine = kept_within engine.parts.items _ (search (rules, arith))

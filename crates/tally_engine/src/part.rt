@@ -1,16 +1,20 @@
 // A table of any kind.
 ghost use Rattle.std.specs.Prelude.{◌≡◌, ◌++◌, All, map, IfOk, OnOk};
-ghost use Rattle.tally_base.specs.Settings.{hist_view, trace_view, startstop_view};
-ghost use Rattle.tally_base.specs.Settings.PartSettings.{HistSettings, TraceSettings, StartStopSettings};
+ghost use Rattle.tally_base.specs.Settings.{hist_view, trace_view, startstop_view, coincidence_view, image_view, correlation_view};
+ghost use Rattle.tally_base.specs.Settings.PartSettings.{HistSettings, TraceSettings, StartStopSettings, CoincidenceSettings, ImageSettings, CorrelationSettings};
 ghost use Rattle.plan_text.specs.Plan.{parts_of};
 ghost use Rattle.plan_text.specs.Reading.{plan_view};
 
-use coincidence::StartStop;
+use coincidence::{Coincidence, StartStop};
 use count_trace::Trace;
 use plan_text::Plan;
+use scan_image::Image;
 use std::alloc::{AllocError, Global};
 use std::sync::ledger::Ledger;
-use tally_base::{Event, HistSet, StartStopSet, Steps, Tally, TraceSet};
+use tally_base::{
+    CoincidenceSet, CorrelationSet, Event, HistSet, ImageSet, StartStopSet, Steps, Tally, TraceSet,
+};
+use tau_cascade::Cascade;
 use tcspc_hist::Hist;
 
 /// A table of any kind.
@@ -20,45 +24,66 @@ pub enum Part {
     Hist(Hist),
     /// A trace over the time of the file.
     Trace(Trace),
-    /// A table of the times from a photon to the next.
+    /// A table of the times between neighbours among the photons of two groups.
     StartStop(StartStop),
+    /// A table of pairs of photons by their difference in time.
+    Coincidence(Coincidence),
+    /// An image of a scan.
+    Image(Image),
+    /// A correlation of two groups.
+    Correlation(Cascade),
 }
 
 impl Tally for Part {
+    ghost use Rattle.coincidence.specs.CoincidenceLaws as pairs;
     ghost use Rattle.coincidence.specs.Laws as startstop;
     ghost use Rattle.count_trace.specs.Laws as trace;
+    ghost use Rattle.scan_image.specs.Laws as image;
+    ghost use Rattle.tau_cascade.specs.Laws as cascade;
     ghost use Rattle.tcspc_hist.specs.Laws as hist;
     ghost use Rattle.tally_engine.specs.Part.{by_kind, for_each_kind};
 
     ghost holds = { by_kind ⟦<Hist as Tally>⟧.holds ⟦<Trace as Tally>⟧.holds
-        ⟦<StartStop as Tally>⟧.holds };
+        ⟦<StartStop as Tally>⟧.holds ⟦<Coincidence as Tally>⟧.holds ⟦<Image as Tally>⟧.holds
+        ⟦<Cascade as Tally>⟧.holds };
 
     ghost taken = { by_kind ⟦<Hist as Tally>⟧.taken ⟦<Trace as Tally>⟧.taken
-        ⟦<StartStop as Tally>⟧.taken };
+        ⟦<StartStop as Tally>⟧.taken ⟦<Coincidence as Tally>⟧.taken ⟦<Image as Tally>⟧.taken
+        ⟦<Cascade as Tally>⟧.taken };
 
     ghost floor = { by_kind ⟦<Hist as Tally>⟧.floor ⟦<Trace as Tally>⟧.floor
-        ⟦<StartStop as Tally>⟧.floor };
+        ⟦<StartStop as Tally>⟧.floor ⟦<Coincidence as Tally>⟧.floor ⟦<Image as Tally>⟧.floor
+        ⟦<Cascade as Tally>⟧.floor };
 
     ghost held = { by_kind ⟦<Hist as Tally>⟧.held ⟦<Trace as Tally>⟧.held
-        ⟦<StartStop as Tally>⟧.held };
+        ⟦<StartStop as Tally>⟧.held ⟦<Coincidence as Tally>⟧.held ⟦<Image as Tally>⟧.held
+        ⟦<Cascade as Tally>⟧.held };
 
     ghost settings = { by_kind ⟦<Hist as Tally>⟧.settings ⟦<Trace as Tally>⟧.settings
-        ⟦<StartStop as Tally>⟧.settings };
+        ⟦<StartStop as Tally>⟧.settings ⟦<Coincidence as Tally>⟧.settings ⟦<Image as Tally>⟧.settings
+        ⟦<Cascade as Tally>⟧.settings };
 
     ghost closed = { by_kind ⟦<Hist as Tally>⟧.closed ⟦<Trace as Tally>⟧.closed
-        ⟦<StartStop as Tally>⟧.closed };
+        ⟦<StartStop as Tally>⟧.closed ⟦<Coincidence as Tally>⟧.closed ⟦<Image as Tally>⟧.closed
+        ⟦<Cascade as Tally>⟧.closed };
 
-    ghost taken_is = { for_each_kind _ hist.taken_is trace.taken_is startstop.taken_is };
+    ghost taken_is = { for_each_kind _ hist.taken_is trace.taken_is startstop.taken_is pairs.taken_is image.taken_is
+        cascade.taken_is };
 
-    ghost floor_is = { for_each_kind _ hist.floor_is trace.floor_is startstop.floor_is };
+    ghost floor_is = { for_each_kind _ hist.floor_is trace.floor_is startstop.floor_is pairs.floor_is image.floor_is
+        cascade.floor_is };
 
-    ghost within = { for_each_kind _ hist.within_bound trace.within_bound startstop.within_bound };
+    ghost within = { for_each_kind _ hist.within_bound trace.within_bound startstop.within_bound
+        pairs.within_bound image.within_bound cascade.within_bound };
 
     fn event<L: Ledger>(&mut self, e: &Event, groups: u64, steps: &mut Steps<L>) {
         match self {
             Part::Hist(t) => t.event(e, groups, steps),
             Part::Trace(t) => t.event(e, groups, steps),
             Part::StartStop(t) => t.event(e, groups, steps),
+            Part::Coincidence(t) => t.event(e, groups, steps),
+            Part::Image(t) => t.event(e, groups, steps),
+            Part::Correlation(t) => t.event(e, groups, steps),
         }
     }
 
@@ -67,6 +92,9 @@ impl Tally for Part {
             Part::Hist(t) => t.close(steps),
             Part::Trace(t) => t.close(steps),
             Part::StartStop(t) => t.close(steps),
+            Part::Coincidence(t) => t.close(steps),
+            Part::Image(t) => t.close(steps),
+            Part::Correlation(t) => t.close(steps),
         }
     }
 }
@@ -100,6 +128,36 @@ impl Part {
     {
         match StartStop::open(alloc, set) {
             Ok(table) => Ok(Part::StartStop(table)),
+            Err(error) => Err(error),
+        }
+    }
+
+    /// A table of the pairs of no events.
+    fn open_coincidence(alloc: Global, set: CoincidenceSet) -> Result<Part, AllocError>
+        ensures opened { IfOk result (IsOpened (CoincidenceSettings (coincidence_view set))) }
+    {
+        match Coincidence::open(alloc, set) {
+            Ok(table) => Ok(Part::Coincidence(table)),
+            Err(error) => Err(error),
+        }
+    }
+
+    /// An image of no events.
+    fn open_image(alloc: Global, set: ImageSet) -> Result<Part, AllocError>
+        ensures opened { IfOk result (IsOpened (ImageSettings (image_view set))) }
+    {
+        match Image::open(alloc, set) {
+            Ok(table) => Ok(Part::Image(table)),
+            Err(error) => Err(error),
+        }
+    }
+
+    /// A correlation of no events.
+    fn open_correlation(alloc: Global, set: CorrelationSet) -> Result<Part, AllocError>
+        ensures opened { IfOk result (IsOpened (CorrelationSettings (correlation_view set))) }
+    {
+        match Cascade::open(alloc, set) {
+            Ok(table) => Ok(Part::Correlation(table)),
             Err(error) => Err(error),
         }
     }
@@ -151,17 +209,92 @@ impl Part {
         Ok(())
     }
 
+    /// Puts the coincidence tables of a plan behind the tables that are there.
+    fn open_coincidences(
+        alloc: Global,
+        sets: &[CoincidenceSet],
+        parts: &mut Vec<Part>,
+    ) -> Result<(), AllocError>
+        ensures settings { OnOk result (settings_in parts.new.items ≡ settings_in parts.old.items
+            ++ map (λ set. CoincidenceSettings set) (map coincidence_view sets.now)) }
+        ensures opened { AllOpened parts.old.items → OnOk result (AllOpened parts.new.items) }
+    {
+        for set in sets {
+            let part = Part::open_coincidence(alloc, *set)?;
+            parts.push(part)?;
+        }
+        Ok(())
+    }
+
+    /// Puts the images of a plan behind the tables that are there.
+    fn open_images(
+        alloc: Global,
+        sets: &[ImageSet],
+        parts: &mut Vec<Part>,
+    ) -> Result<(), AllocError>
+        ensures settings { OnOk result (settings_in parts.new.items ≡ settings_in parts.old.items
+            ++ map (λ set. ImageSettings set) (map image_view sets.now)) }
+        ensures opened { AllOpened parts.old.items → OnOk result (AllOpened parts.new.items) }
+    {
+        for set in sets {
+            let part = Part::open_image(alloc, *set)?;
+            parts.push(part)?;
+        }
+        Ok(())
+    }
+
+    /// Puts the correlations of a plan behind the tables that are there.
+    fn open_correlations(
+        alloc: Global,
+        sets: &[CorrelationSet],
+        parts: &mut Vec<Part>,
+    ) -> Result<(), AllocError>
+        ensures settings { OnOk result (settings_in parts.new.items ≡ settings_in parts.old.items
+            ++ map (λ set. CorrelationSettings set) (map correlation_view sets.now)) }
+        ensures opened { AllOpened parts.old.items → OnOk result (AllOpened parts.new.items) }
+    {
+        for set in sets {
+            let part = Part::open_correlation(alloc, *set)?;
+            parts.push(part)?;
+        }
+        Ok(())
+    }
+
+    /// Puts the coincidences, the images and the correlations of a plan behind the tables that are there.
+    fn open_other_kinds(alloc: Global, plan: &Plan, parts: &mut Vec<Part>) -> Result<(), AllocError>
+        ensures settings { OnOk result (settings_in parts.new.items ≡ settings_in parts.old.items
+            ++ map (λ set. CoincidenceSettings set) (map coincidence_view plan.now.coincidences.items)
+            ++ map (λ set. ImageSettings set) (map image_view plan.now.images.items)
+            ++ map (λ set. CorrelationSettings set) (map correlation_view plan.now.correlations.items)) }
+        ensures opened { AllOpened parts.old.items → OnOk result (AllOpened parts.new.items) }
+    {
+        Part::open_coincidences(alloc, plan.coincidences.as_slice(), parts)?;
+        Part::open_images(alloc, plan.images.as_slice(), parts)?;
+        Part::open_correlations(alloc, plan.correlations.as_slice(), parts)?;
+        Ok(())
+    }
+
+    /// How many tables a plan has.
+    fn count_of(plan: &Plan) -> usize {
+        plan.histograms.len()
+            + plan.traces.len()
+            + plan.startstops.len()
+            + plan.coincidences.len()
+            + plan.images.len()
+            + plan.correlations.len()
+    }
+
     /// The tables of a plan, in the order of the report, which were given nothing.
     pub(crate) fn open_all(alloc: Global, plan: &Plan) -> Result<Vec<Part>, AllocError>
         ensures settings { IfOk result (λ parts.
             settings_in parts.items ≡ parts_of (plan_view plan.now)) }
         ensures opened { IfOk result (λ parts. AllOpened parts.items) }
     {
-        let count = plan.histograms.len() + plan.traces.len() + plan.startstops.len();
-        let mut parts = Vec::with_capacity(alloc, count)?;
+        let mut parts = Vec::with_capacity(alloc, Part::count_of(plan))?;
         Part::open_hists(alloc, plan.histograms.as_slice(), &mut parts)?;
         Part::open_traces(alloc, plan.traces.as_slice(), &mut parts)?;
         Part::open_startstops(alloc, plan.startstops.as_slice(), &mut parts)?;
+        Part::open_other_kinds(alloc, plan, &mut parts)?;
         Ok(parts)
     }
 }

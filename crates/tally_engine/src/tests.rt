@@ -5,6 +5,7 @@ use crate::{Engine, Part, Results};
 use coincidence::StartStop;
 use count_trace::Trace;
 use plan_text::{Plan, read_plan};
+use scan_image::Image;
 use std::alloc::{AllocError, Global};
 use std::marker::Brand;
 use std::process::Abort;
@@ -50,6 +51,17 @@ const TIMES: [u8; 40] = [
     0x00, 0x00, 0x00, 0x00, // input 1 at 33554432: it is late
     0x02, 0x00, 0x00, 0x02, // input 2 at 33554434, 1 behind a start
 ];
+
+/// Two images. The first has all its marker bits, and the second only that of a line.
+const SCAN_PLAN: &str = "limits.records = 10\n\
+image = [{ group = 1, width = 2, height = 2, dwell = 10, line = 1, frame = 2, stop = 3 }, \
+{ group = 2, width = 3, height = 1, dwell = 1, line = 1 }]\n\
+group = [{ inputs = [0] }, { inputs = [1] }]\n";
+
+/// A table of pairs.
+const PAIRS_PLAN: &str = "group = [{ inputs = [1] }]\n\
+correlation = [{ first = 1, second = 1, lags = 2, levels = 1 }]\n\
+coincidence = [{ first = 1, second = 1, reach = 1, width = 1 }]\n";
 
 /// A histogram without a gate.
 const HISTOGRAM: &str =
@@ -116,12 +128,26 @@ fn startstop_counts(alloc: Global, table: &StartStop) -> Result<Vec<u64>, AllocE
     Ok(counts)
 }
 
-/// The cells of a table, and then its rest counts.
+/// The cells of an image, row by row, and then what lies outside.
+fn image_counts(alloc: Global, image: &Image) -> Result<Vec<u64>, AllocError> {
+    let mut counts = Vec::new(alloc);
+    let width = image.set().width;
+    for place in 0..width * image.set().height {
+        counts.push(image.cell(place % width, place / width))?;
+    }
+    counts.push(image.outside())?;
+    Ok(counts)
+}
+
+/// The cells of a table, and then its rest counts. Tables of pairs, whose cells only a closed one shows,
+/// have none here: whole runs are tested with them.
 fn counts(alloc: Global, part: &Part) -> Result<Vec<u64>, AllocError> {
     match part {
         Part::Hist(hist) => hist_counts(alloc, hist),
         Part::Trace(trace) => trace_counts(alloc, trace),
         Part::StartStop(table) => startstop_counts(alloc, table),
+        Part::Image(image) => image_counts(alloc, image),
+        Part::Coincidence(_) | Part::Correlation(_) => Ok(Vec::new(alloc)),
     }
 }
 
@@ -189,6 +215,13 @@ fn files_in_pieces(rt: HostRuntime) -> Result<(), Fail> {
             last: 33_554_434,
             tables: [&[1, 1, 1, 1], &[1, 0, 1, 1]],
         },
+        Row {
+            plan: SCAN_PLAN,
+            record_type: RecordType::HydraHarp2T3,
+            bytes: &WORDS,
+            last: 2050,
+            tables: [&[1, 1, 0, 0, 1], &[0, 0, 1, 1]],
+        },
     ] {
         a_file_in_pieces(&rt, rt.alloc(), &row)?;
     }
@@ -217,6 +250,18 @@ fn refusals(rt: HostRuntime) {
             RecordType::HydraHarp2T3,
             &full[..4],
             misfit(PartKind::StartStop, 1, Mode::T3),
+        ),
+        (
+            SCAN_PLAN,
+            RecordType::HydraHarp2T2,
+            &full[..4],
+            misfit(PartKind::Image, 1, Mode::T2),
+        ),
+        (
+            PAIRS_PLAN,
+            RecordType::HydraHarp2T3,
+            &full[..4],
+            misfit(PartKind::Coincidence, 1, Mode::T3),
         ),
         (
             PLAN,

@@ -1,9 +1,12 @@
-use Rattle.std.proofs.Common.{rules, ◌≡◌, ◌++◌, refl, ◌∙◌, length}
+use Rattle.std.proofs.Common.{rules, arith, ◌≤◌, ◌≡◌, ◌++◌, refl, ◌∙◌, length}
 use Rattle.std.proofs.Math.Logic.{∥∥₁_map, ∥∥₁_elim}
 use Rattle.std.proofs.Props.{props}
 use Rattle.ptu_definitions.specs.Words.{words_of}
+use Rattle.std.specs.Vec.{with_items}
+use Rattle.record_stream.specs.Standing.{carried_by}
 use Rattle.tally_engine.proofs.Slices.{whole_slice, same_map}
 use Rattle.tally_engine.proofs.Refusals.{inside_after, of_faults, no_write}
+use Rattle.tally_engine.proofs.Opens.{kept_within}
 use Rattle.tally_engine.proofs.engine.Engine.feed.Goals as goal
 
 pub invariant_of-self-clause-standing : goal.invariant_of-self-clause-standing
@@ -38,3 +41,6 @@ returns-clause-same g c =
       same_parts = rw (whole_slice _ _ _ count all) (same_map _ _ _ count (rw c.deref_mut.ensures.value at tables.settings));
       same_reading = c.feed_parts.ensures.same_how;
     }
+
+pub returns-clause-within : goal.returns-clause-within
+returns-clause-within g c = let few : length (carried_by c.feed_parts.new.stream) ≤ 48 = search (rules, arith) in kept_within (with_items c.args.self.now.parts c.feed_parts.new.parts).items _ few

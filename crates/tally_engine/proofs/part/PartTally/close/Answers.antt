@@ -8,3 +8,12 @@ returns-in-Trace-clause-keeps g c = λ h is. c.close-in-Trace.ensures.keeps h (r
 
 pub returns-in-StartStop-clause-keeps : goal.returns-in-StartStop-clause-keeps
 returns-in-StartStop-clause-keeps g c = λ h is. c.close-in-StartStop.ensures.keeps h (rw c.in-StartStop.is at is)
+
+pub returns-in-Coincidence-clause-keeps : goal.returns-in-Coincidence-clause-keeps
+returns-in-Coincidence-clause-keeps g c = λ h is. c.close-in-Coincidence.ensures.keeps h (rw c.in-Coincidence.is at is)
+
+pub returns-in-Image-clause-keeps : goal.returns-in-Image-clause-keeps
+returns-in-Image-clause-keeps g c = λ h is. c.close-in-Image.ensures.keeps h (rw c.in-Image.is at is)
+
+pub returns-in-Correlation-clause-keeps : goal.returns-in-Correlation-clause-keeps
+returns-in-Correlation-clause-keeps g c = λ h is. c.close-in-Correlation.ensures.keeps h (rw c.in-Correlation.is at is)

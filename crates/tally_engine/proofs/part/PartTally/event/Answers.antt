@@ -8,3 +8,12 @@ returns-in-Trace-clause-follows g c = λ h is. c.event-in-Trace.ensures.follows 
 
 pub returns-in-StartStop-clause-follows : goal.returns-in-StartStop-clause-follows
 returns-in-StartStop-clause-follows g c = λ h is. c.event-in-StartStop.ensures.follows h (rw c.in-StartStop.is at is)
+
+pub returns-in-Coincidence-clause-follows : goal.returns-in-Coincidence-clause-follows
+returns-in-Coincidence-clause-follows g c = λ h is. c.event-in-Coincidence.ensures.follows h (rw c.in-Coincidence.is at is)
+
+pub returns-in-Image-clause-follows : goal.returns-in-Image-clause-follows
+returns-in-Image-clause-follows g c = λ h is. c.event-in-Image.ensures.follows h (rw c.in-Image.is at is)
+
+pub returns-in-Correlation-clause-follows : goal.returns-in-Correlation-clause-follows
+returns-in-Correlation-clause-follows g c = λ h is. c.event-in-Correlation.ensures.follows h (rw c.in-Correlation.is at is)

@@ -1,0 +1,106 @@
+-- What an event does to the photons of the two groups.
+use Rattle.std.proofs.Common.{◌≡◌, ℕ, ◌+◌, ◌^◌, ◌<◌, ◌≤◌, max, Bool, true, false, ◌&&◌, ◌||◌, cond, ◌⊎◌, inl, inr, [], ◌∷◌, ◌++◌, length, fold, refl, sym, ap, ◌∙◌, arith, length-append, zero-add}
+use Rattle.std.specs.Prelude.{IsTrue}
+use Rattle.std.specs.List.{AllByRecursion}
+use Rattle.std.proofs.lemmas.Bool.{false≢true}
+use Rattle.std.proofs.lemmas.List.Elements.{filter-append}
+use Rattle.std.proofs.lemmas.List.Sums.{length-filter, count_by-le-length, fold_push}
+use Rattle.tally_base.specs.declared.event.Event.{Event}
+use Rattle.tally_base.specs.Events.{is_photon, is_in}
+use Rattle.tally_base.specs.Settings.{CoincidenceView}
+use Rattle.tally_base.specs.Tally.{History, moves_floor, greatest_time}
+use Rattle.lag_ring.proofs.Lists.{all_both, all_filter, all_passed}
+use Rattle.coincidence.specs.declared.pairing.Pairing.{Pairing}
+use Rattle.coincidence.specs.Counts.{CanGive, Counts}
+use Rattle.coincidence.specs.Pairs.{in_first, in_second, photons_of_groups}
+use Rattle.coincidence.specs.Pairing.{bin_of, CanPut, CanEnd, Came, PairingDone}
+
+abbrev pub mine : CoincidenceView → Event × ℕ → Bool
+mine set x = in_first set x || in_second set x
+
+abbrev later : ℕ → Event × ℕ → ℕ
+later t x = cond (moves_floor false x.0) (max t x.0.time) t
+
+from_start : (t : ℕ) (h : History) → t ≤ fold later t h
+from_start t [] = omega arith
+from_start t (x ∷ h) = let rest = from_start (later t x) h in elim (is_photon x.0) as (λ b. (cond b (max t x.0.time) t ≤ fold later (cond b (max t x.0.time) t) h) → t ≤ fold later (cond b (max t x.0.time) t) h) [ true ↦ λ r. omega arith | false ↦ λ r. r ] rest
+
+later_than : (t : ℕ) (x : Event × ℕ) (h : History) → is_photon x.0 ≡ true → later t x ≤ fold later (later t x) h → x.0.time ≤ fold later (later t x) h
+later_than t x h is rest = let now : later t x ≡ max t x.0.time = rw is refl in omega (arith, now)
+
+-- no photon comes after the greatest time
+in_time : (t : ℕ) (h : History) → AllByRecursion (λ x. is_photon x.0 ≡ true → x.0.time ≤ fold later t h) h
+in_time t [] = tt
+in_time t (x ∷ h) = (λ is. let rest = from_start (later t x) h in later_than t x h is rest, in_time (later t x) h)
+
+mine-photon : (p a b : Bool) → ((p && a) || (p && b)) ≡ true → p ≡ true
+mine-photon true a b is = refl
+mine-photon false a b is = is
+
+none_after : (set : CoincidenceView) (h : History) (time : ℕ) → greatest_time false h ≤ time → AllByRecursion (λ x. x.0.time ≤ time) (photons_of_groups set h)
+none_after set h time after =
+    all_both (λ x. mine set x ≡ true) (λ x. is_photon x.0 ≡ true → x.0.time ≤ greatest_time false h) (λ x. x.0.time ≤ time)
+    (λ x is before. let upto : x.0.time ≤ greatest_time false h = before (mine-photon (is_photon x.0) (is_in x.1 set.first) (is_in x.1 set.second) is) in omega arith)
+    (photons_of_groups set h) (all_passed (mine set) h) (all_filter (λ x. is_photon x.0 ≡ true → x.0.time ≤ greatest_time false h) (mine set) h (in_time 0 h))
+
+pub few_photons : (set : CoincidenceView) (h : History) → length (photons_of_groups set h) ≤ length h
+few_photons set h = omega (arith, length-filter (mine set) h, count_by-le-length (mine set) h)
+
+-- a photon of either group may be put after those that came
+pub may_put : (set : CoincidenceView) (p : Pairing) (e : Event) (groups : ℕ) (h : History) (can : CanGive set p e h) → is_photon e ≡ true → CanPut set p (bin_of e.time (is_in groups set.first) (is_in groups set.second)) can.was.0 can.was.1 ((e, groups) ∷ [])
+may_put set p e groups h can photon = record {
+  few =
+      let few : length (can.was.0 ++ can.was.1) ≤ length h = (rw can.was.2 at (few_photons set h)) in
+      omega (arith, can.few, few, length-append can.was.0 can.was.1);
+  was = can.was.3;
+  is = record {
+    weighs = record {
+      some = omega arith;
+      here = (refl, tt);
+      a = rw photon (sym (zero-add (cond (is_in groups set.first) 1 0)));
+      b = rw photon (sym (zero-add (cond (is_in groups set.second) 1 0)));
+    };
+    both = rw photon (sym (zero-add (cond (is_in groups set.first && is_in groups set.second) 1 0)));
+  };
+  after = (rw can.was.2 at (none_after set h e.time (can.after photon)));
+}
+
+-- it is among the photons
+pub photons-push : (set : CoincidenceView) (h : History) (x : Event × ℕ) → is_photon x.0 ≡ true → (is_in x.1 set.first || is_in x.1 set.second) ≡ true → photons_of_groups set (h ++ x ∷ []) ≡ photons_of_groups set h ++ x ∷ []
+photons-push set h x photon either = filter-append (mine set) h (x ∷ []) ∙ ap (λ xs. photons_of_groups set h ++ xs) (rw (photon, either) refl)
+
+pub some_group : (a b : Bool) → (a ≡ true) ⊎ ((a ≡ false) × (b ≡ true)) → (a || b) ≡ true
+some_group true b is = refl
+some_group false true is = refl
+some_group false false (inl is) = is
+some_group false false (inr is) = is.1
+
+floor_more : (b : Bool) (time g t : ℕ) → time ≡ g → (b ≡ true → time ≤ t) → cond b t time ≡ cond b (max g t) g
+floor_more true time g t is after = let upto : time ≤ t = after refl in omega (arith, is)
+floor_more false time g t is after = is
+
+-- what a table that isn't closed may be given
+pub may_give : (closed : Bool) → closed ≡ false → (set : CoincidenceView) (p : Pairing) (count time : ℕ) (h : History) (e : Event) → Counts closed set p count time h → count < 2 ^ 40 → (IsTrue (moves_floor false e) → time ≤ e.time) → CanGive set p e h
+may_give true open' set p count time h e is few after = absurd (false≢true (sym open'))
+may_give false open' set p count time h e is few after = record {
+  few = omega (arith, is.taken);
+  was = is.photons;
+  after = λ photon. omega (arith, is.floor, after photon);
+}
+
+-- what it stands for then
+pub more_counts : (closed : Bool) → closed ≡ false → (set : CoincidenceView) (p p' : Pairing) (count time : ℕ) (h : History) (e : Event) (groups : ℕ) → Counts closed set p count time h → (IsTrue (moves_floor false e) → time ≤ e.time)
+    → Came set p' (photons_of_groups set (h ++ (e, groups) ∷ [])) → Counts closed set p' (count + 1) (cond (moves_floor false e) e.time time) (h ++ (e, groups) ∷ [])
+more_counts true open' set p p' count time h e groups is after came = absurd (false≢true (sym open'))
+more_counts false open' set p p' count time h e groups is after came = record {
+  taken = omega (arith, is.taken, length-append h ((e, groups) ∷ []));
+  floor = floor_more (is_photon e) time (greatest_time false h) e.time is.floor after ∙ sym (fold_push later 0 h (e, groups));
+  photons = came;
+}
+
+pub may_end : (closed : Bool) → closed ≡ false → (set : CoincidenceView) (p : Pairing) (count time : ℕ) (h : History) → Counts closed set p count time h → count ≤ 2 ^ 40 → CanEnd set p (photons_of_groups set h)
+may_end true open' set p count time h is few = absurd (false≢true (sym open'))
+may_end false open' set p count time h is few = record { few = omega (arith, is.taken, few_photons set h); was = is.photons }
+
+pub end_counts : (closed : Bool) (set : CoincidenceView) (p p' : Pairing) (count time : ℕ) (h : History) → Counts closed set p count time h → PairingDone set p' (photons_of_groups set h) → Counts true set p' count time h
+end_counts closed set p p' count time h is done = record { taken = is.taken; floor = is.floor; photons = done }

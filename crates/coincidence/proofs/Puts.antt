@@ -1,0 +1,62 @@
+-- What photons that come do to the bins.
+use Rattle.std.proofs.Common.{◌≡◌, ◌≢◌, ◌+◌, ◌<◌, ◌≤◌, Some, ◌++◌, length, ◌^◌, sym, arith, length-append, append_assoc}
+use Rattle.std.specs.List.{AllByRecursion}
+use Rattle.std.proofs.lemmas.List.Sums.{sum_by-append}
+use Rattle.tally_base.specs.Settings.{CoincidenceView}
+use Rattle.tally_base.specs.Tally.{History}
+use Rattle.lag_ring.proofs.Rising.{all_weaker}
+use Rattle.lag_ring.proofs.Lists.{all_back, all_join, of_some}
+use Rattle.coincidence.specs.declared.pairing.Bin.{Bin}
+use Rattle.coincidence.specs.declared.pairing.Pairing.{Pairing}
+use Rattle.coincidence.specs.Pairing.{joined, BinIs, PairingIs, CanShut, CanPut, CanEnd, Came}
+
+module _ (set : CoincidenceView) where
+  -- two runs of photons of one tick
+  joined_is : (bin more : Bin) (xs ys : History) → BinIs set bin xs → BinIs set more ys → bin.weights.index ≡ more.weights.index → BinIs set (joined bin more) (xs ++ ys)
+  joined_is bin more xs ys left right same = record {
+    weighs = record {
+      some = omega (arith, length-append xs ys, left.weighs.some);
+      here = all_join (λ x. x.0.time ≡ bin.weights.index) xs ys left.weighs.here (rw same right.weighs.here);
+      a = rw (left.weighs.a, right.weighs.a) (sym (sum_by-append _ xs ys));
+      b = rw (left.weighs.b, right.weighs.b) (sym (sum_by-append _ xs ys));
+    };
+    both = rw (left.both, right.both) (sym (sum_by-append _ xs ys));
+  }
+
+  -- the open bin may be closed
+  pub may_shut : (p : Pairing) (bin : Bin) → p.open ≡ Some bin → (closed open' : History) → PairingIs set p closed open' → length closed + length open' ≤ 2 ^ 40 → CanShut set p bin closed open'
+  may_shut p bin is closed open' was few =
+      let opened : BinIs set bin open' × AllByRecursion (λ x. x.0.time < bin.weights.index) closed = (rw is at was.opened) in
+      record { few = few; is = opened.0; after = opened.1; ring = was.ring; cells = was.cells }
+
+  module _ (p : Pairing) (bin new : Bin) (is : p.open ≡ Some bin) (closed open' xs : History) (can : CanPut set p new closed open' xs) where
+    pub can_shut : CanShut set p bin closed open'
+    can_shut = may_shut p bin is closed open' can.was (omega (arith, can.few))
+
+    -- photons of its own tick join it
+    pub joins : bin.weights.index ≡ new.weights.index → Came set (record p { «open» = Some (joined bin new) }) ((closed ++ open') ++ xs)
+    joins same = (
+      closed,
+      open' ++ xs,
+      append_assoc closed open' xs,
+      record {
+        opened = (joined_is bin new open' xs can_shut.is can.is same, can_shut.after);
+        ring = can.was.ring;
+        cells = can.was.cells;
+      },
+    )
+
+    -- those of another tick come after all that came
+    pub moved_on : bin.weights.index ≢ new.weights.index → AllByRecursion (λ x. x.0.time < new.weights.index) (closed ++ open')
+    moved_on other =
+        let back = all_back (λ x. x.0.time ≤ new.weights.index) closed open' can.after in
+        let upto : bin.weights.index ≤ new.weights.index = of_some (λ x. x.0.time) bin.weights.index (λ m. m ≤ new.weights.index) open' can_shut.is.weighs.some can_shut.is.weighs.here back in
+        let before : bin.weights.index < new.weights.index = omega arith in
+        all_join (λ x. x.0.time < new.weights.index) closed open'
+        (all_weaker (λ x. x.0.time < bin.weights.index) (λ x. x.0.time < new.weights.index) (λ x under. omega arith) closed can_shut.after)
+        (all_weaker (λ x. x.0.time ≡ bin.weights.index) (λ x. x.0.time < new.weights.index) (λ x here. omega arith) open' can_shut.is.weighs.here)
+
+  pub end_shut : (p : Pairing) (bin : Bin) → p.open ≡ Some bin → (came : History) (can : CanEnd set p came) → CanShut set p bin can.was.0 can.was.1
+  end_shut p bin is came can =
+      let few : length (can.was.0 ++ can.was.1) ≤ 2 ^ 40 = (rw can.was.2 at can.few) in
+      may_shut p bin is can.was.0 can.was.1 can.was.3 (omega (arith, few, length-append can.was.0 can.was.1))

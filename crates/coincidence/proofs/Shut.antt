@@ -1,0 +1,124 @@
+-- What a bin brings when it is closed.
+use Rattle.std.proofs.Common.{◌≡◌, ℕ, ◌+◌, ◌-◌, ◌*◌, ◌/◌, ◌^◌, ◌<◌, ◌≤◌, Bool, true, false, ◌&&◌, leb, eqb, cond, List, [], ◌∷◌, ◌++◌, length, get_or, refl, ◌∙◌, arith, length-append}
+use Rattle.std.specs.List.{sum_by, filter}
+use Rattle.std.proofs.Math.Nat.{mul-le-mul, mul-le-mul_right}
+use Rattle.std.proofs.lemmas.Grind.{common_steps}
+use Rattle.tally_base.specs.Settings.{CoincidenceView, coincidence_cells}
+use Rattle.tally_base.specs.Tally.{History}
+use Rattle.lag_ring.specs.declared.ring.Entry.{Entry}
+use Rattle.lag_ring.specs.Cells.{Cells}
+use Rattle.lag_ring.specs.Ring.{ring, IsRising}
+use Rattle.lag_ring.specs.Kept.{weight_where, IsInReach}
+use Rattle.lag_ring.proofs.Kept.{room_after, kept_after}
+use Rattle.lag_ring.proofs.Rising.{all_weaker}
+use Rattle.lag_ring.proofs.Sums.{sum_by-same, sum_by-times}
+use Rattle.coincidence.specs.declared.pairing.Bin.{Bin}
+use Rattle.coincidence.specs.declared.pairing.Pairing.{Pairing}
+use Rattle.coincidence.specs.Pairs.{in_first, in_second, is_in_cell, is_coincidence, coincidences}
+use Rattle.coincidence.specs.Pairing.{pairs_with, bin_pairs, RingIs, CellsAre, CanShut}
+use Rattle.coincidence.proofs.Hits.{pairs_in, hits-append, pairs_in-one, pairs_in-le}
+use Rattle.coincidence.proofs.Apart.{pairs_apart-in}
+
+scaled : (b : Bool) (n w : ℕ) → cond b (n * w) 0 ≡ cond b n 0 * w
+scaled true n w = refl
+scaled false n w = grind arith
+
+-- the pairs with the entries of a list, by their weights
+by_weights : (set : CoincidenceView) (c : ℕ) (later : Entry) (es : List Entry) → pairs_with set c later es ≡ weight_where (λ e. e.a) (λ i. is_in_cell set c i later.index) es * later.b + weight_where (λ e. e.b) (λ i. is_in_cell set c later.index i) es * later.a
+by_weights set c later es =
+    let forward : Entry → ℕ = λ e. cond (is_in_cell set c e.index later.index) (e.a * later.b) 0 in
+    let backward : Entry → ℕ = λ e. cond (is_in_cell set c later.index e.index) (e.b * later.a) 0 in
+    let firsts : Entry → ℕ = λ e. cond (is_in_cell set c e.index later.index) e.a 0 in
+    let seconds : Entry → ℕ = λ e. cond (is_in_cell set c later.index e.index) e.b 0 in
+    let one : sum_by forward es ≡ sum_by firsts es * later.b = sum_by-same forward (λ e. firsts e * later.b) es (λ e. scaled (is_in_cell set c e.index later.index) e.a later.b) ∙ sum_by-times firsts later.b es in
+    let other : sum_by backward es ≡ sum_by seconds es * later.a = sum_by-same backward (λ e. seconds e * later.a) es (λ e. scaled (is_in_cell set c later.index e.index) e.b later.a) ∙ sum_by-times seconds later.a es in
+    rw (one, other) refl
+
+forward_near : (set : CoincidenceView) (c i n : ℕ) → is_in_cell set c i n ≡ true → n ≤ i + set.reach
+forward_near set c i n is = grind (arith, common_steps, is)
+
+backward_near : (set : CoincidenceView) (c i n : ℕ) → is_in_cell set c n i ≡ true → n ≤ i + set.reach
+backward_near set c i n is = grind (arith, common_steps, is)
+
+same_tick : (set : CoincidenceView) (c n : ℕ) → is_in_cell set c n n ≡ eqb (set.reach / set.width) c
+same_tick set c n =
+    let near : leb n (n + set.reach) ≡ true = grind arith in
+    let back : n + set.reach - n ≡ set.reach = omega arith in
+    rw (near, back) refl
+
+more_work : (r few more n : ℕ) → 0 < more → n ≤ (2 * r + 1) * few + (2 * r + 1) → n ≤ (2 * r + 1) * (few + more)
+more_work r few more n some is =
+    let one : 1 * (2 * r + 1) ≤ more * (2 * r + 1) = mul-le-mul_right (2 * r + 1) some in
+    grind (arith, is, one)
+
+module _ (set : CoincidenceView) (p : Pairing) (bin : Bin) (closed xs : History) (can : CanShut set p bin closed xs) where
+  window : (test : ℕ → Bool) → ((i : ℕ) → test i ≡ true → bin.weights.index ≤ i + set.reach) → IsInReach (λ x. x.0.time) p.ring.reach test closed
+  window test near = λ i passes.
+      let from : bin.weights.index ≤ i + set.reach = near i passes in
+      all_weaker (λ x. x.0.time < bin.weights.index) (λ x. x.0.time < i + p.ring.reach) (λ x before. omega (arith, can.ring.reach)) closed can.after
+
+  pub inside : pairs_in (λ x y. in_first set x && in_second set y) xs ≡ bin.weights.a * bin.weights.b - bin.both
+  inside =
+      let whole = pairs_in-one (in_first set) (in_second set) xs in
+      rw (can.is.weighs.a, can.is.weighs.b, can.is.both) (omega (arith, whole))
+
+  pub both_fit : bin.both ≤ bin.weights.a * bin.weights.b
+  both_fit =
+      let whole = pairs_in-one (in_first set) (in_second set) xs in
+      rw (can.is.weighs.a, can.is.weighs.b, can.is.both) (omega (arith, whole))
+
+  -- what each cell counts more
+  pub grown : (c : ℕ) → coincidences set c (closed ++ xs) ≡ coincidences set c closed + bin_pairs set c bin p.ring.entries
+  grown c =
+      let n : ℕ = bin.weights.index in
+      let firsts = can.ring.keeps.firsts (λ i. is_in_cell set c i n) (window (λ i. is_in_cell set c i n) (λ i. forward_near set c i n)) in
+      let seconds = can.ring.keeps.seconds (λ i. is_in_cell set c n i) (window (λ i. is_in_cell set c n i) (λ i. backward_near set c i n)) in
+      let more = hits-append (in_first set) (in_second set) (λ x. x.0.time) (is_in_cell set c) n closed xs can.is.weighs.here in
+      pairs_apart-in (is_coincidence set c) (closed ++ xs) ∙ more ∙ rw (pairs_apart-in (is_coincidence set c) closed, by_weights set c bin.weights p.ring.entries, firsts, seconds, inside, can.is.weighs.a, can.is.weighs.b, same_tick set c n) (omega arith)
+
+  -- no sum passes the greatest count
+  pub may_fit : (c : ℕ) → c < coincidence_cells set → get_or p.cells.cells c 0 + bin_pairs set c bin p.ring.entries ≤ 2 ^ 80
+  may_fit c in_range =
+      let few : length (closed ++ xs) ≤ 2 ^ 40 = rw (length-append closed xs) can.few in
+      let square : length (closed ++ xs) * length (closed ++ xs) ≤ 2 ^ 40 * 2 ^ 40 = mul-le-mul few few in
+      let most = pairs_in-le (is_coincidence set c) (closed ++ xs) in
+      omega (arith, grown c, can.cells.pairs c in_range, pairs_apart-in (is_coincidence set c) (closed ++ xs), most, square)
+
+  pub entries_within : length p.ring.entries ≤ set.reach
+  entries_within = omega (arith, can.ring.keeps.within, can.ring.reach)
+
+  pub may_count : set.reach ≤ 2 ^ 20 → p.cells.added + (2 * length p.ring.entries + 1) < 2 ^ 64
+  may_count small =
+      let each : 2 * set.reach + 1 ≤ 2 ^ 21 + 1 = omega arith in
+      let few : length closed ≤ 2 ^ 40 = omega (arith, can.few) in
+      let product : (2 * set.reach + 1) * length closed ≤ (2 ^ 21 + 1) * 2 ^ 40 = mul-le-mul each few in
+      omega (arith, can.cells.work, entries_within, small, product)
+
+  -- the cells count the pairs of the bin too
+  pub cells_shut : (cells : Cells) → ((c : ℕ) → c < coincidence_cells set → get_or cells.cells c 0 ≡ get_or p.cells.cells c 0 + bin_pairs set c bin p.ring.entries)
+      → length cells.cells ≡ length p.cells.cells → cells.added ≤ p.cells.added + (2 * length p.ring.entries + 1) → CellsAre set cells (closed ++ xs)
+  cells_shut cells step same added = record {
+    count = same ∙ can.cells.count;
+    pairs = λ c in_range. omega (arith, step c in_range, can.cells.pairs c in_range, grown c);
+    work = rw (length-append closed xs) (more_work set.reach (length closed) (length xs) cells.added can.is.weighs.some (omega (arith, added, can.cells.work, entries_within)));
+  }
+
+  -- the ring has room for the bin, and keeps it, once what is further back than the reach is gone
+  module _ (some : 0 < set.reach) (es : List Entry) (kept : es ≡ filter (λ f. leb (bin.weights.index - (set.reach - 1)) f.index) p.ring.entries) (rising : IsRising es) where
+    some_reach : 0 < p.ring.reach
+    some_reach = omega (arith, some, can.ring.reach)
+
+    kept_by_ring : es ≡ filter (λ f. leb (bin.weights.index - (p.ring.reach - 1)) f.index) p.ring.entries
+    kept_by_ring = rw can.ring.reach kept
+
+    room : length es + 1 ≤ p.ring.reach
+    room = room_after (in_first set) (in_second set) (λ x. x.0.time) p.ring bin.weights closed some_reach can.ring.keeps can.after es kept_by_ring rising
+
+    pub room_shut : length es + 1 ≤ set.reach
+    room_shut = omega (arith, room, can.ring.reach)
+
+    pub ring_shut : RingIs set (ring (es ++ bin.weights ∷ []) p.ring.reach) (closed ++ xs)
+    ring_shut = record {
+      reach = can.ring.reach;
+      keeps = kept_after (in_first set) (in_second set) (λ x. x.0.time) p.ring bin.weights closed some_reach can.ring.keeps can.after xs can.is.weighs es kept_by_ring room;
+    }

@@ -1,0 +1,9 @@
+use Rattle.std.proofs.Common.{◌∙◌}
+use Rattle.tally_base.specs.Settings.{coincidence_view}
+use Rattle.coincidence.proofs.Photons.{cell_is}
+use Rattle.coincidence.proofs.coincidence.Coincidence.cell.Goals as goal
+
+pub returns : goal.returns
+returns c = λ h is.
+    let t = c.args.self.now in
+    c.get.ensures.count ∙ cell_is t.closed c.requires.closed (coincidence_view t.set) t.pairing t.taken t.floor h is c.args.at c.requires.inside

@@ -1,0 +1,27 @@
+-- What a table of coincidences stands for.
+use Rattle.std.specs.Prelude.{ℕ, ◌+◌, is_some, length, if◌then◌else◌}
+use Rattle.tally_base.specs.declared.settings.CoincidenceSet.{CoincidenceSet}
+use Rattle.tally_base.specs.Settings.{PartSettings, coincidence_view}
+use Rattle.tally_base.specs.Settings.PartSettings.{CoincidenceSettings}
+use Rattle.tally_base.specs.Tally.{History}
+use Rattle.coincidence.specs.declared.coincidence.Coincidence.{Coincidence}
+use Rattle.coincidence.specs.Counts.{Counts}
+
+-- what it was opened with
+abbrev pub set_of : Coincidence → CoincidenceSet
+set_of t = t.set
+
+abbrev pub settings : Coincidence → PartSettings
+settings t = CoincidenceSettings (coincidence_view t.set)
+
+-- It was given these events. Once it is closed, each cell is the count over them.
+abbrev pub Holds : Coincidence → History → Type 0
+Holds t h = Counts t.closed (coincidence_view t.set) t.pairing t.taken t.floor h
+
+-- how many entries it keeps: the cells, the closed bins in reach, and an open bin, which has one more number than an entry
+abbrev pub held : Coincidence → ℕ
+held t = length t.pairing.cells.cells + length t.pairing.ring.entries + (if is_some t.pairing.open then 2 else 0)
+
+-- how many closed bins it keeps
+abbrev pub bins_kept : Coincidence → ℕ
+bins_kept t = length t.pairing.ring.entries

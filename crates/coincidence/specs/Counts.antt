@@ -1,0 +1,26 @@
+-- What the fields of a table of coincidences stand for.
+use Rattle.std.specs.Prelude.{◌≡◌, ℕ, ◌^◌, ◌<◌, ◌≤◌, Bool, true, false, IsTrue, length}
+use Rattle.tally_base.specs.declared.event.Event.{Event}
+use Rattle.tally_base.specs.Events.{is_photon}
+use Rattle.tally_base.specs.Settings.{CoincidenceView}
+use Rattle.tally_base.specs.Tally.{History, greatest_time}
+use Rattle.coincidence.specs.declared.pairing.Pairing.{Pairing}
+use Rattle.coincidence.specs.Pairs.{photons_of_groups}
+use Rattle.coincidence.specs.Pairing.{Came, PairingDone}
+
+-- the photons came, and in a closed table all of them are in closed bins
+abbrev pub HasPhotons : Bool → CoincidenceView → Pairing → History → Type 0
+HasPhotons false set p came = Came set p came
+HasPhotons true set p came = PairingDone set p came
+
+-- a table with these fields stands for the events
+pub record Counts (closed : Bool) (set : CoincidenceView) (p : Pairing) (count time : ℕ) (h : History) : Type 0 where
+  pub taken : count ≡ length h
+  pub floor : time ≡ greatest_time false h
+  pub photons : HasPhotons closed set p (photons_of_groups set h)
+
+-- an event may be given, after those that were
+pub record CanGive (set : CoincidenceView) (p : Pairing) (e : Event) (h : History) : Type 0 where
+  pub few : length h < 2 ^ 40
+  pub was : Came set p (photons_of_groups set h)
+  pub after : IsTrue (is_photon e) → greatest_time false h ≤ e.time

@@ -1,0 +1,110 @@
+-- What the bins and cells of a table of coincidences stand for: photons that came in order, and how far they are paired.
+use Rattle.std.specs.Prelude.{◌≡◌, ℕ, ◌+◌, ◌-◌, ◌*◌, ◌/◌, ◌^◌, ◌<◌, ◌≤◌, Bool, ◌&&◌, ◌==◌, Option, None, Some, List, [], ◌++◌, length, slice_index, sum_by, count_by, if◌then◌else◌}
+use Rattle.std.specs.List.{AllByRecursion}
+use Rattle.tally_base.specs.Settings.{CoincidenceView, coincidence_cells}
+use Rattle.tally_base.specs.Tally.{History}
+use Rattle.lag_ring.specs.declared.ring.Entry.{Entry}
+use Rattle.lag_ring.specs.Cells.{Cells}
+use Rattle.lag_ring.specs.Ring.{Ring}
+use Rattle.lag_ring.specs.Kept.{Weighs, Keeps}
+use Rattle.coincidence.specs.declared.pairing.Bin.{Bin}
+use Rattle.coincidence.specs.declared.pairing.Pairing.{Pairing}
+use Rattle.coincidence.specs.Pairs.{in_first, in_second, is_in_cell, coincidences}
+
+-- the pairs of the first group's photons in an earlier entry with so many of the second group at a later tick, that the cell counts
+abbrev pub first_pairs : CoincidenceView → ℕ → ℕ → ℕ → Entry → ℕ
+first_pairs set c index later earlier = if is_in_cell set c earlier.index index then earlier.a * later else 0
+
+-- the pairs of the second group's photons in an earlier entry with so many of the first group at a later tick, that the cell counts
+abbrev pub second_pairs : CoincidenceView → ℕ → ℕ → ℕ → Entry → ℕ
+second_pairs set c index later earlier = if is_in_cell set c index earlier.index then earlier.b * later else 0
+
+-- the same for all entries of a list
+abbrev pub first_pairs_with : CoincidenceView → ℕ → ℕ → ℕ → List Entry → ℕ
+first_pairs_with set c index later es = sum_by (first_pairs set c index later) es
+
+abbrev pub second_pairs_with : CoincidenceView → ℕ → ℕ → ℕ → List Entry → ℕ
+second_pairs_with set c index later es = sum_by (second_pairs set c index later) es
+
+-- the pairs of a later entry's photons with those of all entries of a list, that the cell counts
+abbrev pub pairs_with : CoincidenceView → ℕ → Entry → List Entry → ℕ
+pairs_with set c later es =
+    first_pairs_with set c later.index later.b es
+    + second_pairs_with set c later.index later.a es
+
+-- those, and the pairs inside the later one's bin
+abbrev pub bin_pairs : CoincidenceView → ℕ → Bin → List Entry → ℕ
+bin_pairs set c bin es =
+    pairs_with set c bin.weights es
+    + (if set.reach / set.width == c then bin.weights.a * bin.weights.b - bin.both else 0)
+
+-- the bin of one photon, which is in these groups
+abbrev pub bin_of : ℕ → Bool → Bool → Bin
+bin_of time first second = record {
+  weights = record { index = time; a = (if first then 1 else 0); b = (if second then 1 else 0) };
+  both = (if first && second then 1 else 0);
+}
+
+-- the photons of two bins of one tick
+abbrev pub joined : Bin → Bin → Bin
+joined bin more = record {
+  weights = record { index = bin.weights.index; a = bin.weights.a + more.weights.a; b = bin.weights.b + more.weights.b };
+  both = bin.both + more.both;
+}
+
+module _ (set : CoincidenceView) where
+  -- the bin has these photons, of which there is one at least
+  pub record BinIs (bin : Bin) (xs : History) : Type 0 where
+    pub weighs : Weighs (in_first set) (in_second set) (λ x. x.0.time) bin.weights xs
+    pub both : bin.both ≡ count_by (λ x. in_first set x && in_second set x) xs
+
+  -- the open bin has the photons that are not in closed ones, and comes after those
+  abbrev pub OpenIs : Option Bin → History → History → Type 0
+  OpenIs None closed open' = (closed ≡ []) × (open' ≡ [])
+  OpenIs (Some bin) closed open' = BinIs bin open' × AllByRecursion (λ x. x.0.time < bin.weights.index) closed
+
+  -- the ring keeps the closed bins that are in reach
+  pub record RingIs (ring : Ring) (closed : History) : Type 0 where
+    pub reach : ring.reach ≡ set.reach
+    pub keeps : Keeps (in_first set) (in_second set) (λ x. x.0.time) ring closed
+
+  -- the cells count the pairs of photons in closed bins
+  pub record CellsAre (cells : Cells) (closed : History) : Type 0 where
+    pub count : length cells.cells ≡ coincidence_cells set
+    pub pairs : (c : ℕ) → c < coincidence_cells set → slice_index cells.cells c ≡ coincidences set c closed
+    pub work : cells.added ≤ (2 * set.reach + 1) * length closed
+
+  -- the photons of closed bins came, and after them those of the open one
+  pub record PairingIs (p : Pairing) (closed open' : History) : Type 0 where
+    pub opened : OpenIs p.open closed open'
+    pub ring : RingIs p.ring closed
+    pub cells : CellsAre p.cells closed
+
+  -- all photons that came are in closed bins
+  pub record PairingDone (p : Pairing) (came : History) : Type 0 where
+    pub shut : p.open ≡ None
+    pub ring : RingIs p.ring came
+    pub cells : CellsAre p.cells came
+
+  -- a bin of the photons xs may be closed
+  pub record CanShut (p : Pairing) (bin : Bin) (closed xs : History) : Type 0 where
+    pub few : length closed + length xs ≤ 2 ^ 40
+    pub is : BinIs bin xs
+    pub after : AllByRecursion (λ x. x.0.time < bin.weights.index) closed
+    pub ring : RingIs p.ring closed
+    pub cells : CellsAre p.cells closed
+
+  -- photons xs of one tick may come, after all that came
+  pub record CanPut (p : Pairing) (bin : Bin) (closed open' xs : History) : Type 0 where
+    pub few : length closed + length open' + length xs ≤ 2 ^ 40
+    pub was : PairingIs p closed open'
+    pub is : BinIs bin xs
+    pub after : AllByRecursion (λ x. x.0.time ≤ bin.weights.index) (closed ++ open')
+
+  -- the photons that came, in their order
+  abbrev pub Came : Pairing → History → Type 0
+  Came p came = (closed : History) × (open' : History) × (came ≡ closed ++ open') × PairingIs p closed open'
+
+  pub record CanEnd (p : Pairing) (came : History) : Type 0 where
+    pub few : length came ≤ 2 ^ 40
+    pub was : Came p came

@@ -1,0 +1,137 @@
+// A table of the pairs of photons of two groups by the difference of their times.
+ghost use Rattle.std.specs.Prelude.{◌≡◌, ◌^◌, ◌≤◌, [], ◌∷◌, ◌++◌, if◌then◌else◌, false};
+ghost use Rattle.tally_base.specs.Settings.{coincidence_view};
+ghost use Rattle.tally_base.specs.Tally.{History};
+ghost use Rattle.coincidence.specs.Counts.{Counts, CanGive};
+ghost use Rattle.coincidence.specs.Pairing.{Came};
+ghost use Rattle.coincidence.specs.Pairs.{photons_of_groups};
+
+use crate::pairing::{Bin, Pairing, cells_of};
+use std::alloc::{AllocError, Global};
+use std::sync::ledger::Ledger;
+use tally_base::{CoincidenceSet, Event, Steps, Tally, floor_behind, is_in};
+
+/// Counts the ordered pairs of different photons, the first of them in the first group and the second in
+/// the second group, by the time from the first to the second, which may be negative.
+///
+/// Differences from `-reach` to `reach` ticks count, both included. Cell c counts the pairs where the
+/// difference and the reach together are `c * width` ticks or more and fewer than `(c + 1) * width`. A
+/// photon in both groups makes a pair with each other photon of a group, and none with itself.
+#[derive(Drop)]
+pub struct Coincidence {
+    set: CoincidenceSet,
+    pairing: Pairing,
+    taken: u64,
+    floor: u64,
+    closed: bool,
+    ghost few: { taken ≤ 2 ^ 40 },
+    ghost stands: { ∥ ((h : History)
+        × Counts closed (coincidence_view set) pairing taken floor h) ∥₁ },
+}
+
+impl Coincidence {
+    ghost use Rattle.std.specs.Prelude.{◌<◌, IfOk, true};
+    ghost use Rattle.tally_base.specs.Settings.{coincidence_cells};
+    ghost use Rattle.tally_base.specs.Settings.PartSettings.{CoincidenceSettings};
+    ghost use Rattle.coincidence.specs.Coincidence.{Holds, set_of};
+    ghost use Rattle.coincidence.specs.Pairs.{coincidences};
+
+    /// A table of no events, with all the memory that it ever takes, or `AllocError` where it is wanting.
+    pub fn open(alloc: Global, set: CoincidenceSet) -> Result<Coincidence, AllocError>
+        ensures set { IfOk result (λ t. set_of t ≡ set) }
+        ensures settings { IfOk result (λ t.
+            ⟦<Coincidence as Tally>⟧.settings t ≡ CoincidenceSettings (coincidence_view set)) }
+        ensures empty { IfOk result (λ t. Holds t []) }
+        ensures opened { IfOk result (λ t. ⟦<Coincidence as Tally>⟧.closed t ≡ false) }
+    {
+        let pairing = Pairing::open(alloc, &set)?;
+        Ok(Coincidence {
+            set,
+            pairing,
+            taken: 0,
+            floor: 0,
+            closed: false,
+        })
+    }
+
+    /// What it was opened with.
+    pub fn set(&self) -> &CoincidenceSet
+        ensures { result.now ≡ set_of self.now }
+    {
+        &self.set
+    }
+
+    /// How many cells there are, at most 2^21 + 1.
+    pub fn cells(&self) -> u32
+        ensures { result ≡ coincidence_cells (coincidence_view (set_of self.now)) }
+    {
+        cells_of(&self.set)
+    }
+
+    /// How many pairs cell `at` counts. The table is closed, and `at` is below the number of cells.
+    pub fn cell(&self, at: u32) -> u128
+        requires closed { ⟦<Coincidence as Tally>⟧.closed self.now ≡ true }
+        requires inside { at < coincidence_cells (coincidence_view (set_of self.now)) }
+        ensures { (h : History) → Holds self.now h
+            → result ≡ coincidences (coincidence_view (set_of self.now)) at h }
+    {
+        self.pairing.cells.get(at)
+    }
+}
+
+/// Gives a photon of either group to the bins, and leaves out other events.
+fn give<L: Ledger>(
+    pairing: &mut Pairing,
+    set: &CoincidenceSet,
+    e: &Event,
+    groups: u64,
+    steps: &mut Steps<L>,
+)
+    requires stands { ∥ ((h : History)
+        × CanGive (coincidence_view set.now) pairing.old e.now h) ∥₁ }
+    ensures follows { (h : History) → CanGive (coincidence_view set.now) pairing.old e.now h
+        → Came (coincidence_view set.now) pairing.new
+        (photons_of_groups (coincidence_view set.now) (h ++ (e.now, groups) ∷ [])) }
+{
+    if e.is_photon() {
+        let first = is_in(groups, set.first);
+        let second = is_in(groups, set.second);
+        if first || second {
+            pairing.put(set, Bin::of_photon(e.time, first, second), steps);
+        }
+    }
+}
+
+impl Tally for Coincidence {
+    ghost use Rattle.coincidence.specs.Coincidence.{Holds, settings, held};
+    ghost use Rattle.coincidence.specs.CoincidenceLaws.{taken_is, floor_is, within_bound};
+
+    ghost holds = { Holds };
+
+    ghost taken = { λ t. t.taken };
+
+    ghost floor = { λ t. t.floor };
+
+    ghost held = { held };
+
+    ghost settings = { settings };
+
+    ghost closed = { λ t. t.closed };
+
+    ghost taken_is = { taken_is };
+
+    ghost floor_is = { floor_is };
+
+    ghost within = { within_bound };
+
+    fn event<L: Ledger>(&mut self, e: &Event, groups: u64, steps: &mut Steps<L>) {
+        self.taken += 1;
+        self.floor = floor_behind(self.floor, e);
+        give(&mut self.pairing, &self.set, e, groups, steps);
+    }
+
+    fn close<L: Ledger>(&mut self, steps: &mut Steps<L>) {
+        self.pairing.end(&self.set, steps);
+        self.closed = true;
+    }
+}

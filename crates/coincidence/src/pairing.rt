@@ -1,0 +1,449 @@
+// The bins of a table of coincidences, the ring of the last closed ones, and the cells.
+ghost use Rattle.std.specs.Prelude.{◌≡◌, ℕ, ◌+◌, ◌-◌, ◌*◌, ◌/◌, ◌^◌, ◌<◌, ◌≤◌, [], length, slice_index, if◌then◌else◌, ◌==◌, nat_le};
+ghost use Rattle.std.specs.List.{AllByRecursion};
+ghost use Rattle.tally_base.specs.Settings.{coincidence_view, coincidence_cells};
+ghost use Rattle.tally_base.specs.Tally.{History};
+ghost use Rattle.coincidence.specs.Pairing.{first_pairs, first_pairs_with, second_pairs, second_pairs_with, pairs_with, bin_pairs};
+
+use lag_ring::{Entry, LagRing, PairCells};
+use std::alloc::{AllocError, Global};
+use std::sync::ledger::Ledger;
+use tally_base::{CoincidenceSet, Steps};
+
+/// The photons of one tick.
+#[derive(Clone, Copy, Debug)]
+pub struct Bin {
+    /// The tick, and how many of its photons are in each group.
+    pub weights: Entry,
+    /// How many of its photons are in both groups.
+    pub both: u64,
+}
+
+impl Bin {
+    ghost use Rattle.std.specs.Prelude.{◌≡◌, ◌+◌, ◌^◌, ◌<◌};
+    ghost use Rattle.coincidence.specs.Pairing.{bin_of, joined};
+
+    /// The bin of one photon, which is in the first group, the second, or both.
+    pub fn of_photon(time: u64, first: bool, second: bool) -> Bin
+        ensures { result ≡ bin_of time first second }
+    {
+        Bin {
+            weights: Entry {
+                index: time,
+                a: u64::from(first),
+                b: u64::from(second),
+            },
+            both: u64::from(first && second),
+        }
+    }
+
+    /// The photons of this bin, and more of the same tick.
+    fn with(&self, more: &Bin) -> Bin
+        requires a { self.now.weights.a + more.now.weights.a < 2 ^ 64 }
+        requires b { self.now.weights.b + more.now.weights.b < 2 ^ 64 }
+        requires both { self.now.both + more.now.both < 2 ^ 64 }
+        ensures { result ≡ joined self.now more.now }
+    {
+        Bin {
+            weights: Entry {
+                index: self.weights.index,
+                a: self.weights.a + more.weights.a,
+                b: self.weights.b + more.weights.b,
+            },
+            both: self.both + more.both,
+        }
+    }
+}
+
+/// Photons in closed bins, which are paired with one another, and in an open one, which are not.
+#[derive(Drop)]
+pub struct Pairing {
+    pub open: Option<Bin>,
+    pub ring: LagRing,
+    pub cells: PairCells,
+}
+
+/// How many cells the differences take.
+pub fn cells_of(set: &CoincidenceSet) -> u32
+    ensures { result ≡ coincidence_cells (coincidence_view set.now) }
+{
+    2 * set.reach / set.width + 1
+}
+
+/// The cell of a difference that is given with the reach added. Cells of one tick need no division.
+#[inline(always)]
+fn cell_of(set: CoincidenceSet, shifted: u32) -> u32
+    ensures { result ≡ shifted / set.width }
+{
+    if set.width == 1 {
+        shifted
+    } else {
+        shifted / set.width
+    }
+}
+
+/// Whether ticks that are so far apart are in reach of one another.
+#[inline(always)]
+fn is_near(set: CoincidenceSet, apart: u64) -> bool
+    ensures { result ≡ nat_le apart set.reach }
+{
+    apart <= u64::from(set.reach)
+}
+
+/// The least index of a bin that is still in reach of a bin after the one at `index`.
+fn least_kept(set: &CoincidenceSet, index: u64) -> u64
+    ensures { result ≡ index - (set.now.reach - 1) }
+{
+    index.saturating_sub(u64::from(set.reach) - 1)
+}
+
+/// Adds the pairs of so many photons of an earlier tick and so many of a later one to the cell of their
+/// difference.
+#[inline(always)]
+fn add_pairs<L: Ledger>(
+    cells: &mut PairCells,
+    set: CoincidenceSet,
+    shifted: u32,
+    earlier: u64,
+    later: u64,
+    steps: &mut Steps<L>,
+)
+    requires inside { shifted / set.width < length cells.old.cells }
+    requires sum { slice_index cells.old.cells (shifted / set.width) + earlier * later ≤ 2 ^ 80 }
+    requires count { cells.old.added < 2 ^ 64 - 1 }
+    ensures cells { (c : ℕ) → c < length cells.old.cells
+        → slice_index cells.new.cells c ≡ slice_index cells.old.cells c
+        + (if shifted / set.width == c then earlier * later else 0) }
+    ensures same { length cells.new.cells ≡ length cells.old.cells }
+    ensures added { cells.new.added ≤ cells.old.added + 1 }
+{
+    let pairs = u128::from(earlier) * u128::from(later);
+    cells.add(cell_of(set, shifted), pairs, steps);
+}
+
+/// Pairs the photons of the first group in an earlier entry with so many of the second one at a later tick,
+/// where the two ticks are in reach of one another.
+#[inline(always)]
+fn pair_first<L: Ledger>(
+    cells: &mut PairCells,
+    set: CoincidenceSet,
+    index: u64,
+    later: u64,
+    earlier: &Entry,
+    steps: &mut Steps<L>,
+)
+    requires sized { length cells.old.cells ≡ coincidence_cells (coincidence_view set) }
+    requires after { earlier.now.index < index }
+    requires fits { (c : ℕ) → c < coincidence_cells (coincidence_view set)
+        → slice_index cells.old.cells c
+        + first_pairs (coincidence_view set) c index later earlier.now ≤ 2 ^ 80 }
+    requires count { cells.old.added + 1 < 2 ^ 64 }
+    ensures cells { (c : ℕ) → c < coincidence_cells (coincidence_view set)
+        → slice_index cells.new.cells c ≡ slice_index cells.old.cells c
+        + first_pairs (coincidence_view set) c index later earlier.now }
+    ensures same { length cells.new.cells ≡ length cells.old.cells }
+    ensures added { cells.new.added ≤ cells.old.added + 1 }
+{
+    let apart = index - earlier.index;
+    if is_near(set, apart) {
+        add_pairs(
+            cells,
+            set,
+            set.reach + apart as u32,
+            earlier.a,
+            later,
+            steps,
+        );
+    }
+}
+
+/// Pairs the photons of the first group in earlier entries with so many of the second one at a later tick.
+#[inline(always)]
+fn pair_firsts<L: Ledger>(
+    cells: &mut PairCells,
+    set: CoincidenceSet,
+    index: u64,
+    later: u64,
+    entries: &[Entry],
+    steps: &mut Steps<L>,
+)
+    requires sized { length cells.old.cells ≡ coincidence_cells (coincidence_view set) }
+    requires after { AllByRecursion (λ e. e.index < index) entries.now }
+    requires fits { (c : ℕ) → c < coincidence_cells (coincidence_view set)
+        → slice_index cells.old.cells c
+        + first_pairs_with (coincidence_view set) c index later entries.now ≤ 2 ^ 80 }
+    requires count { cells.old.added + length entries.now < 2 ^ 64 }
+    ensures cells { (c : ℕ) → c < coincidence_cells (coincidence_view set)
+        → slice_index cells.new.cells c ≡ slice_index cells.old.cells c
+        + first_pairs_with (coincidence_view set) c index later entries.now }
+    ensures same { length cells.new.cells ≡ length cells.old.cells }
+    ensures added { cells.new.added ≤ cells.old.added + length entries.now }
+{
+    if later > 0 {
+        for earlier in entries {
+            pair_first(cells, set, index, later, earlier, steps);
+        }
+    }
+}
+
+/// Pairs the photons of the second group in an earlier entry with so many of the first one at a later tick,
+/// where the two ticks are in reach of one another.
+#[inline(always)]
+fn pair_second<L: Ledger>(
+    cells: &mut PairCells,
+    set: CoincidenceSet,
+    index: u64,
+    later: u64,
+    earlier: &Entry,
+    steps: &mut Steps<L>,
+)
+    requires sized { length cells.old.cells ≡ coincidence_cells (coincidence_view set) }
+    requires after { earlier.now.index < index }
+    requires fits { (c : ℕ) → c < coincidence_cells (coincidence_view set)
+        → slice_index cells.old.cells c
+        + second_pairs (coincidence_view set) c index later earlier.now ≤ 2 ^ 80 }
+    requires count { cells.old.added + 1 < 2 ^ 64 }
+    ensures cells { (c : ℕ) → c < coincidence_cells (coincidence_view set)
+        → slice_index cells.new.cells c ≡ slice_index cells.old.cells c
+        + second_pairs (coincidence_view set) c index later earlier.now }
+    ensures same { length cells.new.cells ≡ length cells.old.cells }
+    ensures added { cells.new.added ≤ cells.old.added + 1 }
+{
+    let apart = index - earlier.index;
+    if is_near(set, apart) {
+        add_pairs(
+            cells,
+            set,
+            set.reach - apart as u32,
+            earlier.b,
+            later,
+            steps,
+        );
+    }
+}
+
+/// Pairs the photons of the second group in earlier entries with so many of the first one at a later tick.
+#[inline(always)]
+fn pair_seconds<L: Ledger>(
+    cells: &mut PairCells,
+    set: CoincidenceSet,
+    index: u64,
+    later: u64,
+    entries: &[Entry],
+    steps: &mut Steps<L>,
+)
+    requires sized { length cells.old.cells ≡ coincidence_cells (coincidence_view set) }
+    requires after { AllByRecursion (λ e. e.index < index) entries.now }
+    requires fits { (c : ℕ) → c < coincidence_cells (coincidence_view set)
+        → slice_index cells.old.cells c
+        + second_pairs_with (coincidence_view set) c index later entries.now ≤ 2 ^ 80 }
+    requires count { cells.old.added + length entries.now < 2 ^ 64 }
+    ensures cells { (c : ℕ) → c < coincidence_cells (coincidence_view set)
+        → slice_index cells.new.cells c ≡ slice_index cells.old.cells c
+        + second_pairs_with (coincidence_view set) c index later entries.now }
+    ensures same { length cells.new.cells ≡ length cells.old.cells }
+    ensures added { cells.new.added ≤ cells.old.added + length entries.now }
+{
+    if later > 0 {
+        for earlier in entries {
+            pair_second(cells, set, index, later, earlier, steps);
+        }
+    }
+}
+
+/// Pairs the photons of an entry with those of earlier ones, group by group.
+#[inline(always)]
+fn pair_groups<L: Ledger>(
+    cells: &mut PairCells,
+    set: CoincidenceSet,
+    later: &Entry,
+    entries: &[Entry],
+    steps: &mut Steps<L>,
+)
+    requires sized { length cells.old.cells ≡ coincidence_cells (coincidence_view set) }
+    requires after { AllByRecursion (λ e. e.index < later.now.index) entries.now }
+    requires fits { (c : ℕ) → c < coincidence_cells (coincidence_view set)
+        → slice_index cells.old.cells c
+        + pairs_with (coincidence_view set) c later.now entries.now ≤ 2 ^ 80 }
+    requires count { cells.old.added + 2 * length entries.now < 2 ^ 64 }
+    ensures cells { (c : ℕ) → c < coincidence_cells (coincidence_view set)
+        → slice_index cells.new.cells c ≡ slice_index cells.old.cells c
+        + pairs_with (coincidence_view set) c later.now entries.now }
+    ensures same { length cells.new.cells ≡ length cells.old.cells }
+    ensures added { cells.new.added ≤ cells.old.added + 2 * length entries.now }
+{
+    pair_firsts(cells, set, later.index, later.b, entries, steps);
+    pair_seconds(cells, set, later.index, later.a, entries, steps);
+}
+
+/// Pairs the photons of an entry with those of earlier ones, where cells have one tick. This is
+/// inlined, so that its loops test no width.
+#[inline(always)]
+fn pair_single_ticks<L: Ledger>(
+    cells: &mut PairCells,
+    set: CoincidenceSet,
+    later: &Entry,
+    entries: &[Entry],
+    steps: &mut Steps<L>,
+)
+    requires single { set.width ≡ 1 }
+    requires sized { length cells.old.cells ≡ coincidence_cells (coincidence_view set) }
+    requires after { AllByRecursion (λ e. e.index < later.now.index) entries.now }
+    requires fits { (c : ℕ) → c < coincidence_cells (coincidence_view set)
+        → slice_index cells.old.cells c
+        + pairs_with (coincidence_view set) c later.now entries.now ≤ 2 ^ 80 }
+    requires count { cells.old.added + 2 * length entries.now < 2 ^ 64 }
+    ensures cells { (c : ℕ) → c < coincidence_cells (coincidence_view set)
+        → slice_index cells.new.cells c ≡ slice_index cells.old.cells c
+        + pairs_with (coincidence_view set) c later.now entries.now }
+    ensures same { length cells.new.cells ≡ length cells.old.cells }
+    ensures added { cells.new.added ≤ cells.old.added + 2 * length entries.now }
+{
+    pair_groups(cells, set, later, entries, steps);
+}
+
+/// Pairs the photons of an entry with those of earlier ones.
+fn pair_entries<L: Ledger>(
+    cells: &mut PairCells,
+    set: &CoincidenceSet,
+    later: &Entry,
+    entries: &[Entry],
+    steps: &mut Steps<L>,
+)
+    requires sized { length cells.old.cells ≡ coincidence_cells (coincidence_view set.now) }
+    requires after { AllByRecursion (λ e. e.index < later.now.index) entries.now }
+    requires fits { (c : ℕ) → c < coincidence_cells (coincidence_view set.now)
+        → slice_index cells.old.cells c
+        + pairs_with (coincidence_view set.now) c later.now entries.now ≤ 2 ^ 80 }
+    requires count { cells.old.added + 2 * length entries.now < 2 ^ 64 }
+    ensures cells { (c : ℕ) → c < coincidence_cells (coincidence_view set.now)
+        → slice_index cells.new.cells c ≡ slice_index cells.old.cells c
+        + pairs_with (coincidence_view set.now) c later.now entries.now }
+    ensures same { length cells.new.cells ≡ length cells.old.cells }
+    ensures added { cells.new.added ≤ cells.old.added + 2 * length entries.now }
+{
+    let set = *set;
+    if set.width == 1 {
+        pair_single_ticks(cells, set, later, entries, steps);
+    } else {
+        pair_groups(cells, set, later, entries, steps);
+    }
+}
+
+/// Pairs the photons of a bin with one another, and none with itself.
+fn pair_inside<L: Ledger>(
+    cells: &mut PairCells,
+    set: &CoincidenceSet,
+    bin: &Bin,
+    steps: &mut Steps<L>,
+)
+    requires sized { length cells.old.cells ≡ coincidence_cells (coincidence_view set.now) }
+    requires both { bin.now.both ≤ bin.now.weights.a * bin.now.weights.b }
+    requires fits { (c : ℕ) → c < coincidence_cells (coincidence_view set.now)
+        → slice_index cells.old.cells c
+        + bin_pairs (coincidence_view set.now) c bin.now [] ≤ 2 ^ 80 }
+    requires count { cells.old.added + 1 < 2 ^ 64 }
+    ensures cells { (c : ℕ) → c < coincidence_cells (coincidence_view set.now)
+        → slice_index cells.new.cells c ≡ slice_index cells.old.cells c
+        + bin_pairs (coincidence_view set.now) c bin.now [] }
+    ensures same { length cells.new.cells ≡ length cells.old.cells }
+    ensures added { cells.new.added ≤ cells.old.added + 1 }
+{
+    let pairs = u128::from(bin.weights.a) * u128::from(bin.weights.b) - u128::from(bin.both);
+    if pairs > 0 {
+        cells.add(cell_of(*set, set.reach), pairs, steps);
+    }
+}
+
+/// Pairs the photons of a bin with one another, and with those of the closed bins.
+fn pair<L: Ledger>(
+    cells: &mut PairCells,
+    ring: &LagRing,
+    set: &CoincidenceSet,
+    bin: &Bin,
+    steps: &mut Steps<L>,
+)
+    requires sized { length cells.old.cells ≡ coincidence_cells (coincidence_view set.now) }
+    requires after { AllByRecursion (λ e. e.index < bin.now.weights.index) ring.now.entries }
+    requires both { bin.now.both ≤ bin.now.weights.a * bin.now.weights.b }
+    requires fits { (c : ℕ) → c < coincidence_cells (coincidence_view set.now)
+        → slice_index cells.old.cells c
+        + bin_pairs (coincidence_view set.now) c bin.now ring.now.entries ≤ 2 ^ 80 }
+    requires count { cells.old.added + (2 * length ring.now.entries + 1) < 2 ^ 64 }
+    ensures cells { (c : ℕ) → c < coincidence_cells (coincidence_view set.now)
+        → slice_index cells.new.cells c ≡ slice_index cells.old.cells c
+        + bin_pairs (coincidence_view set.now) c bin.now ring.now.entries }
+    ensures same { length cells.new.cells ≡ length cells.old.cells }
+    ensures added { cells.new.added ≤ cells.old.added + (2 * length ring.now.entries + 1) }
+{
+    let (front, back) = ring.slices();
+    pair_entries(cells, set, &bin.weights, front, steps);
+    pair_entries(cells, set, &bin.weights, back, steps);
+    pair_inside(cells, set, bin, steps);
+}
+
+impl Pairing {
+    ghost use Rattle.std.specs.Prelude.{◌++◌, IfOk, None};
+    ghost use Rattle.coincidence.specs.Pairing.{RingIs, CellsAre, PairingIs, PairingDone, CanShut, CanPut, CanEnd, Came};
+
+    /// No bins, with all the memory that they and the cells ever take, or `AllocError` where it is
+    /// wanting.
+    pub fn open(alloc: Global, set: &CoincidenceSet) -> Result<Pairing, AllocError>
+        ensures empty { IfOk result (λ p. PairingIs (coincidence_view set.now) p [] []) }
+    {
+        Ok(Pairing {
+            open: None,
+            ring: LagRing::open(alloc, set.reach)?,
+            cells: PairCells::open(alloc, cells_of(set))?,
+        })
+    }
+
+    /// Pairs the photons of a bin, and puts it among the closed ones.
+    fn shut<L: Ledger>(&mut self, set: &CoincidenceSet, bin: &Bin, steps: &mut Steps<L>)
+        requires stands { ∥ ((closed : History) × (xs : History)
+            × CanShut (coincidence_view set.now) self.old bin.now closed xs) ∥₁ }
+        ensures ring { (closed xs : History) → CanShut (coincidence_view set.now) self.old bin.now closed xs
+            → RingIs (coincidence_view set.now) self.new.ring (closed ++ xs) }
+        ensures cells { (closed xs : History) → CanShut (coincidence_view set.now) self.old bin.now closed xs
+            → CellsAre (coincidence_view set.now) self.new.cells (closed ++ xs) }
+        ensures open { self.new.open ≡ self.old.open }
+    {
+        pair(&mut self.cells, &self.ring, set, bin, steps);
+        let weights = bin.weights;
+        self.ring.retire(least_kept(set, weights.index));
+        self.ring.push(weights.index, weights.a, weights.b);
+    }
+
+    /// Takes photons of one tick, after all that came. They join the open bin, or close it.
+    pub fn put<L: Ledger>(&mut self, set: &CoincidenceSet, bin: Bin, steps: &mut Steps<L>)
+        requires stands { ∥ ((closed : History) × (open' : History) × (xs : History)
+            × CanPut (coincidence_view set.now) self.old bin closed open' xs) ∥₁ }
+        ensures follows { (closed open' xs : History)
+            → CanPut (coincidence_view set.now) self.old bin closed open' xs
+            → Came (coincidence_view set.now) self.new ((closed ++ open') ++ xs) }
+    {
+        match self.open {
+            Some(open) => {
+                if open.weights.index == bin.weights.index {
+                    self.open = Some(open.with(&bin));
+                } else {
+                    self.shut(set, &open, steps);
+                    self.open = Some(bin);
+                }
+            }
+            None => self.open = Some(bin),
+        }
+    }
+
+    /// Closes the open bin, and opens none.
+    pub fn end<L: Ledger>(&mut self, set: &CoincidenceSet, steps: &mut Steps<L>)
+        requires stands { ∥ ((came : History) × CanEnd (coincidence_view set.now) self.old came) ∥₁ }
+        ensures follows { (came : History) → CanEnd (coincidence_view set.now) self.old came
+            → PairingDone (coincidence_view set.now) self.new came }
+    {
+        if let Some(open) = self.open {
+            self.shut(set, &open, steps);
+            self.open = None;
+        }
+    }
+}

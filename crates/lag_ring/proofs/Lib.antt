@@ -1,0 +1,5 @@
+pub mod Rising
+pub mod Lists
+pub mod Sums
+pub mod Between
+pub mod Kept

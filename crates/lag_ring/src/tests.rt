@@ -1,0 +1,107 @@
+// A ring whose entries are known, and the cells of known additions.
+ghost use Rattle.std.specs.Prelude.{◌≡◌, ◌<◌, IfOk, length};
+ghost use Rattle.std.specs.List.{AllByRecursion};
+
+use super::{Entry, LagRing, PairCells};
+use std::alloc::Global;
+use std::marker::Brand;
+use std::process::Abort;
+use std::sync::ledger::{Blank, Ledger};
+use std::test::Fail;
+use tally_base::Steps;
+
+const REACH: u32 = 3;
+
+/// An entry: its index and its two weights.
+type Weighted = (u64, u64, u64);
+
+/// The index before which entries are removed, an entry that is appended then, and those that are kept.
+type Row<'a> = (u64, Weighted, &'a [Weighted]);
+
+fn weighted(e: &Entry) -> Weighted {
+    (e.index, e.a, e.b)
+}
+
+/// The entries of a ring, one at a time and in its slices.
+fn agrees(rt: &impl Abort, alloc: Global, ring: &LagRing, wanted: &[Weighted]) -> Result<(), Fail> {
+    assert_eq!(rt; ring.len() as usize, wanted.len());
+    for i in 0..ring.len() {
+        assert_eq!(rt;
+            Some(&weighted(&ring.visit(i))),
+            wanted.get(i as usize),
+            "{i}"
+        );
+    }
+    let (front, back) = ring.slices();
+    let mut entries = Vec::new(alloc);
+    for e in front {
+        entries.push(weighted(e))?;
+    }
+    for e in back {
+        entries.push(weighted(e))?;
+    }
+    assert_eq!(rt; entries.as_slice(), wanted);
+    Ok(())
+}
+
+/// Removes what is before an index, and appends an entry. The answer is an index above all that are kept.
+fn turn(ring: &mut LagRing, next: u64, before: u64, index: u64, a: u64, b: u64) -> Result<u64, Fail>
+    requires reach { ring.old.reach ≡ REACH }
+    requires below { AllByRecursion (λ e. e.index < next) ring.old.entries }
+    ensures reach { ring.new.reach ≡ REACH }
+    ensures below { IfOk result (λ next. AllByRecursion (λ e. e.index < next) ring.new.entries) }
+{
+    ring.retire(before);
+    if ring.len() == REACH || index < next || index == u64::MAX {
+        return Err(Fail::new("the entry of a row can't be appended"));
+    }
+    ring.push(index, a, b);
+    Ok(index + 1)
+}
+
+#[test]
+fn the_last_entries_are_kept(rt: HostRuntime) -> Result<(), Fail> {
+    let rows: [Row; 7] = [
+        (0, (4, 1, 0), &[(4, 1, 0)]),
+        (4, (5, 0, 1), &[(4, 1, 0), (5, 0, 1)]),
+        // No place is free then.
+        (4, (6, 2, 3), &[(4, 1, 0), (5, 0, 1), (6, 2, 3)]),
+        // From here on the entries go round.
+        (5, (7, 1, 1), &[(5, 0, 1), (6, 2, 3), (7, 1, 1)]),
+        (7, (9, 0, 2), &[(7, 1, 1), (9, 0, 2)]),
+        // An index that no entry has.
+        (8, (10, 5, 0), &[(9, 0, 2), (10, 5, 0)]),
+        (100, (1 << 62, 7, 8), &[(1 << 62, 7, 8)]),
+    ];
+    let mut ring = LagRing::open(rt.alloc(), REACH)?;
+    agrees(&rt, rt.alloc(), &ring, &[])?;
+    let mut next = 0;
+    for (before, (index, a, b), wanted) in rows {
+        next = turn(&mut ring, next, before, index, a, b)?;
+        agrees(&rt, rt.alloc(), &ring, wanted)?;
+    }
+    Ok(())
+}
+
+/// Cells to which some pairs were added.
+fn filled<L: Ledger>(alloc: Global, blank: Blank) -> Result<PairCells, Fail>
+    requires name { blank.name ≡ L.name }
+    requires parts { blank.parts ≡ L.parts }
+    requires some { 0 < blank.parts }
+    ensures { IfOk result (λ cells. length cells.cells ≡ 3) }
+{
+    let mut steps = Steps::<L>::new(blank);
+    let mut cells = PairCells::open(alloc, 3)?;
+    cells.add(0, 1 << 79, &mut steps);
+    cells.add(2, 5, &mut steps);
+    cells.add(2, 0, &mut steps);
+    cells.add(0, 1 << 79, &mut steps);
+    Ok(cells)
+}
+
+#[test]
+fn pairs_are_added(rt: HostRuntime) -> Result<(), Fail> {
+    let cells = filled::<Brand>(rt.alloc(), Blank::new(1))?;
+    assert_eq!(rt; [cells.get(0), cells.get(1), cells.get(2)], [1 << 80, 0, 5]);
+    Ok(())
+}

@@ -1,0 +1,4 @@
+pub mod Rows
+pub mod Lasts
+pub mod Steps
+pub mod Parts

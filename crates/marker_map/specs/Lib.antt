@@ -1,0 +1,5 @@
+pub mod Lasts
+pub mod Marks
+pub mod Places
+pub mod Rows
+pub mod Lines

@@ -1,0 +1,41 @@
+-- Where a photon is in an image, by all the markers before it.
+use Rattle.std.specs.Prelude.{ℕ, Bool, ◌-◌, ◌/◌, ◌%◌, ◌&&◌, nat_lt, List, Option, None, Some, count_by, option_and_then, if◌then◌else◌}
+use Rattle.std.specs.List.{list_any}
+use Rattle.tally_base.specs.Settings.{ImageView}
+use Rattle.marker_map.specs.Lasts.{last_that, until_last, behind_last, from_last}
+use Rattle.marker_map.specs.Marks.{Mark, has_bit, has_named_bit}
+
+abbrev pub is_line : ImageView → Mark → Bool
+is_line set m = has_bit set.line m.bits
+
+abbrev pub is_stop : ImageView → Mark → Bool
+is_stop set m = has_named_bit set.stop m.bits
+
+abbrev pub is_frame : ℕ → Mark → Bool
+is_frame frame m = has_bit frame m.bits
+
+-- The line of a photon is the last marker before it with the line bit, provided that none behind that one has the stop bit.
+abbrev pub line_of : ImageView → List Mark → Option Mark
+line_of set ms = if list_any (is_stop set) (behind_last (is_line set) ms) then None else last_that (is_line set) ms
+
+-- how many of these markers have the line bit
+abbrev pub lines_in : ImageView → List Mark → ℕ
+lines_in set ms = count_by (is_line set) ms
+
+-- The row of a line that ends this list of markers. With a frame bit the lines count from the last frame marker on, that one
+-- included, and there is no row where there is none. Without a frame bit they count from the start of the list on, modulo the height.
+abbrev pub row_at : Option ℕ → ImageView → List Mark → Option ℕ
+row_at None set ms = Some ((lines_in set ms - 1) % set.height)
+row_at (Some frame) set ms = if list_any (is_frame frame) ms then Some (lines_in set (from_last (is_frame frame) ms) - 1) else None
+
+-- the row of the last line
+abbrev pub row_of : ImageView → List Mark → Option ℕ
+row_of set ms = row_at set.frame set (until_last (is_line set) ms)
+
+-- a column and a row of the image, and nothing where the image ends before them
+abbrev pub within : ImageView → ℕ → ℕ → Option (ℕ × ℕ)
+within set column row = if nat_lt column set.width && nat_lt row set.height then Some (column, row) else None
+
+-- the column and the row of a photon at this time behind these markers
+abbrev pub place_of : ImageView → ℕ → List Mark → Option (ℕ × ℕ)
+place_of set time ms = option_and_then (λ line. option_and_then (within set ((time - line.time) / set.dwell)) (row_of set ms)) (line_of set ms)

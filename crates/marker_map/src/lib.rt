@@ -1,0 +1,11 @@
+//! Where a photon is in a scan image, by the markers before it: its line, its row and its column.
+#![tactic(auto)]
+
+mod bits;
+pub mod laws;
+mod lines;
+
+pub use lines::Lines;
+
+#[cfg(test)]
+mod tests;

@@ -1,0 +1,140 @@
+// The lines of a scan.
+ghost use Rattle.std.specs.Prelude.{◌≡◌, ◌+◌, ◌^◌, ◌<◌, ◌≤◌, None, Some, option_map, if◌then◌else◌};
+ghost use Rattle.std.specs.Option.{ForSome};
+ghost use Rattle.tally_base.specs.Settings.{image_view};
+ghost use Rattle.marker_map.specs.Rows.{line_at, row_after};
+
+use crate::bits::{has_bit, has_named_bit};
+use tally_base::ImageSet;
+
+/// A line that no stop has ended, and its row.
+#[derive(Clone, Copy)]
+struct Line {
+    /// The time of its marker.
+    start: u64,
+    row: u64,
+}
+
+/// Where a photon is in an image, by the markers that came before it.
+///
+/// The line of a photon is the last marker with the line bit, where no marker behind that one has the
+/// stop bit. With a frame bit the rows count from 0 from each frame on, and before the first frame a line
+/// has no row. Without a frame bit they count from the first line on, and begin again behind the last row
+/// of the image. In one marker the stop bit counts first, then the frame bit, then the line bit. Times
+/// are sync periods.
+#[derive(Drop)]
+pub struct Lines {
+    set: ImageSet,
+    // None before the first line, behind a stop, and at a line that has no row.
+    line: Option<Line>,
+    // The row of the next line. None before the first frame.
+    next_row: Option<u64>,
+    given: u64,
+    latest: u64,
+    ghost begun: { ForSome line (λ line. line.start ≤ latest) },
+    ghost counted: { ForSome next_row (λ row. row ≤ given) },
+}
+
+/// The row of a line in a marker: the first row where the marker begins a frame.
+fn row_here(next_row: Option<u64>, frames: bool) -> Option<u64>
+    ensures { result ≡ (if frames then Some 0 else next_row) }
+{
+    if frames { Some(0) } else { next_row }
+}
+
+/// The line that begins at this time, where it has a row.
+fn begun_at(time: u64, row: Option<u64>) -> Option<Line>
+    ensures { result ≡ option_map (line_at time) row }
+{
+    match row {
+        Some(row) => Some(Line { start: time, row }),
+        None => None,
+    }
+}
+
+/// What a stop leaves of a line.
+fn unless_stopped(line: Option<Line>, stops: bool) -> Option<Line>
+    ensures { result ≡ (if stops then None else line) }
+{
+    if stops { None } else { line }
+}
+
+/// The row behind this one. Without a frame bit the first row follows the last.
+fn row_behind(set: &ImageSet, row: Option<u64>) -> Option<u64>
+    requires { ForSome row (λ row. row ≤ 2 ^ 40) }
+    ensures { result ≡ option_map (row_after (image_view set.now)) row }
+{
+    let row = row? + 1;
+    if row == u64::from(set.height) && set.frame.is_none() {
+        Some(0)
+    } else {
+        Some(row)
+    }
+}
+
+impl Lines {
+    ghost use Rattle.std.specs.Prelude.{List, [], ◌∷◌, ◌++◌, IfSome};
+    ghost use Rattle.marker_map.specs.Marks.{Mark, mark};
+    ghost use Rattle.marker_map.specs.Places.{place_of};
+    ghost use Rattle.marker_map.specs.Lines.{Saw, image_of, markers_given, latest};
+
+    /// The lines of an image, before any marker.
+    pub fn new(set: &ImageSet) -> Lines
+        ensures image { image_of result ≡ image_view set.now }
+        ensures given { markers_given result ≡ 0 }
+        ensures latest { latest result ≡ 0 }
+        ensures empty { Saw result [] }
+    {
+        Lines {
+            set: *set,
+            line: None,
+            next_row: if set.frame.is_none() { Some(0) } else { None },
+            given: 0,
+            latest: 0,
+        }
+    }
+
+    /// Takes a marker: its bits and its time, which isn't below that of an earlier marker. Fewer than 2^40
+    /// markers came before it.
+    pub fn marker(&mut self, bits: u8, time: u64)
+        requires few { markers_given self.old < 2 ^ 40 }
+        requires in_order { latest self.old ≤ time }
+        ensures follows { (ms : List Mark) → Saw self.old ms
+            → Saw self.new (ms ++ mark bits time ∷ []) }
+        ensures one_more { markers_given self.new ≡ markers_given self.old + 1 }
+        ensures moved { latest self.new ≡ time }
+        ensures same_image { image_of self.new ≡ image_of self.old }
+    {
+        let stops = has_named_bit(bits, self.set.stop);
+        let row = row_here(self.next_row, has_named_bit(bits, self.set.frame));
+        self.given += 1;
+        self.latest = time;
+        if has_bit(bits, self.set.line) {
+            self.line = begun_at(time, row);
+            self.next_row = row_behind(&self.set, row);
+        } else {
+            self.line = unless_stopped(self.line, stops);
+            self.next_row = row;
+        }
+    }
+
+    /// The column and the row of a photon at this time, which isn't below that of an earlier marker. None
+    /// where the photon is outside the image: it has no line, its line has no row, or the column or the
+    /// row is past the last of the image.
+    #[inline(always)]
+    pub fn place(&self, time: u64) -> Option<(u32, u32)>
+        requires in_order { latest self.now ≤ time }
+        ensures place { (ms : List Mark) → Saw self.now ms
+            → result ≡ place_of (image_of self.now) time ms }
+        ensures inside { IfSome result (λ place. (place.0 < (image_of self.now).width)
+            × (place.1 < (image_of self.now).height)) }
+    {
+        let line = self.line?;
+        let column = (time - line.start) / self.set.dwell;
+        if column < u64::from(self.set.width) && line.row < u64::from(self.set.height) {
+            Some((column as u32, line.row as u32))
+        } else {
+            None
+        }
+    }
+}

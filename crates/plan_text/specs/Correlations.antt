@@ -1,0 +1,42 @@
+-- What the tables of correlations say, and the rules on them.
+use Rattle.std.specs.Prelude.{ℕ, ◌%◌, ◌==◌, Bool, List, [], ◌∷◌, codes, Option, None, Some, is_some, option_and_then, if◌then◌else◌}
+use Rattle.toml.specs.Data.{Data, get}
+use Rattle.tally_base.specs.Settings.{CorrelationView}
+use Rattle.toml_rules.specs.Rules.{Rule, each}
+use Rattle.toml_rules.specs.Values.{list_at, has_keys, number_in}
+use Rattle.plan_text.specs.Groups.{group_number}
+
+-- the tables of correlations
+abbrev pub correlations : Data → List Data
+correlations = list_at (codes "correlation")
+
+-- a number that is even
+abbrev pub if_even : ℕ → Option ℕ
+if_even n = if n % 2 == 0 then Some n else None
+
+-- the greatest lag of a correlation, an even number
+unfoldable pub lags : Data → Option ℕ
+lags set = option_and_then if_even (number_in 2 128 (get (codes "lags") set))
+
+-- the settings of these numbers, where each keeps its rule
+abbrev pub correlation_of : Option ℕ → Option ℕ → Option ℕ → Option ℕ → Option CorrelationView
+correlation_of (Some first) (Some second) (Some lags) (Some levels) = Some (record { first = first; second = second; lags = lags; levels = levels })
+correlation_of (Some first) (Some second) (Some lags) None = None
+correlation_of (Some first) (Some second) None levels = None
+correlation_of (Some first) None lags levels = None
+correlation_of None second lags levels = None
+
+-- the settings that a table of the document gives
+unfoldable pub correlation : Data → Data → Option CorrelationView
+correlation d set = correlation_of (group_number d (get (codes "first") set)) (group_number d (get (codes "second") set)) (lags set) (number_in 1 40 (get (codes "levels") set))
+
+-- exactly the keys first, second, lags and levels
+unfoldable pub has_correlation_keys : Data → Bool
+has_correlation_keys = has_keys (codes "first" ∷ codes "second" ∷ codes "lags" ∷ codes "levels" ∷ []) []
+
+-- the rules on correlations
+unfoldable pub correlation_rules : Data → List Rule
+correlation_rules d =
+    each 21 has_correlation_keys (correlations d)
+    ∷ each 22 (λ set. is_some (correlation d set)) (correlations d)
+    ∷ []

@@ -1,0 +1,64 @@
+-- What the tables of images say, and the rules on them.
+use Rattle.std.specs.Prelude.{ℕ, ◌^◌, Bool, List, [], ◌∷◌, codes, Option, None, Some, is_some, option_map}
+use Rattle.toml.specs.Data.{Data, get}
+use Rattle.tally_base.specs.Settings.{ImageView}
+use Rattle.toml_rules.specs.Rules.{Rule, each}
+use Rattle.toml_rules.specs.Values.{list_at, has_keys, integer_in, number_in}
+use Rattle.plan_text.specs.Groups.{group_number}
+
+-- the tables of images
+abbrev pub images : Data → List Data
+images = list_at (codes "image")
+
+-- the number of a marker bit, of a value that may be left out
+abbrev pub bit_in : Option Data → Option (Option ℕ)
+bit_in None = Some None
+bit_in (Some d) = option_map (λ bit. Some bit) (integer_in 1 4 d)
+
+-- the marker bit at a key: None where it breaks its rule, Some None where there is none
+unfoldable pub bit : List ℕ → Data → Option (Option ℕ)
+bit key image = bit_in (get key image)
+
+-- the width, the height and the dwell, where each keeps its rule
+abbrev pub raster_of : Option ℕ → Option ℕ → Option ℕ → Option (ℕ × (ℕ × ℕ))
+raster_of (Some width) (Some height) (Some dwell) = Some (width, (height, dwell))
+raster_of (Some width) (Some height) None = None
+raster_of (Some width) None dwell = None
+raster_of None height dwell = None
+
+-- the width, the height and the dwell of an image
+unfoldable pub raster : Data → Option (ℕ × (ℕ × ℕ))
+raster image = raster_of (number_in 1 2048 (get (codes "width") image)) (number_in 1 2048 (get (codes "height") image)) (number_in 1 (2 ^ 62) (get (codes "dwell") image))
+
+-- the marker bits of a line, a frame and a stop, where each keeps its rule
+abbrev pub bits_of : Option ℕ → Option (Option ℕ) → Option (Option ℕ) → Option (ℕ × (Option ℕ × Option ℕ))
+bits_of (Some line) (Some frame) (Some stop) = Some (line, (frame, stop))
+bits_of (Some line) (Some frame) None = None
+bits_of (Some line) None stop = None
+bits_of None frame stop = None
+
+-- the marker bits of an image
+unfoldable pub bits : Data → Option (ℕ × (Option ℕ × Option ℕ))
+bits image = bits_of (number_in 1 4 (get (codes "line") image)) (bit (codes "frame") image) (bit (codes "stop") image)
+
+-- the settings of these numbers, where each keeps its rule
+abbrev pub image_of : Option ℕ → Option (ℕ × (ℕ × ℕ)) → Option (ℕ × (Option ℕ × Option ℕ)) → Option ImageView
+image_of (Some group) (Some raster) (Some bits) = Some (record { group = group; width = raster.0; height = raster.1.0; dwell = raster.1.1; line = bits.0; frame = bits.1.0; stop = bits.1.1 })
+image_of (Some group) (Some raster) None = None
+image_of (Some group) None bits = None
+image_of None raster bits = None
+
+-- the settings that a table of the document gives
+unfoldable pub image : Data → Data → Option ImageView
+image d set = image_of (group_number d (get (codes "group") set)) (raster set) (bits set)
+
+-- the keys group, width, height, dwell and line, and no other key but frame and stop
+unfoldable pub has_image_keys : Data → Bool
+has_image_keys = has_keys (codes "group" ∷ codes "width" ∷ codes "height" ∷ codes "dwell" ∷ codes "line" ∷ []) (codes "frame" ∷ codes "stop" ∷ [])
+
+-- the rules on images
+unfoldable pub image_rules : Data → List Rule
+image_rules d =
+    each 19 has_image_keys (images d)
+    ∷ each 20 (λ set. is_some (image d set)) (images d)
+    ∷ []

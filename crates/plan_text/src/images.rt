@@ -1,0 +1,135 @@
+// The images of a plan.
+ghost use Rattle.std.specs.Prelude.{◌≡◌, ◌<◌, ◌≤◌, ◌^◌, length, is_some, option_map, IfSome};
+ghost use Rattle.toml.specs.View.{view};
+ghost use Rattle.tally_base.specs.Settings.{image_view};
+ghost use Rattle.toml_rules.specs.Rules.{all_kept};
+ghost use Rattle.plan_text.specs.Groups.{groups};
+ghost use Rattle.plan_text.specs.Images.{images, bit, raster, bits, image, has_image_keys, image_rules};
+
+use crate::groups::group_number;
+use tally_base::{Fault, ImageSet};
+use toml::Value;
+use toml_rules::{ListRule, each, has_keys, integer_in, number_in};
+
+/// The number of the marker bit at a key, if there is one.
+#[tactic(auto, unfolding(crate::specs::Images::bit))]
+fn bit(table: &Value, key: &str) -> Option<Option<u8>>
+    ensures number { result ≡ bit key.now (view table.now) }
+    ensures range { IfSome result (λ bit. IfSome bit (λ n. (0 < n) × (n ≤ 4))) }
+{
+    match table.get(key) {
+        Some(value) => match integer_in(value, 1, 4) {
+            Some(number) => Some(Some(number as u8)),
+            None => None,
+        },
+        None => Some(None),
+    }
+}
+
+/// The columns, the rows, and the time of a column.
+#[tactic(auto, unfolding(crate::specs::Images::raster))]
+fn raster(table: &Value) -> Option<(u32, (u32, u64))>
+    ensures numbers { result ≡ raster (view table.now) }
+    ensures width { IfSome result (λ raster. (0 < raster.0) × (raster.0 ≤ 2048)) }
+    ensures height { IfSome result (λ raster. (0 < raster.1.0) × (raster.1.0 ≤ 2048)) }
+    ensures dwell { IfSome result (λ raster. (0 < raster.1.1) × (raster.1.1 ≤ 2 ^ 62)) }
+{
+    let Some(width) = number_in(table, "width", 1, 2048) else {
+        return None;
+    };
+    let Some(height) = number_in(table, "height", 1, 2048) else {
+        return None;
+    };
+    let Some(dwell) = number_in(table, "dwell", 1, 1 << 62) else {
+        return None;
+    };
+    Some((width as u32, (height as u32, dwell)))
+}
+
+/// The marker bits of a line, of a frame and of a stop.
+#[tactic(auto, unfolding(crate::specs::Images::bits))]
+fn bits(table: &Value) -> Option<(u8, (Option<u8>, Option<u8>))>
+    ensures numbers { result ≡ bits (view table.now) }
+    ensures line { IfSome result (λ bits. (0 < bits.0) × (bits.0 ≤ 4)) }
+    ensures frame { IfSome result (λ bits. IfSome bits.1.0 (λ n. (0 < n) × (n ≤ 4))) }
+    ensures stop { IfSome result (λ bits. IfSome bits.1.1 (λ n. (0 < n) × (n ≤ 4))) }
+{
+    let Some(line) = number_in(table, "line", 1, 4) else {
+        return None;
+    };
+    let Some(frame) = bit(table, "frame") else {
+        return None;
+    };
+    let Some(stop) = bit(table, "stop") else {
+        return None;
+    };
+    Some((line as u8, (frame, stop)))
+}
+
+/// The image that a table asks for.
+#[tactic(auto, unfolding(crate::specs::Images::image))]
+pub(crate) fn image(document: &Value, table: &Value) -> Option<ImageSet>
+    requires few { length (groups (view document.now)) ≤ 64 }
+    ensures { option_map image_view result ≡ image (view document.now) (view table.now) }
+{
+    let Some(group) = group_number(document, table, "group") else {
+        return None;
+    };
+    let Some((width, (height, dwell))) = raster(table) else {
+        return None;
+    };
+    let Some((line, (frame, stop))) = bits(table) else {
+        return None;
+    };
+    Some(ImageSet {
+        group: group as u8,
+        width,
+        height,
+        dwell,
+        line,
+        frame,
+        stop,
+    })
+}
+
+/// An image has the keys `group`, `width`, `height`, `dwell` and `line`, and no other key but `frame`
+/// and `stop`.
+struct ImageKeys;
+
+impl ListRule for ImageKeys {
+    ghost asks = { λ d. has_image_keys };
+
+    #[tactic(auto, unfolding(crate::specs::Images::has_image_keys))]
+    fn is_met(_document: &Value, item: &Value) -> bool {
+        has_keys(
+            item,
+            &["group", "width", "height", "dwell", "line"],
+            &["frame", "stop"],
+        )
+    }
+}
+
+/// The values of an image are as they should be.
+struct ImageValues;
+
+impl ListRule for ImageValues {
+    ghost asks = { λ d set. is_some (image d set) };
+
+    #[tactic(auto, unfolding(crate::specs::Images::image))]
+    fn is_met(document: &Value, item: &Value) -> bool {
+        group_number(document, item, "group").is_some()
+            && raster(item).is_some()
+            && bits(item).is_some()
+    }
+}
+
+/// Goes through the rules on images, 19 and 20.
+#[tactic(auto, unfolding(crate::specs::Images::image_rules))]
+pub(crate) fn keeps_image_rules(document: &Value) -> Result<(), Fault>
+    requires few { length (images (view document.now)) ≤ 255 }
+    ensures { result ≡ all_kept (image_rules (view document.now)) }
+{
+    each::<ImageKeys>(19, document, "image")?;
+    each::<ImageValues>(20, document, "image")?;
+    Ok(())
+}

@@ -1,0 +1,39 @@
+-- What `demo` counts, and its report.
+use Rattle.std.specs.Prelude.{ℕ, ◌^◌, List, [], ◌∷◌, None, codes}
+use Rattle.tally_base.specs.declared.event.Order.TheVariants.{Drop}
+use Rattle.tally_base.specs.declared.event.OnReserved.TheVariants.{Skip}
+use Rattle.ptu_definitions.specs.Streams.{Reading, summary}
+use Rattle.plan_text.specs.Plan.{PlanView, parts_of}
+use Rattle.tally_engine.specs.Histories.{history}
+use Rattle.tally_engine.specs.Plans.{reading_by}
+use Rattle.table_out.specs.Report.{report, with_events}
+use Rattle.ptu_made.specs.Generator.{made_words}
+use Rattle.ptu_made.specs.Records.{made_header}
+
+-- the text of its plan
+abbrev pub demo_text : List ℕ
+demo_text = codes "[[group]]\ninputs = [1]\n[[group]]\ninputs = [2]\n[[trace]]\ngroup = 1\nwidth = 1048576\nbins = 64\n[[startstop]]\nstart = 1\nstop = 2\nwidth = 64\nbins = 64\n[[coincidence]]\nfirst = 1\nsecond = 2\nreach = 256\nwidth = 64\n[[correlation]]\nfirst = 1\nsecond = 2\nlags = 4\nlevels = 8\n"
+
+-- the plan of this text
+abbrev pub demo_plan : PlanView
+demo_plan = record {
+  order = Drop;
+  reserved = Skip;
+  records = 2 ^ 40;
+  groups = record { inputs = 2; gate = None } ∷ record { inputs = 4; gate = None } ∷ [];
+  histograms = [];
+  traces = record { group = 1; origin = 0; width = 1048576; bins = 64 } ∷ [];
+  startstops = record { start = 1; stop = 2; width = 64; bins = 64 } ∷ [];
+  coincidences = record { first = 1; second = 2; reach = 256; width = 64 } ∷ [];
+  images = [];
+  correlations = record { first = 1; second = 2; lags = 4; levels = 8 } ∷ [];
+}
+
+-- how the made words are read
+abbrev pub demo_reading : Reading
+demo_reading = reading_by demo_plan made_header
+
+-- the report of this plan over the made file of a seed and a number of photons
+unfoldable pub demo_report : ℕ → ℕ → List ℕ
+demo_report seed count =
+    report made_header (summary demo_reading (made_words seed count)) (with_events (parts_of demo_plan) (history demo_plan.groups demo_reading (made_words seed count)))

@@ -1,0 +1,76 @@
+// The command that needs no files.
+ghost use Rattle.std.specs.Prelude.{◌≡◌, ◌≤◌, true, Some, IfErr};
+ghost use Rattle.std.specs.declared.option.Option.{Option};
+ghost use Rattle.bench_io.specs.Inputs.{InputState};
+ghost use Rattle.tally_base.specs.declared.slot.Slot.TheVariants.{Data};
+ghost use Rattle.ptu_made.specs.ShortFile.{made_file};
+ghost use Rattle.ptu_made.specs.Made.{made_state};
+ghost use Rattle.ptu_cli.specs.Commands.{Demo, photon_limit};
+ghost use Rattle.ptu_cli.specs.Endings.{Answers, HasCauses};
+
+use crate::run::run_data;
+use bench_io::{Inputs, Sink};
+use plan_text::read_plan;
+use ptu_made::Made;
+use std::alloc::Global;
+use table_out::write_report;
+use tally_base::{Fault, Slot};
+
+const PLAN: &[u8] = b"[[group]]
+inputs = [1]
+[[group]]
+inputs = [2]
+[[trace]]
+group = 1
+width = 1048576
+bins = 64
+[[startstop]]
+start = 1
+stop = 2
+width = 64
+bins = 64
+[[coincidence]]
+first = 1
+second = 2
+reach = 256
+width = 64
+[[correlation]]
+first = 1
+second = 2
+lags = 4
+levels = 8
+";
+
+/// The made file, of which nothing was read yet.
+fn made_data(seed: u64, count: u64) -> Made
+    requires { count ≤ photon_limit }
+    ensures opened { (made_state result).opened Data ≡ true }
+    ensures rest { (made_state result).rest Data ≡ Some (made_file seed count) }
+{
+    let mut made = Made::new(seed, count);
+    // No name is looked at, and no call fails.
+    let _ = made.open(Slot::Data, "");
+    made
+}
+
+/// Counts what the fixed plan asks for in the photons of a seed, and writes the report. Nothing is
+/// written before all are counted.
+#[tactic(auto, unfolding(crate::specs::Outcomes::outcome, crate::specs::Endings::HasCauses))]
+pub(crate) fn demo<O: Sink>(alloc: Global, out: &mut O, seed: u64, count: u64) -> Result<(), Fault>
+    requires { count ≤ photon_limit }
+    ensures answer { (state : InputState) → Answers (Some (Demo seed count)) state result
+        (O.written out.old) (O.written out.new) }
+    ensures causes { (state : InputState) → IfErr result (HasCauses (Some (Demo seed count)) (record {
+      before = state;
+      after = state;
+      old = O.written out.old;
+      new = O.written out.new;
+      faults_before = O.faults out.old;
+      faults_after = O.faults out.new;
+    })) }
+{
+    let plan = read_plan(alloc, PLAN)?;
+    let mut made = made_data(seed, count);
+    let results = run_data(alloc, &mut made, &plan)?;
+    write_report(&results, out)
+}

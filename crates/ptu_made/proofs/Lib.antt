@@ -1,0 +1,7 @@
+pub mod Rows
+pub mod Behind
+pub mod Held
+pub mod Meanings
+pub mod MadeHeaders
+pub mod Unrefused
+pub mod MadeEvents

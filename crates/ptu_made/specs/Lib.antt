@@ -1,0 +1,7 @@
+pub mod Generator
+pub mod ShortFile
+pub mod Photon
+pub mod Left
+pub mod Unread
+pub mod Made
+pub mod Records

@@ -1,0 +1,41 @@
+-- A made file as inputs.
+use Rattle.std.specs.Prelude.{ℕ, List, [], ◌≡◌, true, false, Some, is_some}
+use Rattle.std.specs.declared.option.Option.{Option}
+use Rattle.tally_base.specs.declared.slot.Slot.{Slot}
+use Rattle.tally_base.specs.declared.slot.Slot.TheVariants.{Plan, Data}
+use Rattle.bench_io.specs.Inputs.{InputState}
+use Rattle.ptu_made.specs.declared.made.Made.{Made}
+use Rattle.ptu_made.specs.declared.unread.Unread.{Unread}
+use Rattle.ptu_made.specs.ShortFile.{made_file}
+use Rattle.ptu_made.specs.Unread.{rest_in}
+
+-- one slot of the two
+abbrev pub slot_of : Made → Slot → Option Unread
+slot_of made Plan = made.plan
+slot_of made Data = made.data
+
+-- Every name is that of the made file, and nothing ever fails.
+unfoldable pub made_state : Made → InputState
+made_state made = record {
+  contents = λ name. Some (Some (made_file made.seed made.count));
+  rest = λ slot. Some (rest_in (slot_of made slot));
+  open_faults = λ slot. 0;
+  read_faults = λ slot. 0;
+  asked = λ slot. is_some (slot_of made slot);
+  opened = λ slot. is_some (slot_of made slot);
+  meant = λ slot name. true;
+}
+
+pub made_asked_first : (made : Made) (slot : Slot) → (made_state made).opened slot ≡ true → (made_state made).asked slot ≡ true
+unfolding made_state
+made_asked_first made slot opened = opened
+
+-- Each name is that of this file, neither slot was asked for or opened, and no call has failed.
+pub record IsUnopened (file : List ℕ) (state : InputState) : Type 0 where
+  pub contents : (name : List ℕ) → state.contents name ≡ Some (Some file)
+  pub asked : (slot : Slot) → state.asked slot ≡ false
+  pub opened : (slot : Slot) → state.opened slot ≡ false
+  pub rest : (slot : Slot) → state.rest slot ≡ Some []
+  pub open_faults : (slot : Slot) → state.open_faults slot ≡ 0
+  pub read_faults : (slot : Slot) → state.read_faults slot ≡ 0
+  pub meant : (slot : Slot) (name : List ℕ) → state.meant slot name ≡ true

@@ -1,0 +1,51 @@
+// Laws of the made file, each as the contract of a function that does nothing.
+ghost use Rattle.std.specs.Prelude.{◌≡◌, ◌+◌, ◌*◌, ◌≤◌, ℕ, List, [], Ok, false, length, map};
+ghost use Rattle.std.specs.List.{All};
+ghost use Rattle.tally_base.specs.declared.event.Policy.{Policy};
+ghost use Rattle.tally_base.specs.declared.header.RecordType.TheVariants as RecordType;
+ghost use Rattle.tally_base.specs.Events.{stops_late};
+ghost use Rattle.ptu_definitions.specs.Headers.{header_answer};
+ghost use Rattle.ptu_definitions.specs.Layouts.{meaning_of};
+ghost use Rattle.ptu_definitions.specs.Streams.{reading, record_refusal};
+ghost use Rattle.ptu_definitions.specs.Times.{base, events};
+ghost use Rattle.ptu_definitions.specs.Words.{words_of, rest_of};
+ghost use Rattle.ptu_made.specs.Generator.{made_words};
+ghost use Rattle.ptu_made.specs.Records.{IsPhotonOrWrap, made_header, made_photons, timed};
+ghost use Rattle.ptu_made.specs.ShortFile.{bytes_in, made_file};
+
+/// The file has a header of the record type HydraHarp2T2 and 112 bytes, and behind it its words,
+/// four bytes each and no byte more. There are at least as many words as photons, and at most twice as
+/// many.
+pub fn the_file_is_whole()
+    ensures header { (seed count : ℕ)
+        → header_answer (made_file seed count)
+        ≡ Ok (made_header, bytes_in (made_words seed count)) }
+    ensures words { (seed count : ℕ)
+        → words_of (bytes_in (made_words seed count)) ≡ made_words seed count }
+    ensures rest { (seed count : ℕ) → rest_of (bytes_in (made_words seed count)) ≡ [] }
+    ensures size { (seed count : ℕ)
+        → length (made_file seed count) ≡ 112 + 4 * length (made_words seed count) }
+    ensures few { (seed count : ℕ) → (count ≤ length (made_words seed count))
+        × (length (made_words seed count) ≤ 2 * count) }
+{}
+
+/// Each word is a photon of input 1 or 2 or one wrap. The events are the photons that the seed gives:
+/// each of the input behind its channel, and as much later than the one before as its gap is.
+pub fn the_words_are_photons()
+    ensures words { (seed count : ℕ)
+        → All (λ word. IsPhotonOrWrap (meaning_of RecordType.HydraHarp2T2 word))
+        (made_words seed count) }
+    ensures events { (seed count : ℕ)
+        → map timed (events (map (meaning_of RecordType.HydraHarp2T2) (made_words seed count)))
+        ≡ made_photons seed count }
+    ensures wraps { (seed count : ℕ)
+        → base (map (meaning_of RecordType.HydraHarp2T2) (made_words seed count)) ≤ 512 * count }
+{}
+
+/// No record is refused of at most 10,000,000 photons, where late events are dropped and the limit
+/// of records is no less than there are.
+pub fn no_record_is_refused()
+    ensures { (seed count : ℕ) (policy : Policy) → count ≤ 10000000
+        → length (made_words seed count) ≤ policy.records → stops_late policy.order ≡ false
+        → record_refusal (reading RecordType.HydraHarp2T2 policy) (made_words seed count) ≡ None }
+{}

@@ -1,0 +1,15 @@
+//! A large valid file of photons, made from a seed while it is read.
+#![tactic(auto)]
+
+mod header;
+pub mod laws;
+mod made;
+mod photon_words;
+mod photons;
+mod slot;
+mod unread;
+
+pub use made::Made;
+
+#[cfg(test)]
+mod tests;

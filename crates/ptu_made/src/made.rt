@@ -1,0 +1,105 @@
+// A made file as inputs.
+ghost use Rattle.std.specs.Prelude.{◌≡◌, ◌≤◌, true, false, length, min, unwrap_or, [], IsOk, IfOk, OnErr, OnOk};
+ghost use Rattle.std.specs.Io.{ReadsAtMost};
+ghost use Rattle.std.specs.Io.KnownBytes.{ReadConsumes};
+ghost use Rattle.tally_base.specs.Counts.{HasCause};
+ghost use Rattle.bench_io.specs.Inputs.{IsOpened, Keeps, KeepsOther, OpensNone};
+ghost use Rattle.bench_io.specs.Memory.{left_of};
+ghost use Rattle.ptu_made.specs.ShortFile.{made_file};
+
+use crate::slot::read_in;
+use crate::unread::Unread;
+use bench_io::Inputs;
+use tally_base::{Failed, Slot};
+
+/// Inputs in which every name is that of one made file of photons. Its words are made while it is
+/// read, so that it is never held whole. No call fails.
+#[derive(Drop)]
+pub struct Made {
+    seed: u64,
+    count: u64,
+    /// What is left to read in the slots that were opened.
+    plan: Option<Unread>,
+    data: Option<Unread>,
+    ghost few: { count ≤ 10000000 },
+}
+
+#[tactic(auto, unfolding(crate::specs::Made::made_state))]
+impl Made {
+    ghost use Rattle.ptu_made.specs.Made.{IsUnopened};
+
+    /// The file of `count` photons of this seed, at most 10,000,000: a header of the record type
+    /// HydraHarp2T2 and the words, a photon or a wrap each. It takes no memory.
+    pub fn new(seed: u64, count: u64) -> Made
+        requires { count ≤ 10000000 }
+        ensures { IsUnopened (made_file seed count) (⟦<Made as Inputs>⟧.state result) }
+    {
+        Made {
+            seed,
+            count,
+            plan: None,
+            data: None,
+        }
+    }
+}
+
+#[tactic(auto, unfolding(crate::specs::Made::made_state))]
+impl Inputs for Made {
+    ghost use Rattle.ptu_made.specs.Made.{made_state, made_asked_first};
+
+    ghost state = { made_state };
+
+    ghost asked_first = { made_asked_first };
+
+    fn open(&mut self, slot: Slot, name: &str) -> Result<(), Failed>
+        requires meant { (made_state self.old).meant slot name.now ≡ true }
+        requires first { (made_state self.old).asked slot ≡ false }
+
+        ensures file { OnOk result
+            (IsOpened ((made_state self.old).contents name.now)
+            ((made_state self.new).rest slot)) }
+        ensures opened { OnOk result ((made_state self.new).opened slot ≡ true) }
+        ensures unopened { OnErr result
+            ((made_state self.new).opened slot ≡ (made_state self.old).opened slot) }
+        ensures asked { (made_state self.new).asked slot ≡ true }
+        ensures cause { HasCause
+            ((made_state self.old).open_faults slot)
+            ((made_state self.new).open_faults slot) result }
+        ensures keeps { Keeps (made_state self.old) (made_state self.new) }
+        ensures keeps_other { KeepsOther slot (made_state self.old) (made_state self.new) }
+
+        // No opening fails.
+        ensures succeeds { IsOk result }
+    {
+        let unread = Some(Unread::new(self.seed, self.count));
+        match slot {
+            Slot::Plan => self.plan = unread,
+            Slot::Data => self.data = unread,
+        }
+        Ok(())
+    }
+
+    fn read(&mut self, slot: Slot, into: &mut [u8]) -> Result<usize, Failed>
+        requires { (made_state self.old).opened slot ≡ true }
+
+        ensures bound { ReadsAtMost result into.new }
+        ensures bytes { ReadConsumes
+            ((made_state self.old).rest slot) ((made_state self.new).rest slot) result into.new }
+        ensures cause { HasCause
+            ((made_state self.old).read_faults slot)
+            ((made_state self.new).read_faults slot) result }
+        ensures keeps { Keeps (made_state self.old) (made_state self.new) }
+        ensures keeps_other { KeepsOther slot (made_state self.old) (made_state self.new) }
+        ensures opens_none { OpensNone (made_state self.old) (made_state self.new) }
+
+        // No read fails. It gives as much as there is and as there is room for.
+        ensures succeeds { IsOk result }
+        ensures count { IfOk result (λ n. n ≡
+            min (length (left_of (made_state self.old) slot)) (length into.old)) }
+    {
+        Ok(match slot {
+            Slot::Plan => read_in(&mut self.plan, into),
+            Slot::Data => read_in(&mut self.data, into),
+        })
+    }
+}

@@ -1,0 +1,35 @@
+-- One more event, and the counts of an image.
+use Rattle.std.proofs.Common.{◌≡◌, ◌∙◌, ℕ, ◌+◌, Bool, true, false, ◌&&◌, cond, [], ◌∷◌, ◌++◌, ap, arith}
+use Rattle.std.specs.Prelude.{Option}
+use Rattle.std.specs.List.{cons_option}
+use Rattle.std.proofs.lemmas.List.{append-nil}
+use Rattle.std.proofs.lemmas.List.Elements.{filter_map-append}
+use Rattle.tally_base.specs.declared.event.Event.{Event}
+use Rattle.tally_base.specs.declared.event.EventKind.TheVariants.{Photon, Marker}
+use Rattle.tally_base.specs.Events.{is_photon, is_in}
+use Rattle.tally_base.specs.Settings.{ImageView}
+use Rattle.tally_base.specs.Tally.{History}
+use Rattle.marker_map.specs.Marks.{mark}
+use Rattle.marker_map.specs.Places.{place_of}
+use Rattle.scan_image.specs.Counts.{mark_at, markers, is_placed, count_placed}
+use Rattle.scan_image.proofs.Behind.{count_behind-push}
+
+pub markers-marker : (h : History) (x : Event × ℕ) (bits : ℕ) → x.0.kind ≡ Marker bits → markers (h ++ x ∷ []) ≡ markers h ++ mark bits x.0.time ∷ []
+markers-marker h x bits is = filter_map-append (λ x. mark_at x.0.time x.0.kind) h (x ∷ []) ∙ ap (λ kind. markers h ++ cons_option (mark_at x.0.time kind) []) is
+
+pub markers-photon : (h : History) (x : Event × ℕ) (input dtime : ℕ) → x.0.kind ≡ Photon input dtime → markers (h ++ x ∷ []) ≡ markers h
+markers-photon h x input dtime is = filter_map-append (λ x. mark_at x.0.time x.0.kind) h (x ∷ []) ∙ (ap (λ kind. markers h ++ cons_option (mark_at x.0.time kind) []) is ∙ append-nil (markers h))
+
+counted : (n : ℕ) (photon group place test : Bool) → photon ≡ true → group ≡ true → place ≡ test → n + cond (photon && (group && place)) 1 0 ≡ n + cond test 1 0
+counted n photon group place test is of_group was = grind arith
+
+left : (n : ℕ) (photon group place : Bool) → (photon && group) ≡ false → n + cond (photon && (group && place)) 1 0 ≡ n
+left n photon group place is = grind arith
+
+-- A photon of the group counts where its place passes the test.
+pub placed-photon : (set : ImageView) (test : Option (ℕ × ℕ) → Bool) (h : History) (x : Event × ℕ) (place : Option (ℕ × ℕ)) → is_photon x.0 ≡ true → is_in x.1 set.group ≡ true → place_of set x.0.time (markers h) ≡ place → count_placed set test (h ++ x ∷ []) ≡ count_placed set test h + cond (test place) 1 0
+placed-photon set test h x place photon of_group is = count_behind-push (is_placed set test) h x ∙ counted (count_placed set test h) (is_photon x.0) (is_in x.1 set.group) (test (place_of set x.0.time (markers h))) (test place) photon of_group (ap test is)
+
+-- Other events count nowhere.
+pub placed-other : (set : ImageView) (test : Option (ℕ × ℕ) → Bool) (h : History) (x : Event × ℕ) → (is_photon x.0 && is_in x.1 set.group) ≡ false → count_placed set test (h ++ x ∷ []) ≡ count_placed set test h
+placed-other set test h x other = count_behind-push (is_placed set test) h x ∙ left (count_placed set test h) (is_photon x.0) (is_in x.1 set.group) (test (place_of set x.0.time (markers h))) other

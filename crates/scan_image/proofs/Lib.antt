@@ -1,0 +1,5 @@
+pub mod Rows
+pub mod Behind
+pub mod Cells
+pub mod Counts
+pub mod Totals

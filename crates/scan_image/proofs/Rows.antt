@@ -1,0 +1,71 @@
+-- The definitions at known events.
+use Rattle.std.proofs.Common.{◌≡◌, ℕ, refl}
+use Rattle.std.specs.Prelude.{[], ◌∷◌, Option, None, Some}
+use Rattle.tally_base.specs.declared.event.Event.{Event}
+use Rattle.tally_base.specs.declared.event.EventKind.TheVariants.{Photon, Marker}
+use Rattle.tally_base.specs.Settings.{ImageView}
+use Rattle.tally_base.specs.Tally.{History}
+use Rattle.scan_image.specs.Counts.{in_cell, out_of_image}
+
+-- A photon of these groups, and a marker.
+abbrev photon : ℕ → ℕ → Event × ℕ
+photon time groups = (record { place = 1; kind = Photon 0 0; time = time }, groups)
+
+abbrev marker : ℕ → ℕ → Event × ℕ
+marker time bits = (record { place = 1; kind = Marker bits; time = time }, 0)
+
+-- Line bit 1 and frame bit 2.
+abbrev framed : Option ℕ → ImageView
+framed stop = record { group = 1; width = 2; height = 2; dwell = 10; line = 1; frame = Some 2; stop = stop }
+
+-- A frame and a line in one marker, a photon in each column of that line, and one behind the last.
+abbrev together : History
+together = marker 100 3 ∷ photon 100 1 ∷ photon 119 1 ∷ photon 120 1 ∷ []
+
+row-first_column : in_cell (framed None) 0 0 together ≡ 1
+row-first_column = refl
+
+row-last_column : in_cell (framed None) 1 0 together ≡ 1
+row-last_column = refl
+
+row-empty : in_cell (framed None) 0 1 together ≡ 0
+row-empty = refl
+
+row-behind : out_of_image (framed None) together ≡ 1
+row-behind = refl
+
+-- A photon before any line, and one behind a stop.
+abbrev stopped : History
+stopped = photon 5 1 ∷ marker 10 3 ∷ marker 12 4 ∷ photon 13 1 ∷ []
+
+row-stopped : out_of_image (framed (Some 3)) stopped ≡ 2
+row-stopped = refl
+
+row-no_cell : in_cell (framed (Some 3)) 0 0 stopped ≡ 0
+row-no_cell = refl
+
+-- Without a frame bit the rows begin again behind the last.
+abbrev unframed : ImageView
+unframed = record { group = 1; width = 1; height = 2; dwell = 10; line = 1; frame = None; stop = None }
+
+abbrev three_lines : History
+three_lines = marker 0 1 ∷ photon 0 1 ∷ marker 10 1 ∷ photon 10 1 ∷ marker 20 1 ∷ photon 20 1 ∷ []
+
+row-row_0 : in_cell unframed 0 0 three_lines ≡ 2
+row-row_0 = refl
+
+row-row_1 : in_cell unframed 0 1 three_lines ≡ 1
+row-row_1 = refl
+
+row-all_inside : out_of_image unframed three_lines ≡ 0
+row-all_inside = refl
+
+-- Photons of other groups count nowhere.
+abbrev of_others : History
+of_others = photon 0 2 ∷ marker 10 1 ∷ photon 10 2 ∷ photon 10 0 ∷ photon 10 3 ∷ []
+
+row-own : in_cell unframed 0 0 of_others ≡ 1
+row-own = refl
+
+row-other : out_of_image unframed of_others ≡ 0
+row-other = refl

@@ -1,0 +1,147 @@
+-- Each photon of the group counts once.
+use Rattle.std.proofs.Common.{◌≡◌, ◌∙◌, ℕ, zero, suc, ◌+◌, ◌-◌, ◌/◌, ◌<◌, ◌≤◌, Bool, true, false, ◌&&◌, cond, eqb, ltb, List, [], ◌∷◌, ◌++◌, refl, ap, sym, subst, append_assoc, arith}
+use Rattle.std.specs.declared.option.Option.{Option}
+use Rattle.std.specs.Prelude.{None, Some, is_none, sum_by, option_and_then}
+use Rattle.std.specs.List.{range_with_len}
+use Rattle.std.proofs.lemmas.Grind.{common_steps}
+use Rattle.std.proofs.lemmas.List.{append-nil}
+use Rattle.std.proofs.lemmas.List.Sums.{sum_by-cons, sum_by_push}
+use Rattle.tally_base.specs.declared.event.Event.{Event}
+use Rattle.tally_base.specs.Events.{is_photon, is_in}
+use Rattle.tally_base.specs.Settings.{ImageView}
+use Rattle.tally_base.specs.Tally.{History}
+use Rattle.marker_map.specs.Marks.{Mark}
+use Rattle.marker_map.specs.Places.{line_of, row_of, within, place_of}
+use Rattle.scan_image.specs.Counts.{markers, is_at, in_cell, out_of_image}
+use Rattle.scan_image.specs.Totals.{in_all_cells, photons_of_group}
+use Rattle.scan_image.proofs.Behind.{one_if}
+use Rattle.scan_image.proofs.Counts.{placed-photon, placed-other}
+
+sum-agree : (f g : ℕ → ℕ) → ((i : ℕ) → f i ≡ g i) → (xs : List ℕ) → sum_by f xs ≡ sum_by g xs
+sum-agree f g same [] = refl
+sum-agree f g same (x ∷ xs) =
+    let more = sum-agree f g same xs in
+    omega (arith, more, same x, sum_by-cons f x xs, sum_by-cons g x xs)
+
+sum-plus : (f g : ℕ → ℕ) (xs : List ℕ) → sum_by (λ i. f i + g i) xs ≡ sum_by f xs + sum_by g xs
+sum-plus f g [] = refl
+sum-plus f g (x ∷ xs) =
+    let more = sum-plus f g xs in
+    omega (arith, more, sum_by-cons (λ i. f i + g i) x xs, sum_by-cons f x xs, sum_by-cons g x xs)
+
+sum-none : (xs : List ℕ) → sum_by (λ i. 0) xs ≡ 0
+sum-none [] = refl
+sum-none (x ∷ xs) =
+    let more = sum-none xs in
+    omega (arith, more, sum_by-cons (λ i. 0) x xs)
+
+below-range : (a start n count : ℕ) → a < start → sum_by (λ i. cond (eqb a i) count 0) (range_with_len start n) ≡ 0
+below-range a start zero count below = refl
+below-range a start (suc n) count below =
+    let more = below-range a (start + 1) n count (omega arith) in
+    let here : cond (eqb a start) count 0 ≡ 0 = grind (arith, common_steps) in
+    omega (arith, more, here, sum_by-cons (λ i. cond (eqb a i) count 0) start (range_with_len (start + 1) n))
+
+met : (a start n count : ℕ) (first : Bool) → eqb a start ≡ first → start ≤ a → (start + 1 ≤ a → sum_by (λ i. cond (eqb a i) count 0) (range_with_len (start + 1) n) ≡ count) → sum_by (λ i. cond (eqb a i) count 0) (range_with_len start (suc n)) ≡ count
+met a start n count true is low behind =
+    let equal : a ≡ start = grind (arith, common_steps) in
+    let more = below-range a (start + 1) n count (omega arith) in
+    let here : cond (eqb a start) count 0 ≡ count = ap (λ b. cond b count 0) is in
+    omega (arith, more, here, sum_by-cons (λ i. cond (eqb a i) count 0) start (range_with_len (start + 1) n))
+met a start n count false is low behind =
+    let above : start + 1 ≤ a = grind (arith, common_steps) in
+    let more = behind above in
+    let here : cond (eqb a start) count 0 ≡ 0 = ap (λ b. cond b count 0) is in
+    omega (arith, more, here, sum_by-cons (λ i. cond (eqb a i) count 0) start (range_with_len (start + 1) n))
+
+-- A number of the range is met once.
+in-range : (a start n count : ℕ) → start ≤ a → a < start + n → sum_by (λ i. cond (eqb a i) count 0) (range_with_len start n) ≡ count
+in-range a start zero count low high = absurd (omega arith)
+in-range a start (suc n) count low high = met a start n count (eqb a start) refl low (λ above. in-range a (start + 1) n count above (omega arith))
+
+-- a place is inside the image
+abbrev pub Inside : ImageView → Option (ℕ × ℕ) → Type 0
+Inside set None = Unit {0}
+Inside set (Some place) = (place.0 < set.width) × (place.1 < set.height)
+
+tested : (set : ImageView) (column row : ℕ) (test : Bool) → (ltb column set.width && ltb row set.height) ≡ test → Inside set (cond test (Some (column, row)) None)
+tested set column row true is = (grind (arith, common_steps), grind (arith, common_steps))
+tested set column row false is = tt
+
+inside-by : (set : ImageView) (time : ℕ) (row : Option ℕ) (line : Option Mark) → Inside set (option_and_then (λ line. option_and_then (within set ((time - line.time) / set.dwell)) row) line)
+inside-by set time row None = tt
+inside-by set time None (Some line) = tt
+inside-by set time (Some row) (Some line) = tested set ((time - line.time) / set.dwell) row _ refl
+
+place-inside : (set : ImageView) (time : ℕ) (ms : List Mark) → Inside set (place_of set time ms)
+place-inside set time ms = inside-by set time (row_of set ms) (line_of set ms)
+
+both : (a b : Bool) → one_if (a && b) ≡ cond a (one_if b) 0
+both true b = refl
+both false b = refl
+
+-- how often a place is met in the cells
+abbrev pub met_in_cells : ImageView → Option (ℕ × ℕ) → ℕ
+met_in_cells set place = sum_by (λ y. sum_by (λ x. one_if (is_at x y place)) (range_with_len 0 set.width)) (range_with_len 0 set.height)
+
+-- A place is met in one cell, and no place in none.
+met-once : (set : ImageView) (place : Option (ℕ × ℕ)) → Inside set place → met_in_cells set place + one_if (is_none place) ≡ 1
+met-once set None inside =
+    let rows = sum-agree (λ y. sum_by (λ x. 0) (range_with_len 0 set.width)) (λ y. 0) (λ y. sum-none (range_with_len 0 set.width)) (range_with_len 0 set.height) in
+    let none = sum-none (range_with_len 0 set.height) in
+    omega (arith, rows, none)
+met-once set (Some place) inside =
+    let row : (y : ℕ) → sum_by (λ x. one_if (is_at x y (Some place))) (range_with_len 0 set.width) ≡ cond (eqb place.1 y) 1 0 =
+    λ y. sum-agree (λ x. one_if (is_at x y (Some place))) (λ x. cond (eqb place.0 x) (one_if (eqb place.1 y)) 0) (λ x. both (eqb place.0 x) (eqb place.1 y)) (range_with_len 0 set.width)
+    ∙ in-range place.0 0 set.width (one_if (eqb place.1 y)) (omega arith) (omega (arith, inside.0)) in
+    let rows = sum-agree (λ y. sum_by (λ x. one_if (is_at x y (Some place))) (range_with_len 0 set.width)) (λ y. cond (eqb place.1 y) 1 0) row (range_with_len 0 set.height) in
+    let one = in-range place.1 0 set.height 1 (omega arith) (omega (arith, inside.1)) in
+    omega (arith, rows, one)
+
+cells-more : (set : ImageView) (h later : History) (more : ℕ → ℕ → ℕ) → ((x y : ℕ) → in_cell set x y later ≡ in_cell set x y h + more x y) → in_all_cells set later ≡ in_all_cells set h + sum_by (λ y. sum_by (λ x. more x y) (range_with_len 0 set.width)) (range_with_len 0 set.height)
+cells-more set h later more is =
+    let row : (y : ℕ) → sum_by (λ x. in_cell set x y later) (range_with_len 0 set.width) ≡ sum_by (λ x. in_cell set x y h) (range_with_len 0 set.width) + sum_by (λ x. more x y) (range_with_len 0 set.width) =
+    λ y. sum-agree (λ x. in_cell set x y later) (λ x. in_cell set x y h + more x y) (λ x. is x y) (range_with_len 0 set.width)
+    ∙ sum-plus (λ x. in_cell set x y h) (λ x. more x y) (range_with_len 0 set.width) in
+    sum-agree (λ y. sum_by (λ x. in_cell set x y later) (range_with_len 0 set.width)) _ row (range_with_len 0 set.height)
+    ∙ sum-plus (λ y. sum_by (λ x. in_cell set x y h) (range_with_len 0 set.width)) (λ y. sum_by (λ x. more x y) (range_with_len 0 set.width)) (range_with_len 0 set.height)
+
+parts-true : (a b : Bool) → (a && b) ≡ true → (a ≡ true) × (b ≡ true)
+parts-true true b is = (refl, is)
+parts-true false b is = cc
+
+-- what is to be shown of the events
+abbrev pub Total : ImageView → History → Type 0
+Total set h = in_all_cells set h + out_of_image set h ≡ photons_of_group set h
+
+total-push : (set : ImageView) (h : History) (x : Event × ℕ) (of_group : Bool) → (is_photon x.0 && is_in x.1 set.group) ≡ of_group → Total set h → Total set (h ++ x ∷ [])
+total-push set h x true is so_far =
+    let place = place_of set x.0.time (markers h) in
+    let parts = parts-true (is_photon x.0) (is_in x.1 set.group) is in
+    let cells = cells-more set h (h ++ x ∷ []) (λ column row. one_if (is_at column row place)) (λ column row. placed-photon set (is_at column row) h x place parts.0 parts.1 refl) in
+    let outside = placed-photon set is_none h x place parts.0 parts.1 refl in
+    let once = met-once set place (place-inside set x.0.time (markers h)) in
+    let photons = sum_by_push (λ x. one_if (is_photon x.0 && is_in x.1 set.group)) h x in
+    let here = ap one_if is in
+    omega (arith, so_far, cells, outside, once, photons, here)
+total-push set h x false is so_far =
+    let cells = cells-more set h (h ++ x ∷ []) (λ column row. 0) (λ column row. let same = placed-other set (is_at column row) h x is in omega (arith, same)) in
+    let rows = sum-agree (λ y. sum_by (λ x. 0) (range_with_len 0 set.width)) (λ y. 0) (λ y. sum-none (range_with_len 0 set.width)) (range_with_len 0 set.height) in
+    let none = sum-none (range_with_len 0 set.height) in
+    let outside = placed-other set is_none h x is in
+    let photons = sum_by_push (λ x. one_if (is_photon x.0 && is_in x.1 set.group)) h x in
+    let here = ap one_if is in
+    omega (arith, so_far, cells, rows, none, outside, photons, here)
+
+by-pushes : (P : History → Type 0) → ((h : History) (x : Event × ℕ) → P h → P (h ++ x ∷ [])) → (front rest : History) → P front → P (front ++ rest)
+by-pushes P step front [] so_far = subst P (sym (append-nil front)) so_far
+by-pushes P step front (x ∷ rest) so_far = subst P (append_assoc front (x ∷ []) rest) (by-pushes P step (front ++ x ∷ []) rest (step front x so_far))
+
+total-none : (set : ImageView) → Total set []
+total-none set =
+    let rows = sum-agree (λ y. sum_by (λ x. 0) (range_with_len 0 set.width)) (λ y. 0) (λ y. sum-none (range_with_len 0 set.width)) (range_with_len 0 set.height) in
+    let none = sum-none (range_with_len 0 set.height) in
+    omega (arith, rows, none)
+
+pub total : (set : ImageView) (h : History) → Total set h
+total set h = by-pushes (Total set) (λ h x. total-push set h x (is_photon x.0 && is_in x.1 set.group) refl) [] h (total-none set)

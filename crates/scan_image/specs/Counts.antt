@@ -1,0 +1,44 @@
+-- The counts of an image over the events that it is given.
+use Rattle.std.specs.Prelude.{ℕ, Bool, false, ◌&&◌, ◌==◌, List, Option, None, Some, is_none, length, take, count_by, filter_map}
+use Rattle.std.specs.List.{range_with_len, slice_get}
+use Rattle.std.specs.Option.{option_map_or}
+use Rattle.tally_base.specs.declared.event.Event.{Event}
+use Rattle.tally_base.specs.declared.event.EventKind.{EventKind}
+use Rattle.tally_base.specs.declared.event.EventKind.TheVariants.{Photon, Marker}
+use Rattle.tally_base.specs.Events.{is_photon, is_in}
+use Rattle.tally_base.specs.Settings.{ImageView}
+use Rattle.tally_base.specs.Tally.{History}
+use Rattle.marker_map.specs.Marks.{Mark, mark}
+use Rattle.marker_map.specs.Places.{place_of}
+
+abbrev pub mark_at : ℕ → EventKind → Option Mark
+mark_at time (Photon input dtime) = None
+mark_at time (Marker bits) = Some (mark bits time)
+
+-- the markers among these events
+abbrev pub markers : History → List Mark
+markers h = filter_map (λ x. mark_at x.0.time x.0.kind) h
+
+-- how many events of the list pass a test that sees all events before them too
+abbrev pub count_behind : (History → Event × ℕ → Bool) → History → ℕ
+count_behind test h = count_by (λ i. option_map_or (test (take i h)) (slice_get h i) false) (range_with_len 0 (length h))
+
+-- a photon of the group whose place behind these events, if it has one, passes the test
+abbrev pub is_placed : ImageView → (Option (ℕ × ℕ) → Bool) → History → Event × ℕ → Bool
+is_placed set test before x = is_photon x.0 && (is_in x.1 set.group && test (place_of set x.0.time (markers before)))
+
+-- how many photons of the group have such a place
+abbrev pub count_placed : ImageView → (Option (ℕ × ℕ) → Bool) → History → ℕ
+count_placed set test h = count_behind (is_placed set test) h
+
+abbrev pub is_at : ℕ → ℕ → Option (ℕ × ℕ) → Bool
+is_at x y None = false
+is_at x y (Some place) = (place.0 == x) && (place.1 == y)
+
+-- how many photons of the group have their place in column x and row y
+abbrev pub in_cell : ImageView → ℕ → ℕ → History → ℕ
+in_cell set x y h = count_placed set (is_at x y) h
+
+-- how many photons of the group have no place
+abbrev pub out_of_image : ImageView → History → ℕ
+out_of_image set h = count_placed set is_none h

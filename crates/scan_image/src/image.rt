@@ -1,0 +1,141 @@
+// An image of a scan.
+ghost use Rattle.std.specs.Prelude.{◌≡◌, ◌+◌, ◌*◌, ◌<◌, ◌≤◌, vec_len, sum};
+ghost use Rattle.tally_base.specs.Settings.{image_view};
+ghost use Rattle.tally_base.specs.Tally.{History};
+ghost use Rattle.marker_map.specs.Lines.{image_of, markers_given, latest};
+
+use marker_map::Lines;
+use std::alloc::{AllocError, Global};
+use std::sync::ledger::Ledger;
+use tally_base::{Event, EventKind, ImageSet, Steps, Tally, is_in};
+
+/// Counts the photons of a group by their places in a scan.
+///
+/// The markers before a photon give it a line and a row, and the time since that line gives it a column.
+/// The photons of the group that have no place in the image are counted in one number, `outside`. Times
+/// are sync periods.
+#[derive(Drop)]
+pub struct Image {
+    set: ImageSet,
+    lines: Lines,
+    // Row by row, in each row by column.
+    cells: Vec<u64>,
+    outside: u64,
+    taken: u64,
+    floor: u64,
+    closed: bool,
+    ghost sized: { vec_len cells ≡ set.width * set.height },
+    ghost small: { sum cells.items + outside ≤ taken },
+    ghost of_set: { image_of lines ≡ image_view set },
+    ghost few_markers: { markers_given lines ≤ taken },
+    ghost begun: { latest lines ≤ floor },
+}
+
+/// Where the cell of a column and a row stands.
+fn cell_of(set: &ImageSet, x: u32, y: u32) -> usize
+    requires column { x < set.now.width }
+    requires row { y < set.now.height }
+    ensures place { result ≡ y * set.now.width + x }
+    ensures inside { result < set.now.width * set.now.height }
+{
+    (y * set.width + x) as usize
+}
+
+impl Image {
+    ghost use Rattle.std.specs.Prelude.{IfOk, [], false};
+    ghost use Rattle.tally_base.specs.Settings.PartSettings.{ImageSettings};
+    ghost use Rattle.scan_image.specs.Counts.{in_cell, out_of_image};
+    ghost use Rattle.scan_image.specs.Image.{Holds, set_of};
+
+    /// An image of no events, with all the memory that it ever takes, or `AllocError` where it is wanting.
+    pub fn open(alloc: Global, set: ImageSet) -> Result<Image, AllocError>
+        ensures set { IfOk result (λ t. set_of t ≡ set) }
+        ensures settings { IfOk result (λ t.
+            ⟦<Image as Tally>⟧.settings t ≡ ImageSettings (image_view set)) }
+        ensures empty { IfOk result (λ t. Holds t []) }
+        ensures opened { IfOk result (λ t. ⟦<Image as Tally>⟧.closed t ≡ false) }
+    {
+        Ok(Image {
+            set,
+            lines: Lines::new(&set),
+            cells: vec![in alloc; 0; (set.width * set.height) as usize]?,
+            outside: 0,
+            taken: 0,
+            floor: 0,
+            closed: false,
+        })
+    }
+
+    /// What it was opened with.
+    pub fn set(&self) -> &ImageSet
+        ensures { result.now ≡ set_of self.now }
+    {
+        &self.set
+    }
+
+    /// How many photons of the group came in column `x` and row `y`, which are below the width and the
+    /// height, of those that it was given so far.
+    pub fn cell(&self, x: u32, y: u32) -> u64
+        requires column { x < (set_of self.now).width }
+        requires row { y < (set_of self.now).height }
+        ensures { (h : History) → Holds self.now h
+            → result ≡ in_cell (image_view (set_of self.now)) x y h }
+    {
+        self.cells[cell_of(&self.set, x, y)]
+    }
+
+    /// How many photons of the group came outside the image.
+    pub fn outside(&self) -> u64
+        ensures { (h : History) → Holds self.now h
+            → result ≡ out_of_image (image_view (set_of self.now)) h }
+    {
+        self.outside
+    }
+}
+
+impl Tally for Image {
+    ghost use Rattle.std.specs.Prelude.{length};
+    ghost use Rattle.scan_image.specs.Image.{Holds, settings};
+    ghost use Rattle.scan_image.specs.Laws.{taken_is, floor_is, within_bound};
+
+    ghost holds = { Holds };
+
+    ghost taken = { λ t. t.taken };
+
+    ghost floor = { λ t. t.floor };
+
+    // The time and the row of the line and the row of the next line are entries, beside the cells and the
+    // rest count.
+    ghost held = { λ t. length t.cells.items + 4 };
+
+    ghost settings = { settings };
+
+    ghost closed = { λ t. t.closed };
+
+    ghost taken_is = { taken_is };
+
+    ghost floor_is = { floor_is };
+
+    ghost within = { within_bound };
+
+    fn event<L: Ledger>(&mut self, e: &Event, groups: u64, _steps: &mut Steps<L>) {
+        self.taken += 1;
+        self.floor = e.time;
+        match e.kind {
+            EventKind::Marker { bits } => self.lines.marker(bits, e.time),
+            EventKind::Photon { .. } => {
+                if is_in(groups, self.set.group) {
+                    if let Some((column, row)) = self.lines.place(e.time) {
+                        self.cells[cell_of(&self.set, column, row)] += 1;
+                    } else {
+                        self.outside += 1;
+                    }
+                }
+            }
+        }
+    }
+
+    fn close<L: Ledger>(&mut self, _steps: &mut Steps<L>) {
+        self.closed = true;
+    }
+}

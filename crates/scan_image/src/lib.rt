@@ -1,0 +1,10 @@
+//! Images of a scan: how many photons of a group came at each place of the scan.
+#![tactic(auto)]
+
+mod image;
+pub mod laws;
+
+pub use image::Image;
+
+#[cfg(test)]
+mod tests;

@@ -1,0 +1,5 @@
+use Rattle.tally_engine.proofs.Opens.{engine_within}
+use Rattle.tally_engine.proofs.laws.engine_within.Goals as goal
+
+pub returns : goal.returns
+returns c = engine_within

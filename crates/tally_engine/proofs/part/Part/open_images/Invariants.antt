@@ -1,0 +1,11 @@
+use Rattle.std.proofs.Common.{◌≡◌, ◌++◌, map, take}
+use Rattle.tally_base.specs.Settings.{image_view}
+use Rattle.tally_base.specs.Settings.PartSettings.{ImageSettings}
+use Rattle.tally_engine.specs.Parts.{settings_in, AllOpened}
+use Rattle.tally_engine.proofs.part.Part.open_images.Given as goal
+
+abbrev pub invariant-loop-set : goal.invariant-loop-set
+invariant-loop-set l = record {
+  settings : settings_in l.parts.items ≡ settings_in l.initial.parts.items ++ map (λ set. ImageSettings set) (map image_view (take l.set-index l.sets));
+  opened : AllOpened l.initial.parts.items → AllOpened l.parts.items;
+}

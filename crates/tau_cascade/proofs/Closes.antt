@@ -1,0 +1,33 @@
+-- What closing a bin does to the ring of a level.
+use Rattle.std.proofs.Common.{◌≡◌, ℕ, ◌+◌, ◌-◌, ◌<◌, ◌≤◌, Bool, leb, List, [], ◌∷◌, ◌++◌, length, arith}
+use Rattle.std.specs.List.{filter, AllByRecursion}
+use Rattle.tally_base.specs.Settings.{CorrelationView}
+use Rattle.tally_base.specs.Tally.{History}
+use Rattle.lag_ring.specs.declared.ring.Entry.{Entry}
+use Rattle.lag_ring.specs.Ring.{Ring, ring, IsRising}
+use Rattle.lag_ring.proofs.Kept.{room_after, kept_after}
+use Rattle.lag_ring.proofs.Lists.{all_filter}
+use Rattle.lag_ring.proofs.Rising.{rising_push}
+use Rattle.tau_cascade.specs.Correlation.{bin, in_first, in_second}
+use Rattle.tau_cascade.specs.Levels.{RingIs, CanClose}
+
+module _ (set : CorrelationView) (level : ℕ) (r : Ring) (e : Entry) (closed xs : History) (some : 0 < set.lags) (can : CanClose set level r e closed xs) where
+  abbrev stays : Entry → Bool
+  stays f = leb (e.index - (set.lags - 1)) f.index
+
+  pub kept_below : (es : List Entry) → es ≡ filter stays r.entries → AllByRecursion (λ f. f.index < e.index) es
+  kept_below es kept = rw kept (all_filter (λ f. f.index < e.index) stays r.entries (can.was.keeps.bounded e.index can.before))
+
+  pub kept_few : (es : List Entry) → es ≡ filter stays r.entries → IsRising es → length es + 1 ≤ r.reach
+  kept_few es kept rising =
+      let reach : 0 < r.reach = omega (arith, can.was.reach) in
+      room_after (in_first set) (in_second set) (bin level) r e closed reach can.was.keeps can.before es (rw can.was.reach kept) rising
+
+  pub ring_after : (es : List Entry) → es ≡ filter stays r.entries → IsRising es → RingIs set level (ring (es ++ e ∷ []) r.reach) (closed ++ xs)
+  ring_after es kept rising =
+      let reach : 0 < r.reach = omega (arith, can.was.reach) in
+      record {
+        reach = can.was.reach;
+        rising = rising_push es e rising (kept_below es kept);
+        keeps = kept_after (in_first set) (in_second set) (bin level) r e closed reach can.was.keeps can.before xs can.is_bin es (rw can.was.reach kept) (kept_few es kept rising);
+      }

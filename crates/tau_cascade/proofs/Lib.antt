@@ -1,0 +1,10 @@
+pub mod Rows
+pub mod Lags
+pub mod Visits
+pub mod Closes
+pub mod Joins
+pub mod Pairs
+pub mod Gives
+pub mod Everywhere
+pub mod Slices
+pub mod Shown

@@ -1,0 +1,30 @@
+-- What a correlation shows.
+use Rattle.std.specs.Prelude.{ℕ, Option, slice_get}
+use Rattle.std.specs.Option.{option_map}
+use Rattle.tally_base.specs.declared.settings.CorrelationSet.{CorrelationSet}
+use Rattle.tally_base.specs.Settings.{PartSettings, correlation_view}
+use Rattle.tally_base.specs.Settings.PartSettings.{CorrelationSettings}
+use Rattle.tally_base.specs.Tally.{History}
+use Rattle.lag_ring.specs.Cells.{Cells}
+use Rattle.lag_ring.specs.Ring.{Ring}
+use Rattle.tau_cascade.specs.declared.cascade.Cascade.{Cascade}
+use Rattle.tau_cascade.specs.Counts.{Counts}
+
+-- what it was opened with
+abbrev pub set_of : Cascade → CorrelationSet
+set_of t = t.set
+
+abbrev pub settings : Cascade → PartSettings
+settings t = CorrelationSettings (correlation_view t.set)
+
+-- it stands for these events
+abbrev pub Holds : Cascade → History → Type 0
+Holds t h = Counts t.set t.levels.items t.taken t.floor h
+
+-- the cells of a level, where there is one
+abbrev pub cells_at : Cascade → ℕ → Option Cells
+cells_at t level = option_map (λ l. l.cells) (slice_get t.levels.items level)
+
+-- the ring of a level, where there is one
+abbrev pub ring_at : Cascade → ℕ → Option Ring
+ring_at t level = option_map (λ l. l.ring) (slice_get t.levels.items level)

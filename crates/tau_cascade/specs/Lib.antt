@@ -1,0 +1,5 @@
+pub mod Correlation
+pub mod Levels
+pub mod Counts
+pub mod Cascade
+pub mod Laws

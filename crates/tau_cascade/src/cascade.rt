@@ -1,0 +1,192 @@
+// A correlation over its levels.
+ghost use Rattle.std.specs.Prelude.{◌≡◌, ◌+◌, ◌^◌, ◌<◌, ◌≤◌, [], ◌∷◌, ◌++◌, false, length, vec_len, if◌then◌else◌};
+ghost use Rattle.tally_base.specs.Settings.{correlation_view};
+ghost use Rattle.tally_base.specs.Tally.{History};
+ghost use Rattle.tau_cascade.specs.Correlation.{Given, photons_of};
+ghost use Rattle.tau_cascade.specs.Counts.{Counts, LevelsAre, CanCome, CanGive};
+
+use crate::level::{Level, floor_of};
+use lag_ring::{Entry, PairCells};
+use std::alloc::{AllocError, Global};
+use std::sync::ledger::Ledger;
+use tally_base::{CorrelationSet, Event, Steps, Tally, floor_behind, is_in};
+
+/// Counts the pairs of a photon of the first group and one of the second by how far the second is behind
+/// the first, on levels of coarser and coarser time.
+///
+/// A time, in ticks in T2 and sync periods in T3, lies in the bin `time >> level` of each level. The cell
+/// of a lag counts the pairs that are so many bins apart. The lags of level 0 are 1 to `lags`, those of
+/// each level above are `lags / 2 + 1` to `lags`.
+#[derive(Drop)]
+pub struct Cascade {
+    set: CorrelationSet,
+    levels: Vec<Level>,
+    taken: u64,
+    floor: u64,
+    closed: bool,
+    ghost sized: { vec_len levels ≡ set.levels },
+    ghost stands: { ∥ ((h : History) × Counts set levels.items taken floor h) ∥₁ },
+}
+
+impl Cascade {
+    ghost use Rattle.std.specs.Prelude.{◌≡◌, ◌-◌, ◌<◌, ◌≤◌, true, IfOk, Some, slice_index};
+    ghost use Rattle.std.specs.Option.{ForSome, option_map};
+    ghost use Rattle.tally_base.specs.Settings.PartSettings.{CorrelationSettings};
+    ghost use Rattle.tau_cascade.specs.Cascade.{Holds, cells_at, ring_at, set_of};
+    ghost use Rattle.tau_cascade.specs.Correlation.{correlation, lag_count, lag_floor};
+
+    /// A correlation of no events, with all the memory that it ever takes, or `AllocError` where it is
+    /// wanting.
+    pub fn open(alloc: Global, set: CorrelationSet) -> Result<Cascade, AllocError>
+        ensures set { IfOk result (λ t. set_of t ≡ set) }
+        ensures settings { IfOk result (λ t.
+            ⟦<Cascade as Tally>⟧.settings t ≡ CorrelationSettings (correlation_view set)) }
+        ensures empty { IfOk result (λ t. Holds t []) }
+        ensures opened { IfOk result (λ t. ⟦<Cascade as Tally>⟧.closed t ≡ false) }
+    {
+        let mut levels = Vec::new(alloc);
+        for level in 0..set.levels {
+            levels.push(Level::open(alloc, &set, level)?)?;
+        }
+        Ok(Cascade {
+            set,
+            levels,
+            taken: 0,
+            floor: 0,
+            closed: false,
+        })
+    }
+
+    /// What it was opened with.
+    pub fn set(&self) -> &CorrelationSet
+        ensures { result.now ≡ set_of self.now }
+    {
+        &self.set
+    }
+
+    /// The least lag of a level.
+    pub fn first_lag(&self, level: u32) -> u32
+        ensures first { result ≡ lag_floor (correlation_view (set_of self.now)) level + 1 }
+        ensures within { result ≤ (set_of self.now).lags }
+    {
+        floor_of(&self.set, level) + 1
+    }
+
+    /// The cells of a level, one for each of its lags from the least on. Beside them a level keeps at most
+    /// `lags` closed bins.
+    pub fn level(&self, level: u32) -> &PairCells
+        requires { level < (set_of self.now).levels }
+        ensures cells { cells_at self.now level ≡ Some result.now }
+        ensures lags { length result.now.cells ≡ lag_count (correlation_view (set_of self.now)) level }
+        ensures ring { ForSome (ring_at self.now level)
+            (λ r. length r.entries ≤ (set_of self.now).lags) }
+    {
+        &self.levels[level as usize].cells
+    }
+
+    /// How many pairs are `lag` bins apart on the level. The lag is one of the level's, and the table is
+    /// closed.
+    pub fn cell(&self, level: u32, lag: u32) -> u128
+        requires closed { ⟦<Cascade as Tally>⟧.closed self.now ≡ true }
+        requires level { level < (set_of self.now).levels }
+        requires lag { (lag_floor (correlation_view (set_of self.now)) level < lag)
+            × (lag ≤ (set_of self.now).lags) }
+        ensures pairs { (h : History) → Holds self.now h
+            → result ≡ correlation (correlation_view (set_of self.now)) level lag h }
+        ensures place { option_map
+            (λ c. slice_index c.cells (lag - lag_floor (correlation_view (set_of self.now)) level - 1))
+            (cells_at self.now level) ≡ Some result }
+    {
+        self.level(level).get(lag - floor_of(&self.set, level) - 1)
+    }
+}
+
+/// Gives a photon, as its entry on the first level, to every level.
+fn give_photon<L: Ledger>(
+    levels: &mut [Level],
+    set: &CorrelationSet,
+    photon: &Entry,
+    steps: &mut Steps<L>,
+)
+    requires stands { ∥ ((came : History) × (x : Given)
+        × CanCome (correlation_view set.now) levels.old photon.now came x) ∥₁ }
+    requires depth { length levels.old ≤ 40 }
+    ensures same { length levels.new ≡ length levels.old }
+    ensures follows { (came : History) (x : Given)
+        → CanCome (correlation_view set.now) levels.old photon.now came x
+        → LevelsAre (correlation_view set.now) levels.new (came ++ x ∷ []) }
+{
+    for (number, level) in levels.iter_mut().enumerate() {
+        let bin = Entry {
+            index: photon.index >> number,
+            a: photon.a,
+            b: photon.b,
+        };
+        level.put(set, number as u32, bin, steps);
+    }
+}
+
+/// Gives an event to the levels.
+fn give<L: Ledger>(
+    levels: &mut [Level],
+    set: &CorrelationSet,
+    e: &Event,
+    groups: u64,
+    steps: &mut Steps<L>,
+)
+    requires stands { ∥ ((h : History)
+        × CanGive (correlation_view set.now) levels.old e.now h) ∥₁ }
+    requires depth { length levels.old ≤ 40 }
+    ensures same { length levels.new ≡ length levels.old }
+    ensures follows { (h : History) → CanGive (correlation_view set.now) levels.old e.now h
+        → LevelsAre (correlation_view set.now) levels.new
+        (photons_of (correlation_view set.now) (h ++ (e.now, groups) ∷ [])) }
+{
+    if e.is_photon() {
+        let a = is_in(groups, set.first);
+        let b = is_in(groups, set.second);
+        if a || b {
+            let photon = Entry {
+                index: e.time,
+                a: u64::from(a),
+                b: u64::from(b),
+            };
+            give_photon(levels, set, &photon, steps);
+        }
+    }
+}
+
+impl Tally for Cascade {
+    ghost use Rattle.std.specs.Prelude.{◌+◌, sum_by};
+    ghost use Rattle.tau_cascade.specs.Cascade.{Holds, settings};
+    ghost use Rattle.tau_cascade.specs.Counts.{entries_of};
+    ghost use Rattle.tau_cascade.specs.Laws.{taken_is, floor_is, within_bound};
+
+    ghost holds = { Holds };
+
+    ghost taken = { λ t. t.taken };
+
+    ghost floor = { λ t. t.floor };
+
+    ghost held = { λ t. sum_by entries_of t.levels.items };
+
+    ghost settings = { settings };
+
+    ghost closed = { λ t. t.closed };
+
+    ghost taken_is = { taken_is };
+
+    ghost floor_is = { floor_is };
+
+    ghost within = { within_bound };
+
+    fn event<L: Ledger>(&mut self, e: &Event, groups: u64, steps: &mut Steps<L>) {
+        self.taken += 1;
+        self.floor = floor_behind(self.floor, e);
+        give(&mut self.levels, &self.set, e, groups, steps);
+    }
+
+    fn close<L: Ledger>(&mut self, _steps: &mut Steps<L>) {
+        self.closed = true;
+    }
+}

@@ -1,0 +1,10 @@
+//! The correlation of two groups of photons, on levels of coarser and coarser time.
+#![tactic(auto)]
+
+mod cascade;
+mod level;
+
+pub use cascade::Cascade;
+
+#[cfg(test)]
+mod tests;

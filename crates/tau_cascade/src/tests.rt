@@ -1,0 +1,197 @@
+// Cells of known events, where memory is had.
+ghost use Rattle.std.specs.Prelude.{◌≡◌, ◌<◌, ◌≤◌, ◌%◌, IfOk, length, true};
+ghost use Rattle.tau_cascade.specs.Cascade.{set_of};
+
+use super::Cascade;
+use std::alloc::Global;
+use std::marker::Brand;
+use std::process::Abort;
+use std::sync::ledger::{Blank, Ledger};
+use std::test::Fail;
+use tally_base::{CorrelationSet, Event, EventKind, Steps, Tally};
+
+const PHOTON: EventKind = EventKind::Photon { input: 1, dtime: 9 };
+
+const MARKER: EventKind = EventKind::Marker { bits: 15 };
+
+/// The greatest time of a file.
+const END: u64 = (1 << 62) + (1 << 28);
+
+/// An event with its time and its groups.
+type Given = (u64, EventKind, u64);
+
+/// A photon of group 1 alone.
+fn first(time: u64) -> Given {
+    (time, PHOTON, 1)
+}
+
+/// A photon of group 2 alone.
+fn second(time: u64) -> Given {
+    (time, PHOTON, 2)
+}
+
+/// A photon of both groups.
+fn both(time: u64) -> Given {
+    (time, PHOTON, 3)
+}
+
+/// The correlation of group 1 with group 2.
+fn of_two(lags: u32, levels: u32) -> CorrelationSet
+    requires lags { (2 ≤ lags) × (lags ≤ 128) }
+    requires even { lags % 2 ≡ 0 }
+    requires levels { (0 < levels) × (levels ≤ 40) }
+{
+    CorrelationSet {
+        first: 1,
+        second: 2,
+        lags,
+        levels,
+    }
+}
+
+/// A closed table that was given these events.
+fn filled<L: Ledger>(
+    alloc: Global,
+    blank: Blank,
+    set: CorrelationSet,
+    events: &[Given],
+) -> Result<Cascade, Fail>
+    requires name { blank.name ≡ L.name }
+    requires parts { blank.parts ≡ L.parts }
+    requires some { 0 < blank.parts }
+    requires few { length events.now ≤ 100 }
+    ensures closed { IfOk result (λ t. ⟦<Cascade as Tally>⟧.closed t ≡ true) }
+{
+    let mut steps = Steps::<L>::new(blank);
+    let mut table = Cascade::open(alloc, set)?;
+    let mut latest = 0;
+    for &(time, kind, groups) in events {
+        if time < latest || time > END {
+            return Err(Fail::new("the times of a row are out of order"));
+        }
+        latest = time;
+        let event = Event {
+            place: 1,
+            kind,
+            time,
+        };
+        table.event(&event, groups, &mut steps);
+    }
+    table.close(&mut steps);
+    Ok(table)
+}
+
+/// The cells that aren't 0, each with its level and its lag.
+fn cells(alloc: Global, table: &Cascade) -> Result<Vec<(u32, u32, u128)>, Fail>
+    requires closed { ⟦<Cascade as Tally>⟧.closed table.now ≡ true }
+{
+    let mut cells = Vec::new(alloc);
+    for level in 0..table.set().levels {
+        for lag in table.first_lag(level)..=table.set().lags {
+            let pairs = table.cell(level, lag);
+            if pairs > 0 {
+                cells.push((level, lag, pairs))?;
+            }
+        }
+    }
+    Ok(cells)
+}
+
+/// Events, and the cells of a correlation of them that aren't 0.
+#[derive(Clone, Copy)]
+struct Row<'a> {
+    set: CorrelationSet,
+    events: &'a [Given],
+    cells: &'a [(u32, u32, u128)],
+    ghost few: { length events.now ≤ 100 },
+}
+
+/// The correlation of a row's events has the row's cells.
+fn agrees(rt: &impl Abort, alloc: Global, row: &Row) -> Result<(), Fail> {
+    let Row { set, events, .. } = *row;
+    let table = filled::<Brand>(alloc, Blank::new(1), set, events)?;
+    assert_eq!(rt; cells(alloc, &table)?.as_slice(), row.cells, "{set:?}");
+    assert_eq!(rt; table.level(0).get(0), table.cell(0, 1));
+    Ok(())
+}
+
+#[test]
+fn each_pair_is_in_its_cells(rt: HostRuntime) -> Result<(), Fail> {
+    let own = CorrelationSet {
+        first: 1,
+        second: 1,
+        lags: 2,
+        levels: 2,
+    };
+    for row in [
+        // No photon meets itself.
+        Row {
+            set: own,
+            events: &[first(0), first(1), first(3), first(4)],
+            cells: &[(0, 1, 2), (0, 2, 1), (1, 2, 2)],
+        },
+        Row {
+            set: of_two(4, 2),
+            events: &[
+                first(0),
+                first(1),
+                second(3),
+                second(4),
+                second(6),
+                second(7),
+                second(8),
+            ],
+            cells: &[(0, 2, 1), (0, 3, 2), (0, 4, 1), (1, 3, 4), (1, 4, 2)],
+        },
+        // More bins than there are lags.
+        Row {
+            set: of_two(4, 1),
+            events: &[
+                both(0),
+                both(1),
+                both(2),
+                both(3),
+                both(4),
+                both(5),
+                both(6),
+            ],
+            cells: &[(0, 1, 6), (0, 2, 5), (0, 3, 4), (0, 4, 3)],
+        },
+        // Photons of one tick, photons of neither group, and markers.
+        Row {
+            set: of_two(2, 1),
+            events: &[
+                both(1),
+                both(1),
+                (2, MARKER, u64::MAX),
+                (2, PHOTON, 4),
+                second(2),
+                (3, PHOTON, 0),
+                both(3),
+                (3, MARKER, 2),
+                (4, PHOTON, u64::MAX),
+            ],
+            cells: &[(0, 1, 3), (0, 2, 2)],
+        },
+        // The first of a pair is not behind the second.
+        Row {
+            set: of_two(4, 2),
+            events: &[second(0), second(1), first(2), first(3)],
+            cells: &[],
+        },
+        Row {
+            set: of_two(128, 40),
+            events: &[
+                first((1 << 62) - (100 << 39)),
+                first(1 << 62),
+                second((1 << 62) + 100),
+                both((1 << 62) + 128),
+                second(END),
+            ],
+            cells: &[(0, 100, 1), (0, 128, 1), (21, 128, 2), (39, 100, 3)],
+        },
+    ] {
+        agrees(&rt, rt.alloc(), &row)?;
+    }
+    Ok(())
+}
