@@ -40,6 +40,17 @@ class Output {
         held += sizeof digits - at;
     }
 
+    // A number of up to 128 bits.
+    void put_wide(unsigned __int128 number) {
+        char digits[39];
+        size_t at = sizeof digits;
+        for (; number >> 64 != 0; number /= 10)
+            digits[--at] = static_cast<char>('0' + static_cast<int>(number % 10));
+        put(static_cast<uint64_t>(number));
+        std::memcpy(buffer + held, digits + at, sizeof digits - at);
+        held += sizeof digits - at;
+    }
+
     bool flush() {
         size_t done = 0;
         while (done < held) {

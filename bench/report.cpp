@@ -5,101 +5,23 @@
 //
 //   group INPUTS FROM TO            bit n of INPUTS stands for input n, up to 63; the gate holds the dtimes
 //                                   from FROM on that are less than TO
-//   histogram GROUP WIDTH BINS      GROUP, START and STOP are groups by their numbers, from 1
+//   histogram GROUP WIDTH BINS      GROUP, START, STOP, FIRST and SECOND are groups by their numbers, from 1
 //   trace GROUP ORIGIN WIDTH BINS
 //   startstop START STOP WIDTH BINS
+//   coincidence FIRST SECOND REACH WIDTH
+//   image GROUP WIDTH HEIGHT DWELL LINE FRAME STOP      marker bits from 1; 0 for no frame or no stop
+//   correlation FIRST SECOND LAGS LEVELS
 //
-// As in a plan, histograms need dtimes (T3), and start-stops the times of T2; that isn't looked at here.
+// As in a plan, histograms and images need T3, and start-stops and coincidences T2; that isn't looked at here.
 //
 // It is what a C++ programmer would write in an hour, to have something to measure ptu against. It
 // reads 8,192 bytes at a time, and writes 65,536 bytes at a time.
-#include "ptu_file.hpp"
+#include "tables.hpp"
 
 #include <cstdio>
 #include <cstdlib>
 #include <fcntl.h>
 #include <string>
-#include <vector>
-
-struct Group {
-    uint64_t inputs; // bit n for input n
-    uint32_t from;
-    uint32_t to;
-
-    bool takes(const Record &photon) const {
-        return photon.number < 64 && (inputs >> photon.number & 1) != 0 && from <= photon.dtime &&
-               photon.dtime < to;
-    }
-};
-
-// `group` is a bit of the groups of a photon, from 0.
-static bool is_in(uint64_t groups, uint32_t group) { return (groups >> group & 1) != 0; }
-
-enum class TableKind { Histogram, Trace, StartStop };
-
-// A table of any kind; one list of them costs less than a list for each kind.
-struct Table {
-    TableKind kind;
-    uint32_t group; // the start group of a start-stop
-    uint32_t stop;
-    uint64_t origin;
-    uint64_t width;
-    std::vector<uint64_t> cells;
-    uint64_t before = 0;
-    uint64_t beyond = 0;  // past the last cell
-    bool started = false; // of a start-stop: the last photon of either group is in the start group
-    uint64_t since = 0;   // its time
-
-    void add(uint64_t cell) {
-        if (cell < cells.size())
-            cells[cell]++;
-        else
-            beyond++;
-    }
-
-    void take_start_stop(uint64_t time, uint64_t groups) {
-        const bool starts = is_in(groups, group), stops = is_in(groups, stop);
-        if (stops && started)
-            add((time - since) / width);
-        if (starts || stops) {
-            started = starts;
-            since = time;
-        }
-    }
-
-    void take(const Record &photon, uint64_t time, uint64_t groups) {
-        if (kind == TableKind::StartStop)
-            return take_start_stop(time, groups);
-        if (!is_in(groups, group))
-            return;
-        if (kind == TableKind::Histogram)
-            add(photon.dtime / static_cast<uint32_t>(width));
-        else if (time < origin)
-            before++;
-        else
-            add((time - origin) / width);
-    }
-};
-
-struct Plan {
-    std::vector<Group> groups;
-    std::vector<Table> tables;
-
-    // Bit g is set for group g, from 0.
-    uint64_t groups_of(const Record &photon) const {
-        uint64_t bits = 0;
-        for (size_t at = 0; at < groups.size(); at++)
-            bits |= uint64_t(groups[at].takes(photon)) << at;
-        return bits;
-    }
-
-    // It is made part of the loop over the words: there are two of these, so g++ would make it a call.
-    [[gnu::always_inline]] void take(const Record &photon, uint64_t time) {
-        const uint64_t bits = groups_of(photon);
-        for (Table &table : tables)
-            table.take(photon, time, bits);
-    }
-};
 
 struct Summary {
     uint64_t records = 0;
@@ -154,6 +76,8 @@ static int count_words(const unsigned char *bytes, size_t words, Clock &clock, S
         sums.last = time;
         if (photon)
             plan.take(record, time);
+        else
+            plan.mark(record.number, time);
     }
     return 0;
 }
@@ -263,45 +187,186 @@ static bool put_tables(Output &out, const Plan &plan, TableKind kind) {
     return true;
 }
 
+// A word of a table's first line with its number.
+template <size_t SIZE> static void put_word(Output &out, const char (&word)[SIZE], uint64_t number) {
+    out.put(word);
+    out.put(number);
+}
+
+static bool put_coincidence(Output &out, uint64_t number, const Coincidence &table) {
+    if (!out.make_room())
+        return false;
+    put_word(out, "coincidence ", number);
+    put_word(out, " reach ", table.reach);
+    put_word(out, " width ", table.width);
+    out.put('\n');
+    for (size_t cell = 0; cell < table.cells.size(); cell++) {
+        if (table.cells[cell] == 0)
+            continue;
+        if (!out.make_room())
+            return false;
+        out.put(uint64_t(cell));
+        out.put(' ');
+        out.put_wide(table.cells[cell]);
+        out.put('\n');
+    }
+    return true;
+}
+
+static bool put_row(Output &out, uint64_t row, const Image &table) {
+    for (uint64_t column = 0; column < table.width; column++) {
+        const uint64_t count = table.cells[row * table.width + column];
+        if (count == 0)
+            continue;
+        if (!out.make_room())
+            return false;
+        out.put(column);
+        put_word(out, " ", row);
+        put_word(out, " ", count);
+        out.put('\n');
+    }
+    return true;
+}
+
+static bool put_image(Output &out, uint64_t number, const Image &table) {
+    if (!out.make_room())
+        return false;
+    put_word(out, "image ", number);
+    put_word(out, " width ", table.width);
+    put_word(out, " height ", table.height);
+    put_word(out, " dwell ", table.dwell);
+    out.put('\n');
+    for (uint64_t row = 0; row < table.height; row++)
+        if (!put_row(out, row, table))
+            return false;
+    return put_line(out, "outside ", table.outside);
+}
+
+static bool put_level(Output &out, uint64_t number, const Level &level) {
+    for (size_t at = 0; at < level.cells.size(); at++) {
+        if (level.cells[at] == 0)
+            continue;
+        if (!out.make_room())
+            return false;
+        out.put(number);
+        put_word(out, " ", level.least + at);
+        out.put(' ');
+        out.put_wide(level.cells[at]);
+        out.put('\n');
+    }
+    return true;
+}
+
+static bool put_correlation(Output &out, uint64_t number, const Correlation &table) {
+    if (!out.make_room())
+        return false;
+    put_word(out, "correlation ", number);
+    put_word(out, " lags ", table.lags);
+    put_word(out, " levels ", table.levels.size());
+    out.put('\n');
+    for (size_t level = 0; level < table.levels.size(); level++)
+        if (!put_level(out, level, table.levels[level]))
+            return false;
+    return true;
+}
+
+// The tables of one list, numbered from 1.
+template <class Kind, class Put> static bool put_list(Output &out, const std::vector<Kind> &tables, Put put) {
+    uint64_t number = 0;
+    for (const Kind &table : tables)
+        if (!put(out, ++number, table))
+            return false;
+    return true;
+}
+
+static bool put_report(Output &out, bool is_t2, const Header &header, const Summary &sums, const Plan &plan) {
+    return put_head(out, is_t2, header, sums) && put_tables(out, plan, TableKind::Histogram) &&
+           put_tables(out, plan, TableKind::Trace) && put_tables(out, plan, TableKind::StartStop) &&
+           put_list(out, plan.coincidences, put_coincidence) && put_list(out, plan.images, put_image) &&
+           put_list(out, plan.correlations, put_correlation) && out.flush();
+}
+
 static int refuse(int status, const char *line) {
     std::fprintf(stderr, "report: %s\n", line);
     return status;
 }
 
-// The number of a word, and the place in `groups` of the group that it names.
-static uint64_t number_of(const char *word) { return std::strtoull(word, nullptr, 0); }
+// The words of the parts that aren't read yet.
+struct Words {
+    char **next;
+    char **end;
+    bool good = true; // none was wanting
 
-static uint32_t group_of(const char *word) { return uint32_t(number_of(word) - 1); }
+    uint64_t number() {
+        good = good && next < end;
+        return good ? std::strtoull(*next++, nullptr, 0) : 1;
+    }
 
-// Reads the words of all parts; false where they are none.
-static bool read_plan(char **words, char **end, Plan &plan) {
-    while (words < end) {
-        const std::string kind = *words++;
-        const long left = end - words;
-        if (kind == "group" && left >= 3) {
-            plan.groups.push_back({number_of(words[0]), uint32_t(number_of(words[1])), uint32_t(number_of(words[2]))});
-            words += 3;
-        } else if (kind == "histogram" && left >= 3) {
-            plan.tables.push_back({TableKind::Histogram, group_of(words[0]), 0, 0, number_of(words[1]),
-                                   std::vector<uint64_t>(number_of(words[2]))});
-            words += 3;
-        } else if (kind == "trace" && left >= 4) {
-            plan.tables.push_back({TableKind::Trace, group_of(words[0]), 0, number_of(words[1]),
-                                   number_of(words[2]), std::vector<uint64_t>(number_of(words[3]))});
-            words += 4;
-        } else if (kind == "startstop" && left >= 4) {
-            plan.tables.push_back({TableKind::StartStop, group_of(words[0]), group_of(words[1]), 0,
-                                   number_of(words[2]), std::vector<uint64_t>(number_of(words[3]))});
-            words += 4;
-        } else
+    uint32_t small() { return static_cast<uint32_t>(number()); }
+
+    // The place in `groups` of the group that is named.
+    uint32_t group() { return small() - 1; }
+
+    // The bits of a marker of which one is named, or none.
+    uint32_t marker() {
+        const uint32_t bit = small();
+        return bit == 0 ? 0 : 1u << (bit - 1);
+    }
+
+    std::vector<uint64_t> bins() { return std::vector<uint64_t>(number()); }
+};
+
+static Coincidence read_coincidence(Words &words) {
+    const uint32_t first = words.group(), second = words.group(), reach = words.small();
+    return Coincidence(first, second, reach, words.small());
+}
+
+static Image read_image(Words &words) {
+    Image image{words.group(), words.small(), words.small(), words.number(), words.marker(), words.marker(),
+                words.marker(), {}};
+    image.cells.resize(static_cast<size_t>(image.width) * image.height);
+    return image;
+}
+
+static Correlation read_correlation(Words &words) {
+    const uint32_t first = words.group(), second = words.group(), lags = words.small();
+    return Correlation(first, second, lags, words.small());
+}
+
+// Reads a part; false where its kind is none.
+static bool read_part(const std::string &kind, Words &words, Plan &plan) {
+    if (kind == "group")
+        plan.groups.push_back({words.number(), words.small(), words.small()});
+    else if (kind == "histogram")
+        plan.tables.push_back({TableKind::Histogram, words.group(), 0, 0, words.number(), words.bins()});
+    else if (kind == "trace")
+        plan.tables.push_back({TableKind::Trace, words.group(), 0, words.number(), words.number(), words.bins()});
+    else if (kind == "startstop")
+        plan.tables.push_back({TableKind::StartStop, words.group(), words.group(), 0, words.number(), words.bins()});
+    else if (kind == "coincidence")
+        plan.coincidences.push_back(read_coincidence(words));
+    else if (kind == "image")
+        plan.images.push_back(read_image(words));
+    else if (kind == "correlation")
+        plan.correlations.push_back(read_correlation(words));
+    else
+        return false;
+    return words.good;
+}
+
+static bool read_plan(Words words, Plan &plan) {
+    while (words.next < words.end) {
+        const std::string kind = *words.next++;
+        if (!read_part(kind, words, plan))
             return false;
     }
+    plan.more = !plan.coincidences.empty() || !plan.images.empty() || !plan.correlations.empty();
     return true;
 }
 
 int main(int argc, char **argv) {
     Plan plan;
-    if (argc < 2 || !read_plan(argv + 2, argv + argc, plan))
+    if (argc < 2 || !read_plan({argv + 2, argv + argc}, plan))
         return refuse(1, "bad command line");
     const int file = open(argv[1], O_RDONLY);
     if (file < 0)
@@ -317,9 +382,7 @@ int main(int argc, char **argv) {
         is_t2 ? count_file<HydraT2<false>>(file, sums, plan) : count_file<HydraT3<false>>(file, sums, plan);
     if (status != 0)
         return refuse(status, "the file is cut or bad");
+    plan.close();
     static Output out;
-    const bool good = put_head(out, is_t2, header, sums) && put_tables(out, plan, TableKind::Histogram) &&
-                      put_tables(out, plan, TableKind::Trace) && put_tables(out, plan, TableKind::StartStop) &&
-                      out.flush();
-    return good ? 0 : refuse(4, "cannot write");
+    return put_report(out, is_t2, header, sums, plan) ? 0 : refuse(4, "cannot write");
 }
