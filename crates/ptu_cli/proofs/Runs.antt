@@ -117,6 +117,7 @@ counted-same old new bytes results same counted = record {
   parts_are = counted.parts_are ∙ same.same_parts;
   closed = counted.closed;
   counts = rw (same.same_groups, same.same_reading) at counted.counts;
+  worked = rw (same.same_groups, same.same_reading) at counted.worked;
 }
 
 pub SameEngine-refl : (engine : Engine) → SameEngine engine engine

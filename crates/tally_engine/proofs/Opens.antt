@@ -22,6 +22,7 @@ use Rattle.coincidence.specs.Laws as startstop
 use Rattle.count_trace.specs.Laws as trace
 use Rattle.scan_image.specs.Laws as image
 use Rattle.tau_cascade.specs.Laws as cascade
+use Rattle.tau_cascade.proofs.Work.{work_within}
 use Rattle.tcspc_hist.specs.Laws as hist
 use Rattle.tally_engine.specs.declared.engine.Engine.{Engine}
 use Rattle.tally_engine.specs.declared.part.Part.{Part}
@@ -29,7 +30,7 @@ use Rattle.tally_engine.specs.Engine.{held, bound}
 use Rattle.tally_engine.specs.contracts.part.PartTally.TheImpl.{ghosts}
 use Rattle.tally_engine.specs.Histories.{history}
 use Rattle.tally_engine.specs.Part.{for_each_kind}
-use Rattle.tally_engine.specs.Parts.{settings_in, entries_in, IsOpened, AllOpened}
+use Rattle.tally_engine.specs.Parts.{settings_in, entries_in, IsOpened, IsWithinWork, AllOpened}
 use Rattle.tally_engine.specs.Taker.{Standing}
 
 pub history-none : (groups : List GroupView) (how : Reading) → history groups how [] ≡ []
@@ -96,3 +97,7 @@ kept_within parts carried few = omega (arith, tables_within parts, few)
 -- An engine keeps no more entries than its bound.
 pub engine_within : (engine : Engine) → held engine ≤ bound engine
 engine_within engine = kept_within engine.parts.items _ (search (rules, arith))
+
+-- What a correlation spent on the events that it stands for is within their work.
+pub part_worked : (h : History) (p : Part) → ghosts.holds p h → IsWithinWork h p
+part_worked h = for_each_kind (λ p. ghosts.holds p h → IsWithinWork h p) (λ t is. tt) (λ t is. tt) (λ t is. tt) (λ t is. tt) (λ t is. tt) (λ t is. work_within t h is)

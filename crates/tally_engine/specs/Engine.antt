@@ -1,5 +1,5 @@
 -- What an engine stands for.
-use Rattle.std.specs.Prelude.{◌≡◌, ℕ, ◌+◌, List, length, sum_by, None, Result, Ok, Err}
+use Rattle.std.specs.Prelude.{◌≡◌, ℕ, All, ◌+◌, List, length, sum_by, None, Result, Ok, Err}
 use Rattle.std.specs.declared.option.Option.{Option}
 use Rattle.tally_base.specs.declared.fault.Fault.{Fault}
 use Rattle.tally_base.specs.declared.header.Header.{Header}
@@ -10,7 +10,7 @@ use Rattle.record_stream.specs.Standing.{how_of, refused_with, carried_by, bytes
 use Rattle.plan_text.specs.Plan.{PlanView, parts_of}
 use Rattle.gate_plan.specs.Groups.{groups_of}
 use Rattle.tally_engine.specs.Histories.{history}
-use Rattle.tally_engine.specs.Parts.{settings_in, AllHold, AllClosed, entries_in}
+use Rattle.tally_engine.specs.Parts.{settings_in, AllHold, AllClosed, IsWithinWork, entries_in}
 use Rattle.tally_engine.specs.Plans.{reading_by}
 use Rattle.tally_engine.specs.declared.engine.Engine.{Engine}
 use Rattle.tally_engine.specs.declared.engine.Results.{Results}
@@ -81,6 +81,7 @@ pub record IsCounted (engine : Engine) (bytes : List ℕ) (results : Results) : 
   pub parts_are : settings_of results ≡ parts_in engine
   pub closed : AllClosed results.parts.items
   pub counts : AllHold results.parts.items (history (engine_groups engine) (reading_of engine) (words_of bytes))
+  pub worked : All (IsWithinWork (history (engine_groups engine) (reading_of engine) (words_of bytes))) results.parts.items
 
 abbrev pub Finishes : Engine → List ℕ → Result Results Fault → Type 0
 Finishes engine bytes (Ok results) = IsCounted engine bytes results

@@ -1,5 +1,5 @@
 -- What closing a bin does to the ring of a level.
-use Rattle.std.proofs.Common.{◌≡◌, ℕ, ◌+◌, ◌-◌, ◌<◌, ◌≤◌, Bool, leb, List, [], ◌∷◌, ◌++◌, length, arith}
+use Rattle.std.proofs.Common.{◌≡◌, ℕ, ◌+◌, ◌-◌, ◌<◌, ◌≤◌, Bool, false, refl, sym, leb, List, [], ◌∷◌, ◌++◌, length, arith}
 use Rattle.std.specs.List.{filter, AllByRecursion}
 use Rattle.tally_base.specs.Settings.{CorrelationView}
 use Rattle.tally_base.specs.Tally.{History}
@@ -7,7 +7,7 @@ use Rattle.lag_ring.specs.declared.ring.Entry.{Entry}
 use Rattle.lag_ring.specs.Ring.{Ring, ring, IsRising}
 use Rattle.lag_ring.proofs.Kept.{room_after, kept_after}
 use Rattle.lag_ring.proofs.Lists.{all_filter}
-use Rattle.lag_ring.proofs.Rising.{rising_push}
+use Rattle.lag_ring.proofs.Rising.{all_weaker, rising_push}
 use Rattle.tau_cascade.specs.Correlation.{bin, in_first, in_second}
 use Rattle.tau_cascade.specs.Levels.{RingIs, CanClose}
 
@@ -31,3 +31,13 @@ module _ (set : CorrelationView) (level : ℕ) (r : Ring) (e : Entry) (closed xs
         rising = rising_push es e rising (kept_below es kept);
         keeps = kept_after (in_first set) (in_second set) (bin level) r e closed reach can.was.keeps can.before xs can.is_bin es (rw can.was.reach kept) (kept_few es kept rising);
       }
+
+filter_none : {X : Type 0} (p : X → Bool) (xs : List X) → AllByRecursion (λ x. p x ≡ false) xs → filter p xs ≡ []
+filter_none p [] all = refl
+filter_none p (x ∷ xs) all = rw all.0 (filter_none p xs all.1)
+
+-- where no entry is in reach, the ring has the bin alone
+pub ring_begun : (set : CorrelationView) (level : ℕ) (r : Ring) (e : Entry) (closed xs : History) → 0 < set.lags → AllByRecursion (λ f. f.index + set.lags < e.index) r.entries → CanClose set level r e closed xs → RingIs set level (ring (e ∷ []) r.reach) (closed ++ xs)
+ring_begun set level r e closed xs some far can =
+    let none : filter (λ f. leb (e.index - (set.lags - 1)) f.index) r.entries ≡ [] = filter_none (λ f. leb (e.index - (set.lags - 1)) f.index) r.entries (all_weaker (λ f. f.index + set.lags < e.index) (λ f. leb (e.index - (set.lags - 1)) f.index ≡ false) (λ f under. grind arith) r.entries far) in
+    ring_after set level r e closed xs some can [] (sym none) tt

@@ -3,7 +3,8 @@ use Rattle.std.proofs.Common.{◌≡◌, ℕ, ◌+◌, ◌/◌, ◌^◌, ◌<◌
 use mir.Val.{bool_byte}
 use Rattle.std.specs.Prelude.{IsTrue}
 use Rattle.std.specs.List.{AllByRecursion}
-use Rattle.std.proofs.Math.Pow.{shr_mono}
+use Rattle.std.proofs.Math.Nat.{div-one}
+use Rattle.std.proofs.lemmas.Bool.{false≢true}
 use Rattle.std.proofs.lemmas.List.Elements.{filter-append}
 use Rattle.std.proofs.lemmas.List.Sums.{length-filter, count_by-le-length, fold_push}
 use Rattle.tally_base.specs.declared.event.Event.{Event}
@@ -16,22 +17,8 @@ use Rattle.lag_ring.proofs.Lists.{all_both, all_filter, all_passed}
 use Rattle.lag_ring.proofs.Rising.{all_weaker}
 use Rattle.tau_cascade.specs.declared.level.Level.{Level}
 use Rattle.tau_cascade.specs.Correlation.{Given, bin, in_first, in_second, photons_of}
-use Rattle.tau_cascade.specs.Counts.{Counts, LevelsAre, CanCome, CanGive}
-use Rattle.tau_cascade.specs.Levels.{Stands, CanPut}
-
--- a photon that may come may come to each level
-pub may_put : (set : CorrelationView) (ls : List Level) (photon : Entry) (came : History) (x : Given) → CanCome set ls photon came x → (k : ℕ) (l : Level) → Stands set k l came → CanPut set k l (record { index = photon.index / 2 ^ k; a = photon.a; b = photon.b }) came (x ∷ [])
-may_put set ls photon came x can k l is = record {
-  few = omega (arith, can.few);
-  was = is;
-  is_bin = record {
-    some = omega arith;
-    here = (ap (λ n. n / 2 ^ k) can.time, tt);
-    a = can.a ∙ sym (zero-add (cond (in_first set x) 1 0));
-    b = can.b ∙ sym (zero-add (cond (in_second set x) 1 0));
-  };
-  after = all_weaker (λ y. y.0.time ≤ photon.index) (λ y. bin k y ≤ photon.index / 2 ^ k) (λ y upto. shr_mono k upto) came can.after;
-}
+use Rattle.tau_cascade.specs.Counts.{Counts, CanGive}
+use Rattle.tau_cascade.specs.Levels.{CanCarry, CanEnd, Chain, Complete}
 
 abbrev later : ℕ → Given → ℕ
 later t x = cond (moves_floor false x.0) (max t x.0.time) t
@@ -63,15 +50,25 @@ none_after set h time after =
 few_photons : (set : CorrelationView) (h : History) → length (photons_of set h) ≤ length h
 few_photons set h = omega (arith, length-filter (λ x. in_first set x || in_second set x) h, count_by-le-length (λ x. in_first set x || in_second set x) h)
 
+bin-zero : (x : Given) → bin 0 x ≡ x.0.time
+bin-zero x = div-one x.0.time
+
+-- the same of the bins of the first level
+pub none_before : (set : CorrelationView) (h : History) (time : ℕ) → greatest_time false h ≤ time → AllByRecursion (λ x. bin 0 x ≤ time) (photons_of set h)
+none_before set h time after = all_weaker (λ x. x.0.time ≤ time) (λ x. bin 0 x ≤ time) (λ x upto. rw (bin-zero x) upto) (photons_of set h) (none_after set h time after)
+
 -- an event that is a photon may come
-pub may_come : (set : CorrelationView) (ls : List Level) (e : Event) (groups : ℕ) (h : History) → CanGive set ls e h → is_photon e ≡ true → (a b : ℕ) → a ≡ cond (is_in groups set.first) 1 0 → b ≡ cond (is_in groups set.second) 1 0 → CanCome set ls (record { index = e.time; a = a; b = b }) (photons_of set h) (e, groups)
-may_come set ls e groups h can photon a b is_a is_b = record {
+pub may_carry : (set : CorrelationView) (ls : List Level) (e : Event) (groups : ℕ) (h : History) → CanGive set ls e h → is_photon e ≡ true → (a b : ℕ) → a ≡ cond (is_in groups set.first) 1 0 → b ≡ cond (is_in groups set.second) 1 0 → CanCarry set 0 ls (record { index = e.time; a = a; b = b }) (photons_of set h) ((e, groups) ∷ [])
+may_carry set ls e groups h can photon a b is_a is_b = record {
   few = omega (arith, can.few, few_photons set h);
-  levels = can.levels;
-  time = refl;
-  a = rw photon is_a;
-  b = rw photon is_b;
-  after = none_after set h e.time (can.after photon);
+  chain = can.chain;
+  is_bin = record {
+    some = omega arith;
+    here = (bin-zero (e, groups), tt);
+    a = rw photon (is_a ∙ sym (zero-add (cond (is_in groups set.first) 1 0)));
+    b = rw photon (is_b ∙ sym (zero-add (cond (is_in groups set.second) 1 0)));
+  };
+  after = none_before set h e.time (can.after photon);
 }
 
 pub either : (a b : Bool) → (a ≡ true) ⊎ ((a ≡ false) × (b ≡ true)) → (a || b) ≡ true
@@ -104,19 +101,29 @@ floor_more : (b : Bool) (time g last : ℕ) → time ≡ g → (b ≡ true → t
 floor_more true time g last is after = let upto : time ≤ last = after refl in omega (arith, is)
 floor_more false time g last is after = is
 
--- what a correlation may be given
-pub may_give : (set : CorrelationSet) (ls : List Level) (count time : ℕ) (h : History) (e : Event) → Counts set ls count time h → count < 2 ^ 40 → (IsTrue (moves_floor false e) → time ≤ e.time) → CanGive (correlation_view set) ls e h
-may_give set ls count time h e is few after = record {
+-- what a correlation that isn't closed may be given
+pub may_give : (closed : Bool) → closed ≡ false → (set : CorrelationSet) (ls : List Level) (count time : ℕ) (h : History) (e : Event) → Counts closed set ls count time h → count < 2 ^ 40 → (IsTrue (moves_floor false e) → time ≤ e.time) → CanGive (correlation_view set) ls e h
+may_give true still set ls count time h e is few after = absurd (false≢true (sym still))
+may_give false still set ls count time h e is few after = record {
   few = omega (arith, is.taken);
-  levels = is.levels;
+  chain = is.through;
   after = λ photon. omega (arith, is.floor, after photon);
 }
 
 -- what it stands for then
-pub more_counts : (set : CorrelationSet) (ls ls' : List Level) (count time : ℕ) (h : History) (e : Event) (groups : ℕ) → Counts set ls count time h → (IsTrue (moves_floor false e) → time ≤ e.time)
-    → LevelsAre (correlation_view set) ls' (photons_of (correlation_view set) (h ++ (e, groups) ∷ [])) → Counts set ls' (count + 1) (cond (moves_floor false e) e.time time) (h ++ (e, groups) ∷ [])
-more_counts set ls ls' count time h e groups is after levels = record {
+pub more_counts : (closed : Bool) → closed ≡ false → (set : CorrelationSet) (ls ls' : List Level) (count time : ℕ) (h : History) (e : Event) (groups : ℕ) → Counts closed set ls count time h → (IsTrue (moves_floor false e) → time ≤ e.time)
+    → Chain (correlation_view set) 0 ls' (photons_of (correlation_view set) (h ++ (e, groups) ∷ [])) → Counts closed set ls' (count + 1) (cond (moves_floor false e) e.time time) (h ++ (e, groups) ∷ [])
+more_counts true still set ls ls' count time h e groups is after through = absurd (false≢true (sym still))
+more_counts false still set ls ls' count time h e groups is after through = record {
   taken = omega (arith, is.taken, length-append h ((e, groups) ∷ []));
   floor = floor_more (is_photon e) time (greatest_time false h) e.time is.floor after ∙ sym (fold_push later 0 h (e, groups));
-  levels = levels;
+  through = through;
 }
+
+-- it may be closed
+pub may_end : (closed : Bool) → closed ≡ false → (set : CorrelationSet) (ls : List Level) (count time : ℕ) (h : History) → Counts closed set ls count time h → count ≤ 2 ^ 40 → CanEnd (correlation_view set) 0 ls (photons_of (correlation_view set) h)
+may_end true still set ls count time h is few = absurd (false≢true (sym still))
+may_end false still set ls count time h is few = record { few = omega (arith, is.taken, few_photons (correlation_view set) h); chain = is.through }
+
+pub end_counts : (closed : Bool) → closed ≡ false → (set : CorrelationSet) (ls ls' : List Level) (count time : ℕ) (h : History) → Counts closed set ls count time h → Complete (correlation_view set) 0 ls' (photons_of (correlation_view set) h) → Counts true set ls' count time h
+end_counts closed still set ls ls' count time h is through = record { taken = is.taken; floor = is.floor; through = through }

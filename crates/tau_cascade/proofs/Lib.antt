@@ -2,9 +2,14 @@ pub mod Rows
 pub mod Lags
 pub mod Visits
 pub mod Closes
-pub mod Joins
+pub mod Distinct
 pub mod Pairs
+pub mod Puts
+pub mod Carries
+pub mod Opened
 pub mod Gives
-pub mod Everywhere
 pub mod Slices
 pub mod Shown
+pub mod Opens
+pub mod Work
+pub mod SettingsRead

@@ -1,10 +1,10 @@
 -- What a level shows.
-use Rattle.std.proofs.Common.{◌≡◌, ℕ, ◌+◌, ◌-◌, ◌<◌, ◌≤◌, Bool, true, false, ◌&&◌, ◌||◌, eqb, cond, List, [], ◌∷◌, length, get_or, refl, sym, ◌∙◌, arith}
+use Rattle.std.proofs.Common.{◌≡◌, ℕ, suc, zero, ◌+◌, ◌-◌, ◌<◌, ◌≤◌, Bool, true, false, ◌&&◌, ◌||◌, eqb, cond, List, [], ◌∷◌, length, get_or, refl, sym, ◌∙◌, zero-add, add-zero, arith}
 use Rattle.std.specs.List.{sum_by, count_by, slice_get}
 use Rattle.std.specs.declared.option.Option.{Option}
 use Rattle.std.specs.Option.{option_map}
 use Rattle.std.specs.Prelude.{None, Some}
-use Rattle.std.proofs.lemmas.Option.{get_or_from_slice_get, slice_get_within}
+use Rattle.std.proofs.lemmas.Bool.{false≢true}
 use Rattle.std.proofs.lemmas.List.Sums.{sum_by-cons}
 use Rattle.tally_base.specs.declared.settings.CorrelationSet.{CorrelationSet}
 use Rattle.tally_base.specs.Settings.{CorrelationView, correlation_view}
@@ -14,8 +14,8 @@ use Rattle.lag_ring.specs.Ring.{Ring}
 use Rattle.lag_ring.proofs.Sums.{sum_by-same, sum_by-filter}
 use Rattle.tau_cascade.specs.declared.level.Level.{Level}
 use Rattle.tau_cascade.specs.Correlation.{Given, bin, in_first, in_second, is_pair, correlation, lag_floor, lag_count, photons_of}
-use Rattle.tau_cascade.specs.Counts.{Counts, LevelsAre}
-use Rattle.tau_cascade.specs.Levels.{CellsAre, Stands}
+use Rattle.tau_cascade.specs.Counts.{Counts}
+use Rattle.tau_cascade.specs.Levels.{RingIs, CellsAre, Chain, Complete}
 
 zeros : {X : Type 0} (f : X → ℕ) (xs : List X) → ((x : X) → f x ≡ 0) → sum_by f xs ≡ 0
 zeros f [] none = refl
@@ -43,25 +43,67 @@ correlation-photons set level k h =
     ∙ sum_by-filter mine pairs h
     ∙ sum_by-same (λ x. cond (mine x) (pairs x) 0) pairs h outer
 
-pub cells_of : (set : CorrelationView) (level : ℕ) (l : Level) (came : History) → Stands set level l came → CellsAre set level l.cells came
-cells_of set level l came is = rw is.2 is.3.cells
+-- what is read at a level, whether or not the correlation is closed
+pub record Reads (set : CorrelationView) (level : ℕ) (l : Level) (closed : History) : Type 0 where
+  pub ring : RingIs set level l.ring closed
+  pub cells : CellsAre set level l.cells closed
 
--- what is read at a level is of one to which the photons came
-level_read : {Y : Type 0} (set : CorrelationView) (ls : List Level) (came : History) → LevelsAre set ls came → (level : ℕ) (f : Level → Y) (y : Y) (o : Option Level) → slice_get ls level ≡ o → option_map f o ≡ Some y → (l : Level) × (f l ≡ y) × Stands set level l came
-level_read set ls came are level f y None read is = cc
-level_read set ls came are level f y (Some l) read is = (l, cc, (rw (get_or_from_slice_get ls level l l read) at (are level l (slice_get_within ls level l read))))
+open_level : (set : CorrelationView) (level : ℕ) (ls : List Level) (came : History) → Chain set level ls came → (i : ℕ) (l : Level) → slice_get ls i ≡ Some l → (closed : History) × Reads set (level + i) l closed
+open_level set level [] came is i l read = cc
+open_level set level (x ∷ ls) came is zero l read = let same : x ≡ l = cc in (is.0, rw (add-zero, ← same) (record { ring = is.3.ring; cells = is.3.cells }))
+open_level set level (x ∷ ls) came is (suc i) l read =
+    let next : suc level + i ≡ level + suc i = omega arith in
+    let rest = open_level set (suc level) ls is.0 is.4 i l read in
+    (rest.0, (rw next at rest.1))
 
-pub shown_cells : (set : CorrelationSet) (ls : List Level) (count time : ℕ) (h : History) → Counts set ls count time h → (level : ℕ) (cs : Cells) → option_map (λ (l : Level). l.cells) (slice_get ls level) ≡ Some cs → CellsAre (correlation_view set) level cs (photons_of (correlation_view set) h)
-shown_cells set ls count time h is level cs read =
-    let at_level = level_read (correlation_view set) ls (photons_of (correlation_view set) h) is.levels level (λ l. l.cells) cs (slice_get ls level) refl read in
-    rw (← at_level.1) (cells_of (correlation_view set) level at_level.0 (photons_of (correlation_view set) h) at_level.2)
+done_level : (set : CorrelationView) (level : ℕ) (ls : List Level) (came : History) → Complete set level ls came → (i : ℕ) (l : Level) → slice_get ls i ≡ Some l → Reads set (level + i) l came
+done_level set level [] came is i l read = cc
+done_level set level (x ∷ ls) came is zero l read = let same : x ≡ l = cc in rw (add-zero, ← same) (record { ring = is.0.ring; cells = is.0.cells })
+done_level set level (x ∷ ls) came is (suc i) l read =
+    let next : suc level + i ≡ level + suc i = omega arith in
+    let rest = done_level set (suc level) ls came is.1 i l read in
+    (rw next at rest)
 
-pub shown_ring : (set : CorrelationSet) (ls : List Level) (count time : ℕ) (h : History) → Counts set ls count time h → (level : ℕ) (r : Ring) → option_map (λ (l : Level). l.ring) (slice_get ls level) ≡ Some r → length r.entries ≤ set.lags
-shown_ring set ls count time h is level r read =
-    let at_level = level_read (correlation_view set) ls (photons_of (correlation_view set) h) is.levels level (λ l. l.ring) r (slice_get ls level) refl read in
-    let ring = at_level.2.3.ring in
-    let within : length at_level.0.ring.entries ≤ set.lags = omega (arith, ring.reach, ring.keeps.within) in
-    (rw at_level.1 at within)
+pub any_level : (closed : Bool) (set : CorrelationSet) (ls : List Level) (count time : ℕ) (h : History) → Counts closed set ls count time h → (i : ℕ) (l : Level) → slice_get ls i ≡ Some l → (came : History) × Reads (correlation_view set) i l came
+any_level true set ls count time h is i l read = (photons_of (correlation_view set) h, (rw zero-add at (done_level (correlation_view set) 0 ls (photons_of (correlation_view set) h) is.through i l read)))
+any_level false set ls count time h is i l read =
+    let found = open_level (correlation_view set) 0 ls (photons_of (correlation_view set) h) is.through i l read in
+    (found.0, (rw zero-add at found.1))
+
+pub level_count : (closed : Bool) (set : CorrelationSet) (ls : List Level) (count time : ℕ) (h : History) → Counts closed set ls count time h → (i : ℕ) (l : Level) → slice_get ls i ≡ Some l → length l.cells.cells ≡ lag_count (correlation_view set) i
+level_count closed set ls count time h is i l read = (any_level closed set ls count time h is i l read).1.cells.count
+
+pub level_ring : (closed : Bool) (set : CorrelationSet) (ls : List Level) (count time : ℕ) (h : History) → Counts closed set ls count time h → (i : ℕ) (l : Level) → slice_get ls i ≡ Some l → length l.ring.entries ≤ set.lags
+level_ring closed set ls count time h is i l read =
+    let found = any_level closed set ls count time h is i l read in
+    omega (arith, found.1.ring.reach, found.1.ring.keeps.within)
+
+pub closed_cells : (closed : Bool) → closed ≡ true → (set : CorrelationSet) (ls : List Level) (count time : ℕ) (h : History) → Counts closed set ls count time h → (i : ℕ) (l : Level) → slice_get ls i ≡ Some l → CellsAre (correlation_view set) i l.cells (photons_of (correlation_view set) h)
+closed_cells false shut set ls count time h is i l read = absurd (false≢true shut)
+closed_cells true shut set ls count time h is i l read = (rw zero-add at (done_level (correlation_view set) 0 ls (photons_of (correlation_view set) h) is.through i l read)).cells
+
+read_in : {Y : Type 0} (ls : List Level) (i : ℕ) (f : Level → Y) (y : Y) (o : Option Level) → slice_get ls i ≡ o → option_map f o ≡ Some y → (l : Level) × (slice_get ls i ≡ Some l) × (f l ≡ y)
+read_in ls i f y None is got = cc
+read_in ls i f y (Some l) is got = (l, is, cc)
+
+-- the level that is read, by what is read of it
+pub read_of : {Y : Type 0} (ls : List Level) (i : ℕ) (f : Level → Y) (y : Y) → option_map f (slice_get ls i) ≡ Some y → (l : Level) × (slice_get ls i ≡ Some l) × (f l ≡ y)
+read_of ls i f y read = read_in ls i f y (slice_get ls i) refl read
+
+pub shown_cells : (closed : Bool) → closed ≡ true → (set : CorrelationSet) (ls : List Level) (count time : ℕ) (h : History) → Counts closed set ls count time h → (i : ℕ) (cs : Cells) → option_map (λ (l : Level). l.cells) (slice_get ls i) ≡ Some cs → CellsAre (correlation_view set) i cs (photons_of (correlation_view set) h)
+shown_cells closed shut set ls count time h is i cs read =
+    let found = read_of ls i (λ (l : Level). l.cells) cs read in
+    rw (← found.2) (closed_cells closed shut set ls count time h is i found.0 found.1)
+
+pub shown_count : (closed : Bool) (set : CorrelationSet) (ls : List Level) (count time : ℕ) (h : History) → Counts closed set ls count time h → (i : ℕ) (cs : Cells) → option_map (λ (l : Level). l.cells) (slice_get ls i) ≡ Some cs → length cs.cells ≡ lag_count (correlation_view set) i
+shown_count closed set ls count time h is i cs read =
+    let found = read_of ls i (λ (l : Level). l.cells) cs read in
+    rw (← found.2) (level_count closed set ls count time h is i found.0 found.1)
+
+pub shown_ring : (closed : Bool) (set : CorrelationSet) (ls : List Level) (count time : ℕ) (h : History) → Counts closed set ls count time h → (i : ℕ) (r : Ring) → option_map (λ (l : Level). l.ring) (slice_get ls i) ≡ Some r → length r.entries ≤ set.lags
+shown_ring closed set ls count time h is i r read =
+    let found = read_of ls i (λ (l : Level). l.ring) r read in
+    rw (← found.2) (level_ring closed set ls count time h is i found.0 found.1)
 
 -- a cell at a lag of the level
 pub cell_is : (set : CorrelationView) (level lag floor : ℕ) (cs : Cells) (h : History) → CellsAre set level cs (photons_of set h) → floor ≡ lag_floor set level → lag_floor set level < lag → lag ≤ set.lags → get_or cs.cells (lag - floor - 1) 0 ≡ correlation set level lag h

@@ -1,11 +1,15 @@
 -- One entry more in the loop over entries.
-use Rattle.std.proofs.Common.{length, ◌≡◌, ℕ, ◌+◌, ◌-◌, ◌*◌, ◌<◌, ◌≤◌, true, false, ◌&&◌, ◌++◌, eqb, ltb, leb, List, get_or, take, cond, arith}
-use Rattle.std.specs.List.{AllByRecursion}
+use Rattle.std.proofs.Common.{length, ◌≡◌, ℕ, zero, suc, [], ◌∷◌, drop, refl, ◌+◌, ◌-◌, ◌*◌, ◌<◌, ◌≤◌, true, false, ◌&&◌, eqb, ltb, leb, List, get_or, take, cond, arith}
+use Rattle.std.specs.List.{sum_by, AllByRecursion}
 use Rattle.std.proofs.Math.Nat.{mul-le-mul_right}
 use Rattle.std.proofs.lemmas.Grind.{common_steps}
+use Rattle.std.proofs.lemmas.List.{drop_more}
 use Rattle.std.proofs.lemmas.List.Elements.{All-from_recursion}
-use Rattle.std.proofs.lemmas.List.Sums.{sum_by-append, sum_by_more, sum_by_more_le}
+use Rattle.std.proofs.lemmas.List.Sums.{sum_by_more, sum_by_more_le, sum_by-take-le, sum_by-take-drop}
 use Rattle.lag_ring.specs.declared.ring.Entry.{Entry}
+use Rattle.lag_ring.specs.Ring.{IsRising}
+use Rattle.lag_ring.proofs.Rising.{all_weaker}
+use Rattle.lag_ring.proofs.Sums.{sum_by-zero}
 use Rattle.tau_cascade.specs.Levels.{weight_before, entries_at_lags}
 use Rattle.tau_cascade.proofs.Lags.{at_lags}
 
@@ -53,8 +57,25 @@ module _ (es : List Entry) (i : ℕ) (none : Entry) (inside : i < length es) whe
       rw (step p at_level, so_far p at_level, weight_more (p + floor + 1) n, same)
       (elim (eqb (e.index + (p + floor + 1)) n) as (λ b. get_or old p 0 + weight_before (p + floor + 1) n (take i es) * w + cond b (e.a * w) 0 ≡ get_or old p 0 + (weight_before (p + floor + 1) n (take i es) + cond b e.a 0) * w) [ true ↦ omega arith | false ↦ omega arith ])
 
--- what two runs of entries add to a cell, one after the other
-pub weights_joined : (xs ys es : List Entry) → xs ++ ys ≡ es → (k n w old between new : ℕ) → between ≡ old + weight_before k n xs * w → new ≡ between + weight_before k n ys * w → new ≡ old + weight_before k n es * w
-weights_joined xs ys es whole k n w old between new first second =
-    let both : weight_before k n (xs ++ ys) ≡ weight_before k n xs + weight_before k n ys = sum_by-append (λ e. cond (eqb (e.index + k) n) e.a 0) xs ys in
-    rw (← whole, both, second, first) (omega arith)
+rising_drop : (es : List Entry) (i : ℕ) → IsRising es → IsRising (drop i es)
+rising_drop es zero rising = rising
+rising_drop [] (suc i) rising = tt
+rising_drop (e ∷ es) (suc i) rising = rising_drop es i rising.1
+
+-- from an entry on that stands before the index by no more than the floor, none stands at a lag
+pub rest_near : (es : List Entry) (i : ℕ) (none : Entry) → i < length es → IsRising es → (floor n : ℕ) → n - (get_or es i none).index ≤ floor → (k : ℕ) → floor < k → weight_before k n es ≡ weight_before k n (take i es)
+rest_near es i none inside rising floor n near k above =
+    let e : Entry = get_or es i none in
+    let split : drop i es ≡ e ∷ drop (i + 1) es = drop_more es i none inside in
+    let later : IsRising (e ∷ drop (i + 1) es) = (rw split at (rising_drop es i rising)) in
+    let all : AllByRecursion (λ f. n ≤ f.index + floor) (drop i es) = rw split (omega arith, all_weaker (λ f. e.index < f.index) (λ f. n ≤ f.index + floor) (λ f up. omega arith) (drop (i + 1) es) later.0) in
+    let zeros : sum_by (λ f. cond (eqb (f.index + k) n) f.a 0) (drop i es) ≡ 0 = sum_by-zero (λ f. n ≤ f.index + floor) (λ f. cond (eqb (f.index + k) n) f.a 0) (drop i es) all (λ f close. let not : eqb (f.index + k) n ≡ false = grind arith in rw not refl) in
+    let both = sum_by-take-drop (λ f. cond (eqb (f.index + k) n) f.a 0) es i in
+    omega (arith, both, zeros)
+
+pub lags_so_far : (es : List Entry) (i floor lags n : ℕ) → entries_at_lags floor lags n (take i es) ≤ entries_at_lags floor lags n es
+lags_so_far es i floor lags n = sum_by-take-le (λ f. cond (at_lags floor lags n f) 1 0) es i
+
+-- where each entry stands before the index by more than the lags, none stands at one
+pub none_at_lag : (es : List Entry) (lags n k : ℕ) → AllByRecursion (λ f. f.index + lags < n) es → k ≤ lags → weight_before k n es ≡ 0
+none_at_lag es lags n k far few = sum_by-zero (λ f. f.index + lags < n) (λ f. cond (eqb (f.index + k) n) f.a 0) es far (λ f before. let not : eqb (f.index + k) n ≡ false = grind arith in rw not refl)

@@ -5,10 +5,12 @@ use Rattle.tally_base.specs.declared.settings.CorrelationSet.{CorrelationSet}
 use Rattle.tally_base.specs.Settings.{PartSettings, correlation_view}
 use Rattle.tally_base.specs.Settings.PartSettings.{CorrelationSettings}
 use Rattle.tally_base.specs.Tally.{History}
+use Rattle.lag_ring.specs.declared.ring.Entry.{Entry}
 use Rattle.lag_ring.specs.Cells.{Cells}
 use Rattle.lag_ring.specs.Ring.{Ring}
 use Rattle.tau_cascade.specs.declared.cascade.Cascade.{Cascade}
 use Rattle.tau_cascade.specs.Counts.{Counts}
+use Rattle.tau_cascade.specs.Levels.{spent}
 
 -- what it was opened with
 abbrev pub set_of : Cascade → CorrelationSet
@@ -19,7 +21,7 @@ settings t = CorrelationSettings (correlation_view t.set)
 
 -- it stands for these events
 abbrev pub Holds : Cascade → History → Type 0
-Holds t h = Counts t.set t.levels.items t.taken t.floor h
+Holds t h = Counts t.closed t.set t.levels.items t.taken t.floor h
 
 -- the cells of a level, where there is one
 abbrev pub cells_at : Cascade → ℕ → Option Cells
@@ -28,3 +30,11 @@ cells_at t level = option_map (λ l. l.cells) (slice_get t.levels.items level)
 -- the ring of a level, where there is one
 abbrev pub ring_at : Cascade → ℕ → Option Ring
 ring_at t level = option_map (λ l. l.ring) (slice_get t.levels.items level)
+
+-- the open bin of a level, where there is such a level
+abbrev pub open_at : Cascade → ℕ → Option (Option Entry)
+open_at t level = option_map (λ l. l.open) (slice_get t.levels.items level)
+
+-- how many additions made the cells of all levels
+abbrev pub spent_by : Cascade → ℕ
+spent_by t = spent t.levels.items

@@ -1,5 +1,5 @@
--- What a level stands for: photons that came to it, in order, and how far they are paired.
-use Rattle.std.specs.Prelude.{◌≡◌, ℕ, ◌+◌, ◌-◌, ◌*◌, ◌^◌, ◌<◌, ◌≤◌, ◌==◌, ◌&&◌, nat_lt, nat_le, count_by, Option, None, Some, List, [], ◌++◌, length, slice_index}
+-- What levels stand for: photons that came to them, in order, and how far they are paired.
+use Rattle.std.specs.Prelude.{◌≡◌, ℕ, ◌+◌, ◌-◌, ◌*◌, ◌/◌, ◌^◌, ◌<◌, ◌≤◌, suc, ⊤, ◌==◌, ◌&&◌, nat_lt, nat_le, count_by, sum_by, Option, None, Some, List, [], ◌∷◌, ◌++◌, length, slice_index}
 use Rattle.std.specs.List.{AllByRecursion}
 use Rattle.tally_base.specs.Settings.{CorrelationView}
 use Rattle.tally_base.specs.Tally.{History}
@@ -9,6 +9,7 @@ use Rattle.lag_ring.specs.Cells.{Cells}
 use Rattle.lag_ring.specs.Kept.{weight_where, Weighs, Keeps}
 use Rattle.tau_cascade.specs.declared.level.Level.{Level}
 use Rattle.tau_cascade.specs.Correlation.{bin, in_first, in_second, correlation, lag_floor, lag_count}
+use Rattle.tau_cascade.specs.Work.{occupied}
 
 -- the first weight of the entry that stands k before the index, or 0
 abbrev pub weight_before : ℕ → ℕ → List Entry → ℕ
@@ -17,6 +18,10 @@ weight_before k index es = weight_where (λ e. e.a) (λ i. i + k == index) es
 -- how many entries stand before the index by more than the floor and at most the lags
 abbrev pub entries_at_lags : ℕ → ℕ → ℕ → List Entry → ℕ
 entries_at_lags floor lags index es = count_by (λ e. nat_lt floor (index - e.index) && nat_le (index - e.index) lags) es
+
+-- the bin of the next level in which a bin lies
+abbrev pub halved : Entry → Entry
+halved e = record { index = e.index / 2; a = e.a; b = e.b }
 
 module _ (set : CorrelationView) (level : ℕ) where
   -- the entry is the bin of these photons, of which there is one at least
@@ -34,21 +39,17 @@ module _ (set : CorrelationView) (level : ℕ) where
     pub rising : IsRising ring.entries
     pub keeps : Keeps (in_first set) (in_second set) (bin level) ring closed
 
-  -- the cells count the pairs of these photons
-  pub record CellsAre (cells : Cells) (paired : History) : Type 0 where
+  -- the cells count the pairs of photons in closed bins, each bin paired once with each lag at most
+  pub record CellsAre (cells : Cells) (closed : History) : Type 0 where
     pub count : length cells.cells ≡ lag_count set level
-    pub pairs : (p : ℕ) → p < lag_count set level → slice_index cells.cells p ≡ correlation set level (p + lag_floor set level + 1) paired
-    pub few : cells.added ≤ lag_count set level * length paired
+    pub pairs : (p : ℕ) → p < lag_count set level → slice_index cells.cells p ≡ correlation set level (p + lag_floor set level + 1) closed
+    pub work : cells.added ≤ lag_count set level * occupied level closed
 
   -- a level to which the photons of closed bins, and after them those of the open one, came
   pub record LevelIs (l : Level) (closed open' : History) : Type 0 where
     pub opened : OpenIs l.open closed open'
     pub ring : RingIs l.ring closed
-    pub cells : CellsAre l.cells (closed ++ open')
-
-  -- a level to which these photons came
-  abbrev pub Stands : Level → History → Type 0
-  Stands l came = (closed : History) × (open' : History) × (came ≡ closed ++ open') × LevelIs l closed open'
+    pub cells : CellsAre l.cells closed
 
   -- the bin e, of photons xs, may be closed after these closed ones
   pub record CanClose (ring : Ring) (e : Entry) (closed xs : History) : Type 0 where
@@ -56,20 +57,61 @@ module _ (set : CorrelationView) (level : ℕ) where
     pub is_bin : IsBin e xs
     pub before : AllByRecursion (λ x. bin level x < e.index) closed
 
+  -- and be paired with them
+  pub record CanShut (ring : Ring) (cells : Cells) (e : Entry) (closed xs : History) : Type 0 where
+    pub few : length closed + length xs ≤ 2 ^ 40
+    pub close : CanClose ring e closed xs
+    pub were : CellsAre cells closed
+
   -- photons xs of one bin may come, after all that came
-  pub record CanPut (l : Level) (e : Entry) (came xs : History) : Type 0 where
-    pub few : length came + length xs ≤ 2 ^ 40
-    pub was : Stands l came
+  pub record CanPut (l : Level) (e : Entry) (closed open' xs : History) : Type 0 where
+    pub few : length closed + length open' + length xs ≤ 2 ^ 40
+    pub was : LevelIs l closed open'
     pub is_bin : IsBin e xs
-    pub after : AllByRecursion (λ x. bin level x ≤ e.index) came
+    pub after : AllByRecursion (λ x. bin level x ≤ e.index) (closed ++ open')
 
-  -- photons xs of the bin with this index are in the open bin, and aren't paired yet with the closed ones
-  pub record IsJoined (l : Level) (index : ℕ) (closed open' xs : History) : Type 0 where
-    pub opened : OpenIs l.open closed (open' ++ xs)
-    pub before : AllByRecursion (λ x. bin level x < index) closed
-    pub here : AllByRecursion (λ x. bin level x ≡ index) open'
-    pub ring : RingIs l.ring closed
-    pub cells : CellsAre l.cells (closed ++ open')
+  -- they came, and joined the open bin, or closed it
+  abbrev pub Put : Level → Option Entry → History → History → History → Type 0
+  Put l None closed open' xs = LevelIs l closed (open' ++ xs)
+  Put l (Some e) closed open' xs = LevelIs l (closed ++ open') xs × IsBin e open' × AllByRecursion (λ x. bin level x < e.index) closed
 
-  abbrev pub Joined : Level → ℕ → History → History → Type 0
-  Joined l index came xs = (closed : History) × (open' : History) × (came ≡ closed ++ open') × IsJoined l index closed open' xs
+  -- its open bin may be closed
+  pub record CanFinish (l : Level) (closed open' : History) : Type 0 where
+    pub few : length closed + length open' ≤ 2 ^ 40
+    pub was : LevelIs l closed open'
+
+  -- no bin is open, and all that came is in closed ones
+  pub record LevelDone (l : Level) (came : History) : Type 0 where
+    pub none : l.open ≡ None
+    pub ring : RingIs l.ring came
+    pub cells : CellsAre l.cells came
+
+  abbrev pub Finished : Level → Option Entry → History → History → Type 0
+  Finished l None closed open' = LevelDone l (closed ++ open') × (closed ≡ []) × (open' ≡ [])
+  Finished l (Some e) closed open' = LevelDone l (closed ++ open') × IsBin e open' × AllByRecursion (λ x. bin level x < e.index) closed
+
+-- from a level upwards: what came to one, and is in its closed bins, came to the next
+abbrev pub Chain : CorrelationView → ℕ → List Level → History → Type 0
+Chain set level [] came = ⊤
+Chain set level (l ∷ ls) came = (closed : History) × (open' : History) × (came ≡ closed ++ open') × LevelIs set level l closed open' × Chain set (suc level) ls closed
+
+-- from a level upwards no bin is open, and all came everywhere
+abbrev pub Complete : CorrelationView → ℕ → List Level → History → Type 0
+Complete set level [] came = ⊤
+Complete set level (l ∷ ls) came = LevelDone set level l came × Complete set (suc level) ls came
+
+-- photons xs of one bin may come to a level and those above it, after all that came
+pub record CanCarry (set : CorrelationView) (level : ℕ) (ls : List Level) (e : Entry) (came xs : History) : Type 0 where
+  pub few : length came + length xs ≤ 2 ^ 40
+  pub chain : Chain set level ls came
+  pub is_bin : IsBin set level e xs
+  pub after : AllByRecursion (λ x. bin level x ≤ e.index) came
+
+-- the open bins may be closed, from the first level upwards
+pub record CanEnd (set : CorrelationView) (level : ℕ) (ls : List Level) (came : History) : Type 0 where
+  pub few : length came ≤ 2 ^ 40
+  pub chain : Chain set level ls came
+
+-- the additions that made the cells of these levels
+abbrev pub spent : List Level → ℕ
+spent ls = sum_by (λ l. l.cells.added) ls

@@ -1,4 +1,6 @@
 pub mod Correlation
+pub mod Work
+pub mod Opens
 pub mod Levels
 pub mod Counts
 pub mod Cascade

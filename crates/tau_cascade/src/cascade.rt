@@ -2,9 +2,11 @@
 ghost use Rattle.std.specs.Prelude.{◌≡◌, ◌+◌, ◌^◌, ◌<◌, ◌≤◌, [], ◌∷◌, ◌++◌, false, length, vec_len, if◌then◌else◌};
 ghost use Rattle.tally_base.specs.Settings.{correlation_view};
 ghost use Rattle.tally_base.specs.Tally.{History};
-ghost use Rattle.tau_cascade.specs.Correlation.{Given, photons_of};
-ghost use Rattle.tau_cascade.specs.Counts.{Counts, LevelsAre, CanCome, CanGive};
+ghost use Rattle.tau_cascade.specs.Correlation.{photons_of};
+ghost use Rattle.tau_cascade.specs.Counts.{Counts, CanGive};
+ghost use Rattle.tau_cascade.specs.Levels.{Chain, spent};
 
+use crate::carry::{carry, end_all};
 use crate::level::{Level, floor_of};
 use lag_ring::{Entry, PairCells};
 use std::alloc::{AllocError, Global};
@@ -25,15 +27,18 @@ pub struct Cascade {
     floor: u64,
     closed: bool,
     ghost sized: { vec_len levels ≡ set.levels },
-    ghost stands: { ∥ ((h : History) × Counts set levels.items taken floor h) ∥₁ },
+    ghost few: { taken ≤ 2 ^ 40 },
+    ghost stands: { ∥ ((h : History) × Counts closed set levels.items taken floor h) ∥₁ },
 }
 
 impl Cascade {
-    ghost use Rattle.std.specs.Prelude.{◌≡◌, ◌-◌, ◌<◌, ◌≤◌, true, IfOk, Some, slice_index};
+    ghost use Rattle.std.specs.Prelude.{◌≡◌, ◌-◌, ◌<◌, ◌≤◌, true, IfOk, None, Some, slice_index};
     ghost use Rattle.std.specs.Option.{ForSome, option_map};
     ghost use Rattle.tally_base.specs.Settings.PartSettings.{CorrelationSettings};
-    ghost use Rattle.tau_cascade.specs.Cascade.{Holds, cells_at, ring_at, set_of};
+    ghost use Rattle.tau_cascade.specs.Cascade.{Holds, cells_at, ring_at, open_at, set_of, spent_by};
     ghost use Rattle.tau_cascade.specs.Correlation.{correlation, lag_count, lag_floor};
+    ghost use Rattle.tau_cascade.specs.Opens.{open_bin};
+    ghost use Rattle.tau_cascade.specs.Work.{work};
 
     /// A correlation of no events, with all the memory that it ever takes, or `AllocError` where it is
     /// wanting.
@@ -43,6 +48,7 @@ impl Cascade {
             ⟦<Cascade as Tally>⟧.settings t ≡ CorrelationSettings (correlation_view set)) }
         ensures empty { IfOk result (λ t. Holds t []) }
         ensures opened { IfOk result (λ t. ⟦<Cascade as Tally>⟧.closed t ≡ false) }
+        ensures unspent { IfOk result (λ t. spent_by t ≡ 0) }
     {
         let mut levels = Vec::new(alloc);
         for level in 0..set.levels {
@@ -80,8 +86,21 @@ impl Cascade {
         ensures lags { length result.now.cells ≡ lag_count (correlation_view (set_of self.now)) level }
         ensures ring { ForSome (ring_at self.now level)
             (λ r. length r.entries ≤ (set_of self.now).lags) }
+        ensures work { (h : History) → Holds self.now h
+            → spent_by self.now ≤ work (correlation_view (set_of self.now)) h }
     {
         &self.levels[level as usize].cells
+    }
+
+    /// The open bin of a level: the bin of the last photons that came to it, which no later ones closed.
+    pub fn open_bin(&self, level: u32) -> Option<Entry>
+        requires { level < (set_of self.now).levels }
+        ensures bin { open_at self.now level ≡ Some result }
+        ensures still_open { (h : History) → ⟦<Cascade as Tally>⟧.closed self.now ≡ false
+            → Holds self.now h → result ≡ open_bin (correlation_view (set_of self.now)) level h }
+        ensures closed { ⟦<Cascade as Tally>⟧.closed self.now ≡ true → result ≡ None }
+    {
+        self.levels[level as usize].open
     }
 
     /// How many pairs are `lag` bins apart on the level. The lag is one of the level's, and the table is
@@ -101,31 +120,6 @@ impl Cascade {
     }
 }
 
-/// Gives a photon, as its entry on the first level, to every level.
-fn give_photon<L: Ledger>(
-    levels: &mut [Level],
-    set: &CorrelationSet,
-    photon: &Entry,
-    steps: &mut Steps<L>,
-)
-    requires stands { ∥ ((came : History) × (x : Given)
-        × CanCome (correlation_view set.now) levels.old photon.now came x) ∥₁ }
-    requires depth { length levels.old ≤ 40 }
-    ensures same { length levels.new ≡ length levels.old }
-    ensures follows { (came : History) (x : Given)
-        → CanCome (correlation_view set.now) levels.old photon.now came x
-        → LevelsAre (correlation_view set.now) levels.new (came ++ x ∷ []) }
-{
-    for (number, level) in levels.iter_mut().enumerate() {
-        let bin = Entry {
-            index: photon.index >> number,
-            a: photon.a,
-            b: photon.b,
-        };
-        level.put(set, number as u32, bin, steps);
-    }
-}
-
 /// Gives an event to the levels.
 fn give<L: Ledger>(
     levels: &mut [Level],
@@ -139,26 +133,23 @@ fn give<L: Ledger>(
     requires depth { length levels.old ≤ 40 }
     ensures same { length levels.new ≡ length levels.old }
     ensures follows { (h : History) → CanGive (correlation_view set.now) levels.old e.now h
-        → LevelsAre (correlation_view set.now) levels.new
+        → Chain (correlation_view set.now) 0 levels.new
         (photons_of (correlation_view set.now) (h ++ (e.now, groups) ∷ [])) }
+    ensures steps { steps.new + spent levels.old ≡ steps.old + spent levels.new }
 {
     if e.is_photon() {
         let a = is_in(groups, set.first);
         let b = is_in(groups, set.second);
         if a || b {
-            let photon = Entry {
-                index: e.time,
-                a: u64::from(a),
-                b: u64::from(b),
-            };
-            give_photon(levels, set, &photon, steps);
+            carry(levels, set, 0, e.time, u64::from(a), u64::from(b), steps);
         }
     }
 }
 
 impl Tally for Cascade {
-    ghost use Rattle.std.specs.Prelude.{◌+◌, sum_by};
-    ghost use Rattle.tau_cascade.specs.Cascade.{Holds, settings};
+    ghost use Rattle.std.specs.Prelude.{◌≡◌, ◌+◌, ◌<◌, ◌≤◌, ◌^◌, ◌++◌, ◌∷◌, [], true, false, IsTrue, sum_by, if◌then◌else◌};
+    ghost use Rattle.tally_base.specs.Tally.{moves_floor};
+    ghost use Rattle.tau_cascade.specs.Cascade.{Holds, settings, spent_by};
     ghost use Rattle.tau_cascade.specs.Counts.{entries_of};
     ghost use Rattle.tau_cascade.specs.Laws.{taken_is, floor_is, within_bound};
 
@@ -180,13 +171,35 @@ impl Tally for Cascade {
 
     ghost within = { within_bound };
 
-    fn event<L: Ledger>(&mut self, e: &Event, groups: u64, steps: &mut Steps<L>) {
+    fn event<L: Ledger>(&mut self, e: &Event, groups: u64, steps: &mut Steps<L>)
+        requires open { self.old.closed ≡ false }
+        requires room { self.old.taken < 2 ^ 40 }
+        requires in_time { e.now.time ≤ 2 ^ 62 + 2 ^ 28 }
+        requires in_order { IsTrue (moves_floor false e.now) → self.old.floor ≤ e.now.time }
+        ensures follows { (h : History) → Holds self.old h
+            → Holds self.new (h ++ (e.now, groups) ∷ []) }
+        ensures still_open { self.new.closed ≡ false }
+        ensures one_more { self.new.taken ≡ self.old.taken + 1 }
+        ensures moved { self.new.floor ≡ (if moves_floor false e.now
+            then e.now.time else self.old.floor) }
+        ensures same_settings { settings self.new ≡ settings self.old }
+        ensures steps { steps.new + spent_by self.old ≡ steps.old + spent_by self.new }
+    {
         self.taken += 1;
         self.floor = floor_behind(self.floor, e);
         give(&mut self.levels, &self.set, e, groups, steps);
     }
 
-    fn close<L: Ledger>(&mut self, _steps: &mut Steps<L>) {
+    fn close<L: Ledger>(&mut self, steps: &mut Steps<L>)
+        requires open { self.old.closed ≡ false }
+        ensures keeps { (h : History) → Holds self.old h → Holds self.new h }
+        ensures now_closed { self.new.closed ≡ true }
+        ensures same_taken { self.new.taken ≡ self.old.taken }
+        ensures same_floor { self.new.floor ≡ self.old.floor }
+        ensures same_settings { settings self.new ≡ settings self.old }
+        ensures steps { steps.new + spent_by self.old ≡ steps.old + spent_by self.new }
+    {
+        end_all(&mut self.levels, &self.set, 0, steps);
         self.closed = true;
     }
 }

@@ -1,10 +1,11 @@
 // One level: its open bin, the ring of its last closed bins, and its cells.
 ghost use Rattle.std.specs.Prelude.{◌≡◌, ℕ, ◌+◌, ◌-◌, ◌*◌, ◌^◌, ◌<◌, ◌≤◌, ◌++◌, length, slice_index, if◌then◌else◌, ◌==◌, ◌&&◌, nat_lt, nat_le};
 ghost use Rattle.std.specs.List.{AllByRecursion};
-ghost use Rattle.tally_base.specs.Settings.{correlation_view};
+ghost use Rattle.lag_ring.specs.Ring.{IsRising};
+ghost use Rattle.tally_base.specs.Settings.{CorrelationView, correlation_view};
 ghost use Rattle.tally_base.specs.Tally.{History};
 ghost use Rattle.tau_cascade.specs.Correlation.{lag_floor};
-ghost use Rattle.tau_cascade.specs.Levels.{weight_before, entries_at_lags, RingIs, CanClose};
+ghost use Rattle.tau_cascade.specs.Levels.{weight_before, entries_at_lags, RingIs, CellsAre, CanClose, CanShut};
 
 use lag_ring::{Entry, LagRing, PairCells};
 use std::alloc::{AllocError, Global};
@@ -32,6 +33,7 @@ pub(crate) fn floor_of(set: &CorrelationSet, level: u32) -> u32
 
 /// Adds the pairs of so many photons of an earlier bin and so many of a later one to the cell of their lag,
 /// where the level has that lag.
+#[inline(always)]
 fn add_at_lag<L: Ledger>(
     cells: &mut PairCells,
     floor: u32,
@@ -50,6 +52,7 @@ fn add_at_lag<L: Ledger>(
     ensures same { length cells.new.cells ≡ length cells.old.cells }
     ensures added { cells.new.added
         ≤ cells.old.added + (if nat_lt floor lag && nat_le lag lags then 1 else 0) }
+    ensures steps { steps.new + cells.old.added ≡ steps.old + cells.new.added }
 {
     if lag > u64::from(floor) && lag <= u64::from(lags) {
         let pairs = u128::from(earlier) * u128::from(later);
@@ -58,7 +61,8 @@ fn add_at_lag<L: Ledger>(
 }
 
 /// Pairs photons of the bin at `index`, of which `weight` are in the second group, with those of earlier
-/// entries at the lags above `floor` and up to `lags`.
+/// entries at the lags above `floor` and up to `lags`. From the first entry on that is nearer, all are.
+#[inline(always)]
 fn pair_entries<L: Ledger>(
     cells: &mut PairCells,
     floor: u32,
@@ -69,6 +73,7 @@ fn pair_entries<L: Ledger>(
     steps: &mut Steps<L>,
 )
     requires lags { (floor ≤ lags) × (length cells.old.cells ≡ lags - floor) }
+    requires rising { IsRising entries.now }
     requires after { AllByRecursion (λ e. e.index < index) entries.now }
     requires fits { (p : ℕ) → p < lags - floor → slice_index cells.old.cells p
         + weight_before (p + floor + 1) index entries.now * weight ≤ 2 ^ 80 }
@@ -79,14 +84,20 @@ fn pair_entries<L: Ledger>(
     ensures same { length cells.new.cells ≡ length cells.old.cells }
     ensures added { cells.new.added
         ≤ cells.old.added + entries_at_lags floor lags index entries.now }
+    ensures steps { steps.new + cells.old.added ≡ steps.old + cells.new.added }
 {
     for e in entries {
-        add_at_lag(cells, floor, lags, index - e.index, e.a, weight, steps);
+        let lag = index - e.index;
+        if lag <= u64::from(floor) {
+            return;
+        }
+        add_at_lag(cells, floor, lags, lag, e.a, weight, steps);
     }
 }
 
 /// Pairs photons of the bin at `index`, of which `weight` are in the second group, with the entries at the
 /// lags above `floor` and up to `lags`.
+#[inline(always)]
 fn pair<L: Ledger>(
     ring: &LagRing,
     cells: &mut PairCells,
@@ -107,13 +118,13 @@ fn pair<L: Ledger>(
     ensures same { length cells.new.cells ≡ length cells.old.cells }
     ensures added { cells.new.added
         ≤ cells.old.added + entries_at_lags floor lags index ring.now.entries }
+    ensures steps { steps.new + cells.old.added ≡ steps.old + cells.new.added }
 {
-    let (front, back) = ring.slices();
-    pair_entries(cells, floor, lags, index, weight, front, steps);
-    pair_entries(cells, floor, lags, index, weight, back, steps);
+    pair_entries(cells, floor, lags, index, weight, ring.entries(), steps);
 }
 
 /// Puts a closed bin into the ring, in place of those that no later photon reaches.
+#[inline(always)]
 fn keep(ring: &mut LagRing, set: &CorrelationSet, bin: &Entry)
     requires stands { ∥ ((level : ℕ) × (closed : History) × (xs : History)
         × CanClose (correlation_view set.now) level ring.old bin.now closed xs) ∥₁ }
@@ -125,13 +136,55 @@ fn keep(ring: &mut LagRing, set: &CorrelationSet, bin: &Entry)
     ring.push(bin.index, bin.a, bin.b);
 }
 
+/// Pairs a bin that is closed with those that were closed before.
+#[inline(always)]
+fn pair_bin<L: Ledger>(
+    ring: &LagRing,
+    cells: &mut PairCells,
+    set: &CorrelationSet,
+    level: u32,
+    bin: &Entry,
+    steps: &mut Steps<L>,
+)
+    requires stands { ∥ ((closed : History) × (xs : History)
+        × CanShut (correlation_view set.now) level ring.now cells.old bin.now closed xs) ∥₁ }
+    ensures follows { (closed xs : History)
+        → CanShut (correlation_view set.now) level ring.now cells.old bin.now closed xs
+        → CellsAre (correlation_view set.now) level cells.new (closed ++ xs) }
+    ensures steps { steps.new + cells.old.added ≡ steps.old + cells.new.added }
+{
+    if bin.b > 0 {
+        pair(
+            ring,
+            cells,
+            floor_of(set, level),
+            set.lags,
+            bin.index,
+            bin.b,
+            steps,
+        );
+    }
+}
+
+/// Puts a closed bin into the ring, which has no other that it reaches.
+#[inline(always)]
+fn begin(ring: &mut LagRing, bin: &Entry)
+    ensures ring { (set : CorrelationView) (level : ℕ) (closed xs : History) → 0 < set.lags
+        → AllByRecursion (λ e. e.index + set.lags < bin.now.index) ring.old.entries
+        → CanClose set level ring.old bin.now closed xs
+        → RingIs set level ring.new (closed ++ xs) }
+{
+    ring.restart(bin.index, bin.a, bin.b);
+}
+
 impl Level {
     ghost use Rattle.std.specs.Prelude.{◌++◌, [], IfOk};
-    ghost use Rattle.tau_cascade.specs.Levels.{Stands, CanPut, Joined};
+    ghost use Rattle.tau_cascade.specs.Levels.{LevelIs, CanPut, Put, CanFinish, Finished};
 
     /// A level to which nothing came, or `AllocError` where memory for it is wanting.
     pub(crate) fn open(alloc: Global, set: &CorrelationSet, level: u32) -> Result<Level, AllocError>
-        ensures empty { IfOk result (λ l. Stands (correlation_view set.now) level l []) }
+        ensures empty { IfOk result (λ l. LevelIs (correlation_view set.now) level l [] []) }
+        ensures none { IfOk result (λ l. l.cells.added ≡ 0) }
     {
         Ok(Level {
             open: None,
@@ -140,55 +193,95 @@ impl Level {
         })
     }
 
-    /// Puts a bin of photons into the open bin. Where that has another index, it is closed first.
-    fn join(&mut self, set: &CorrelationSet, bin: Entry)
-        requires stands { ∥ ((level : ℕ) × (came : History) × (xs : History)
-            × CanPut (correlation_view set.now) level self.old bin came xs) ∥₁ }
-        ensures follows { (level : ℕ) (came xs : History)
-            → CanPut (correlation_view set.now) level self.old bin came xs
-            → Joined (correlation_view set.now) level self.new bin.index came xs }
+    /// Pairs a bin with the closed ones, and puts it among them. Where the last of those is out of reach,
+    /// which is the most frequent case, there is no pair.
+    #[inline(always)]
+    fn shut<L: Ledger>(
+        &mut self,
+        set: &CorrelationSet,
+        level: u32,
+        bin: &Entry,
+        steps: &mut Steps<L>,
+    )
+        requires stands { ∥ ((closed : History) × (xs : History) × CanShut
+            (correlation_view set.now) level self.old.ring self.old.cells bin.now closed xs) ∥₁ }
+        ensures ring { (closed xs : History)
+            → CanClose (correlation_view set.now) level self.old.ring bin.now closed xs
+            → RingIs (correlation_view set.now) level self.new.ring (closed ++ xs) }
+        ensures cells { (closed xs : History) → CanShut
+            (correlation_view set.now) level self.old.ring self.old.cells bin.now closed xs
+            → CellsAre (correlation_view set.now) level self.new.cells (closed ++ xs) }
+        ensures open { self.new.open ≡ self.old.open }
+        ensures steps { steps.new + self.old.cells.added ≡ steps.old + self.new.cells.added }
     {
-        match self.open {
-            Some(open) if open.index == bin.index => {
-                self.open = Some(Entry {
-                    index: open.index,
-                    a: open.a + bin.a,
-                    b: open.b + bin.b,
-                });
-            }
-            Some(open) => {
-                keep(&mut self.ring, set, &open);
-                self.open = Some(bin);
-            }
-            None => self.open = Some(bin),
+        if bin.index.saturating_sub(self.ring.newest()) > u64::from(set.lags) {
+            begin(&mut self.ring, bin);
+        } else {
+            pair_bin(&self.ring, &mut self.cells, set, level, bin, steps);
+            keep(&mut self.ring, set, bin);
         }
     }
 
-    /// Takes photons of one bin, none of them before one that came, and pairs them with the closed bins.
+    /// Takes photons of one bin, none of them before one that came. They join the open bin, or close it:
+    /// the answer is the bin that was closed.
+    #[inline(always)]
     pub(crate) fn put<L: Ledger>(
         &mut self,
         set: &CorrelationSet,
         level: u32,
         bin: Entry,
         steps: &mut Steps<L>,
-    )
-        requires stands { ∥ ((came : History) × (xs : History)
-            × CanPut (correlation_view set.now) level self.old bin came xs) ∥₁ }
-        ensures follows { (came xs : History)
-            → CanPut (correlation_view set.now) level self.old bin came xs
-            → Stands (correlation_view set.now) level self.new (came ++ xs) }
+    ) -> Option<Entry>
+        requires stands { ∥ ((closed : History) × (open' : History) × (xs : History)
+            × CanPut (correlation_view set.now) level self.old bin closed open' xs) ∥₁ }
+        ensures follows { (closed open' xs : History)
+            → CanPut (correlation_view set.now) level self.old bin closed open' xs
+            → Put (correlation_view set.now) level self.new result closed open' xs }
+        ensures steps { steps.new + self.old.cells.added ≡ steps.old + self.new.cells.added }
     {
-        self.join(set, bin);
-        if bin.b > 0 {
-            pair(
-                &self.ring,
-                &mut self.cells,
-                floor_of(set, level),
-                set.lags,
-                bin.index,
-                bin.b,
-                steps,
-            );
+        match self.open {
+            Some(open) => {
+                if open.index == bin.index {
+                    self.open = Some(Entry {
+                        index: open.index,
+                        a: open.a + bin.a,
+                        b: open.b + bin.b,
+                    });
+                    None
+                } else {
+                    self.shut(set, level, &open, steps);
+                    self.open = Some(bin);
+                    Some(open)
+                }
+            }
+            None => {
+                self.open = Some(bin);
+                None
+            }
+        }
+    }
+
+    /// Closes the open bin, and answers it.
+    pub(crate) fn end<L: Ledger>(
+        &mut self,
+        set: &CorrelationSet,
+        level: u32,
+        steps: &mut Steps<L>,
+    ) -> Option<Entry>
+        requires stands { ∥ ((closed : History) × (open' : History)
+            × CanFinish (correlation_view set.now) level self.old closed open') ∥₁ }
+        ensures follows { (closed open' : History)
+            → CanFinish (correlation_view set.now) level self.old closed open'
+            → Finished (correlation_view set.now) level self.new result closed open' }
+        ensures steps { steps.new + self.old.cells.added ≡ steps.old + self.new.cells.added }
+    {
+        match self.open {
+            Some(last) => {
+                self.shut(set, level, &last, steps);
+                self.open = None;
+                Some(last)
+            }
+            None => None,
         }
     }
 }

@@ -1,5 +1,5 @@
 // Cells of known events, where memory is had.
-ghost use Rattle.std.specs.Prelude.{◌≡◌, ◌<◌, ◌≤◌, ◌%◌, IfOk, length, true};
+ghost use Rattle.std.specs.Prelude.{◌≡◌, ◌<◌, ◌≤◌, ◌%◌, IfOk, length, true, false};
 ghost use Rattle.tau_cascade.specs.Cascade.{set_of};
 
 use super::Cascade;
@@ -49,6 +49,34 @@ fn of_two(lags: u32, levels: u32) -> CorrelationSet
     }
 }
 
+/// A table that was given these events, and isn't closed.
+fn given<L: Ledger>(
+    alloc: Global,
+    set: CorrelationSet,
+    events: &[Given],
+    steps: &mut Steps<L>,
+) -> Result<Cascade, Fail>
+    requires few { length events.now ≤ 100 }
+    ensures open { IfOk result (λ t. ⟦<Cascade as Tally>⟧.closed t ≡ false) }
+    ensures levels { IfOk result (λ t. (set_of t).levels ≡ set.levels) }
+{
+    let mut table = Cascade::open(alloc, set)?;
+    let mut latest = 0;
+    for &(time, kind, groups) in events {
+        if time < latest || time > END {
+            return Err(Fail::new("the times of a row are out of order"));
+        }
+        latest = time;
+        let event = Event {
+            place: 1,
+            kind,
+            time,
+        };
+        table.event(&event, groups, steps);
+    }
+    Ok(table)
+}
+
 /// A closed table that was given these events.
 fn filled<L: Ledger>(
     alloc: Global,
@@ -63,22 +91,59 @@ fn filled<L: Ledger>(
     ensures closed { IfOk result (λ t. ⟦<Cascade as Tally>⟧.closed t ≡ true) }
 {
     let mut steps = Steps::<L>::new(blank);
-    let mut table = Cascade::open(alloc, set)?;
-    let mut latest = 0;
-    for &(time, kind, groups) in events {
-        if time < latest || time > END {
-            return Err(Fail::new("the times of a row are out of order"));
-        }
-        latest = time;
-        let event = Event {
-            place: 1,
-            kind,
-            time,
-        };
-        table.event(&event, groups, &mut steps);
-    }
+    let mut table = given(alloc, set, events, &mut steps)?;
     table.close(&mut steps);
     Ok(table)
+}
+
+/// A bin: its index and its two weights.
+type Weighted = (u64, u64, u64);
+
+fn opened(table: &Cascade, level: u32) -> Option<Weighted>
+    requires level { level < (set_of table.now).levels }
+{
+    match table.open_bin(level) {
+        Some(bin) => Some((bin.index, bin.a, bin.b)),
+        None => None,
+    }
+}
+
+/// The open bins of the three levels of a row, and that of the lowest level once it is closed.
+fn bins<L: Ledger>(
+    alloc: Global,
+    blank: Blank,
+    set: CorrelationSet,
+    events: &[Given],
+) -> Result<[Option<Weighted>; 4], Fail>
+    requires name { blank.name ≡ L.name }
+    requires parts { blank.parts ≡ L.parts }
+    requires some { 0 < blank.parts }
+    requires few { length events.now ≤ 100 }
+    requires three { set.levels ≡ 3 }
+{
+    let mut steps = Steps::<L>::new(blank);
+    let mut table = given(alloc, set, events, &mut steps)?;
+    let lowest = opened(&table, 0);
+    let middle = opened(&table, 1);
+    let highest = opened(&table, 2);
+    table.close(&mut steps);
+    Ok([lowest, middle, highest, opened(&table, 0)])
+}
+
+#[test]
+fn photons_wait_in_the_open_bins(rt: HostRuntime) -> Result<(), Fail> {
+    let set = CorrelationSet {
+        first: 1,
+        second: 1,
+        lags: 2,
+        levels: 3,
+    };
+    let five = [first(0), first(1), first(2), first(3), first(8)];
+    assert_eq!(rt;
+        bins::<Brand>(rt.alloc(), Blank::new(1), set, &five)?,
+        [Some((8, 1, 1)), Some((1, 2, 2)), Some((0, 2, 2)), None]
+    );
+    Ok(())
 }
 
 /// The cells that aren't 0, each with its level and its lag.
@@ -124,6 +189,17 @@ fn each_pair_is_in_its_cells(rt: HostRuntime) -> Result<(), Fail> {
         levels: 2,
     };
     for row in [
+        // The pairs of the highest level are of bins that are open at the end.
+        Row {
+            set: CorrelationSet {
+                first: 1,
+                second: 1,
+                lags: 2,
+                levels: 3,
+            },
+            events: &[first(0), first(1), first(2), first(3), first(8)],
+            cells: &[(0, 1, 3), (0, 2, 2), (2, 2, 4)],
+        },
         // No photon meets itself.
         Row {
             set: own,

@@ -7,4 +7,5 @@ invariant-loop-e g l = record {
   cells : (p : ℕ) → p < l.lags - l.floor → get_or l.cells.cells p 0 ≡ get_or l.initial.cells.cells p 0 + weight_before (p + l.floor + 1) l.index (take l.e-index l.entries) * l.weight;
   same : length l.cells.cells ≡ length l.initial.cells.cells;
   added : l.cells.added ≤ l.initial.cells.added + entries_at_lags l.floor l.lags l.index (take l.e-index l.entries);
+  steps : l.steps + l.initial.cells.added ≡ l.initial.steps + l.cells.added;
 }

@@ -1,5 +1,6 @@
 use Rattle.std.proofs.Common.{rules, ◌≡◌, refl, sym, ◌∙◌, length}
 use Rattle.tally_engine.proofs.Slices.{whole_slice, same_map}
+use Rattle.tally_engine.proofs.Opens.{part_worked}
 use Rattle.tally_engine.proofs.Refusals.{unrefused, not_written}
 use Rattle.tally_engine.proofs.engine.Engine.finish.Goals as goal
 
@@ -15,4 +16,5 @@ returns-in-Ok-clause-answer g c = λ bytes h.
       parts_are = rw (whole_slice _ _ _ count all) (same_map _ _ _ count (λ k d within. (closed k d within).same_settings));
       closed = rw (whole_slice _ _ _ count all) (λ k d within. (closed k d ((rw count at within))).now_closed);
       counts = rw (whole_slice _ _ _ count all) (λ k d within. let inside = (rw count at within) in (closed k d inside).keeps _ (h.1 going k d inside));
+      worked = rw (whole_slice _ _ _ count all) (λ k d within. let inside = (rw count at within) in part_worked _ _ ((closed k d inside).keeps _ (h.1 going k d inside)));
     }

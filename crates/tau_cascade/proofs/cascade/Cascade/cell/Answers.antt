@@ -8,4 +8,4 @@ returns-clause-pairs c = λ h is.
     let t = c.args.self.now in
     let inside : c.args.level < length t.levels.items = search rules in
     c.get.ensures.count ∙ cell_is (correlation_view t.set) c.args.level c.args.lag c.floor_of.result c.level.result.now h
-    (shown_cells t.set t.levels.items t.taken t.floor h is c.args.level c.level.result.now c.level.ensures.cells) c.floor_of.ensures.floor c.requires.lag.0 c.requires.lag.1
+    (shown_cells t.closed c.requires.closed t.set t.levels.items t.taken t.floor h is c.args.level c.level.result.now c.level.ensures.cells) c.floor_of.ensures.floor c.requires.lag.0 c.requires.lag.1

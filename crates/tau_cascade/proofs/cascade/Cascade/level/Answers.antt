@@ -1,19 +1,25 @@
-use Rattle.std.proofs.Common.{rules, ◌<◌, length}
+use Rattle.std.proofs.Common.{rules, ◌≡◌, ◌<◌, length}
 use Rattle.std.proofs.Props.{props}
 use Rattle.std.proofs.Math.Logic.{∥∥₁_elim}
-use Rattle.tally_base.specs.Settings.{correlation_view}
-use Rattle.tau_cascade.specs.Correlation.{photons_of}
-use Rattle.tau_cascade.proofs.Shown.{cells_of, shown_ring}
+use Rattle.std.proofs.lemmas.Option.{slice_get_read}
+use Rattle.tau_cascade.proofs.Shown.{level_count, shown_ring}
+use Rattle.tau_cascade.proofs.Work.{spent_within}
 use Rattle.tau_cascade.proofs.cascade.Cascade.level.Goals as goal
 
 pub returns-clause-lags : goal.returns-clause-lags
 returns-clause-lags c =
     let t = c.args.self.now in
-    let view = correlation_view t.set in
-    let inside : c.args.level < length t.levels.items = search rules in
-    ∥∥₁_elim t.stands (hlevel props) (λ w. (cells_of view c.args.level c.index.result.now (photons_of view w.0) (rw c.index.ensures (w.1.levels c.args.level c.index.result.now inside))).count)
+    let count : t.set.levels ≡ length t.levels.items = search rules in
+    let read = slice_get_read t.levels.items t.set.levels c.args.level c.index.result.now count c.requires c.index.ensures in
+    ∥∥₁_elim t.stands (hlevel props) (λ w. level_count t.closed t.set t.levels.items t.taken t.floor w.0 w.1 c.args.level c.index.result.now read)
 
 pub returns-clause-ring : goal.returns-clause-ring
 returns-clause-ring c = λ r read.
     let t = c.args.self.now in
-    ∥∥₁_elim t.stands (hlevel props) (λ w. shown_ring t.set t.levels.items t.taken t.floor w.0 w.1 c.args.level r read)
+    ∥∥₁_elim t.stands (hlevel props) (λ w. shown_ring t.closed t.set t.levels.items t.taken t.floor w.0 w.1 c.args.level r read)
+
+pub returns-clause-work : goal.returns-clause-work
+returns-clause-work c = λ h is.
+    let t = c.args.self.now in
+    let count : length t.levels.items ≡ t.set.levels = search rules in
+    spent_within t.closed t.set t.levels.items t.taken t.floor h count is

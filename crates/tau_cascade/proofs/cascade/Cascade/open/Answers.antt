@@ -1,12 +1,14 @@
-use Rattle.std.proofs.Common.{arith, []}
+use Rattle.std.proofs.Common.{arith, refl, zero-add}
 use Rattle.std.proofs.lemmas.Grind.{common_steps}
+use Rattle.std.proofs.lemmas.List.Sums.{sum_by_push}
 use Rattle.tally_base.specs.Settings.{correlation_view}
-use Rattle.tau_cascade.specs.Levels.{Stands}
-use Rattle.tau_cascade.proofs.Everywhere.{all_pushed}
+use Rattle.tau_cascade.specs.declared.level.Level.{Level}
+use Rattle.tau_cascade.proofs.Opened.{chain_more}
 use Rattle.tau_cascade.proofs.cascade.Cascade.open.Goals as goal
 
 pub loop-level-preserved : goal.loop-level-preserved
 loop-level-preserved c = record {
   count = grind (arith, common_steps, c.in_ok-push.ensures.items, c.loop-level.invariant.count);
-  empty = rw c.in_ok-push.ensures.items (all_pushed (λ n l. Stands (correlation_view c.args.set) n l []) c.loop-level.levels.items c.loop-level.level c.in_ok-open.field-0 c.loop-level.invariant.count c.in_ok-open.ensures.empty c.loop-level.invariant.empty);
+  chain = rw c.in_ok-push.ensures.items (chain_more (correlation_view c.args.set) 0 c.loop-level.levels.items c.in_ok-open.field-0 c.loop-level.invariant.chain (rw (zero-add, c.loop-level.invariant.count) c.in_ok-open.ensures.empty));
+  none = rw (c.in_ok-push.ensures.items, sum_by_push (λ (l : Level). l.cells.added) c.loop-level.levels.items c.in_ok-open.field-0, c.loop-level.invariant.none, c.in_ok-open.ensures.none) refl;
 }

@@ -1,49 +1,20 @@
-use Rattle.std.proofs.Common.{arith, ◌≡◌, ◌<◌, refl}
-use Rattle.std.specs.List.{AllByRecursion-prop}
-use Rattle.std.proofs.Props.{props}
-use Rattle.std.proofs.Math.Logic.{∥∥₁_elim, ∥∥₁_map}
+use Rattle.std.proofs.Common.{refl}
+use Rattle.std.proofs.Math.Logic.{∥∥₁_map}
 use Rattle.tally_base.specs.Settings.{correlation_view}
-use Rattle.lag_ring.specs.declared.ring.Entry.{Entry}
-use Rattle.tau_cascade.proofs.Pairs.{ring_before, may_fit, few_additions, may_count, stands_paired, few_joined}
+use Rattle.tau_cascade.proofs.Puts.{can_shut, joined, moved_on}
 use Rattle.tau_cascade.proofs.level.Level.put.Goals as goal
 
-pub join-requires : goal.join-requires
-join-requires g c = record { stands = ∥∥₁_map c.requires.stands (λ w. (c.args.level, w.0, w.1, w.2)) }
-
-pub pair-requires-clause-lags : goal.pair-requires-clause-lags
-pair-requires-clause-lags g c = ∥∥₁_elim c.requires.stands (hlevel props) (λ w.
-    let joined = c.join.ensures.follows c.args.level w.0 w.1 w.2 in
-    (omega arith, omega (arith, joined.3.cells.count, c.floor_of.ensures.floor)))
-
-pub pair-requires-clause-after : goal.pair-requires-clause-after
-pair-requires-clause-after g c = ∥∥₁_elim c.requires.stands (AllByRecursion-prop (λ (e : Entry). e.index < c.args.bin.index) (λ e. hlevel props) _) (λ w.
-    let joined = c.join.ensures.follows c.args.level w.0 w.1 w.2 in
-    ring_before (correlation_view c.args.set.now) c.args.level c.floor_of.result c.floor_of.ensures.floor c.join.new.self c.args.bin joined.0 joined.1 w.1 w.2.is_bin joined.3)
-
-pub pair-requires-clause-fits : goal.pair-requires-clause-fits
-pair-requires-clause-fits g c = ∥∥₁_elim c.requires.stands (hlevel props) (λ w.
-    let joined = c.join.ensures.follows c.args.level w.0 w.1 w.2 in
-    may_fit (correlation_view c.args.set.now) c.args.level c.floor_of.result c.floor_of.ensures.floor c.join.new.self c.args.bin joined.0 joined.1 w.1 w.2.is_bin joined.3 (few_joined w.0 w.1 joined.0 joined.1 joined.2 w.2.few))
-
-pub pair-requires-clause-count : goal.pair-requires-clause-count
-pair-requires-clause-count g c = ∥∥₁_elim c.requires.stands (hlevel props) (λ w.
-    let joined = c.join.ensures.follows c.args.level w.0 w.1 w.2 in
-    may_count (correlation_view c.args.set.now) c.args.level c.floor_of.result c.floor_of.ensures.floor c.join.new.self c.args.bin joined.0 joined.1 w.1 w.2.is_bin joined.3 (omega (arith, c.args.set.now.some_lags)) (few_joined w.0 w.1 joined.0 joined.1 joined.2 w.2.few))
-
-pub returns-then-bin-gt0 : goal.returns-then-bin-gt0
-returns-then-bin-gt0 g c = record {
-  follows = λ came xs can.
-      let joined = c.join.ensures.follows c.args.level came xs can in
-      let few = few_additions (correlation_view c.args.set.now) c.args.level c.floor_of.result c.floor_of.ensures.floor c.join.new.self c.args.bin joined.0 joined.1 xs can.is_bin joined.3 in
-      stands_paired (correlation_view c.args.set.now) c.args.level c.floor_of.result c.floor_of.ensures.floor c.join.new.self c.args.bin joined.0 joined.1 xs can.is_bin joined.3
-      came joined.2 c.pair.new.cells c.pair.ensures.cells c.pair.ensures.same (omega (arith, c.pair.ensures.added, few));
+pub shut-requires : goal.shut-requires
+shut-requires g c = record {
+  stands = ∥∥₁_map c.requires.stands (λ w. (w.0, w.1, can_shut (correlation_view c.args.set.now) c.args.level c.args.self.now c.in-Some.open c.args.bin c.in-Some.is w.0 w.1 w.2 w.3));
 }
 
-pub returns-else-bin-gt0 : goal.returns-else-bin-gt0
-returns-else-bin-gt0 g c = record {
-  follows = λ came xs can.
-      let joined = c.join.ensures.follows c.args.level came xs can in
-      let none : c.args.bin.b ≡ 0 = omega arith in
-      stands_paired (correlation_view c.args.set.now) c.args.level _ refl c.join.new.self c.args.bin joined.0 joined.1 xs can.is_bin joined.3
-      came joined.2 c.join.new.self.cells (λ p inside. rw none (omega arith)) refl (omega arith);
-}
+pub returns-then-open-bin-clause-follows : goal.returns-then-open-bin-clause-follows
+returns-then-open-bin-clause-follows g c = λ closed open' xs can.
+    joined (correlation_view c.args.set.now) c.args.level c.args.self.now c.in-Some.open c.args.bin c.in-Some.is closed open' xs can c.if-open-bin.true _ refl
+
+pub returns-else-open-bin-clause-follows : goal.returns-else-open-bin-clause-follows
+returns-else-open-bin-clause-follows g c = λ closed open' xs can.
+    let may = can_shut (correlation_view c.args.set.now) c.args.level c.args.self.now c.in-Some.open c.args.bin c.in-Some.is closed open' xs can in
+    let after = moved_on (correlation_view c.args.set.now) c.args.level c.args.self.now c.in-Some.open c.args.bin c.in-Some.is closed open' xs can c.if-open-bin.false in
+    (record { opened = (can.is_bin, after); ring = c.shut.ensures.ring closed open' may.close; cells = c.shut.ensures.cells closed open' may }, may.close.is_bin, may.close.before)

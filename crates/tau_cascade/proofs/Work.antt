@@ -1,0 +1,53 @@
+-- A level's additions are at most its lags times its occupied bins.
+use Rattle.std.proofs.Common.{rules, ◌≡◌, ℕ, suc, ◌*◌, ◌%◌, ◌≤◌, Bool, true, false, List, [], ◌∷◌, ◌++◌, length, map, sym, ap, ◌∙◌, append_assoc, append-nil, subst, arith}
+use Rattle.std.proofs.Math.Nat.{mul-le-mul_left}
+use Rattle.std.proofs.lemmas.Grind.{common_steps}
+use Rattle.std.proofs.lemmas.List.{map-append}
+use Rattle.std.proofs.lemmas.List.Sums.{sum_by-cons}
+use Rattle.tally_base.specs.declared.settings.CorrelationSet.{CorrelationSet}
+use Rattle.tally_base.specs.Settings.{CorrelationView, correlation_view}
+use Rattle.tally_base.specs.Tally.{History}
+use Rattle.tau_cascade.specs.declared.level.Level.{Level}
+use Rattle.tau_cascade.specs.declared.cascade.Cascade.{Cascade}
+use Rattle.tau_cascade.specs.Cascade.{Holds, set_of, spent_by}
+use Rattle.tau_cascade.specs.Counts.{Counts}
+use Rattle.tau_cascade.specs.Correlation.{bin, lag_count, photons_of}
+use Rattle.tau_cascade.specs.Work.{occupied, lags_at, work_from, work}
+use Rattle.tau_cascade.specs.Levels.{Chain, Complete, CellsAre, spent}
+use Rattle.tau_cascade.proofs.Distinct.{distinct-le-append}
+
+occupied-le : (level : ℕ) (all front back : History) → all ≡ front ++ back → occupied level front ≤ occupied level all
+occupied-le level all front back same = rw (same, map-append (bin level) front back) (distinct-le-append (map (bin level) front) (map (bin level) back))
+
+even_lags : (set : CorrelationView) (level : ℕ) → set.lags % 2 ≡ 0 → lag_count set level ≡ lags_at set level
+even_lags set level even = grind (arith, common_steps)
+
+one_level : (set : CorrelationView) (level : ℕ) (l : Level) (all front back : History) → all ≡ front ++ back → set.lags % 2 ≡ 0 → CellsAre set level l.cells front → l.cells.added ≤ lags_at set level * occupied level all
+one_level set level l all front back same even cells =
+    let fewer : lag_count set level * occupied level front ≤ lag_count set level * occupied level all = mul-le-mul_left (lag_count set level) (occupied-le level all front back same) in
+    rw (← even_lags set level even) (omega (arith, cells.work, fewer))
+
+open_work : (set : CorrelationView) → set.lags % 2 ≡ 0 → (level : ℕ) (ls : List Level) (all came later : History) → all ≡ came ++ later → Chain set level ls came → spent ls ≤ work_from set level (length ls) all
+open_work set even level [] all came later same chain = omega arith
+open_work set even level (l ∷ ls) all came later same chain =
+    let split : all ≡ chain.0 ++ (chain.1 ++ later) = same ∙ ap (λ xs. xs ++ later) chain.2 ∙ append_assoc chain.0 chain.1 later in
+    rw (sum_by-cons (λ (l : Level). l.cells.added) l ls) (omega (arith, one_level set level l all chain.0 (chain.1 ++ later) split even chain.3.cells, open_work set even (suc level) ls all chain.0 (chain.1 ++ later) split chain.4))
+
+shut_work : (set : CorrelationView) → set.lags % 2 ≡ 0 → (level : ℕ) (ls : List Level) (all : History) → Complete set level ls all → spent ls ≤ work_from set level (length ls) all
+shut_work set even level [] all is = omega arith
+shut_work set even level (l ∷ ls) all is =
+    rw (sum_by-cons (λ (l : Level). l.cells.added) l ls) (omega (arith, one_level set level l all all [] (sym (append-nil all)) even is.0.cells, shut_work set even (suc level) ls all is.1))
+
+-- whatever events a correlation stands for, its additions are within their work
+pub spent_within : (closed : Bool) (set : CorrelationSet) (ls : List Level) (count time : ℕ) (h : History) → length ls ≡ set.levels → Counts closed set ls count time h → spent ls ≤ work (correlation_view set) h
+spent_within false set ls count time h sized is =
+    let view : CorrelationView = correlation_view set in
+    subst (λ n. spent ls ≤ work_from view 0 n (photons_of view h)) sized (open_work view set.even_lags 0 ls (photons_of view h) (photons_of view h) [] (sym (append-nil (photons_of view h))) is.through)
+spent_within true set ls count time h sized is =
+    let view : CorrelationView = correlation_view set in
+    subst (λ n. spent ls ≤ work_from view 0 n (photons_of view h)) sized (shut_work view set.even_lags 0 ls (photons_of view h) is.through)
+
+pub work_within : (t : Cascade) (h : History) → Holds t h → spent_by t ≤ work (correlation_view (set_of t)) h
+work_within t h is =
+    let sized : length t.levels.items ≡ t.set.levels = search rules in
+    spent_within t.closed t.set t.levels.items t.taken t.floor h sized is

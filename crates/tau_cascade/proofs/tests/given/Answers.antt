@@ -1,0 +1,14 @@
+use Rattle.std.proofs.Common.{rules, arith, ap, ◌≡◌, ◌∙◌}
+use Rattle.std.proofs.lemmas.Grind.{common_steps}
+use Rattle.tally_base.specs.Settings.{PartSettings}
+use Rattle.tally_base.specs.Settings.PartSettings.{CorrelationSettings}
+use Rattle.tau_cascade.proofs.SettingsRead.{levels_in}
+use Rattle.tau_cascade.proofs.tests.given.Goals as goal
+
+pub loop-time-preserved : goal.loop-time-preserved
+loop-time-preserved g c = record {
+  not_closed = search rules;
+  count = search rules;
+  same = ap levels_in c.event.ensures.same_settings ∙ c.loop-time.invariant.same;
+  early = search (rules, arith);
+}

@@ -1,0 +1,33 @@
+-- Which bins are open, from the events alone.
+use Rattle.std.specs.Prelude.{ℕ, ◌/◌, zero, suc, max, Bool, true, false, ◌&&◌, ◌==◌, nat_lt, Option, None, Some, unwrap_or, List, [], ◌∷◌, map, filter, count_by}
+use Rattle.std.specs.Option.{option_map, option_and_then, option_map_or}
+use Rattle.tally_base.specs.Settings.{CorrelationView}
+use Rattle.tally_base.specs.Tally.{History}
+use Rattle.lag_ring.specs.declared.ring.Entry.{Entry}
+use Rattle.tau_cascade.specs.Correlation.{Given, bin, in_first, in_second, photons_of}
+
+-- the greatest number of a list
+abbrev pub greatest : List ℕ → Option ℕ
+greatest [] = None
+greatest (n ∷ ns) = Some (max n (unwrap_or (greatest ns) 0))
+
+-- the index of a level's open bin: on the lowest the greatest time, above that half of the greatest bin of the level below that is before that level's open one
+abbrev pub open_index : ℕ → History → Option ℕ
+open_index zero xs = greatest (map (bin 0) xs)
+open_index (suc level) xs = option_and_then (λ p. option_map (λ v. v / 2) (greatest (filter (λ n. nat_lt n p) (map (bin level) xs)))) (open_index level xs)
+
+-- the photons that have left the level below: those before its open bin
+abbrev pub has_come : ℕ → History → Given → Bool
+has_come zero xs x = true
+has_come (suc level) xs x = option_map_or (λ p. nat_lt (bin level x) p) (open_index level xs) false
+
+-- the open bin of a level: photons in its bin that have come
+abbrev pub open_of : CorrelationView → ℕ → History → Option Entry
+open_of set level xs = option_map (λ p. record {
+  index = p;
+  a = count_by (λ x. in_first set x && (has_come level xs x && (bin level x == p))) xs;
+  b = count_by (λ x. in_second set x && (has_come level xs x && (bin level x == p))) xs;
+}) (open_index level xs)
+
+abbrev pub open_bin : CorrelationView → ℕ → History → Option Entry
+open_bin set level h = open_of set level (photons_of set h)
