@@ -6,4 +6,3 @@ pub mod Rows
 pub mod Whole
 pub mod Misfits
 pub mod Called
-pub mod Firsts

@@ -1,63 +1,92 @@
 -- What `fits` refuses is the first part that doesn't suit the mode.
-use Rattle.std.proofs.Common.{◌≡◌, ◌==◌, if◌then◌else◌, refl, ℕ, ◌<◌, Bool, true, false, length, Result, Ok, Err, inl, inr, arith, rules}
-use Rattle.std.proofs.lemmas.Bool.Decides.{nat_tests}
+use Rattle.std.proofs.Common.{◌≡◌, refl, ap, ◌∙◌, ℕ, List, [], ◌∷◌, ◌++◌, ◌<◌, length, map, Bool, Option, None, Some, Result, Ok, Err, inl, inr, arith, rules}
+use Rattle.std.specs.List.{AllByRecursion}
 use Rattle.std.proofs.lemmas.Result.{IfErr-at_err}
 use Rattle.tally_base.specs.declared.fault.Fault.{Fault}
 use Rattle.tally_base.specs.declared.fault.Fault.TheVariants.{PlanMode}
 use Rattle.tally_base.specs.declared.header.Mode.{Mode}
-use Rattle.tally_base.specs.declared.header.Mode.TheVariants.{T2, T3}
 use Rattle.tally_base.specs.declared.part.PartKind.{PartKind}
-use Rattle.tally_base.specs.declared.part.PartKind.TheVariants.{Gate, Histogram, StartStop, Coincidence, Image}
+use Rattle.tally_base.specs.declared.part.PartKind.TheVariants.{Gate}
+use Rattle.tally_base.specs.Settings.{PartSettings}
+use Rattle.toml_rules.specs.Rules.{or_next, held_from, BreaksFirst, BreaksAt}
 use Rattle.toml_rules.proofs.Least.{or_next_err, breaks_first, kept_nowhere}
 use Rattle.plan_text.specs.Plan.{PlanView}
-use Rattle.plan_text.specs.Fits.{fits, suit, suit_none, suit_T2, IsMisfit}
+use Rattle.plan_text.specs.Fits.{fits, misfit, refusal, group_suits, groups_fit, parts_fit, IsFirstMisfit, IsMisfit}
 
-gate_first : (plan : PlanView) (fault : Fault) → suit Gate T2 (suit_T2 plan) ≡ Err fault → IsMisfit T2 plan fault
-gate_first plan fault err =
-    let (at, names, first) = breaks_first (λ number. PlanMode Gate number T2) 1 (suit_T2 plan) fault err in
-    rw names first
+pub or_next_assoc : (a b c : Result (Unit {0}) Fault) → or_next a (or_next b c) ≡ or_next (or_next a b) c
+or_next_assoc (Ok done) b c = refl
+or_next_assoc (Err fault) b c = refl
 
-refused : (none : Bool) (made fault : Fault) → ◌≡◌ {A = Result (Unit {0}) Fault} (if none then Ok (tt {0}) else Err made) (Err fault) → (none ≡ false) × (fault ≡ made)
-refused true made fault err = search (rules, err)
-refused false made fault err = (refl, IfErr-at_err (λ e. e ≡ made) err refl)
+-- tables after tables
+pub parts_fit_after : (mode : Mode) (before after : List PartSettings) → parts_fit mode (before ++ after) ≡ or_next (parts_fit mode before) (parts_fit mode after)
+parts_fit_after mode [] after = refl
+parts_fit_after mode (part ∷ before) after = ap (or_next (refusal mode (misfit mode part))) (parts_fit_after mode before after) ∙ or_next_assoc (refusal mode (misfit mode part)) (parts_fit mode before) (parts_fit mode after)
 
-none_suits : (kind : PartKind) (mode : Mode) (parts : ℕ) (fault : Fault) → suit_none kind mode parts ≡ Err fault → (0 < parts) × (fault ≡ PlanMode kind 1 mode)
-none_suits kind mode parts fault err =
-    let (some, names) = refused (parts == 0) (PlanMode kind 1 mode) fault err in
-    (grind (arith, nat_tests, some), names)
+-- ## From the answer to the first part
 
-none_there : (kind : PartKind) (mode : Mode) (parts : ℕ) → suit_none kind mode parts ≡ Ok (tt {0}) → parts ≡ 0
-none_there kind mode parts ok = grind (arith, nat_tests, ok)
+refused_by : (mode : Mode) (found : Option PartKind) (fault : Fault) → refusal mode found ≡ Err fault → (kind : PartKind) × (found ≡ Some kind) × (fault ≡ PlanMode kind 1 mode)
+refused_by mode None fault err = search (rules, err)
+refused_by mode (Some kind) fault err = (kind, refl, IfErr-at_err (λ e. e ≡ PlanMode kind 1 mode) err refl)
 
-pub misfit : (mode : Mode) (plan : PlanView) (fault : Fault) → fits mode plan ≡ Err fault → IsMisfit mode plan fault
-unfolding fits
-misfit T2 plan fault err =
-    elim (or_next_err (suit Gate T2 (suit_T2 plan)) _ fault err) [
-      | inl gate ↦ gate_first plan fault gate
+pub suits_by : (mode : Mode) (found : Option PartKind) → refusal mode found ≡ Ok tt → found ≡ None
+suits_by mode None ok = refl
+suits_by mode (Some kind) ok = search (rules, ok)
+
+first_refused : (mode : Mode) (parts : List PartSettings) (fault : Fault) → parts_fit mode parts ≡ Err fault → (kind : PartKind) × (fault ≡ PlanMode kind 1 mode) × IsFirstMisfit mode parts kind
+first_refused mode [] fault err = search (rules, err)
+first_refused mode (part ∷ parts) fault err =
+    elim (or_next_err (refusal mode (misfit mode part)) (parts_fit mode parts) fault err) [
+      | inl refused ↦
+          let (kind, names, is) = refused_by mode (misfit mode part) fault refused in
+          (kind, is, record { before = []; here = part; after = parts; stands = refl; names = names; suit = tt })
       | inr passed ↦
-          elim (or_next_err (suit_none Histogram T2 (length plan.histograms)) _ fault passed.1) [
-            | inl hist ↦
-                let (some, names) = none_suits Histogram T2 (length plan.histograms) fault hist in
-                rw names (refl, some, kept_nowhere (λ number. PlanMode Gate number T2) 1 (suit_T2 plan) passed.0)
-            | inr no_histograms ↦
-                elim (or_next_err (suit_none Image T2 (length plan.images)) _ fault no_histograms.1) [
-                  | inl image ↦
-                      let (some, names) = none_suits Image T2 (length plan.images) fault image in
-                      rw names (refl, some, none_there Histogram T2 (length plan.histograms) no_histograms.0, kept_nowhere (λ number. PlanMode Gate number T2) 1 (suit_T2 plan) passed.0)
-                  | inr done ↦ search (rules, done.1)
-                ]
-          ]
+          let (kind, is, first) = first_refused mode parts fault passed.1 in
+          (kind, is, record { before = part ∷ first.before; here = first.here; after = first.after; stands = ap (λ l. part ∷ l) first.stands; names = first.names; suit = (suits_by mode (misfit mode part) passed.0, first.suit) })
     ]
-misfit T3 plan fault err =
-    elim (or_next_err (suit_none StartStop T3 (length plan.startstops)) _ fault err) [
-      | inl stops ↦
-          let (some, names) = none_suits StartStop T3 (length plan.startstops) fault stops in
-          rw names (refl, some)
-      | inr no_stops ↦
-          elim (or_next_err (suit_none Coincidence T3 (length plan.coincidences)) _ fault no_stops.1) [
-            | inl pairs ↦
-                let (some, names) = none_suits Coincidence T3 (length plan.coincidences) fault pairs in
-                rw names (refl, some, none_there StartStop T3 (length plan.startstops) no_stops.0)
-            | inr done ↦ search (rules, done.1)
-          ]
+
+pub misfit_named : (mode : Mode) (plan : PlanView) (fault : Fault) → fits mode plan ≡ Err fault → IsMisfit mode plan fault
+unfolding fits
+misfit_named mode plan fault err =
+    elim (or_next_err (groups_fit mode plan.groups) (parts_fit mode plan.parts) fault err) [
+      | inl gate ↦ inl (breaks_first (λ number. PlanMode Gate number mode) 1 (map (group_suits mode) plan.groups) fault gate)
+      | inr passed ↦
+          let (kind, is, first) = first_refused mode plan.parts fault passed.1 in
+          inr (kind, is, first, kept_nowhere (λ number. PlanMode Gate number mode) 1 (map (group_suits mode) plan.groups) passed.0)
     ]
+
+-- ## From the first part to the answer
+
+refused_first : (mode : Mode) (before : List PartSettings) (here : PartSettings) (after : List PartSettings) (kind : PartKind) → misfit mode here ≡ Some kind → AllByRecursion (λ part. misfit mode part ≡ None) before → parts_fit mode (before ++ here ∷ after) ≡ Err (PlanMode kind 1 mode)
+refused_first mode [] here after kind names suit = rw names refl
+refused_first mode (part ∷ before) here after kind names suit = rw suit.0 (refused_first mode before here after kind names suit.1)
+
+first_by : (make : ℕ → Fault) (first : ℕ) (tests : List Bool) (index : ℕ) (r : Result (Unit {0}) Fault) → BreaksFirst first tests index → held_from make first tests ≡ r → held_from make first tests ≡ Err (make index)
+first_by make first tests index (Ok done) breaks is = absurd (kept_nowhere make first tests is index breaks.breaks)
+first_by make first tests index (Err fault) breaks is =
+    let (other, names, found) = breaks_first make first tests fault is in
+    let same : other ≡ index = omega (arith, found.least index breaks.breaks, breaks.least other found.breaks) in
+    is ∙ ap (λ f. Err f) (names ∙ ap make same)
+
+none_by : (make : ℕ → Fault) (first : ℕ) (tests : List Bool) (r : Result (Unit {0}) Fault) → ((at' : ℕ) → BreaksAt first tests at' → ⊥) → held_from make first tests ≡ r → held_from make first tests ≡ Ok tt
+none_by make first tests (Ok done) none is = is
+none_by make first tests (Err fault) none is =
+    let (other, names, found) = breaks_first make first tests fault is in
+    absurd (none other found.breaks)
+
+pub is_first : (mode : Mode) (plan : PlanView) (fault : Fault) → IsMisfit mode plan fault → fits mode plan ≡ Err fault
+unfolding fits
+is_first mode plan fault (inl (number, is, first)) =
+    rw (first_by (λ number. PlanMode Gate number mode) 1 (map (group_suits mode) plan.groups) number (groups_fit mode plan.groups) first refl, is) refl
+is_first mode plan fault (inr (kind, is, first, none)) =
+    rw (none_by (λ number. PlanMode Gate number mode) 1 (map (group_suits mode) plan.groups) (groups_fit mode plan.groups) none refl, first.stands, refused_first mode first.before first.here first.after kind first.names first.suit, is) refl
+
+-- ## Tables of one kind
+
+module _ {S : Type 0} (settings : S → PartSettings) (mode : Mode) where
+  pub all_fit : ((set : S) → misfit mode (settings set) ≡ None) → (sets : List S) → parts_fit mode (map settings sets) ≡ Ok tt
+  all_fit suit [] = refl
+  all_fit suit (set ∷ sets) = rw (suit set) (all_fit suit sets)
+
+  pub none_fits : (kind : PartKind) → ((set : S) → misfit mode (settings set) ≡ Some kind) → (sets : List S) → 0 < length sets → parts_fit mode (map settings sets) ≡ Err (PlanMode kind 1 mode)
+  none_fits kind names [] some = absurd (omega (arith, some))
+  none_fits kind names (set ∷ sets) some = rw (names set) refl

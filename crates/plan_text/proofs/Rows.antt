@@ -3,6 +3,7 @@ use Rattle.std.proofs.Common.{◌≡◌, ◌^◌, refl, codes, Ok, Err, Some, No
 use Rattle.tally_base.specs.declared.fault.Fault.TheVariants.{PlanSyntax, PlanRule}
 use Rattle.tally_base.specs.declared.event.Order.TheVariants as orders
 use Rattle.tally_base.specs.declared.event.OnReserved.TheVariants as choices
+use Rattle.tally_base.specs.Settings.PartSettings.{TraceSettings, StartStopSettings, CoincidenceSettings, ImageSettings, CorrelationSettings}
 use Rattle.plan_text.specs.Reading.{plan_answer}
 use Rattle.plan_text.proofs.OnLiterals.{plan_on_literals}
 
@@ -66,11 +67,11 @@ pub row_many : plan_answer (codes "group = [{inputs=[0]}, {inputs=[0]}, {inputs=
 unfolding plan_on_literals
 row_many = refl
 
-pub row_empty : plan_answer (codes "group = []\n") ≡ Ok (record { order = orders.Drop; reserved = choices.Skip; records = 2 ^ 40; groups = []; histograms = []; traces = []; startstops = []; coincidences = []; images = []; correlations = [] })
+pub row_empty : plan_answer (codes "group = []\n") ≡ Ok (record { order = orders.Drop; reserved = choices.Skip; records = 2 ^ 40; groups = []; parts = [] })
 unfolding plan_on_literals
 row_empty = refl
 
-pub row_whole : plan_answer (codes "order = 'stop'\ngroup = [{ inputs = [0, 2], gate = [3, 9] }]\n") ≡ Ok (record { order = orders.Stop; reserved = choices.Skip; records = 2 ^ 40; groups = record { inputs = 5; gate = Some (3, 9) } ∷ []; histograms = []; traces = []; startstops = []; coincidences = []; images = []; correlations = [] })
+pub row_whole : plan_answer (codes "order = 'stop'\ngroup = [{ inputs = [0, 2], gate = [3, 9] }]\n") ≡ Ok (record { order = orders.Stop; reserved = choices.Skip; records = 2 ^ 40; groups = record { inputs = 5; gate = Some (3, 9) } ∷ []; parts = [] })
 unfolding plan_on_literals
 row_whole = refl
 
@@ -103,7 +104,7 @@ unfolding plan_on_literals
 row_histogram_and_trace = refl
 
 -- a trace without an origin, one with it, and a start-stop
-pub row_times : plan_answer (codes "group = [{ inputs = [0] }]\ntrace = [{ group = 1, width = 5, bins = 2 }, { group = 1, origin = 7, width = 4611686018427387904, bins = 1048576 }]\nstartstop = [{ start = 1, stop = 1, width = 3, bins = 4 }]\n") ≡ Ok (record { order = orders.Drop; reserved = choices.Skip; records = 2 ^ 40; groups = record { inputs = 1; gate = None } ∷ []; histograms = []; traces = record { group = 1; origin = 0; width = 5; bins = 2 } ∷ record { group = 1; origin = 7; width = 2 ^ 62; bins = 2 ^ 20 } ∷ []; startstops = record { start = 1; stop = 1; width = 3; bins = 4 } ∷ []; coincidences = []; images = []; correlations = [] })
+pub row_times : plan_answer (codes "group = [{ inputs = [0] }]\ntrace = [{ group = 1, width = 5, bins = 2 }, { group = 1, origin = 7, width = 4611686018427387904, bins = 1048576 }]\nstartstop = [{ start = 1, stop = 1, width = 3, bins = 4 }]\n") ≡ Ok (record { order = orders.Drop; reserved = choices.Skip; records = 2 ^ 40; groups = record { inputs = 1; gate = None } ∷ []; parts = TraceSettings (record { group = 1; origin = 0; width = 5; bins = 2 }) ∷ TraceSettings (record { group = 1; origin = 7; width = 2 ^ 62; bins = 2 ^ 20 }) ∷ StartStopSettings (record { start = 1; stop = 1; width = 3; bins = 4 }) ∷ [] })
 unfolding plan_on_literals
 row_times = refl
 
@@ -136,6 +137,6 @@ unfolding plan_on_literals
 row_correlation_values = refl
 
 -- coincidences, an image without a frame bit, one with it, and a correlation
-pub row_pairs_and_images : plan_answer (codes "group = [{ inputs = [0] }]\ncoincidence = [{ first = 1, second = 1, reach = 1048576, width = 2097152 }]\nimage = [{ group = 1, width = 2048, height = 1, dwell = 4611686018427387904, line = 4 }, { group = 1, width = 2, height = 3, dwell = 4, line = 1, frame = 2, stop = 2 }]\ncorrelation = [{ first = 1, second = 1, lags = 128, levels = 40 }]\n") ≡ Ok (record { order = orders.Drop; reserved = choices.Skip; records = 2 ^ 40; groups = record { inputs = 1; gate = None } ∷ []; histograms = []; traces = []; startstops = []; coincidences = record { first = 1; second = 1; reach = 2 ^ 20; width = 2 ^ 21 } ∷ []; images = record { group = 1; width = 2048; height = 1; dwell = 2 ^ 62; line = 4; frame = None; stop = None } ∷ record { group = 1; width = 2; height = 3; dwell = 4; line = 1; frame = Some 2; stop = Some 2 } ∷ []; correlations = record { first = 1; second = 1; lags = 128; levels = 40 } ∷ [] })
+pub row_pairs_and_images : plan_answer (codes "group = [{ inputs = [0] }]\ncoincidence = [{ first = 1, second = 1, reach = 1048576, width = 2097152 }]\nimage = [{ group = 1, width = 2048, height = 1, dwell = 4611686018427387904, line = 4 }, { group = 1, width = 2, height = 3, dwell = 4, line = 1, frame = 2, stop = 2 }]\ncorrelation = [{ first = 1, second = 1, lags = 128, levels = 40 }]\n") ≡ Ok (record { order = orders.Drop; reserved = choices.Skip; records = 2 ^ 40; groups = record { inputs = 1; gate = None } ∷ []; parts = CoincidenceSettings (record { first = 1; second = 1; reach = 2 ^ 20; width = 2 ^ 21 }) ∷ ImageSettings (record { group = 1; width = 2048; height = 1; dwell = 2 ^ 62; line = 4; frame = None; stop = None }) ∷ ImageSettings (record { group = 1; width = 2; height = 3; dwell = 4; line = 1; frame = Some 2; stop = Some 2 }) ∷ CorrelationSettings (record { first = 1; second = 1; lags = 128; levels = 40 }) ∷ [] })
 unfolding plan_on_literals
 row_pairs_and_images = refl

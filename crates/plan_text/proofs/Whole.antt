@@ -1,18 +1,17 @@
 -- Where each rule holds, each table of a list is in the plan.
-use Rattle.std.proofs.Common.{◌≡◌, ap, refl, ℕ, ◌+◌, Bool, true, List, [], ◌∷◌, ◌++◌, map, filter_map, Option, Some, None, is_some, inl, inr}
+use Rattle.std.proofs.Common.{◌≡◌, sym, ap, refl, ℕ, ◌+◌, Bool, true, List, [], ◌∷◌, ◌++◌, map, filter_map, ◌∙◌, Option, Some, None, is_some, inl, inr}
 use Rattle.std.proofs.lemmas.Bool.{cases_Bool, false≢true}
-use Rattle.std.specs.List.{AllByRecursion, cons_option}
+use Rattle.std.proofs.lemmas.List.{map-append}
+use Rattle.std.specs.List.{AllByRecursion, cons_option, flat_map}
 use Rattle.toml.specs.Data.{Data}
-use Rattle.toml_rules.specs.Rules.{Rule, BreaksAt, IsBroken, AllHold}
-use Rattle.plan_text.specs.Plan.{plan_rules, plan, IsWhole}
+use Rattle.toml_rules.specs.Rules.{Rule, BreaksAt, IsBroken, AllHold, or_next, all_kept}
+use Rattle.toml_rules.proofs.Least.{all_kept_after}
+use Rattle.plan_text.proofs.Misfits.{or_next_assoc}
+use Rattle.plan_text.specs.Plan.{plan_rules, kinds_kept, plan, IsWhole}
 use Rattle.plan_text.specs.Document.{document_rules}
+use Rattle.plan_text.specs.Kind.{Kind, tables, last_rule, kind_rules}
+use Rattle.plan_text.specs.Kinds.{kinds}
 use Rattle.plan_text.specs.Groups.{group_rules, groups, group, group_of, inputs, gate}
-use Rattle.plan_text.specs.Histograms.{histogram_rules, histograms, histogram}
-use Rattle.plan_text.specs.Traces.{trace_rules, traces, trace}
-use Rattle.plan_text.specs.StartStops.{startstop_rules, startstops, startstop}
-use Rattle.plan_text.specs.Coincidences.{coincidence_rules, coincidences, coincidence}
-use Rattle.plan_text.specs.Images.{image_rules, images, image}
-use Rattle.plan_text.specs.Correlations.{correlation_rules, correlations, correlation}
 
 -- rules of a part are rules of the whole
 broken_after : (before after : List Rule) (n at : ℕ) → IsBroken after n at → IsBroken (before ++ after) n at
@@ -66,51 +65,43 @@ groups_in d all =
     let gates = each_holds (λ g. is_some (gate g)) 1 (groups d) (λ at b. all 10 at (inr (inr (inl (refl, b))))) in
     all_kept_in group (groups d) (both_hold (λ g. is_some (inputs g)) (λ g. is_some (gate g)) (λ g. is_some (group g)) (groups d) (λ g a b. group_read (inputs g) (gate g) a b) sets gates)
 
-histograms_in : (d : Data) → AllHold (histogram_rules d) → map (λ y. Some y) (filter_map (histogram d) (histograms d)) ≡ map (histogram d) (histograms d)
-unfolding histogram_rules
-histograms_in d all = all_kept_in (histogram d) (histograms d) (each_holds (λ h. is_some (histogram d h)) 1 (histograms d) (λ at b. all 12 at (inr (inl (refl, b)))))
+-- where the rules on a kind hold, each of its tables gives settings
+kind_whole : (kind : Kind) (d : Data) → AllHold (kind_rules kind d) → map (λ y. Some y) (filter_map (kind.read d) (tables kind d)) ≡ map (kind.read d) (tables kind d)
+kind_whole kind d all =
+    all_kept_in (kind.read d) (tables kind d) (each_holds (λ table. is_some (kind.read d table)) 1 (tables kind d) (λ at b. all_after (kind.before d) (last_rule kind d ∷ []) all kind.last at (inl (refl, b))))
 
-traces_in : (d : Data) → AllHold (trace_rules d) → map (λ y. Some y) (filter_map (trace d) (traces d)) ≡ map (trace d) (traces d)
-unfolding trace_rules
-traces_in d all = all_kept_in (trace d) (traces d) (each_holds (λ t. is_some (trace d t)) 1 (traces d) (λ at b. all 14 at (inr (inl (refl, b)))))
+kinds_whole : (kinds : List Kind) (d : Data) → AllHold (flat_map (λ kind. kind_rules kind d) kinds)
+    → map (λ y. Some y) (flat_map (λ kind. filter_map (kind.read d) (tables kind d)) kinds) ≡ flat_map (λ kind. map (kind.read d) (tables kind d)) kinds
+kinds_whole [] d all = refl
+kinds_whole (kind ∷ kinds) d all =
+    let found = filter_map (kind.read d) (tables kind d) in
+    let more = flat_map (λ kind. filter_map (kind.read d) (tables kind d)) kinds in
+    map-append (λ y. Some y) found more
+    ∙ ap (λ l. l ++ map (λ y. Some y) more) (kind_whole kind d (all_before (kind_rules kind d) (flat_map (λ kind. kind_rules kind d) kinds) all))
+    ∙ ap (λ l. map (kind.read d) (tables kind d) ++ l) (kinds_whole kinds d (all_after (kind_rules kind d) (flat_map (λ kind. kind_rules kind d) kinds) all))
 
-startstops_in : (d : Data) → AllHold (startstop_rules d) → map (λ y. Some y) (filter_map (startstop d) (startstops d)) ≡ map (startstop d) (startstops d)
-unfolding startstop_rules
-startstops_in d all = all_kept_in (startstop d) (startstops d) (each_holds (λ s. is_some (startstop d s)) 1 (startstops d) (λ at b. all 16 at (inr (inl (refl, b)))))
+-- going through the rules of kinds one behind the other
+pub kept_by_kinds : (kinds : List Kind) (d : Data) → all_kept (flat_map (λ kind. kind_rules kind d) kinds) ≡ kinds_kept kinds d
+kept_by_kinds [] d = refl
+kept_by_kinds (kind ∷ kinds) d =
+    all_kept_after (kind_rules kind d) (flat_map (λ kind. kind_rules kind d) kinds)
+    ∙ ap (or_next (all_kept (kind_rules kind d))) (kept_by_kinds kinds d)
 
-coincidences_in : (d : Data) → AllHold (coincidence_rules d) → map (λ y. Some y) (filter_map (coincidence d) (coincidences d)) ≡ map (coincidence d) (coincidences d)
-unfolding coincidence_rules
-coincidences_in d all = all_kept_in (coincidence d) (coincidences d) (each_holds (λ c. is_some (coincidence d c)) 1 (coincidences d) (λ at b. all 18 at (inr (inl (refl, b)))))
-
-images_in : (d : Data) → AllHold (image_rules d) → map (λ y. Some y) (filter_map (image d) (images d)) ≡ map (image d) (images d)
-unfolding image_rules
-images_in d all = all_kept_in (image d) (images d) (each_holds (λ i. is_some (image d i)) 1 (images d) (λ at b. all 20 at (inr (inl (refl, b)))))
-
-correlations_in : (d : Data) → AllHold (correlation_rules d) → map (λ y. Some y) (filter_map (correlation d) (correlations d)) ≡ map (correlation d) (correlations d)
-unfolding correlation_rules
-correlations_in d all = all_kept_in (correlation d) (correlations d) (each_holds (λ c. is_some (correlation d c)) 1 (correlations d) (λ at b. all 22 at (inr (inl (refl, b)))))
+pub plan_kept : (d : Data) → all_kept (plan_rules d) ≡ or_next (all_kept (document_rules d)) (or_next (all_kept (group_rules d)) (kinds_kept kinds d))
+unfolding plan_rules
+plan_kept d =
+    let of_kinds = flat_map (λ kind. kind_rules kind d) kinds in
+    all_kept_after (document_rules d ++ group_rules d) of_kinds
+    ∙ ap (λ r. or_next r (all_kept of_kinds)) (all_kept_after (document_rules d) (group_rules d))
+    ∙ ap (or_next (or_next (all_kept (document_rules d)) (all_kept (group_rules d)))) (kept_by_kinds kinds d)
+    ∙ sym (or_next_assoc (all_kept (document_rules d)) (all_kept (group_rules d)) (kinds_kept kinds d))
 
 pub plan_is_whole : (d : Data) → AllHold (plan_rules d) → IsWhole d
 unfolding plan_rules plan
 plan_is_whole d all =
     let to_groups = document_rules d ++ group_rules d in
-    let to_histograms = to_groups ++ histogram_rules d in
-    let to_traces = to_histograms ++ trace_rules d in
-    let to_startstops = to_traces ++ startstop_rules d in
-    let to_coincidences = to_startstops ++ coincidence_rules d in
-    let to_images = to_coincidences ++ image_rules d in
-    let images_hold = all_before to_images (correlation_rules d) all in
-    let coincidences_hold = all_before to_coincidences (image_rules d) images_hold in
-    let startstops_hold = all_before to_startstops (coincidence_rules d) coincidences_hold in
-    let traces_hold = all_before to_traces (startstop_rules d) startstops_hold in
-    let histograms_hold = all_before to_histograms (trace_rules d) traces_hold in
-    let groups_hold = all_before to_groups (histogram_rules d) histograms_hold in
+    let of_kinds = flat_map (λ kind. kind_rules kind d) kinds in
     record {
-      groups = groups_in d (all_after (document_rules d) (group_rules d) groups_hold);
-      histograms = histograms_in d (all_after to_groups (histogram_rules d) histograms_hold);
-      traces = traces_in d (all_after to_histograms (trace_rules d) traces_hold);
-      startstops = startstops_in d (all_after to_traces (startstop_rules d) startstops_hold);
-      coincidences = coincidences_in d (all_after to_startstops (coincidence_rules d) coincidences_hold);
-      images = images_in d (all_after to_coincidences (image_rules d) images_hold);
-      correlations = correlations_in d (all_after to_images (correlation_rules d) all);
+      groups = groups_in d (all_after (document_rules d) (group_rules d) (all_before to_groups of_kinds all));
+      parts = kinds_whole kinds d (all_after to_groups of_kinds all);
     }

@@ -1,34 +1,33 @@
 -- What the tables of coincidences say, and the rules on them.
-use Rattle.std.specs.Prelude.{ℕ, ◌^◌, Bool, List, [], ◌∷◌, codes, Option, None, Some, is_some}
+use Rattle.std.specs.Prelude.{ℕ, ◌^◌, Bool, List, [], ◌∷◌, codes, Option, None, Some}
 use Rattle.toml.specs.Data.{Data, get}
-use Rattle.tally_base.specs.Settings.{CoincidenceView}
-use Rattle.toml_rules.specs.Rules.{Rule, each}
+use Rattle.tally_base.specs.Settings.{PartSettings}
+use Rattle.tally_base.specs.Settings.PartSettings.{CoincidenceSettings}
+use Rattle.toml_rules.specs.Rules.{each}
 use Rattle.toml_rules.specs.Values.{list_at, has_keys, number_in}
 use Rattle.plan_text.specs.Groups.{group_number}
+use Rattle.plan_text.specs.Kind.{Kind}
 
 -- the tables of coincidences
 abbrev pub coincidences : Data → List Data
 coincidences = list_at (codes "coincidence")
 
 -- the settings of these numbers, where each keeps its rule
-abbrev pub coincidence_of : Option ℕ → Option ℕ → Option ℕ → Option ℕ → Option CoincidenceView
-coincidence_of (Some first) (Some second) (Some reach) (Some width) = Some (record { first = first; second = second; reach = reach; width = width })
+abbrev pub coincidence_of : Option ℕ → Option ℕ → Option ℕ → Option ℕ → Option PartSettings
+coincidence_of (Some first) (Some second) (Some reach) (Some width) = Some (CoincidenceSettings (record { first = first; second = second; reach = reach; width = width }))
 coincidence_of (Some first) (Some second) (Some reach) None = None
 coincidence_of (Some first) (Some second) None width = None
 coincidence_of (Some first) None reach width = None
 coincidence_of None second reach width = None
 
 -- the settings that a table of the document gives
-unfoldable pub coincidence : Data → Data → Option CoincidenceView
+unfoldable pub coincidence : Data → Data → Option PartSettings
 coincidence d set = coincidence_of (group_number d (get (codes "first") set)) (group_number d (get (codes "second") set)) (number_in 1 (2 ^ 20) (get (codes "reach") set)) (number_in 1 (2 ^ 21) (get (codes "width") set))
 
 -- exactly the keys first, second, reach and width
 unfoldable pub has_coincidence_keys : Data → Bool
 has_coincidence_keys = has_keys (codes "first" ∷ codes "second" ∷ codes "reach" ∷ codes "width" ∷ []) []
 
--- the rules on coincidences
-unfoldable pub coincidence_rules : Data → List Rule
-coincidence_rules d =
-    each 17 has_coincidence_keys (coincidences d)
-    ∷ each 18 (λ set. is_some (coincidence d set)) (coincidences d)
-    ∷ []
+-- coincidences in a plan
+abbrev pub coincidence_kind : Kind
+coincidence_kind = record { key = codes "coincidence"; most = 16; before = λ d. each 17 has_coincidence_keys (coincidences d) ∷ []; last = 18; read = coincidence }

@@ -1,10 +1,12 @@
 -- What the tables of correlations say, and the rules on them.
-use Rattle.std.specs.Prelude.{ℕ, ◌%◌, ◌==◌, Bool, List, [], ◌∷◌, codes, Option, None, Some, is_some, option_and_then, if◌then◌else◌}
+use Rattle.std.specs.Prelude.{ℕ, ◌%◌, ◌==◌, Bool, List, [], ◌∷◌, codes, Option, None, Some, option_and_then, if◌then◌else◌}
 use Rattle.toml.specs.Data.{Data, get}
-use Rattle.tally_base.specs.Settings.{CorrelationView}
-use Rattle.toml_rules.specs.Rules.{Rule, each}
+use Rattle.tally_base.specs.Settings.{PartSettings}
+use Rattle.tally_base.specs.Settings.PartSettings.{CorrelationSettings}
+use Rattle.toml_rules.specs.Rules.{each}
 use Rattle.toml_rules.specs.Values.{list_at, has_keys, number_in}
 use Rattle.plan_text.specs.Groups.{group_number}
+use Rattle.plan_text.specs.Kind.{Kind}
 
 -- the tables of correlations
 abbrev pub correlations : Data → List Data
@@ -19,24 +21,21 @@ unfoldable pub lags : Data → Option ℕ
 lags set = option_and_then if_even (number_in 2 128 (get (codes "lags") set))
 
 -- the settings of these numbers, where each keeps its rule
-abbrev pub correlation_of : Option ℕ → Option ℕ → Option ℕ → Option ℕ → Option CorrelationView
-correlation_of (Some first) (Some second) (Some lags) (Some levels) = Some (record { first = first; second = second; lags = lags; levels = levels })
+abbrev pub correlation_of : Option ℕ → Option ℕ → Option ℕ → Option ℕ → Option PartSettings
+correlation_of (Some first) (Some second) (Some lags) (Some levels) = Some (CorrelationSettings (record { first = first; second = second; lags = lags; levels = levels }))
 correlation_of (Some first) (Some second) (Some lags) None = None
 correlation_of (Some first) (Some second) None levels = None
 correlation_of (Some first) None lags levels = None
 correlation_of None second lags levels = None
 
 -- the settings that a table of the document gives
-unfoldable pub correlation : Data → Data → Option CorrelationView
+unfoldable pub correlation : Data → Data → Option PartSettings
 correlation d set = correlation_of (group_number d (get (codes "first") set)) (group_number d (get (codes "second") set)) (lags set) (number_in 1 40 (get (codes "levels") set))
 
 -- exactly the keys first, second, lags and levels
 unfoldable pub has_correlation_keys : Data → Bool
 has_correlation_keys = has_keys (codes "first" ∷ codes "second" ∷ codes "lags" ∷ codes "levels" ∷ []) []
 
--- the rules on correlations
-unfoldable pub correlation_rules : Data → List Rule
-correlation_rules d =
-    each 21 has_correlation_keys (correlations d)
-    ∷ each 22 (λ set. is_some (correlation d set)) (correlations d)
-    ∷ []
+-- correlations in a plan
+abbrev pub correlation_kind : Kind
+correlation_kind = record { key = codes "correlation"; most = 16; before = λ d. each 21 has_correlation_keys (correlations d) ∷ []; last = 22; read = correlation }

@@ -1,8 +1,10 @@
 -- What the document of a plan says as a whole, and the rules on it.
-use Rattle.std.specs.Prelude.{ℕ, ◌^◌, ◌≤◌, Bool, nat_le, List, [], ◌∷◌, length, codes, Option, None, Some, is_some, if◌then◌else◌}
+use Rattle.std.specs.Prelude.{ℕ, ◌^◌, ◌≤◌, Bool, nat_le, List, [], ◌∷◌, map, length, codes, Option, None, Some, is_some, if◌then◌else◌}
+use Rattle.std.specs.List.{AllByRecursion}
 use Rattle.toml.specs.Data.{Data, get}
-use Rattle.toml_rules.specs.Rules.{Rule, whole}
+use Rattle.toml_rules.specs.Rules.{Rule, whole, each}
 use Rattle.toml_rules.specs.Values.{list_at, may_be_tables, has_keys, number_or, second_of}
+use Rattle.plan_text.specs.Kinds.{lists}
 
 -- the version of the plan
 unfoldable pub version : Data → Option ℕ
@@ -27,7 +29,7 @@ records d = records_in (get (codes "limits") d)
 
 -- the document has only keys of a plan
 unfoldable pub has_known_keys : Data → Bool
-has_known_keys = has_keys [] (codes "version" ∷ codes "order" ∷ codes "reserved" ∷ codes "limits" ∷ codes "group" ∷ codes "histogram" ∷ codes "trace" ∷ codes "startstop" ∷ codes "coincidence" ∷ codes "image" ∷ codes "correlation" ∷ [])
+has_known_keys = has_keys [] (codes "version" ∷ codes "order" ∷ codes "reserved" ∷ codes "limits" ∷ map (λ list. list.0) lists)
 
 -- an array of tables stands at the key, or nothing
 unfoldable pub may_have_tables : List ℕ → Data → Bool
@@ -37,6 +39,18 @@ may_have_tables key d = may_be_tables (get key d)
 unfoldable pub has_at_most : ℕ → List ℕ → Data → Bool
 has_at_most most key d = nat_le (length (list_at key d)) most
 
+-- rule 6: at the key of each list stands an array of tables, or nothing
+unfoldable pub rule_of_lists : List (List ℕ × ℕ) → Data → Rule
+rule_of_lists lists d = each 6 (λ (list : List ℕ × ℕ). may_have_tables list.0 d) lists
+
+-- rule 7: each list has at most so many members
+unfoldable pub rule_of_lengths : List (List ℕ × ℕ) → Data → Rule
+rule_of_lengths lists d = each 7 (λ (list : List ℕ × ℕ). has_at_most list.1 list.0 d) lists
+
+-- Each list has at most so many members.
+abbrev pub AreShort : List (List ℕ × ℕ) → Data → Type 0
+AreShort lists d = AllByRecursion (λ (list : List ℕ × ℕ). length (list_at list.0 d) ≤ list.1) lists
+
 -- The rules on the document as a whole. Rules 6 and 7 have a test for each list of tables, in the order of the report.
 unfoldable pub document_rules : Data → List Rule
 document_rules d =
@@ -45,10 +59,10 @@ document_rules d =
     ∷ whole 3 (is_some (order d))
     ∷ whole 4 (is_some (reserved d))
     ∷ whole 5 (is_some (records d))
-    ∷ record { number = 6; first = 1; tests = may_have_tables (codes "group") d ∷ may_have_tables (codes "histogram") d ∷ may_have_tables (codes "trace") d ∷ may_have_tables (codes "startstop") d ∷ may_have_tables (codes "coincidence") d ∷ may_have_tables (codes "image") d ∷ may_have_tables (codes "correlation") d ∷ [] }
-    ∷ record { number = 7; first = 1; tests = has_at_most 64 (codes "group") d ∷ has_at_most 32 (codes "histogram") d ∷ has_at_most 32 (codes "trace") d ∷ has_at_most 16 (codes "startstop") d ∷ has_at_most 16 (codes "coincidence") d ∷ has_at_most 8 (codes "image") d ∷ has_at_most 16 (codes "correlation") d ∷ [] }
+    ∷ rule_of_lists lists d
+    ∷ rule_of_lengths lists d
     ∷ []
 
 -- There are no more groups and tables of each kind than a plan may have.
 abbrev pub HasFewTables : Data → Type 0
-HasFewTables d = (length (list_at (codes "group") d) ≤ 64) × (length (list_at (codes "histogram") d) ≤ 32) × (length (list_at (codes "trace") d) ≤ 32) × (length (list_at (codes "startstop") d) ≤ 16) × (length (list_at (codes "coincidence") d) ≤ 16) × (length (list_at (codes "image") d) ≤ 8) × (length (list_at (codes "correlation") d) ≤ 16)
+HasFewTables d = AreShort lists d

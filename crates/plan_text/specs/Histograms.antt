@@ -1,33 +1,32 @@
 -- What the tables of histograms say, and the rules on them.
-use Rattle.std.specs.Prelude.{ℕ, Bool, List, [], ◌∷◌, codes, Option, None, Some, is_some}
+use Rattle.std.specs.Prelude.{ℕ, Bool, List, [], ◌∷◌, codes, Option, None, Some}
 use Rattle.toml.specs.Data.{Data, get}
-use Rattle.tally_base.specs.Settings.{HistView}
-use Rattle.toml_rules.specs.Rules.{Rule, each}
+use Rattle.tally_base.specs.Settings.{PartSettings}
+use Rattle.tally_base.specs.Settings.PartSettings.{HistSettings}
+use Rattle.toml_rules.specs.Rules.{each}
 use Rattle.toml_rules.specs.Values.{list_at, has_keys, number_in}
 use Rattle.plan_text.specs.Groups.{group_number}
+use Rattle.plan_text.specs.Kind.{Kind}
 
 -- the tables of histograms
 abbrev pub histograms : Data → List Data
 histograms = list_at (codes "histogram")
 
 -- the settings of these numbers, where each keeps its rule
-abbrev pub hist_of : Option ℕ → Option ℕ → Option ℕ → Option HistView
-hist_of (Some group) (Some width) (Some bins) = Some (record { group = group; width = width; bins = bins })
+abbrev pub hist_of : Option ℕ → Option ℕ → Option ℕ → Option PartSettings
+hist_of (Some group) (Some width) (Some bins) = Some (HistSettings (record { group = group; width = width; bins = bins }))
 hist_of (Some group) (Some width) None = None
 hist_of (Some group) None bins = None
 hist_of None width bins = None
 
 -- the settings that a table of the document gives
-unfoldable pub histogram : Data → Data → Option HistView
+unfoldable pub histogram : Data → Data → Option PartSettings
 histogram d hist = hist_of (group_number d (get (codes "group") hist)) (number_in 1 32768 (get (codes "width") hist)) (number_in 1 32768 (get (codes "bins") hist))
 
 -- exactly the keys group, width and bins
 unfoldable pub has_histogram_keys : Data → Bool
 has_histogram_keys = has_keys (codes "group" ∷ codes "width" ∷ codes "bins" ∷ []) []
 
--- the rules on histograms
-unfoldable pub histogram_rules : Data → List Rule
-histogram_rules d =
-    each 11 has_histogram_keys (histograms d)
-    ∷ each 12 (λ hist. is_some (histogram d hist)) (histograms d)
-    ∷ []
+-- histograms in a plan
+abbrev pub histogram_kind : Kind
+histogram_kind = record { key = codes "histogram"; most = 32; before = λ d. each 11 has_histogram_keys (histograms d) ∷ []; last = 12; read = histogram }

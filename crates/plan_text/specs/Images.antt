@@ -1,10 +1,12 @@
 -- What the tables of images say, and the rules on them.
-use Rattle.std.specs.Prelude.{ℕ, ◌^◌, Bool, List, [], ◌∷◌, codes, Option, None, Some, is_some, option_map}
+use Rattle.std.specs.Prelude.{ℕ, ◌^◌, Bool, List, [], ◌∷◌, codes, Option, None, Some, option_map}
 use Rattle.toml.specs.Data.{Data, get}
-use Rattle.tally_base.specs.Settings.{ImageView}
-use Rattle.toml_rules.specs.Rules.{Rule, each}
+use Rattle.tally_base.specs.Settings.{PartSettings}
+use Rattle.tally_base.specs.Settings.PartSettings.{ImageSettings}
+use Rattle.toml_rules.specs.Rules.{each}
 use Rattle.toml_rules.specs.Values.{list_at, has_keys, integer_in, number_in}
 use Rattle.plan_text.specs.Groups.{group_number}
+use Rattle.plan_text.specs.Kind.{Kind}
 
 -- the tables of images
 abbrev pub images : Data → List Data
@@ -42,23 +44,20 @@ unfoldable pub bits : Data → Option (ℕ × (Option ℕ × Option ℕ))
 bits image = bits_of (number_in 1 4 (get (codes "line") image)) (bit (codes "frame") image) (bit (codes "stop") image)
 
 -- the settings of these numbers, where each keeps its rule
-abbrev pub image_of : Option ℕ → Option (ℕ × (ℕ × ℕ)) → Option (ℕ × (Option ℕ × Option ℕ)) → Option ImageView
-image_of (Some group) (Some raster) (Some bits) = Some (record { group = group; width = raster.0; height = raster.1.0; dwell = raster.1.1; line = bits.0; frame = bits.1.0; stop = bits.1.1 })
+abbrev pub image_of : Option ℕ → Option (ℕ × (ℕ × ℕ)) → Option (ℕ × (Option ℕ × Option ℕ)) → Option PartSettings
+image_of (Some group) (Some raster) (Some bits) = Some (ImageSettings (record { group = group; width = raster.0; height = raster.1.0; dwell = raster.1.1; line = bits.0; frame = bits.1.0; stop = bits.1.1 }))
 image_of (Some group) (Some raster) None = None
 image_of (Some group) None bits = None
 image_of None raster bits = None
 
 -- the settings that a table of the document gives
-unfoldable pub image : Data → Data → Option ImageView
+unfoldable pub image : Data → Data → Option PartSettings
 image d set = image_of (group_number d (get (codes "group") set)) (raster set) (bits set)
 
 -- the keys group, width, height, dwell and line, and no other key but frame and stop
 unfoldable pub has_image_keys : Data → Bool
 has_image_keys = has_keys (codes "group" ∷ codes "width" ∷ codes "height" ∷ codes "dwell" ∷ codes "line" ∷ []) (codes "frame" ∷ codes "stop" ∷ [])
 
--- the rules on images
-unfoldable pub image_rules : Data → List Rule
-image_rules d =
-    each 19 has_image_keys (images d)
-    ∷ each 20 (λ set. is_some (image d set)) (images d)
-    ∷ []
+-- images in a plan
+abbrev pub image_kind : Kind
+image_kind = record { key = codes "image"; most = 8; before = λ d. each 19 has_image_keys (images d) ∷ []; last = 20; read = image }

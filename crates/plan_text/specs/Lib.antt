@@ -1,5 +1,7 @@
 pub mod Document
 pub mod Groups
+pub mod Kind
+pub mod Kinds
 pub mod Histograms
 pub mod Traces
 pub mod StartStops

@@ -1,34 +1,33 @@
 -- What the tables of start-stops say, and the rules on them.
-use Rattle.std.specs.Prelude.{ℕ, ◌^◌, Bool, List, [], ◌∷◌, codes, Option, None, Some, is_some}
+use Rattle.std.specs.Prelude.{ℕ, ◌^◌, Bool, List, [], ◌∷◌, codes, Option, None, Some}
 use Rattle.toml.specs.Data.{Data, get}
-use Rattle.tally_base.specs.Settings.{StartStopView}
-use Rattle.toml_rules.specs.Rules.{Rule, each}
+use Rattle.tally_base.specs.Settings.{PartSettings}
+use Rattle.tally_base.specs.Settings.PartSettings.{StartStopSettings}
+use Rattle.toml_rules.specs.Rules.{each}
 use Rattle.toml_rules.specs.Values.{list_at, has_keys, number_in}
 use Rattle.plan_text.specs.Groups.{group_number}
+use Rattle.plan_text.specs.Kind.{Kind}
 
 -- the tables of start-stops
 abbrev pub startstops : Data → List Data
 startstops = list_at (codes "startstop")
 
 -- the settings of these numbers, where each keeps its rule
-abbrev pub startstop_of : Option ℕ → Option ℕ → Option ℕ → Option ℕ → Option StartStopView
-startstop_of (Some start) (Some stop) (Some width) (Some bins) = Some (record { start = start; stop = stop; width = width; bins = bins })
+abbrev pub startstop_of : Option ℕ → Option ℕ → Option ℕ → Option ℕ → Option PartSettings
+startstop_of (Some start) (Some stop) (Some width) (Some bins) = Some (StartStopSettings (record { start = start; stop = stop; width = width; bins = bins }))
 startstop_of (Some start) (Some stop) (Some width) None = None
 startstop_of (Some start) (Some stop) None bins = None
 startstop_of (Some start) None width bins = None
 startstop_of None stop width bins = None
 
 -- the settings that a table of the document gives
-unfoldable pub startstop : Data → Data → Option StartStopView
+unfoldable pub startstop : Data → Data → Option PartSettings
 startstop d set = startstop_of (group_number d (get (codes "start") set)) (group_number d (get (codes "stop") set)) (number_in 1 (2 ^ 62) (get (codes "width") set)) (number_in 1 32768 (get (codes "bins") set))
 
 -- exactly the keys start, stop, width and bins
 unfoldable pub has_startstop_keys : Data → Bool
 has_startstop_keys = has_keys (codes "start" ∷ codes "stop" ∷ codes "width" ∷ codes "bins" ∷ []) []
 
--- the rules on start-stops
-unfoldable pub startstop_rules : Data → List Rule
-startstop_rules d =
-    each 15 has_startstop_keys (startstops d)
-    ∷ each 16 (λ set. is_some (startstop d set)) (startstops d)
-    ∷ []
+-- start-stops in a plan
+abbrev pub startstop_kind : Kind
+startstop_kind = record { key = codes "startstop"; most = 16; before = λ d. each 15 has_startstop_keys (startstops d) ∷ []; last = 16; read = startstop }

@@ -1,18 +1,20 @@
 -- What the tables of traces say, and the rules on them.
-use Rattle.std.specs.Prelude.{ℕ, ◌^◌, Bool, List, [], ◌∷◌, codes, Option, None, Some, is_some}
+use Rattle.std.specs.Prelude.{ℕ, ◌^◌, Bool, List, [], ◌∷◌, codes, Option, None, Some}
 use Rattle.toml.specs.Data.{Data, get}
-use Rattle.tally_base.specs.Settings.{TraceView}
-use Rattle.toml_rules.specs.Rules.{Rule, each}
+use Rattle.tally_base.specs.Settings.{PartSettings}
+use Rattle.tally_base.specs.Settings.PartSettings.{TraceSettings}
+use Rattle.toml_rules.specs.Rules.{each}
 use Rattle.toml_rules.specs.Values.{list_at, has_keys, number_in, number_or}
 use Rattle.plan_text.specs.Groups.{group_number}
+use Rattle.plan_text.specs.Kind.{Kind}
 
 -- the tables of traces
 abbrev pub traces : Data → List Data
 traces = list_at (codes "trace")
 
 -- the settings of these numbers, where each keeps its rule
-abbrev pub trace_of : Option ℕ → Option ℕ → Option ℕ → Option ℕ → Option TraceView
-trace_of (Some group) (Some begin) (Some width) (Some bins) = Some (record { group = group; origin = begin; width = width; bins = bins })
+abbrev pub trace_of : Option ℕ → Option ℕ → Option ℕ → Option ℕ → Option PartSettings
+trace_of (Some group) (Some begin) (Some width) (Some bins) = Some (TraceSettings (record { group = group; origin = begin; width = width; bins = bins }))
 trace_of (Some group) (Some begin) (Some width) None = None
 trace_of (Some group) (Some begin) None bins = None
 trace_of (Some group) None width bins = None
@@ -23,16 +25,13 @@ unfoldable pub origin : Data → Option ℕ
 origin trace = number_or 0 0 (2 ^ 62) (get (codes "origin") trace)
 
 -- the settings that a table of the document gives
-unfoldable pub trace : Data → Data → Option TraceView
+unfoldable pub trace : Data → Data → Option PartSettings
 trace d set = trace_of (group_number d (get (codes "group") set)) (origin set) (number_in 1 (2 ^ 62) (get (codes "width") set)) (number_in 1 (2 ^ 20) (get (codes "bins") set))
 
 -- the keys group, width and bins, and no other key but origin
 unfoldable pub has_trace_keys : Data → Bool
 has_trace_keys = has_keys (codes "group" ∷ codes "width" ∷ codes "bins" ∷ []) (codes "origin" ∷ [])
 
--- the rules on traces
-unfoldable pub trace_rules : Data → List Rule
-trace_rules d =
-    each 13 has_trace_keys (traces d)
-    ∷ each 14 (λ set. is_some (trace d set)) (traces d)
-    ∷ []
+-- traces in a plan
+abbrev pub trace_kind : Kind
+trace_kind = record { key = codes "trace"; most = 32; before = λ d. each 13 has_trace_keys (traces d) ∷ []; last = 14; read = trace }

@@ -1,21 +1,22 @@
 // The coincidences of a plan.
-ghost use Rattle.std.specs.Prelude.{◌≡◌, ◌≤◌, length, is_some, option_map};
+ghost use Rattle.std.specs.Prelude.{◌≡◌, ◌≤◌, length, option_map};
 ghost use Rattle.toml.specs.View.{view};
 ghost use Rattle.tally_base.specs.Settings.{coincidence_view};
-ghost use Rattle.toml_rules.specs.Rules.{all_kept};
-ghost use Rattle.plan_text.specs.Coincidences.{coincidences, coincidence, has_coincidence_keys, coincidence_rules};
+ghost use Rattle.tally_base.specs.Settings.PartSettings.{CoincidenceSettings};
+ghost use Rattle.plan_text.specs.Coincidences.{coincidence, has_coincidence_keys, coincidence_kind};
 ghost use Rattle.plan_text.specs.Groups.{groups};
 
 use crate::groups::group_number;
-use tally_base::{CoincidenceSet, Fault};
+use crate::kind::PlanKind;
+use tally_base::{CoincidenceSet, Fault, Mode, PartKind};
 use toml::Value;
-use toml_rules::{ListRule, each, has_keys, number_in};
+use toml_rules::{ListRule, each, has_keys, list_at, number_in};
 
 /// The coincidences that a table asks for.
 #[tactic(auto, unfolding(crate::specs::Coincidences::coincidence))]
-pub(crate) fn coincidence(document: &Value, table: &Value) -> Option<CoincidenceSet>
+fn coincidence(document: &Value, table: &Value) -> Option<CoincidenceSet>
     requires few { length (groups (view document.now)) ≤ 64 }
-    ensures { option_map coincidence_view result ≡ coincidence (view document.now) (view table.now) }
+    ensures { option_map (λ set. CoincidenceSettings (coincidence_view set)) result ≡ coincidence (view document.now) (view table.now) }
 {
     let Some(first) = group_number(document, table, "first") else {
         return None;
@@ -49,28 +50,31 @@ impl ListRule for CoincidenceKeys {
     }
 }
 
-/// The values of a coincidence are as they should be.
-struct CoincidenceValues;
+impl PlanKind for CoincidenceSet {
+    ghost kind = { coincidence_kind };
 
-impl ListRule for CoincidenceValues {
-    ghost asks = { λ d set. is_some (coincidence d set) };
+    ghost settings = { λ set. CoincidenceSettings (coincidence_view set) };
 
-    #[tactic(auto, unfolding(crate::specs::Coincidences::coincidence))]
-    fn is_met(document: &Value, item: &Value) -> bool {
-        group_number(document, item, "first").is_some()
-            && group_number(document, item, "second").is_some()
-            && number_in(item, "reach", 1, 1 << 20).is_some()
-            && number_in(item, "width", 1, 1 << 21).is_some()
+    fn tables(document: &Value) -> &[Value] {
+        list_at(document, "coincidence")
     }
-}
 
-/// Goes through the rules on coincidences, 17 and 18.
-#[tactic(auto, unfolding(crate::specs::Coincidences::coincidence_rules))]
-pub(crate) fn keeps_coincidence_rules(document: &Value) -> Result<(), Fault>
-    requires few { length (coincidences (view document.now)) ≤ 255 }
-    ensures { result ≡ all_kept (coincidence_rules (view document.now)) }
-{
-    each::<CoincidenceKeys>(17, document, "coincidence")?;
-    each::<CoincidenceValues>(18, document, "coincidence")?;
-    Ok(())
+    fn keeps_before(document: &Value) -> Result<(), Fault> {
+        each::<CoincidenceKeys>(17, document, "coincidence")
+    }
+
+    fn last_rule() -> u8 {
+        18
+    }
+
+    fn read(document: &Value, table: &Value) -> Option<CoincidenceSet> {
+        coincidence(document, table)
+    }
+
+    fn misfit(mode: Mode) -> Option<PartKind> {
+        match mode {
+            Mode::T2 => None,
+            Mode::T3 => Some(PartKind::Coincidence),
+        }
+    }
 }

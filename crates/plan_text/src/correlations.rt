@@ -1,15 +1,16 @@
 // The correlations of a plan.
-ghost use Rattle.std.specs.Prelude.{◌≡◌, ◌≤◌, ◌%◌, length, is_some, option_map, IfSome};
+ghost use Rattle.std.specs.Prelude.{◌≡◌, ◌≤◌, ◌%◌, length, option_map, IfSome};
 ghost use Rattle.toml.specs.View.{view};
 ghost use Rattle.tally_base.specs.Settings.{correlation_view};
-ghost use Rattle.toml_rules.specs.Rules.{all_kept};
-ghost use Rattle.plan_text.specs.Correlations.{correlations, lags, correlation, has_correlation_keys, correlation_rules};
+ghost use Rattle.tally_base.specs.Settings.PartSettings.{CorrelationSettings};
+ghost use Rattle.plan_text.specs.Correlations.{lags, correlation, has_correlation_keys, correlation_kind};
 ghost use Rattle.plan_text.specs.Groups.{groups};
 
 use crate::groups::group_number;
-use tally_base::{CorrelationSet, Fault};
+use crate::kind::PlanKind;
+use tally_base::{CorrelationSet, Fault, Mode, PartKind};
 use toml::Value;
-use toml_rules::{ListRule, each, has_keys, number_in};
+use toml_rules::{ListRule, each, has_keys, list_at, number_in};
 
 /// The greatest lag of a correlation, an even number.
 #[tactic(auto, unfolding(crate::specs::Correlations::lags))]
@@ -26,9 +27,9 @@ fn lags(table: &Value) -> Option<u64>
 
 /// The correlation that a table asks for.
 #[tactic(auto, unfolding(crate::specs::Correlations::correlation))]
-pub(crate) fn correlation(document: &Value, table: &Value) -> Option<CorrelationSet>
+fn correlation(document: &Value, table: &Value) -> Option<CorrelationSet>
     requires few { length (groups (view document.now)) ≤ 64 }
-    ensures { option_map correlation_view result ≡ correlation (view document.now) (view table.now) }
+    ensures { option_map (λ set. CorrelationSettings (correlation_view set)) result ≡ correlation (view document.now) (view table.now) }
 {
     let Some(first) = group_number(document, table, "first") else {
         return None;
@@ -62,28 +63,28 @@ impl ListRule for CorrelationKeys {
     }
 }
 
-/// The values of a correlation are as they should be.
-struct CorrelationValues;
+impl PlanKind for CorrelationSet {
+    ghost kind = { correlation_kind };
 
-impl ListRule for CorrelationValues {
-    ghost asks = { λ d set. is_some (correlation d set) };
+    ghost settings = { λ set. CorrelationSettings (correlation_view set) };
 
-    #[tactic(auto, unfolding(crate::specs::Correlations::correlation))]
-    fn is_met(document: &Value, item: &Value) -> bool {
-        group_number(document, item, "first").is_some()
-            && group_number(document, item, "second").is_some()
-            && lags(item).is_some()
-            && number_in(item, "levels", 1, 40).is_some()
+    fn tables(document: &Value) -> &[Value] {
+        list_at(document, "correlation")
     }
-}
 
-/// Goes through the rules on correlations, 21 and 22.
-#[tactic(auto, unfolding(crate::specs::Correlations::correlation_rules))]
-pub(crate) fn keeps_correlation_rules(document: &Value) -> Result<(), Fault>
-    requires few { length (correlations (view document.now)) ≤ 255 }
-    ensures { result ≡ all_kept (correlation_rules (view document.now)) }
-{
-    each::<CorrelationKeys>(21, document, "correlation")?;
-    each::<CorrelationValues>(22, document, "correlation")?;
-    Ok(())
+    fn keeps_before(document: &Value) -> Result<(), Fault> {
+        each::<CorrelationKeys>(21, document, "correlation")
+    }
+
+    fn last_rule() -> u8 {
+        22
+    }
+
+    fn read(document: &Value, table: &Value) -> Option<CorrelationSet> {
+        correlation(document, table)
+    }
+
+    fn misfit(_mode: Mode) -> Option<PartKind> {
+        None
+    }
 }

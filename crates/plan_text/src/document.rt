@@ -1,16 +1,10 @@
 // What the document says as a whole.
-ghost use Rattle.std.specs.Prelude.{◌≡◌, ◌<◌, ◌≤◌, ◌^◌, IfSome, OnOk, length, true};
+ghost use Rattle.std.specs.Prelude.{◌≡◌, ◌<◌, ◌≤◌, ◌^◌, IfSome, OnOk, map, length, true, [], ◌∷◌};
 ghost use Rattle.toml.specs.View.{view};
-ghost use Rattle.toml_rules.specs.Rules.{all_kept};
+ghost use Rattle.toml_rules.specs.Rules.{all_kept, kept};
 ghost use Rattle.toml_rules.specs.Values.{list_at};
-ghost use Rattle.plan_text.specs.Coincidences.{coincidences};
-ghost use Rattle.plan_text.specs.Correlations.{correlations};
-ghost use Rattle.plan_text.specs.Document.{version, order, reserved, records, has_known_keys, may_have_tables, has_at_most, document_rules, HasFewTables};
-ghost use Rattle.plan_text.specs.Groups.{groups};
-ghost use Rattle.plan_text.specs.Histograms.{histograms};
-ghost use Rattle.plan_text.specs.Images.{images};
-ghost use Rattle.plan_text.specs.StartStops.{startstops};
-ghost use Rattle.plan_text.specs.Traces.{traces};
+ghost use Rattle.plan_text.specs.Kinds.{lists};
+ghost use Rattle.plan_text.specs.Document.{version, order, reserved, records, has_known_keys, may_have_tables, has_at_most, rule_of_lists, rule_of_lengths, document_rules, AreShort, HasFewTables};
 
 use tally_base::Fault;
 use toml::Value;
@@ -99,6 +93,61 @@ fn has_at_most(most: usize, document: &Value, key: &str) -> bool
     list_at(document, key).len() <= most
 }
 
+/// Rule 6: at the key of each list stands an array of tables, or nothing at all.
+#[tactic(auto, unfolding(crate::specs::Document::rule_of_lists))]
+fn may_have_lists(document: &Value, lists: &[(&str, usize)]) -> Result<(), Fault>
+    requires few { length lists.now ≤ 255 }
+    ensures { result ≡ kept (rule_of_lists (map (λ list. (list.0.now, list.1)) lists.now) (view document.now)) }
+{
+    let mut place: u16 = 1;
+    'lists: for (key, _) in lists {
+        held(6, place, may_have_tables(document, key))?;
+        place += 1;
+    }
+    Ok(())
+}
+
+/// Rule 7: each list has at most so many members.
+#[tactic(auto, unfolding(crate::specs::Document::rule_of_lengths))]
+fn have_at_most(document: &Value, lists: &[(&str, usize)]) -> Result<(), Fault>
+    requires few { length lists.now ≤ 255 }
+    ensures kept { result ≡ kept (rule_of_lengths (map (λ list. (list.0.now, list.1)) lists.now) (view document.now)) }
+    ensures few { OnOk result (AreShort (map (λ list. (list.0.now, list.1)) lists.now) (view document.now)) }
+{
+    let mut place: u16 = 1;
+    'lists: for (key, most) in lists {
+        held(7, place, has_at_most(*most, document, key))?;
+        place += 1;
+    }
+    Ok(())
+}
+
+/// The key and the greatest length of each list of a plan.
+fn lists() -> [(&'static str, usize); 7]
+    ensures { map (λ list. (list.0.now, list.1)) result ≡ lists }
+{
+    [
+        ("group", 64),
+        ("histogram", 32),
+        ("trace", 32),
+        ("startstop", 16),
+        ("coincidence", 16),
+        ("image", 8),
+        ("correlation", 16),
+    ]
+}
+
+/// Goes through the rules on the lists of a plan, 6 and 7.
+fn keeps_list_rules(document: &Value) -> Result<(), Fault>
+    ensures kept { result ≡ all_kept (rule_of_lists lists (view document.now) ∷ rule_of_lengths lists (view document.now) ∷ []) }
+    ensures few { OnOk result (HasFewTables (view document.now)) }
+{
+    let lists = lists();
+    may_have_lists(document, &lists)?;
+    have_at_most(document, &lists)?;
+    Ok(())
+}
+
 /// Goes through the rules on the document as a whole, 1 to 7.
 #[tactic(auto, unfolding(crate::specs::Document::document_rules))]
 pub(crate) fn keeps_document_rules(document: &Value) -> Result<(), Fault>
@@ -110,19 +159,6 @@ pub(crate) fn keeps_document_rules(document: &Value) -> Result<(), Fault>
     held(3, 0, order(document).is_some())?;
     held(4, 0, reserved(document).is_some())?;
     held(5, 0, records(document).is_some())?;
-    held(6, 1, may_have_tables(document, "group"))?;
-    held(6, 2, may_have_tables(document, "histogram"))?;
-    held(6, 3, may_have_tables(document, "trace"))?;
-    held(6, 4, may_have_tables(document, "startstop"))?;
-    held(6, 5, may_have_tables(document, "coincidence"))?;
-    held(6, 6, may_have_tables(document, "image"))?;
-    held(6, 7, may_have_tables(document, "correlation"))?;
-    held(7, 1, has_at_most(64, document, "group"))?;
-    held(7, 2, has_at_most(32, document, "histogram"))?;
-    held(7, 3, has_at_most(32, document, "trace"))?;
-    held(7, 4, has_at_most(16, document, "startstop"))?;
-    held(7, 5, has_at_most(16, document, "coincidence"))?;
-    held(7, 6, has_at_most(8, document, "image"))?;
-    held(7, 7, has_at_most(16, document, "correlation"))?;
+    keeps_list_rules(document)?;
     Ok(())
 }

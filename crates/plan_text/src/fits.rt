@@ -1,9 +1,10 @@
 // Whether the parts of a plan suit a file's mode.
 ghost use Rattle.std.specs.Prelude.{◌≡◌, IfErr, ◌≤◌, map, length, is_none, false};
-ghost use Rattle.tally_base.specs.Settings.{group_view, hist_view, startstop_view};
-ghost use Rattle.plan_text.specs.Fits.{fits, suit, suit_none, IsMisfit};
+ghost use Rattle.tally_base.specs.Settings.{group_view};
+ghost use Rattle.plan_text.specs.Fits.{fits, groups_fit, IsMisfit};
 ghost use Rattle.plan_text.specs.Reading.{plan_view};
 
+use crate::kind::suit_tables;
 use crate::plan::Plan;
 use tally_base::{Fault, Group, Mode, PartKind};
 
@@ -23,34 +24,29 @@ impl Plan {
     }
 
     /// Goes through the parts in their order.
-    #[tactic(auto, unfolding(crate::specs::Fits::fits))]
+    #[tactic(auto, using(crate::proofs::Misfits::parts_fit_after), unfolding(crate::specs::Fits::fits))]
     fn suits(&self, mode: Mode) -> Result<(), Fault>
         ensures { result ≡ fits mode (plan_view self.now) }
     {
-        match mode {
-            Mode::T2 => {
-                suit_gates(self.groups.as_slice(), mode)?;
-                suit_none(PartKind::Histogram, mode, self.histograms.len())?;
-                suit_none(PartKind::Image, mode, self.images.len())?;
-                Ok(())
-            }
-            Mode::T3 => {
-                suit_none(PartKind::StartStop, mode, self.startstops.len())?;
-                suit_none(PartKind::Coincidence, mode, self.coincidences.len())?;
-                Ok(())
-            }
-        }
+        suit_groups(self.groups.as_slice(), mode)?;
+        suit_tables(self.histograms.as_slice(), mode)?;
+        suit_tables(self.traces.as_slice(), mode)?;
+        suit_tables(self.startstops.as_slice(), mode)?;
+        suit_tables(self.coincidences.as_slice(), mode)?;
+        suit_tables(self.images.as_slice(), mode)?;
+        suit_tables(self.correlations.as_slice(), mode)?;
+        Ok(())
     }
 }
 
-/// No group has a gate, which the mode does not suit.
-fn suit_gates(groups: &[Group], mode: Mode) -> Result<(), Fault>
+/// No group has a gate that the mode does not suit.
+fn suit_groups(groups: &[Group], mode: Mode) -> Result<(), Fault>
     requires few { length groups.now ≤ 64 }
-    ensures { result ≡ suit PartKind.Gate mode (map (λ group. is_none group.gate) (map group_view groups.now)) }
+    ensures { result ≡ groups_fit mode (map group_view groups.now) }
 {
     let mut index: u8 = 1;
     'groups: for group in groups {
-        if group.gate.is_some() {
+        if mode == Mode::T2 && group.gate.is_some() {
             return Err(Fault::PlanMode {
                 kind: PartKind::Gate,
                 index,
@@ -60,19 +56,4 @@ fn suit_gates(groups: &[Group], mode: Mode) -> Result<(), Fault>
         index += 1;
     }
     Ok(())
-}
-
-/// There is no part of a kind that the mode does not suit.
-fn suit_none(kind: PartKind, mode: Mode, parts: usize) -> Result<(), Fault>
-    ensures { result ≡ suit_none kind mode parts }
-{
-    if parts == 0 {
-        Ok(())
-    } else {
-        Err(Fault::PlanMode {
-            kind,
-            index: 1,
-            mode,
-        })
-    }
 }

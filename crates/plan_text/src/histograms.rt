@@ -1,21 +1,22 @@
 // The histograms of a plan.
-ghost use Rattle.std.specs.Prelude.{◌≡◌, ◌≤◌, length, is_some, option_map};
+ghost use Rattle.std.specs.Prelude.{◌≡◌, ◌≤◌, length, option_map};
 ghost use Rattle.toml.specs.View.{view};
 ghost use Rattle.tally_base.specs.Settings.{hist_view};
-ghost use Rattle.toml_rules.specs.Rules.{all_kept};
+ghost use Rattle.tally_base.specs.Settings.PartSettings.{HistSettings};
 ghost use Rattle.plan_text.specs.Groups.{groups};
-ghost use Rattle.plan_text.specs.Histograms.{histograms, has_histogram_keys, histogram_rules, histogram};
+ghost use Rattle.plan_text.specs.Histograms.{has_histogram_keys, histogram_kind, histogram};
 
 use crate::groups::group_number;
-use tally_base::{Fault, HistSet};
+use crate::kind::PlanKind;
+use tally_base::{Fault, HistSet, Mode, PartKind};
 use toml::Value;
-use toml_rules::{ListRule, each, has_keys, number_in};
+use toml_rules::{ListRule, each, has_keys, list_at, number_in};
 
 /// The histogram that a table gives.
 #[tactic(auto, unfolding(crate::specs::Histograms::histogram))]
-pub(crate) fn histogram(document: &Value, table: &Value) -> Option<HistSet>
+fn histogram(document: &Value, table: &Value) -> Option<HistSet>
     requires few { length (groups (view document.now)) ≤ 64 }
-    ensures { option_map hist_view result ≡ histogram (view document.now) (view table.now) }
+    ensures { option_map (λ set. HistSettings (hist_view set)) result ≡ histogram (view document.now) (view table.now) }
 {
     match group_number(document, table, "group") {
         Some(group) => match number_in(table, "width", 1, 32768) {
@@ -45,27 +46,31 @@ impl ListRule for HistogramKeys {
     }
 }
 
-/// The values of a histogram are as they should be.
-struct HistogramValues;
+impl PlanKind for HistSet {
+    ghost kind = { histogram_kind };
 
-impl ListRule for HistogramValues {
-    ghost asks = { λ d hist. is_some (histogram d hist) };
+    ghost settings = { λ set. HistSettings (hist_view set) };
 
-    #[tactic(auto, unfolding(crate::specs::Histograms::histogram))]
-    fn is_met(document: &Value, item: &Value) -> bool {
-        group_number(document, item, "group").is_some()
-            && number_in(item, "width", 1, 32768).is_some()
-            && number_in(item, "bins", 1, 32768).is_some()
+    fn tables(document: &Value) -> &[Value] {
+        list_at(document, "histogram")
     }
-}
 
-/// Goes through the rules on histograms, 11 and 12.
-#[tactic(auto, unfolding(crate::specs::Histograms::histogram_rules))]
-pub(crate) fn keeps_histogram_rules(document: &Value) -> Result<(), Fault>
-    requires few { length (histograms (view document.now)) ≤ 255 }
-    ensures { result ≡ all_kept (histogram_rules (view document.now)) }
-{
-    each::<HistogramKeys>(11, document, "histogram")?;
-    each::<HistogramValues>(12, document, "histogram")?;
-    Ok(())
+    fn keeps_before(document: &Value) -> Result<(), Fault> {
+        each::<HistogramKeys>(11, document, "histogram")
+    }
+
+    fn last_rule() -> u8 {
+        12
+    }
+
+    fn read(document: &Value, table: &Value) -> Option<HistSet> {
+        histogram(document, table)
+    }
+
+    fn misfit(mode: Mode) -> Option<PartKind> {
+        match mode {
+            Mode::T2 => Some(PartKind::Histogram),
+            Mode::T3 => None,
+        }
+    }
 }

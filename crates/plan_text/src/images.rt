@@ -1,15 +1,16 @@
 // The images of a plan.
-ghost use Rattle.std.specs.Prelude.{◌≡◌, ◌<◌, ◌≤◌, ◌^◌, length, is_some, option_map, IfSome};
+ghost use Rattle.std.specs.Prelude.{◌≡◌, ◌<◌, ◌≤◌, ◌^◌, length, option_map, IfSome};
 ghost use Rattle.toml.specs.View.{view};
 ghost use Rattle.tally_base.specs.Settings.{image_view};
-ghost use Rattle.toml_rules.specs.Rules.{all_kept};
+ghost use Rattle.tally_base.specs.Settings.PartSettings.{ImageSettings};
 ghost use Rattle.plan_text.specs.Groups.{groups};
-ghost use Rattle.plan_text.specs.Images.{images, bit, raster, bits, image, has_image_keys, image_rules};
+ghost use Rattle.plan_text.specs.Images.{bit, raster, bits, image, has_image_keys, image_kind};
 
 use crate::groups::group_number;
-use tally_base::{Fault, ImageSet};
+use crate::kind::PlanKind;
+use tally_base::{Fault, ImageSet, Mode, PartKind};
 use toml::Value;
-use toml_rules::{ListRule, each, has_keys, integer_in, number_in};
+use toml_rules::{ListRule, each, has_keys, integer_in, list_at, number_in};
 
 /// The number of the marker bit at a key, if there is one.
 #[tactic(auto, unfolding(crate::specs::Images::bit))]
@@ -68,9 +69,9 @@ fn bits(table: &Value) -> Option<(u8, (Option<u8>, Option<u8>))>
 
 /// The image that a table asks for.
 #[tactic(auto, unfolding(crate::specs::Images::image))]
-pub(crate) fn image(document: &Value, table: &Value) -> Option<ImageSet>
+fn image(document: &Value, table: &Value) -> Option<ImageSet>
     requires few { length (groups (view document.now)) ≤ 64 }
-    ensures { option_map image_view result ≡ image (view document.now) (view table.now) }
+    ensures { option_map (λ set. ImageSettings (image_view set)) result ≡ image (view document.now) (view table.now) }
 {
     let Some(group) = group_number(document, table, "group") else {
         return None;
@@ -109,27 +110,31 @@ impl ListRule for ImageKeys {
     }
 }
 
-/// The values of an image are as they should be.
-struct ImageValues;
+impl PlanKind for ImageSet {
+    ghost kind = { image_kind };
 
-impl ListRule for ImageValues {
-    ghost asks = { λ d set. is_some (image d set) };
+    ghost settings = { λ set. ImageSettings (image_view set) };
 
-    #[tactic(auto, unfolding(crate::specs::Images::image))]
-    fn is_met(document: &Value, item: &Value) -> bool {
-        group_number(document, item, "group").is_some()
-            && raster(item).is_some()
-            && bits(item).is_some()
+    fn tables(document: &Value) -> &[Value] {
+        list_at(document, "image")
     }
-}
 
-/// Goes through the rules on images, 19 and 20.
-#[tactic(auto, unfolding(crate::specs::Images::image_rules))]
-pub(crate) fn keeps_image_rules(document: &Value) -> Result<(), Fault>
-    requires few { length (images (view document.now)) ≤ 255 }
-    ensures { result ≡ all_kept (image_rules (view document.now)) }
-{
-    each::<ImageKeys>(19, document, "image")?;
-    each::<ImageValues>(20, document, "image")?;
-    Ok(())
+    fn keeps_before(document: &Value) -> Result<(), Fault> {
+        each::<ImageKeys>(19, document, "image")
+    }
+
+    fn last_rule() -> u8 {
+        20
+    }
+
+    fn read(document: &Value, table: &Value) -> Option<ImageSet> {
+        image(document, table)
+    }
+
+    fn misfit(mode: Mode) -> Option<PartKind> {
+        match mode {
+            Mode::T2 => Some(PartKind::Image),
+            Mode::T3 => None,
+        }
+    }
 }

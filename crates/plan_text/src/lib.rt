@@ -8,6 +8,7 @@ mod fits;
 mod groups;
 mod histograms;
 mod images;
+mod kind;
 pub mod laws;
 mod plan;
 mod startstops;

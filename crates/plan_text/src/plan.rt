@@ -3,27 +3,17 @@ ghost use Rattle.std.specs.Prelude.{◌≡◌, ◌≤◌, ◌<◌, ◌≢◌, �
 ghost use Rattle.tally_base.specs.Faults.{is_outside};
 ghost use Rattle.toml.specs.Data.{Members, table};
 ghost use Rattle.toml.specs.View.{view};
-ghost use Rattle.tally_base.specs.Settings.{group_view, hist_view, trace_view, startstop_view, coincidence_view, image_view, correlation_view};
+ghost use Rattle.tally_base.specs.Settings.{group_view};
 ghost use Rattle.toml_rules.specs.Rules.{all_kept, Names, AllHold};
 ghost use Rattle.plan_text.specs.Groups.{groups, group};
-ghost use Rattle.plan_text.specs.Histograms.{histograms, histogram};
-ghost use Rattle.plan_text.specs.Traces.{traces, trace};
-ghost use Rattle.plan_text.specs.StartStops.{startstops, startstop};
-ghost use Rattle.plan_text.specs.Coincidences.{coincidences, coincidence};
-ghost use Rattle.plan_text.specs.Images.{images, image};
-ghost use Rattle.plan_text.specs.Correlations.{correlations, correlation};
 ghost use Rattle.plan_text.specs.Document.{order, reserved, records, HasFewTables};
-ghost use Rattle.plan_text.specs.Plan.{order_of, reserved_of, plan_rules, plan, IsWhole};
+ghost use Rattle.plan_text.specs.Kinds.{kinds};
+ghost use Rattle.plan_text.specs.Plan.{order_of, reserved_of, plan_rules, kinds_kept, plan, IsWhole};
 ghost use Rattle.plan_text.specs.Reading.{document, plan_answer, plan_view, plan_seen, if_kept, IsCalledFor, IsValid};
 
-use crate::coincidences::{coincidence, keeps_coincidence_rules};
-use crate::correlations::{correlation, keeps_correlation_rules};
 use crate::document::{keeps_document_rules, order, records, reserved};
 use crate::groups::{group, keeps_group_rules};
-use crate::histograms::{histogram, keeps_histogram_rules};
-use crate::images::{image, keeps_image_rules};
-use crate::startstops::{keeps_startstop_rules, startstop};
-use crate::traces::{keeps_trace_rules, trace};
+use crate::kind::{keeps_kind_rules, list_of};
 use arrayvec::ArrayVec;
 use std::alloc::Global;
 use tally_base::{
@@ -115,19 +105,28 @@ fn read_document(alloc: Global, bytes: &[u8]) -> Result<Value, Fault>
 }
 
 /// All rules, in their order.
-#[tactic(auto, using(toml_rules::proofs::Least::all_kept_after), unfolding(crate::specs::Plan::plan_rules))]
+#[tactic(auto, using(crate::proofs::Whole::plan_kept))]
 fn keeps_rules(document: &Value) -> Result<(), Fault>
     ensures kept { result ≡ all_kept (plan_rules (view document.now)) }
     ensures few { OnOk result (HasFewTables (view document.now)) }
 {
     keeps_document_rules(document)?;
     keeps_group_rules(document)?;
-    keeps_histogram_rules(document)?;
-    keeps_trace_rules(document)?;
-    keeps_startstop_rules(document)?;
-    keeps_coincidence_rules(document)?;
-    keeps_image_rules(document)?;
-    keeps_correlation_rules(document)?;
+    keep_rules_of_kinds(document)?;
+    Ok(())
+}
+
+/// The rules on each kind of tables.
+fn keep_rules_of_kinds(document: &Value) -> Result<(), Fault>
+    requires few { HasFewTables (view document.now) }
+    ensures { result ≡ kinds_kept kinds (view document.now) }
+{
+    keeps_kind_rules::<HistSet>(document)?;
+    keeps_kind_rules::<TraceSet>(document)?;
+    keeps_kind_rules::<StartStopSet>(document)?;
+    keeps_kind_rules::<CoincidenceSet>(document)?;
+    keeps_kind_rules::<ImageSet>(document)?;
+    keeps_kind_rules::<CorrelationSet>(document)?;
     Ok(())
 }
 
@@ -141,12 +140,12 @@ fn plan_of(document: &Value) -> Plan
     Plan {
         policy: policy_of(document),
         groups: groups_of(list_at(document, "group")),
-        histograms: histograms_of(document, list_at(document, "histogram")),
-        traces: traces_of(document, list_at(document, "trace")),
-        startstops: startstops_of(document, list_at(document, "startstop")),
-        coincidences: coincidences_of(document, list_at(document, "coincidence")),
-        images: images_of(document, list_at(document, "image")),
-        correlations: correlations_of(document, list_at(document, "correlation")),
+        histograms: list_of(document),
+        traces: list_of(document),
+        startstops: list_of(document),
+        coincidences: list_of(document),
+        images: list_of(document),
+        correlations: list_of(document),
     }
 }
 
@@ -201,96 +200,6 @@ fn groups_of(items: &[Value]) -> ArrayVec<Group, 64>
     let mut found: ArrayVec<Group, 64> = ArrayVec::new();
     'items: for item in items {
         if let Some(part) = group(item) {
-            found.push(part);
-        }
-    }
-    found
-}
-
-/// The histograms of the tables that give one, in their order.
-fn histograms_of(document: &Value, items: &[Value]) -> ArrayVec<HistSet, 32>
-    requires groups { length (groups (view document.now)) ≤ 64 }
-    requires few { length items.now ≤ 32 }
-    ensures { map hist_view result.items ≡ filter_map (histogram (view document.now)) (map view items.now) }
-{
-    let mut found: ArrayVec<HistSet, 32> = ArrayVec::new();
-    'items: for item in items {
-        if let Some(part) = histogram(document, item) {
-            found.push(part);
-        }
-    }
-    found
-}
-
-/// The traces of the tables that give one, in their order.
-fn traces_of(document: &Value, items: &[Value]) -> ArrayVec<TraceSet, 32>
-    requires groups { length (groups (view document.now)) ≤ 64 }
-    requires few { length items.now ≤ 32 }
-    ensures { map trace_view result.items ≡ filter_map (trace (view document.now)) (map view items.now) }
-{
-    let mut found: ArrayVec<TraceSet, 32> = ArrayVec::new();
-    'items: for item in items {
-        if let Some(part) = trace(document, item) {
-            found.push(part);
-        }
-    }
-    found
-}
-
-/// The start-stops of the tables that give one, in their order.
-fn startstops_of(document: &Value, items: &[Value]) -> ArrayVec<StartStopSet, 16>
-    requires groups { length (groups (view document.now)) ≤ 64 }
-    requires few { length items.now ≤ 16 }
-    ensures { map startstop_view result.items ≡ filter_map (startstop (view document.now)) (map view items.now) }
-{
-    let mut found: ArrayVec<StartStopSet, 16> = ArrayVec::new();
-    'items: for item in items {
-        if let Some(part) = startstop(document, item) {
-            found.push(part);
-        }
-    }
-    found
-}
-
-/// The coincidences of the tables that give one, in their order.
-fn coincidences_of(document: &Value, items: &[Value]) -> ArrayVec<CoincidenceSet, 16>
-    requires groups { length (groups (view document.now)) ≤ 64 }
-    requires few { length items.now ≤ 16 }
-    ensures { map coincidence_view result.items ≡ filter_map (coincidence (view document.now)) (map view items.now) }
-{
-    let mut found: ArrayVec<CoincidenceSet, 16> = ArrayVec::new();
-    'items: for item in items {
-        if let Some(part) = coincidence(document, item) {
-            found.push(part);
-        }
-    }
-    found
-}
-
-/// The images of the tables that give one, in their order.
-fn images_of(document: &Value, items: &[Value]) -> ArrayVec<ImageSet, 8>
-    requires groups { length (groups (view document.now)) ≤ 64 }
-    requires few { length items.now ≤ 8 }
-    ensures { map image_view result.items ≡ filter_map (image (view document.now)) (map view items.now) }
-{
-    let mut found: ArrayVec<ImageSet, 8> = ArrayVec::new();
-    'items: for item in items {
-        if let Some(part) = image(document, item) {
-            found.push(part);
-        }
-    }
-    found
-}
-
-/// The correlations of the tables that give one, in their order.
-fn correlations_of(document: &Value, items: &[Value]) -> ArrayVec<CorrelationSet, 16>
-    requires groups { length (groups (view document.now)) ≤ 64 }
-    requires few { length items.now ≤ 16 }
-    ensures { map correlation_view result.items ≡ filter_map (correlation (view document.now)) (map view items.now) }
-{
-    let mut found: ArrayVec<CorrelationSet, 16> = ArrayVec::new();
-    'items: for item in items {
-        if let Some(part) = correlation(document, item) {
             found.push(part);
         }
     }

@@ -1,21 +1,22 @@
 // The start-stops of a plan.
-ghost use Rattle.std.specs.Prelude.{◌≡◌, ◌≤◌, length, is_some, option_map};
+ghost use Rattle.std.specs.Prelude.{◌≡◌, ◌≤◌, length, option_map};
 ghost use Rattle.toml.specs.View.{view};
 ghost use Rattle.tally_base.specs.Settings.{startstop_view};
-ghost use Rattle.toml_rules.specs.Rules.{all_kept};
+ghost use Rattle.tally_base.specs.Settings.PartSettings.{StartStopSettings};
 ghost use Rattle.plan_text.specs.Groups.{groups};
-ghost use Rattle.plan_text.specs.StartStops.{startstops, startstop, has_startstop_keys, startstop_rules};
+ghost use Rattle.plan_text.specs.StartStops.{startstop, has_startstop_keys, startstop_kind};
 
 use crate::groups::group_number;
-use tally_base::{Fault, StartStopSet};
+use crate::kind::PlanKind;
+use tally_base::{Fault, Mode, PartKind, StartStopSet};
 use toml::Value;
-use toml_rules::{ListRule, each, has_keys, number_in};
+use toml_rules::{ListRule, each, has_keys, list_at, number_in};
 
 /// The start-stop that a table gives.
 #[tactic(auto, unfolding(crate::specs::StartStops::startstop))]
-pub(crate) fn startstop(document: &Value, table: &Value) -> Option<StartStopSet>
+fn startstop(document: &Value, table: &Value) -> Option<StartStopSet>
     requires few { length (groups (view document.now)) ≤ 64 }
-    ensures { option_map startstop_view result ≡ startstop (view document.now) (view table.now) }
+    ensures { option_map (λ set. StartStopSettings (startstop_view set)) result ≡ startstop (view document.now) (view table.now) }
 {
     let Some(start) = group_number(document, table, "start") else {
         return None;
@@ -49,28 +50,31 @@ impl ListRule for StartStopKeys {
     }
 }
 
-/// The values of a start-stop are as they should be.
-struct StartStopValues;
+impl PlanKind for StartStopSet {
+    ghost kind = { startstop_kind };
 
-impl ListRule for StartStopValues {
-    ghost asks = { λ d set. is_some (startstop d set) };
+    ghost settings = { λ set. StartStopSettings (startstop_view set) };
 
-    #[tactic(auto, unfolding(crate::specs::StartStops::startstop))]
-    fn is_met(document: &Value, item: &Value) -> bool {
-        group_number(document, item, "start").is_some()
-            && group_number(document, item, "stop").is_some()
-            && number_in(item, "width", 1, 1 << 62).is_some()
-            && number_in(item, "bins", 1, 32768).is_some()
+    fn tables(document: &Value) -> &[Value] {
+        list_at(document, "startstop")
     }
-}
 
-/// Goes through the rules on start-stops, 15 and 16.
-#[tactic(auto, unfolding(crate::specs::StartStops::startstop_rules))]
-pub(crate) fn keeps_startstop_rules(document: &Value) -> Result<(), Fault>
-    requires few { length (startstops (view document.now)) ≤ 255 }
-    ensures { result ≡ all_kept (startstop_rules (view document.now)) }
-{
-    each::<StartStopKeys>(15, document, "startstop")?;
-    each::<StartStopValues>(16, document, "startstop")?;
-    Ok(())
+    fn keeps_before(document: &Value) -> Result<(), Fault> {
+        each::<StartStopKeys>(15, document, "startstop")
+    }
+
+    fn last_rule() -> u8 {
+        16
+    }
+
+    fn read(document: &Value, table: &Value) -> Option<StartStopSet> {
+        startstop(document, table)
+    }
+
+    fn misfit(mode: Mode) -> Option<PartKind> {
+        match mode {
+            Mode::T2 => None,
+            Mode::T3 => Some(PartKind::StartStop),
+        }
+    }
 }

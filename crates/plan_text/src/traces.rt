@@ -1,15 +1,16 @@
 // The traces of a plan.
-ghost use Rattle.std.specs.Prelude.{◌≡◌, ◌≤◌, ◌^◌, length, is_some, option_map, IfSome};
+ghost use Rattle.std.specs.Prelude.{◌≡◌, ◌≤◌, ◌^◌, length, option_map, IfSome};
 ghost use Rattle.toml.specs.View.{view};
 ghost use Rattle.tally_base.specs.Settings.{trace_view};
-ghost use Rattle.toml_rules.specs.Rules.{all_kept};
+ghost use Rattle.tally_base.specs.Settings.PartSettings.{TraceSettings};
 ghost use Rattle.plan_text.specs.Groups.{groups};
-ghost use Rattle.plan_text.specs.Traces.{traces, origin, trace, has_trace_keys, trace_rules};
+ghost use Rattle.plan_text.specs.Traces.{origin, trace, has_trace_keys, trace_kind};
 
 use crate::groups::group_number;
-use tally_base::{Fault, TraceSet};
+use crate::kind::PlanKind;
+use tally_base::{Fault, Mode, PartKind, TraceSet};
 use toml::Value;
-use toml_rules::{ListRule, each, has_keys, number_in, number_or};
+use toml_rules::{ListRule, each, has_keys, list_at, number_in, number_or};
 
 /// The time at which a trace begins, which is 0 where the table does not say it.
 #[tactic(auto, unfolding(crate::specs::Traces::origin))]
@@ -22,9 +23,9 @@ fn origin(table: &Value) -> Option<u64>
 
 /// The trace that a table gives.
 #[tactic(auto, unfolding(crate::specs::Traces::trace))]
-pub(crate) fn trace(document: &Value, table: &Value) -> Option<TraceSet>
+fn trace(document: &Value, table: &Value) -> Option<TraceSet>
     requires few { length (groups (view document.now)) ≤ 64 }
-    ensures { option_map trace_view result ≡ trace (view document.now) (view table.now) }
+    ensures { option_map (λ set. TraceSettings (trace_view set)) result ≡ trace (view document.now) (view table.now) }
 {
     let Some(group) = group_number(document, table, "group") else {
         return None;
@@ -58,28 +59,28 @@ impl ListRule for TraceKeys {
     }
 }
 
-/// The values of a trace are as they should be.
-struct TraceValues;
+impl PlanKind for TraceSet {
+    ghost kind = { trace_kind };
 
-impl ListRule for TraceValues {
-    ghost asks = { λ d set. is_some (trace d set) };
+    ghost settings = { λ set. TraceSettings (trace_view set) };
 
-    #[tactic(auto, unfolding(crate::specs::Traces::trace))]
-    fn is_met(document: &Value, item: &Value) -> bool {
-        group_number(document, item, "group").is_some()
-            && origin(item).is_some()
-            && number_in(item, "width", 1, 1 << 62).is_some()
-            && number_in(item, "bins", 1, 1 << 20).is_some()
+    fn tables(document: &Value) -> &[Value] {
+        list_at(document, "trace")
     }
-}
 
-/// Goes through the rules on traces, 13 and 14.
-#[tactic(auto, unfolding(crate::specs::Traces::trace_rules))]
-pub(crate) fn keeps_trace_rules(document: &Value) -> Result<(), Fault>
-    requires few { length (traces (view document.now)) ≤ 255 }
-    ensures { result ≡ all_kept (trace_rules (view document.now)) }
-{
-    each::<TraceKeys>(13, document, "trace")?;
-    each::<TraceValues>(14, document, "trace")?;
-    Ok(())
+    fn keeps_before(document: &Value) -> Result<(), Fault> {
+        each::<TraceKeys>(13, document, "trace")
+    }
+
+    fn last_rule() -> u8 {
+        14
+    }
+
+    fn read(document: &Value, table: &Value) -> Option<TraceSet> {
+        trace(document, table)
+    }
+
+    fn misfit(_mode: Mode) -> Option<PartKind> {
+        None
+    }
 }

@@ -1,13 +1,11 @@
 -- No refusal of a plan, or of a file by a plan, is that of a bad command line.
-use Rattle.std.proofs.Common.{◌≡◌, ℕ, List, Bool, true, false, None, Some, Ok, Err, refl, arith}
+use Rattle.std.proofs.Common.{◌≡◌, ℕ, List, Bool, true, false, None, Some, Ok, Err, refl, inl, inr, arith}
 use Rattle.std.specs.Prelude.{◌≢◌, ◌==◌, Result, length, nat_le, if◌then◌else◌}
 use Rattle.std.specs.declared.option.Option.{Option}
 use Rattle.tally_base.specs.declared.fault.Fault.{Fault}
 use Rattle.tally_base.specs.declared.fault.Fault.TheVariants.{PlanTooLong, PlanRule, PlanMode}
 use Rattle.tally_base.specs.declared.header.Header.{Header}
 use Rattle.tally_base.specs.declared.header.Mode.{Mode}
-use Rattle.tally_base.specs.declared.header.Mode.TheVariants.{T2, T3}
-use Rattle.tally_base.specs.declared.part.PartKind.TheVariants.{Gate, Histogram, StartStop, Coincidence, Image}
 use Rattle.tally_base.specs.Faults.{status_of, fault_in}
 use Rattle.tally_base.specs.RecordTypes.{mode_of}
 use Rattle.bench_io.specs.Inputs.{File}
@@ -22,7 +20,7 @@ use Rattle.plan_text.specs.Plan.{PlanView, plan_rules, plan}
 use Rattle.plan_text.specs.Reading.{document, if_kept, plan_of_document, plan_answer}
 use Rattle.plan_text.specs.Fits.{fits, IsMisfit}
 use Rattle.plan_text.proofs.Rise.{plan_rules_rise}
-use Rattle.plan_text.proofs.Misfits.{misfit}
+use Rattle.plan_text.proofs.Misfits.{misfit_named}
 use Rattle.ptu_cli.specs.Outcomes.{status, report_outcome, planned}
 use Rattle.tally_engine.specs.Plans.{reading_by}
 use Rattle.ptu_cli.specs.Reports.{report_of, if_fits, report_behind, file_report}
@@ -50,12 +48,8 @@ unfolding plan_answer
 plan_answer-bytes text = short-bytes (nat_le (length text) 65536) (plan_of_document (document text)) (document-bytes (document text))
 
 misfit-bytes : (mode : Mode) (view : PlanView) (fault : Fault) → IsMisfit mode view fault → status_of fault ≢ 1
-misfit-bytes T2 view (PlanMode Gate number T2) h = λ e. omega arith
-misfit-bytes T2 view (PlanMode Histogram number T2) h = λ e. omega arith
-misfit-bytes T2 view (PlanMode Image number T2) h = λ e. omega arith
-misfit-bytes T3 view (PlanMode StartStop number T3) h = λ e. omega arith
-misfit-bytes T3 view (PlanMode Coincidence number T3) h = λ e. omega arith
-misfit-bytes _ view _ h = absurd h
+misfit-bytes mode view fault (inl (number, is, first)) = rw is (λ e. omega arith)
+misfit-bytes mode view fault (inr (kind, is, first, none)) = rw is (λ e. omega arith)
 
 report_of-bytes : (view : PlanView) (header : Header) (bytes : List ℕ) (r : Result Summary Fault) → status (fault_in r) ≢ 1 → IsOfBytes (report_of view header bytes r)
 report_of-bytes view header bytes (Ok summary) h = tt
@@ -69,7 +63,7 @@ streamed_by-bytes view header bytes =
 
 fits-bytes : (view : PlanView) (header : Header) (bytes : List ℕ) (r : Result (Unit {0}) Fault) → fits (mode_of header.record_type) view ≡ r → IsOfBytes (if_fits view header bytes r)
 fits-bytes view header bytes (Ok done) is = report_of-bytes view header bytes (streamed (reading_by view header) bytes) (streamed_by-bytes view header bytes)
-fits-bytes view header bytes (Err fault) is = misfit-bytes (mode_of header.record_type) view fault (misfit (mode_of header.record_type) view fault is)
+fits-bytes view header bytes (Err fault) is = misfit-bytes (mode_of header.record_type) view fault (misfit_named (mode_of header.record_type) view fault is)
 
 report_behind-bytes : (view : PlanView) (r : Result (Header × List ℕ) Fault) → IsOfBytes r → IsOfBytes (report_behind view r)
 report_behind-bytes view (Ok found) h = fits-bytes view found.0 found.1 (fits (mode_of found.0.record_type) view) refl

@@ -6,8 +6,6 @@ use Rattle.std.specs.Io.KnownBytes.{Consumes, IsAtEnd}
 use Rattle.tally_base.specs.declared.fault.Fault.{Fault}
 use Rattle.tally_base.specs.declared.fault.Fault.TheVariants.{PlanMode}
 use Rattle.tally_base.specs.declared.header.Mode.{Mode}
-use Rattle.tally_base.specs.declared.header.Mode.TheVariants.{T2, T3}
-use Rattle.tally_base.specs.declared.part.PartKind.TheVariants.{Gate, Histogram, StartStop, Coincidence, Image}
 use Rattle.tally_base.specs.declared.slot.Slot.TheVariants.{Data}
 use Rattle.tally_base.specs.declared.header.Header.{Header}
 use Rattle.tally_base.specs.Faults.{is_outside}
@@ -23,7 +21,7 @@ use Rattle.ptu_definitions.specs.Streams.{record_refusal, streamed}
 use Rattle.ptu_definitions.proofs.ShownLemmas.{Says-at_end}
 use Rattle.plan_text.specs.Plan.{PlanView}
 use Rattle.plan_text.specs.Fits.{fits, IsMisfit}
-use Rattle.plan_text.proofs.Misfits.{misfit}
+use Rattle.plan_text.proofs.Misfits.{misfit_named}
 use Rattle.tally_engine.specs.declared.engine.Engine.{Engine}
 use Rattle.tally_engine.specs.declared.engine.Results.{Results}
 use Rattle.tally_engine.specs.Engine.{engine_groups, reading_of, IsFor, SameEngine, IsCounted, Finishes}
@@ -145,18 +143,14 @@ pub takes-on : (old new : Engine) (bytes taken : List ℕ) (before after : Optio
 takes-on old new bytes taken before after same took none = (taken, took, streamed-open (reading_of old) (bytes ++ taken) (rw same.same_reading at none))
 
 fits-inside : (mode : Mode) (plan : PlanView) (fault : Fault) → IsMisfit mode plan fault → is_outside fault ≡ false
-fits-inside T2 plan (PlanMode Gate number T2) h = refl
-fits-inside T2 plan (PlanMode Histogram number T2) h = refl
-fits-inside T2 plan (PlanMode Image number T2) h = refl
-fits-inside T3 plan (PlanMode StartStop number T3) h = refl
-fits-inside T3 plan (PlanMode Coincidence number T3) h = refl
-fits-inside _ plan _ h = absurd h
+fits-inside mode plan fault (inl (number, is, first)) = rw is refl
+fits-inside mode plan fault (inr (kind, is, first, none)) = rw is refl
 
 -- why no engine was opened: the plan does not suit the file, or memory was refused behind the header
 pub unopened-reason : (plan : PlanView) (header : Header) (taken behind : List ℕ) (before after : InputState) (fault : Fault) → ShowsHeader taken header behind → length behind < 8192 → Consumes (before.rest Data) (after.rest Data) taken
     → OpensAs {A = Engine} (fits (mode_of header.record_type) plan) (Err fault) → RunReason plan before after fault
 unopened-reason plan header taken behind before after fault shows few took (inl fit) =
-    HasReason-inside _ _ _ _ fault (fits-inside (mode_of header.record_type) plan fault (misfit (mode_of header.record_type) plan fault fit))
+    HasReason-inside _ _ _ _ fault (fits-inside (mode_of header.record_type) plan fault (misfit_named (mode_of header.record_type) plan fault fit))
 unopened-reason plan header taken behind before after fault shows few took (inr want) =
     let answer : header_answer taken ≡ Ok (header, behind) = ap header_answer (sym (append-nil taken)) ∙ shows [] ∙ ap (λ l. Ok (header, l)) (append-nil behind) in
     rw want.1 (taken, took, record { header = header; behind = behind; answer = answer; suits = want.0; few = few })

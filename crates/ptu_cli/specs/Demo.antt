@@ -2,6 +2,7 @@
 use Rattle.std.specs.Prelude.{ℕ, ◌^◌, List, [], ◌∷◌, None, codes}
 use Rattle.tally_base.specs.declared.event.Order.TheVariants.{Drop}
 use Rattle.tally_base.specs.declared.event.OnReserved.TheVariants.{Skip}
+use Rattle.tally_base.specs.Settings.PartSettings.{TraceSettings, StartStopSettings, CoincidenceSettings, CorrelationSettings}
 use Rattle.ptu_definitions.specs.Streams.{Reading, summary}
 use Rattle.plan_text.specs.Plan.{PlanView, parts_of}
 use Rattle.tally_engine.specs.Histories.{history}
@@ -21,12 +22,12 @@ demo_plan = record {
   reserved = Skip;
   records = 2 ^ 40;
   groups = record { inputs = 2; gate = None } ∷ record { inputs = 4; gate = None } ∷ [];
-  histograms = [];
-  traces = record { group = 1; origin = 0; width = 1048576; bins = 64 } ∷ [];
-  startstops = record { start = 1; stop = 2; width = 64; bins = 64 } ∷ [];
-  coincidences = record { first = 1; second = 2; reach = 256; width = 64 } ∷ [];
-  images = [];
-  correlations = record { first = 1; second = 2; lags = 4; levels = 8 } ∷ [];
+  parts =
+      TraceSettings (record { group = 1; origin = 0; width = 1048576; bins = 64 })
+      ∷ StartStopSettings (record { start = 1; stop = 2; width = 64; bins = 64 })
+      ∷ CoincidenceSettings (record { first = 1; second = 2; reach = 256; width = 64 })
+      ∷ CorrelationSettings (record { first = 1; second = 2; lags = 4; levels = 8 })
+      ∷ [];
 }
 
 -- how the made words are read

@@ -5,7 +5,6 @@ pub mod StepTexts
 pub mod Rows
 pub mod EventRows
 pub mod Putting
-pub mod TableTexts
 pub mod Tables
 pub mod Reports
 pub mod ReportRows

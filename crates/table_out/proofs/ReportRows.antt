@@ -11,7 +11,13 @@ use Rattle.tally_base.specs.Settings.{PartSettings}
 use Rattle.tally_base.specs.Settings.PartSettings.{HistSettings, TraceSettings, StartStopSettings, CoincidenceSettings, ImageSettings, CorrelationSettings}
 use Rattle.tally_base.specs.Tally.{History}
 use Rattle.ptu_definitions.specs.declared.records.Summary.{Summary}
-use Rattle.table_out.specs.Report.{head_text, histogram_text, trace_text, startstop_text, coincidence_text, image_text, correlation_text, parts_text, report, with_events}
+use Rattle.table_out.specs.Report.{head_text, parts_text, report, with_events}
+use Rattle.table_out.specs.Histogram.{histogram_printed}
+use Rattle.table_out.specs.Trace.{trace_printed}
+use Rattle.table_out.specs.StartStop.{startstop_printed}
+use Rattle.table_out.specs.Coincidence.{coincidence_printed}
+use Rattle.table_out.specs.Image.{image_printed}
+use Rattle.table_out.specs.Correlation.{correlation_printed}
 
 abbrev bench_header : Header
 bench_header = record { record_type = HydraHarp2T3; count = Some (pos 9); global = Some 0x3E6AD7F29ABCAF48; resolution = Some 0x3DC19799812DEA11; version = codes "1.0.00" ++ 0 ∷ 0 ∷ [] }
@@ -36,7 +42,7 @@ bench_head =
     codes "type HydraHarp2T3\nannounced 9\nglobal 3E6AD7F29ABCAF48\nresolution 3DC19799812DEA11\nrecords 9\nphotons 5\nmarkers 2\nwraps 2\nreserved 0\nlate 0\nfirst 1030\nlast 2050\n"
 
 pub row-bench : report bench_header bench_summary ((HistSettings (record { group = 1; width = 64; bins = 64 }), bench_events) ∷ []) ≡ bench_head ++ codes "histogram 1 width 64 bins 64\n1 2\nover 1\n"
-unfolding report head_text histogram_text hexadecimal digits
+unfolding report head_text histogram_printed hexadecimal digits
 row-bench = refl
 
 abbrev bare_header : Header
@@ -56,19 +62,19 @@ abbrev five_photons : History
 five_photons = photon 1 0 ∷ photon 2 3 ∷ photon 3 4 ∷ photon 4 7 ∷ photon 5 8 ∷ []
 
 pub row-histogram : parts_text ((HistSettings (record { group = 1; width = 4; bins = 2 }), five_photons) ∷ []) ≡ codes "histogram 1 width 4 bins 2\n0 2\n1 2\nover 1\n"
-unfolding histogram_text digits
+unfolding histogram_printed digits
 row-histogram = refl
 
 -- Two histograms have the numbers 1 and 2. A cell that is 0 has no line.
 pub row-two : parts_text (with_events (HistSettings (record { group = 1; width = 3; bins = 4 }) ∷ HistSettings (record { group = 2; width = 32768; bins = 1 }) ∷ []) (photon 1 0 ∷ photon 2 8 ∷ []))
     ≡ codes "histogram 1 width 3 bins 4\n0 1\n2 1\nover 0\nhistogram 2 width 32768 bins 1\nover 0\n"
-unfolding histogram_text digits
+unfolding histogram_printed digits
 row-two = refl
 
 -- two histograms that were given different events
 pub row-apart : parts_text ((HistSettings (record { group = 1; width = 4; bins = 2 }), five_photons) ∷ (HistSettings (record { group = 1; width = 4; bins = 2 }), photon 1 5 ∷ []) ∷ [])
     ≡ codes "histogram 1 width 4 bins 2\n0 2\n1 2\nover 1\nhistogram 2 width 4 bins 2\n1 1\nover 0\n"
-unfolding histogram_text digits
+unfolding histogram_printed digits
 row-apart = refl
 
 -- a photon of input 0 in group 1
@@ -82,7 +88,7 @@ short_trace = TraceSettings (record { group = 1; origin = 100; width = 10; bins 
 -- The time 99 is before the origin, 100 and 109 are in the first bin, 110 in the second, 120 and 121 past it.
 pub row-trace : parts_text ((short_trace, timed 1 99 ∷ timed 2 100 ∷ timed 3 109 ∷ timed 4 110 ∷ timed 5 120 ∷ timed 6 121 ∷ []) ∷ [])
     ≡ codes "trace 1 origin 100 width 10 bins 2\n0 2\n1 1\nbefore 1\nbeyond 2\n"
-unfolding trace_text digits
+unfolding trace_printed digits
 row-trace = refl
 
 -- a start-stop table of two bins, from photons of group 1 to those of group 2
@@ -96,19 +102,19 @@ stopping place time = (record { place = place; kind = Photon 1 0; time = time },
 -- The intervals are 19 and 20 long; the last stop has no start.
 pub row-startstop : parts_text ((short_startstop, timed 1 100 ∷ stopping 2 119 ∷ timed 3 130 ∷ stopping 4 150 ∷ stopping 5 151 ∷ []) ∷ [])
     ≡ codes "startstop 1 width 10 bins 2\n1 1\nover 1\n"
-unfolding startstop_text digits
+unfolding startstop_printed digits
 row-startstop = refl
 
 -- each kind has numbers of its own
 pub row-kinds : parts_text (with_events (HistSettings (record { group = 1; width = 4; bins = 2 }) ∷ short_trace ∷ short_trace ∷ short_startstop ∷ []) (timed 1 100 ∷ stopping 2 105 ∷ []))
     ≡ codes "histogram 1 width 4 bins 2\n0 1\nover 0\ntrace 1 origin 100 width 10 bins 2\n0 1\nbefore 0\nbeyond 0\ntrace 2 origin 100 width 10 bins 2\n0 1\nbefore 0\nbeyond 0\nstartstop 1 width 10 bins 2\n0 1\nover 0\n"
-unfolding histogram_text trace_text startstop_text digits
+unfolding histogram_printed trace_printed startstop_printed digits
 row-kinds = refl
 
 -- The two photons at 3 make two pairs of one tick, and each of them two with the one at 4, one in each order.
 pub row-coincidence : parts_text ((CoincidenceSettings (record { first = 1; second = 1; reach = 1; width = 1 }), timed 1 3 ∷ timed 2 3 ∷ timed 3 4 ∷ []) ∷ [])
     ≡ codes "coincidence 1 reach 1 width 1\n0 2\n1 2\n2 2\n"
-unfolding coincidence_text digits
+unfolding coincidence_printed digits
 row-coincidence = refl
 
 -- a frame and its first line
@@ -118,11 +124,11 @@ framed place time = (record { place = place; kind = Marker 3; time = time }, 0)
 -- The photons at 100 and 119 are in the first row, and the one at 120 is past the last column.
 pub row-image : parts_text ((ImageSettings (record { group = 1; width = 2; height = 2; dwell = 10; line = 1; frame = Some 2; stop = None }), framed 1 100 ∷ timed 2 100 ∷ timed 3 119 ∷ timed 4 120 ∷ []) ∷ [])
     ≡ codes "image 1 width 2 height 2 dwell 10\n0 0 1\n1 0 1\noutside 1\n"
-unfolding image_text digits
+unfolding image_printed digits
 row-image = refl
 
 -- Level 0 has the lags 1 and 2, and level 1 the lag 2 alone.
 pub row-correlation : parts_text ((CorrelationSettings (record { first = 1; second = 1; lags = 2; levels = 2 }), timed 1 0 ∷ timed 2 1 ∷ timed 3 3 ∷ timed 4 4 ∷ []) ∷ [])
     ≡ codes "correlation 1 lags 2 levels 2\n0 1 2\n0 2 1\n1 2 2\n"
-unfolding correlation_text digits
+unfolding correlation_printed digits
 row-correlation = refl

@@ -2,5 +2,12 @@ pub mod HeaderText
 pub mod Body
 pub mod EventText
 pub mod Lines
+pub mod Printed
+pub mod Histogram
+pub mod Trace
+pub mod StartStop
+pub mod Coincidence
+pub mod Image
+pub mod Correlation
 pub mod Report
 pub mod Puts

@@ -1,50 +1,50 @@
 // The lines of a table of cells.
-ghost use Rattle.std.specs.Prelude.{◌≡◌, ◌<◌, ◌≤◌, ℕ, Bool, true, List, OnOk, OnErr, codes, decimal};
+ghost use Rattle.std.specs.Prelude.{◌≡◌, ◌<◌, ◌≤◌, true, length, OnOk, OnErr, codes, decimal};
 ghost use Rattle.tally_base.specs.Counts.{HasCause};
 ghost use Rattle.tally_base.specs.Tally.{History};
 ghost use Rattle.table_out.specs.Lines.{line};
-ghost use Rattle.table_out.specs.Report.{cell_line, pair_line};
-ghost use Rattle.table_out.specs.Puts.{PutsText, CutsText, texts_of, rows_of, table_lines};
+ghost use Rattle.table_out.specs.Printed.{cell_line, pair_line, texts_of, rows_of, first_line};
+ghost use Rattle.table_out.specs.Puts.{PutsText, CutsText};
+ghost use Rattle.table_out.specs.Report.{printed, part_text};
 
 use crate::line::{put_count, put_wide};
 use arrayvec::ArrayVec;
 use bench_io::{Block, Sink};
-use tally_base::{Failed, put_decimal, put_text};
+use tally_base::{Failed, Tally, put_decimal, put_text};
 
-/// A table whose cells stand in rows, and are read once it is closed. Rows, and the columns of each, are
-/// numbered from 0.
-pub(crate) trait Cells {
-    /// The table stands for these events, each with its groups.
-    ghost holds: { Self → History → Type 0 };
+/// A table that is printed: its cells stand in rows, and are read once it is closed. Rows, and the columns
+/// of each, are numbered from 0.
+pub(crate) trait Prints: Tally {
+    /// The name of its kind.
+    fn word(&self) -> &'static str
+        ensures text { result.now ≡ (printed (Self.settings self.now)).word }
+        ensures short { length result.now ≤ 16 };
 
-    /// Its cells are the counts.
-    ghost closed: { Self → Bool };
-
-    /// How many rows it has.
-    ghost rows: { Self → ℕ };
-
-    /// How many columns a row has.
-    ghost columns: { Self → ℕ → ℕ };
-
-    /// The line of the cell in a row and a column, over these events.
-    ghost text: { Self → ℕ → ℕ → History → List ℕ };
+    /// Its settings, as its first line has them behind its number.
+    fn settings_text(&self) -> ArrayVec<u8, 96>
+        ensures { result.items ≡ (printed (Self.settings self.now)).settings };
 
     /// How many rows it has.
     fn row_count(&self) -> u32
-        ensures { result ≡ rows self.now };
+        ensures { result ≡ (printed (Self.settings self.now)).rows };
 
     /// How many columns a row has.
     fn column_count(&self, row: u32) -> u32
-        requires { row < rows self.now }
-        ensures { result ≡ columns self.now row };
+        requires { row < (printed (Self.settings self.now)).rows }
+        ensures { result ≡ (printed (Self.settings self.now)).columns row };
 
     /// The line of a cell. A cell that is 0 has none.
     fn line_of(&self, row: u32, column: u32) -> ArrayVec<u8, 96>
-        requires closed { closed self.now ≡ true }
-        requires row { row < rows self.now }
-        requires column { column < columns self.now row }
-        ensures { (h : History) → holds self.now h
-            → result.items ≡ text self.now row column h };
+        requires closed { Self.closed self.now ≡ true }
+        requires row { row < (printed (Self.settings self.now)).rows }
+        requires column { column < (printed (Self.settings self.now)).columns row }
+        ensures { (h : History) → Self.holds self.now h
+            → result.items ≡ (printed (Self.settings self.now)).cell row column h };
+
+    /// The lines behind the cells.
+    fn rest_lines(&self) -> ArrayVec<u8, 64>
+        ensures { (h : History) → Self.holds self.now h
+            → result.items ≡ (printed (Self.settings self.now)).rest h };
 }
 
 /// The line of a cell with a number. A cell that is 0 has none.
@@ -79,19 +79,19 @@ pub(crate) fn pair_line(first: u32, second: u32, count: u128) -> ArrayVec<u8, 96
 }
 
 /// Puts the lines of a row of cells, in rising order.
-fn put_row<T: Cells, O: Sink>(
+fn put_row<T: Prints, O: Sink>(
     table: &T,
     row: u32,
     block: &mut Block,
     out: &mut O,
 ) -> Result<(), Failed>
     requires closed { T.closed table.now ≡ true }
-    requires row { row < T.rows table.now }
+    requires row { row < (printed (T.settings table.now)).rows }
     ensures all { OnOk result (PutsText (T.holds table.now)
-        (texts_of (T.text table.now row) (T.columns table.now row))
+        (texts_of ((printed (T.settings table.now)).cell row) ((printed (T.settings table.now)).columns row))
         (O.written out.old) (O.written out.new) block.old block.new) }
     ensures short { OnErr result (CutsText (T.holds table.now)
-        (texts_of (T.text table.now row) (T.columns table.now row))
+        (texts_of ((printed (T.settings table.now)).cell row) ((printed (T.settings table.now)).columns row))
         (O.written out.old) (O.written out.new) block.old) }
     ensures cause { HasCause (O.faults out.old) (O.faults out.new) result }
 {
@@ -102,13 +102,13 @@ fn put_row<T: Cells, O: Sink>(
 }
 
 /// Puts the lines of the cells, row by row.
-fn put_rows<T: Cells, O: Sink>(table: &T, block: &mut Block, out: &mut O) -> Result<(), Failed>
+fn put_rows<T: Prints, O: Sink>(table: &T, block: &mut Block, out: &mut O) -> Result<(), Failed>
     requires closed { T.closed table.now ≡ true }
     ensures all { OnOk result (PutsText (T.holds table.now)
-        (rows_of (T.text table.now) (T.columns table.now) (T.rows table.now))
+        (rows_of (printed (T.settings table.now)).cell (printed (T.settings table.now)).columns (printed (T.settings table.now)).rows)
         (O.written out.old) (O.written out.new) block.old block.new) }
     ensures short { OnErr result (CutsText (T.holds table.now)
-        (rows_of (T.text table.now) (T.columns table.now) (T.rows table.now))
+        (rows_of (printed (T.settings table.now)).cell (printed (T.settings table.now)).columns (printed (T.settings table.now)).rows)
         (O.written out.old) (O.written out.new) block.old) }
     ensures cause { HasCause (O.faults out.old) (O.faults out.new) result }
 {
@@ -118,30 +118,42 @@ fn put_rows<T: Cells, O: Sink>(table: &T, block: &mut Block, out: &mut O) -> Res
     Ok(())
 }
 
+/// The first line of a table: the name of its kind, its number, and its settings.
+fn first_line<T: Prints>(number: u64, table: &T) -> ArrayVec<u8, 160>
+    ensures { result.items ≡ first_line (printed (T.settings table.now)) number }
+{
+    let mut line = ArrayVec::new();
+    put_text(&mut line, table.word().as_bytes());
+    put_text(&mut line, b" ");
+    put_decimal(&mut line, number);
+    put_text(&mut line, table.settings_text().as_slice());
+    put_text(&mut line, b"\n");
+    line
+}
+
 /// Puts the lines of a table: its first line, its cells, and its rest lines.
-pub(crate) fn put_table<T: Cells, O: Sink>(
-    first: &[u8],
+pub(crate) fn put_table<T: Prints, O: Sink>(
+    number: u64,
     table: &T,
-    rest: &[u8],
     block: &mut Block,
     out: &mut O,
 ) -> Result<(), Failed>
     requires closed { T.closed table.now ≡ true }
     ensures all { OnOk result (PutsText (T.holds table.now)
-        (table_lines first.now (T.text table.now) (T.columns table.now) (T.rows table.now) rest.now)
+        (part_text number (T.settings table.now))
         (O.written out.old) (O.written out.new) block.old block.new) }
     ensures short { OnErr result (CutsText (T.holds table.now)
-        (table_lines first.now (T.text table.now) (T.columns table.now) (T.rows table.now) rest.now)
+        (part_text number (T.settings table.now))
         (O.written out.old) (O.written out.new) block.old) }
     ensures cause { HasCause (O.faults out.old) (O.faults out.new) result }
 {
-    block.put(out, first)?;
+    block.put(out, first_line(number, table).as_slice())?;
     put_rows(table, block, out)?;
-    block.put(out, rest)
+    block.put(out, table.rest_lines().as_slice())
 }
 
 /// The line of what is past the last cell.
-pub(crate) fn over_line(over: u64) -> ArrayVec<u8, 32>
+pub(crate) fn over_line(over: u64) -> ArrayVec<u8, 64>
     ensures { result.items ≡ line (codes "over") (decimal over) }
 {
     let mut line = ArrayVec::new();

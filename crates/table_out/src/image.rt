@@ -1,89 +1,50 @@
-// The lines of an image.
-ghost use Rattle.std.specs.Prelude.{◌≡◌, ◌≤◌, true, OnOk, OnErr, codes, decimal};
-ghost use Rattle.tally_base.specs.Counts.{HasCause};
-ghost use Rattle.tally_base.specs.Settings.{image_view};
-ghost use Rattle.table_out.specs.Lines.{line};
-ghost use Rattle.table_out.specs.Report.{pair_line, image_line, part_text};
-ghost use Rattle.table_out.specs.Puts.{PutsText, CutsText};
+// How an image is printed.
+ghost use Rattle.std.specs.Prelude.{◌≡◌};
 
-use crate::cells::{Cells, pair_line, put_table};
+use crate::cells::{Prints, pair_line};
 use crate::line::put_count;
 use arrayvec::ArrayVec;
-use bench_io::{Block, Sink};
 use scan_image::Image;
-use tally_base::{Failed, ImageSet, Tally, put_decimal, put_text};
+use tally_base::{put_decimal, put_text};
 
-impl Cells for Image {
-    ghost use Rattle.scan_image.specs.Counts.{in_cell};
-    ghost use Rattle.scan_image.specs.Image.{Holds, set_of};
+impl Prints for Image {
+    #[tactic(auto, unfolding(crate::specs::Image::image_printed))]
+    fn word(&self) -> &'static str {
+        "image"
+    }
 
-    ghost holds = { Holds };
+    #[tactic(auto, unfolding(crate::specs::Image::image_printed))]
+    fn settings_text(&self) -> ArrayVec<u8, 96> {
+        let set = self.set();
+        let mut text = ArrayVec::new();
+        put_text(&mut text, b" width ");
+        put_decimal(&mut text, set.width as u64);
+        put_text(&mut text, b" height ");
+        put_decimal(&mut text, set.height as u64);
+        put_text(&mut text, b" dwell ");
+        put_decimal(&mut text, set.dwell);
+        text
+    }
 
-    ghost closed = { ⟦<Image as Tally>⟧.closed };
-
-    ghost rows = { λ t. (set_of t).height };
-
-    ghost columns = { λ t row. (set_of t).width };
-
-    ghost text = { λ t row column h.
-        pair_line column row (in_cell (image_view (set_of t)) column row h) };
-
+    #[tactic(auto, unfolding(crate::specs::Image::image_printed))]
     fn row_count(&self) -> u32 {
         self.set().height
     }
 
+    #[tactic(auto, unfolding(crate::specs::Image::image_printed))]
     fn column_count(&self, _row: u32) -> u32 {
         self.set().width
     }
 
+    #[tactic(auto, unfolding(crate::specs::Image::image_printed))]
     fn line_of(&self, row: u32, column: u32) -> ArrayVec<u8, 96> {
         pair_line(column, row, u128::from(self.cell(column, row)))
     }
-}
 
-/// The first line of an image.
-fn first_line(number: u64, set: &ImageSet) -> ArrayVec<u8, 128>
-    ensures { result.items ≡ image_line number (image_view set.now) }
-{
-    let mut line = ArrayVec::new();
-    put_text(&mut line, b"image ");
-    put_decimal(&mut line, number);
-    put_text(&mut line, b" width ");
-    put_decimal(&mut line, set.width as u64);
-    put_text(&mut line, b" height ");
-    put_decimal(&mut line, set.height as u64);
-    put_text(&mut line, b" dwell ");
-    put_decimal(&mut line, set.dwell);
-    put_text(&mut line, b"\n");
-    line
-}
-
-/// The line of what is outside an image.
-fn outside_line(outside: u64) -> ArrayVec<u8, 32>
-    ensures { result.items ≡ line (codes "outside") (decimal outside) }
-{
-    let mut line = ArrayVec::new();
-    put_count(&mut line, b"outside", outside);
-    line
-}
-
-/// Puts the lines of an image: its number and settings, its cells row by row, and what is outside.
-pub(crate) fn put_image<O: Sink>(
-    number: u64,
-    table: &Image,
-    block: &mut Block,
-    out: &mut O,
-) -> Result<(), Failed>
-    requires closed { ⟦<Image as Tally>⟧.closed table.now ≡ true }
-    ensures all { OnOk result (PutsText (⟦<Image as Tally>⟧.holds table.now)
-        (part_text number (⟦<Image as Tally>⟧.settings table.now))
-        (O.written out.old) (O.written out.new) block.old block.new) }
-    ensures short { OnErr result (CutsText (⟦<Image as Tally>⟧.holds table.now)
-        (part_text number (⟦<Image as Tally>⟧.settings table.now))
-        (O.written out.old) (O.written out.new) block.old) }
-    ensures cause { HasCause (O.faults out.old) (O.faults out.new) result }
-{
-    let first = first_line(number, table.set());
-    let rest = outside_line(table.outside());
-    put_table(first.as_slice(), table, rest.as_slice(), block, out)
+    #[tactic(auto, unfolding(crate::specs::Image::image_printed))]
+    fn rest_lines(&self) -> ArrayVec<u8, 64> {
+        let mut lines = ArrayVec::new();
+        put_count(&mut lines, b"outside", self.outside());
+        lines
+    }
 }

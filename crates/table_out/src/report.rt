@@ -4,31 +4,26 @@ ghost use Rattle.std.specs.Io.KnownBytes.{Appends};
 ghost use Rattle.tally_base.specs.Counts.{HasCause};
 ghost use Rattle.bench_io.specs.Sinks.{AppendsShort};
 ghost use Rattle.tally_engine.specs.Parts.{settings_in, AllClosed};
-ghost use Rattle.table_out.specs.Report.{Table, EachHolds, kind_place, same_kind, part_text, parts_text, report};
+ghost use Rattle.table_out.specs.Report.{Table, EachHolds, printed, same_kind, part_text, parts_text, report};
 ghost use Rattle.table_out.specs.Puts.{PutsText, CutsText};
 
-use crate::correlation::put_correlation;
-use crate::histogram::put_histogram;
-use crate::image::put_image;
-use crate::pairs::put_coincidence;
+use crate::cells::{Prints, put_table};
 use crate::report_head::report_head;
-use crate::start_stop::put_startstop;
-use crate::trace::put_trace;
 use bench_io::{Block, Sink};
 use tally_base::{Failed, Fault, Tally};
 use tally_engine::{Part, Results};
 
-/// The place of a table's kind in the report.
-fn kind_place(part: &Part) -> u64
-    ensures { result ≡ kind_place (⟦<Part as Tally>⟧.settings part.now) }
+/// The name of a table's kind.
+fn word(part: &Part) -> &'static str
+    ensures { result.now ≡ (printed (⟦<Part as Tally>⟧.settings part.now)).word }
 {
     match part {
-        Part::Hist(_) => 0,
-        Part::Trace(_) => 1,
-        Part::StartStop(_) => 2,
-        Part::Coincidence(_) => 3,
-        Part::Image(_) => 4,
-        Part::Correlation(_) => 5,
+        Part::Hist(table) => table.word(),
+        Part::Trace(table) => table.word(),
+        Part::StartStop(table) => table.word(),
+        Part::Coincidence(table) => table.word(),
+        Part::Image(table) => table.word(),
+        Part::Correlation(table) => table.word(),
     }
 }
 
@@ -37,7 +32,7 @@ fn same_kind(part: &Part, other: &Part) -> bool
     ensures { result ≡ same_kind (⟦<Part as Tally>⟧.settings part.now)
         (⟦<Part as Tally>⟧.settings other.now) }
 {
-    kind_place(part) == kind_place(other)
+    word(part) == word(other)
 }
 
 /// The place of a table among those of its kind, from 1. `before` has all tables before it.
@@ -66,12 +61,12 @@ fn put_part<O: Sink>(number: u64, part: &Part, block: &mut Block, out: &mut O) -
     ensures cause { HasCause (O.faults out.old) (O.faults out.new) result }
 {
     match part {
-        Part::Hist(table) => put_histogram(number, table, block, out),
-        Part::Trace(table) => put_trace(number, table, block, out),
-        Part::StartStop(table) => put_startstop(number, table, block, out),
-        Part::Coincidence(table) => put_coincidence(number, table, block, out),
-        Part::Image(table) => put_image(number, table, block, out),
-        Part::Correlation(table) => put_correlation(number, table, block, out),
+        Part::Hist(table) => put_table(number, table, block, out),
+        Part::Trace(table) => put_table(number, table, block, out),
+        Part::StartStop(table) => put_table(number, table, block, out),
+        Part::Coincidence(table) => put_table(number, table, block, out),
+        Part::Image(table) => put_table(number, table, block, out),
+        Part::Correlation(table) => put_table(number, table, block, out),
     }
 }
 

@@ -7,7 +7,7 @@ use Rattle.std.specs.declared.option.Option.{Option}
 use Rattle.tally_base.specs.declared.fault.Fault.{Fault}
 use Rattle.tally_base.specs.declared.header.Mode.{Mode}
 use Rattle.tally_base.specs.declared.header.Mode.TheVariants.{T2}
-use Rattle.std.specs.Prelude.{sum_by}
+use Rattle.std.specs.Prelude.{sum_by, flat_map}
 use Rattle.std.proofs.lemmas.List.Sums.{sum_by-cons}
 use Rattle.tally_base.specs.Settings.{GroupView, entries, is_strict, PartSettings}
 use Rattle.tally_base.specs.Tally.{History, greatest_time}
@@ -17,6 +17,7 @@ use Rattle.ptu_definitions.specs.Times.{events}
 use Rattle.ptu_definitions.specs.Streams.{Reading, summary}
 use Rattle.abs_time.specs.declared.clock.Clock.{Clock}
 use Rattle.record_stream.specs.Standing.{Stands}
+<<<<<<< ours
 use Rattle.coincidence.specs.CoincidenceLaws as pairs
 use Rattle.coincidence.specs.Laws as startstop
 use Rattle.count_trace.specs.Laws as trace
@@ -24,13 +25,20 @@ use Rattle.scan_image.specs.Laws as image
 use Rattle.tau_cascade.specs.Laws as cascade
 use Rattle.tau_cascade.proofs.Work.{work_within}
 use Rattle.tcspc_hist.specs.Laws as hist
+=======
+>>>>>>> theirs
 use Rattle.tally_engine.specs.declared.engine.Engine.{Engine}
 use Rattle.tally_engine.specs.declared.part.Part.{Part}
 use Rattle.tally_engine.specs.Engine.{held, bound}
 use Rattle.tally_engine.specs.contracts.part.PartTally.TheImpl.{ghosts}
 use Rattle.tally_engine.specs.Histories.{history}
+<<<<<<< ours
 use Rattle.tally_engine.specs.Part.{for_each_kind}
 use Rattle.tally_engine.specs.Parts.{settings_in, entries_in, IsOpened, IsWithinWork, AllOpened}
+=======
+use Rattle.tally_engine.specs.Part.{laws_of}
+use Rattle.tally_engine.specs.Parts.{settings_in, entries_in, IsOpened, AllOpened}
+>>>>>>> theirs
 use Rattle.tally_engine.specs.Taker.{Standing}
 
 pub history-none : (groups : List GroupView) (how : Reading) → history groups how [] ≡ []
@@ -45,10 +53,10 @@ none_taken how clock sum count carried (Some fault) stands none = cc
 -- ## What holds of a table of any kind
 
 part_taken : (p : Part) (h : History) → ghosts.holds p h → ghosts.taken p ≡ length h
-part_taken = for_each_kind _ hist.taken_is trace.taken_is startstop.taken_is pairs.taken_is image.taken_is cascade.taken_is
+part_taken p = (laws_of p).taken_is
 
 part_floor : (p : Part) (h : History) → ghosts.holds p h → ghosts.floor p ≡ greatest_time (is_strict (ghosts.settings p)) h
-part_floor = for_each_kind _ hist.floor_is trace.floor_is startstop.floor_is pairs.floor_is image.floor_is cascade.floor_is
+part_floor p = (laws_of p).floor_is
 
 pub standing_first : (mode : Mode) (settings : PartSettings) (p : Part) → (mode ≡ T2 → is_strict (ghosts.settings p) ≡ false) → IsOpened settings p → Standing ghosts mode 0 0 p
 standing_first mode settings p loose opened =
@@ -61,17 +69,14 @@ standing_first mode settings p loose opened =
 settings_push : (items : List Part) (part : Part) → settings_in (items ++ part ∷ []) ≡ settings_in items ++ ghosts.settings part ∷ []
 settings_push items part = map-append ghosts.settings items (part ∷ [])
 
-mapped_push : {S V : Type 0} (kind : V → PartSettings) (view : S → V) (sets : List S) (set : S) → map kind (map view (sets ++ set ∷ [])) ≡ map kind (map view sets) ++ kind (view set) ∷ []
-mapped_push kind view sets set = ap (map kind) (map-append view sets (set ∷ [])) ∙ map-append kind (map view sets) (view set ∷ [])
-
-pub settings_more : {S V : Type 0} (kind : V → PartSettings) (view : S → V) (sets more : List S) (set : S) (front : List PartSettings) (items new : List Part) (part : Part) → more ≡ sets ++ set ∷ [] → new ≡ items ++ part ∷ []
-    → settings_in items ≡ front ++ map kind (map view sets) → ghosts.settings part ≡ kind (view set) → settings_in new ≡ front ++ map kind (map view more)
-settings_more kind view sets more set front items new part taken pushed so_far is =
+pub settings_more : {S : Type 0} (settings : S → PartSettings) (sets more : List S) (set : S) (front : List PartSettings) (items new : List Part) (part : Part) → more ≡ sets ++ set ∷ [] → new ≡ items ++ part ∷ []
+    → settings_in items ≡ front ++ map settings sets → ghosts.settings part ≡ settings set → settings_in new ≡ front ++ map settings more
+settings_more settings sets more set front items new part taken pushed so_far is =
     ap settings_in pushed
     ∙ settings_push items part
     ∙ ap (λ l. l ++ ghosts.settings part ∷ []) so_far
-    ∙ append_assoc front (map kind (map view sets)) (ghosts.settings part ∷ [])
-    ∙ ap (λ l. front ++ l) (ap (λ x. map kind (map view sets) ++ x ∷ []) is ∙ sym (mapped_push kind view sets set) ∙ ap (λ l. map kind (map view l)) (sym taken))
+    ∙ append_assoc front (map settings sets) (ghosts.settings part ∷ [])
+    ∙ ap (λ l. front ++ l) (ap (λ x. map settings sets ++ x ∷ []) is ∙ sym (map-append settings sets (set ∷ [])) ∙ ap (map settings) (sym taken))
 
 pub opened_more : (settings : PartSettings) (items new : List Part) (part : Part) → new ≡ items ++ part ∷ [] → IsOpened settings part → AllOpened items → AllOpened new
 opened_more settings items new part pushed opened all =
@@ -80,10 +85,14 @@ opened_more settings items new part pushed opened all =
 pub take_more : {S : Type 0} (sets : List S) (k : ℕ) (set d : S) → k < length sets → set ≡ get_or sets k d → take (k + 1) sets ≡ take k sets ++ set ∷ []
 take_more sets k set d within is = let more : k + 1 ≡ suc k = omega arith in rw (more, is) (take-suc sets k d within)
 
+-- lists that were put one behind the other
+pub behind_all : (front next : List PartSettings) (more : List (List PartSettings)) → (front ++ next) ++ flat_map (λ l. l) more ≡ front ++ flat_map (λ l. l) (next ∷ more)
+behind_all front next more = append_assoc front next (flat_map (λ l. l) more)
+
 -- ## How much the tables keep
 
 part_within : (p : Part) → ghosts.held p ≤ entries (ghosts.settings p)
-part_within = for_each_kind _ hist.within_bound trace.within_bound startstop.within_bound pairs.within_bound image.within_bound cascade.within_bound
+part_within p = (laws_of p).within
 
 -- The tables keep no more entries than their settings say.
 pub tables_within : (parts : List Part) → entries_in parts ≤ sum_by entries (settings_in parts)

@@ -1,27 +1,42 @@
--- Cases on the kind of a table.
-use Rattle.coincidence.specs.declared.coincidence.Coincidence.{Coincidence}
-use Rattle.coincidence.specs.declared.start_stop.StartStop.{StartStop}
-use Rattle.count_trace.specs.declared.trace.Trace.{Trace}
-use Rattle.scan_image.specs.declared.image.Image.{Image}
+-- What each table is, whatever its kind.
+use Rattle.std.specs.Prelude.{◌≡◌, ℕ, ◌≤◌, length}
+use Rattle.tally_base.specs.declared.tally.Tally.{Ghosts}
+use Rattle.tally_base.specs.Settings.{entries, is_strict}
+use Rattle.tally_base.specs.Tally.{History, greatest_time}
+use Rattle.tcspc_hist.specs.Laws as hist
+use Rattle.tcspc_hist.specs.contracts.hist.HistTally.TheImpl.{ghosts as hist_ghosts}
+use Rattle.count_trace.specs.Laws as trace
+use Rattle.count_trace.specs.contracts.trace.TraceTally.TheImpl.{ghosts as trace_ghosts}
+use Rattle.coincidence.specs.Laws as startstop
+use Rattle.coincidence.specs.contracts.start_stop.StartStopTally.TheImpl.{ghosts as startstop_ghosts}
+use Rattle.coincidence.specs.CoincidenceLaws as pairs
+use Rattle.coincidence.specs.contracts.coincidence.CoincidenceTally.TheImpl.{ghosts as pairs_ghosts}
+use Rattle.scan_image.specs.Laws as image
+use Rattle.scan_image.specs.contracts.image.ImageTally.TheImpl.{ghosts as image_ghosts}
+use Rattle.tau_cascade.specs.Laws as cascade
+use Rattle.tau_cascade.specs.contracts.cascade.CascadeTally.TheImpl.{ghosts as cascade_ghosts}
 use Rattle.tally_engine.specs.declared.part.Part.{Part}
 use Rattle.tally_engine.specs.declared.part.Part.TheVariants.{Hist as InHist, Trace as InTrace, StartStop as InStartStop, Coincidence as InCoincidence, Image as InImage, Correlation as InCorrelation}
-use Rattle.tau_cascade.specs.declared.cascade.Cascade.{Cascade}
-use Rattle.tcspc_hist.specs.declared.hist.Hist.{Hist}
 
--- what each kind has
-abbrev pub by_kind {ℓ} : {X : Type ℓ} → (Hist → X) → (Trace → X) → (StartStop → X) → (Coincidence → X) → (Image → X) → (Cascade → X) → Part → X
-by_kind hist trace startstop pairs image cascade (InHist t) = hist t
-by_kind hist trace startstop pairs image cascade (InTrace t) = trace t
-by_kind hist trace startstop pairs image cascade (InStartStop t) = startstop t
-by_kind hist trace startstop pairs image cascade (InCoincidence t) = pairs t
-by_kind hist trace startstop pairs image cascade (InImage t) = image t
-by_kind hist trace startstop pairs image cascade (InCorrelation t) = cascade t
+-- what a table of any kind has
+abbrev pub by_kind {ℓ} : {X : Type ℓ} → ((T : Type 0) → Ghosts T → T → X) → Part → X
+by_kind has (InHist t) = has _ hist_ghosts t
+by_kind has (InTrace t) = has _ trace_ghosts t
+by_kind has (InStartStop t) = has _ startstop_ghosts t
+by_kind has (InCoincidence t) = has _ pairs_ghosts t
+by_kind has (InImage t) = has _ image_ghosts t
+by_kind has (InCorrelation t) = has _ cascade_ghosts t
 
--- what holds of each kind
-pub for_each_kind : (P : Part → Type 0) → ((t : Hist) → P (InHist t)) → ((t : Trace) → P (InTrace t)) → ((t : StartStop) → P (InStartStop t)) → ((t : Coincidence) → P (InCoincidence t)) → ((t : Image) → P (InImage t)) → ((t : Cascade) → P (InCorrelation t)) → (p : Part) → P p
-for_each_kind P hist trace startstop pairs image cascade (InHist t) = hist t
-for_each_kind P hist trace startstop pairs image cascade (InTrace t) = trace t
-for_each_kind P hist trace startstop pairs image cascade (InStartStop t) = startstop t
-for_each_kind P hist trace startstop pairs image cascade (InCoincidence t) = pairs t
-for_each_kind P hist trace startstop pairs image cascade (InImage t) = image t
-for_each_kind P hist trace startstop pairs image cascade (InCorrelation t) = cascade t
+-- What holds of every table, of whatever kind.
+pub record Laws (p : Part) : Type 0 where
+  pub taken_is : (h : History) → by_kind (λ T g t. g.holds t) p h → by_kind (λ T g t. g.taken t) p ≡ length h
+  pub floor_is : (h : History) → by_kind (λ T g t. g.holds t) p h → by_kind (λ T g t. g.floor t) p ≡ greatest_time (is_strict (by_kind (λ T g t. g.settings t) p)) h
+  pub within : by_kind (λ T g t. g.held t) p ≤ entries (by_kind (λ T g t. g.settings t) p)
+
+pub laws_of : (p : Part) → Laws p
+laws_of (InHist t) = record { taken_is = hist.taken_is t; floor_is = hist.floor_is t; within = hist.within_bound t }
+laws_of (InTrace t) = record { taken_is = trace.taken_is t; floor_is = trace.floor_is t; within = trace.within_bound t }
+laws_of (InStartStop t) = record { taken_is = startstop.taken_is t; floor_is = startstop.floor_is t; within = startstop.within_bound t }
+laws_of (InCoincidence t) = record { taken_is = pairs.taken_is t; floor_is = pairs.floor_is t; within = pairs.within_bound t }
+laws_of (InImage t) = record { taken_is = image.taken_is t; floor_is = image.floor_is t; within = image.within_bound t }
+laws_of (InCorrelation t) = record { taken_is = cascade.taken_is t; floor_is = cascade.floor_is t; within = cascade.within_bound t }

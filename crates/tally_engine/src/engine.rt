@@ -7,6 +7,7 @@ ghost use Rattle.record_stream.specs.Standing.{how_of, given_by, top_of, refused
 ghost use Rattle.tally_engine.specs.Taker.{Standing};
 
 use crate::give::close_all;
+use crate::open::open_all;
 use crate::part::Part;
 use crate::taker::{Reached, feed_parts};
 use gate_plan::Gates;
@@ -75,7 +76,7 @@ impl Engine {
         if let Err(fault) = plan.fits(header.record_type.mode()) {
             return Err(fault);
         }
-        match Part::open_all(alloc, plan) {
+        match open_all(alloc, plan) {
             Ok(parts) => Ok(Engine {
                 header: *header,
                 gates: Gates::of(plan),

@@ -4,6 +4,7 @@
 mod engine;
 mod give;
 pub mod laws;
+mod open;
 mod part;
 mod taker;
 

@@ -1,19 +1,9 @@
 // A table of any kind.
-ghost use Rattle.std.specs.Prelude.{◌≡◌, ◌++◌, All, map, IfOk, OnOk};
-ghost use Rattle.tally_base.specs.Settings.{hist_view, trace_view, startstop_view, coincidence_view, image_view, correlation_view};
-ghost use Rattle.tally_base.specs.Settings.PartSettings.{HistSettings, TraceSettings, StartStopSettings, CoincidenceSettings, ImageSettings, CorrelationSettings};
-ghost use Rattle.plan_text.specs.Plan.{parts_of};
-ghost use Rattle.plan_text.specs.Reading.{plan_view};
-
 use coincidence::{Coincidence, StartStop};
 use count_trace::Trace;
-use plan_text::Plan;
 use scan_image::Image;
-use std::alloc::{AllocError, Global};
 use std::sync::ledger::Ledger;
-use tally_base::{
-    CoincidenceSet, CorrelationSet, Event, HistSet, ImageSet, StartStopSet, Steps, Tally, TraceSet,
-};
+use tally_base::{Event, Steps, Tally};
 use tau_cascade::Cascade;
 use tcspc_hist::Hist;
 
@@ -35,46 +25,25 @@ pub enum Part {
 }
 
 impl Tally for Part {
-    ghost use Rattle.coincidence.specs.CoincidenceLaws as pairs;
-    ghost use Rattle.coincidence.specs.Laws as startstop;
-    ghost use Rattle.count_trace.specs.Laws as trace;
-    ghost use Rattle.scan_image.specs.Laws as image;
-    ghost use Rattle.tau_cascade.specs.Laws as cascade;
-    ghost use Rattle.tcspc_hist.specs.Laws as hist;
-    ghost use Rattle.tally_engine.specs.Part.{by_kind, for_each_kind};
+    ghost use Rattle.tally_engine.specs.Part.{by_kind, laws_of};
 
-    ghost holds = { by_kind ⟦<Hist as Tally>⟧.holds ⟦<Trace as Tally>⟧.holds
-        ⟦<StartStop as Tally>⟧.holds ⟦<Coincidence as Tally>⟧.holds ⟦<Image as Tally>⟧.holds
-        ⟦<Cascade as Tally>⟧.holds };
+    ghost holds = { by_kind (λ T g t. g.holds t) };
 
-    ghost taken = { by_kind ⟦<Hist as Tally>⟧.taken ⟦<Trace as Tally>⟧.taken
-        ⟦<StartStop as Tally>⟧.taken ⟦<Coincidence as Tally>⟧.taken ⟦<Image as Tally>⟧.taken
-        ⟦<Cascade as Tally>⟧.taken };
+    ghost taken = { by_kind (λ T g t. g.taken t) };
 
-    ghost floor = { by_kind ⟦<Hist as Tally>⟧.floor ⟦<Trace as Tally>⟧.floor
-        ⟦<StartStop as Tally>⟧.floor ⟦<Coincidence as Tally>⟧.floor ⟦<Image as Tally>⟧.floor
-        ⟦<Cascade as Tally>⟧.floor };
+    ghost floor = { by_kind (λ T g t. g.floor t) };
 
-    ghost held = { by_kind ⟦<Hist as Tally>⟧.held ⟦<Trace as Tally>⟧.held
-        ⟦<StartStop as Tally>⟧.held ⟦<Coincidence as Tally>⟧.held ⟦<Image as Tally>⟧.held
-        ⟦<Cascade as Tally>⟧.held };
+    ghost held = { by_kind (λ T g t. g.held t) };
 
-    ghost settings = { by_kind ⟦<Hist as Tally>⟧.settings ⟦<Trace as Tally>⟧.settings
-        ⟦<StartStop as Tally>⟧.settings ⟦<Coincidence as Tally>⟧.settings ⟦<Image as Tally>⟧.settings
-        ⟦<Cascade as Tally>⟧.settings };
+    ghost settings = { by_kind (λ T g t. g.settings t) };
 
-    ghost closed = { by_kind ⟦<Hist as Tally>⟧.closed ⟦<Trace as Tally>⟧.closed
-        ⟦<StartStop as Tally>⟧.closed ⟦<Coincidence as Tally>⟧.closed ⟦<Image as Tally>⟧.closed
-        ⟦<Cascade as Tally>⟧.closed };
+    ghost closed = { by_kind (λ T g t. g.closed t) };
 
-    ghost taken_is = { for_each_kind _ hist.taken_is trace.taken_is startstop.taken_is pairs.taken_is image.taken_is
-        cascade.taken_is };
+    ghost taken_is = { λ p. (laws_of p).taken_is };
 
-    ghost floor_is = { for_each_kind _ hist.floor_is trace.floor_is startstop.floor_is pairs.floor_is image.floor_is
-        cascade.floor_is };
+    ghost floor_is = { λ p. (laws_of p).floor_is };
 
-    ghost within = { for_each_kind _ hist.within_bound trace.within_bound startstop.within_bound
-        pairs.within_bound image.within_bound cascade.within_bound };
+    ghost within = { λ p. (laws_of p).within };
 
     fn event<L: Ledger>(&mut self, e: &Event, groups: u64, steps: &mut Steps<L>) {
         match self {
@@ -96,205 +65,5 @@ impl Tally for Part {
             Part::Image(t) => t.close(steps),
             Part::Correlation(t) => t.close(steps),
         }
-    }
-}
-
-impl Part {
-    ghost use Rattle.tally_engine.specs.Parts.{settings_in, IsOpened, AllOpened};
-
-    /// A histogram of no events.
-    fn open_hist(alloc: Global, set: HistSet) -> Result<Part, AllocError>
-        ensures opened { IfOk result (IsOpened (HistSettings (hist_view set))) }
-    {
-        match Hist::open(alloc, set) {
-            Ok(table) => Ok(Part::Hist(table)),
-            Err(error) => Err(error),
-        }
-    }
-
-    /// A trace of no events.
-    fn open_trace(alloc: Global, set: TraceSet) -> Result<Part, AllocError>
-        ensures opened { IfOk result (IsOpened (TraceSettings (trace_view set))) }
-    {
-        match Trace::open(alloc, set) {
-            Ok(table) => Ok(Part::Trace(table)),
-            Err(error) => Err(error),
-        }
-    }
-
-    /// A start-stop table of no events.
-    fn open_startstop(alloc: Global, set: StartStopSet) -> Result<Part, AllocError>
-        ensures opened { IfOk result (IsOpened (StartStopSettings (startstop_view set))) }
-    {
-        match StartStop::open(alloc, set) {
-            Ok(table) => Ok(Part::StartStop(table)),
-            Err(error) => Err(error),
-        }
-    }
-
-    /// A table of the pairs of no events.
-    fn open_coincidence(alloc: Global, set: CoincidenceSet) -> Result<Part, AllocError>
-        ensures opened { IfOk result (IsOpened (CoincidenceSettings (coincidence_view set))) }
-    {
-        match Coincidence::open(alloc, set) {
-            Ok(table) => Ok(Part::Coincidence(table)),
-            Err(error) => Err(error),
-        }
-    }
-
-    /// An image of no events.
-    fn open_image(alloc: Global, set: ImageSet) -> Result<Part, AllocError>
-        ensures opened { IfOk result (IsOpened (ImageSettings (image_view set))) }
-    {
-        match Image::open(alloc, set) {
-            Ok(table) => Ok(Part::Image(table)),
-            Err(error) => Err(error),
-        }
-    }
-
-    /// A correlation of no events.
-    fn open_correlation(alloc: Global, set: CorrelationSet) -> Result<Part, AllocError>
-        ensures opened { IfOk result (IsOpened (CorrelationSettings (correlation_view set))) }
-    {
-        match Cascade::open(alloc, set) {
-            Ok(table) => Ok(Part::Correlation(table)),
-            Err(error) => Err(error),
-        }
-    }
-
-    /// Puts the histograms of a plan behind the tables that are there.
-    fn open_hists(alloc: Global, sets: &[HistSet], parts: &mut Vec<Part>) -> Result<(), AllocError>
-        ensures settings { OnOk result (settings_in parts.new.items ≡ settings_in parts.old.items
-            ++ map (λ set. HistSettings set) (map hist_view sets.now)) }
-        ensures opened { AllOpened parts.old.items → OnOk result (AllOpened parts.new.items) }
-    {
-        for set in sets {
-            let part = Part::open_hist(alloc, *set)?;
-            parts.push(part)?;
-        }
-        Ok(())
-    }
-
-    /// Puts the traces of a plan behind the tables that are there.
-    fn open_traces(
-        alloc: Global,
-        sets: &[TraceSet],
-        parts: &mut Vec<Part>,
-    ) -> Result<(), AllocError>
-        ensures settings { OnOk result (settings_in parts.new.items ≡ settings_in parts.old.items
-            ++ map (λ set. TraceSettings set) (map trace_view sets.now)) }
-        ensures opened { AllOpened parts.old.items → OnOk result (AllOpened parts.new.items) }
-    {
-        for set in sets {
-            let part = Part::open_trace(alloc, *set)?;
-            parts.push(part)?;
-        }
-        Ok(())
-    }
-
-    /// Puts the start-stop tables of a plan behind the tables that are there.
-    fn open_startstops(
-        alloc: Global,
-        sets: &[StartStopSet],
-        parts: &mut Vec<Part>,
-    ) -> Result<(), AllocError>
-        ensures settings { OnOk result (settings_in parts.new.items ≡ settings_in parts.old.items
-            ++ map (λ set. StartStopSettings set) (map startstop_view sets.now)) }
-        ensures opened { AllOpened parts.old.items → OnOk result (AllOpened parts.new.items) }
-    {
-        for set in sets {
-            let part = Part::open_startstop(alloc, *set)?;
-            parts.push(part)?;
-        }
-        Ok(())
-    }
-
-    /// Puts the coincidence tables of a plan behind the tables that are there.
-    fn open_coincidences(
-        alloc: Global,
-        sets: &[CoincidenceSet],
-        parts: &mut Vec<Part>,
-    ) -> Result<(), AllocError>
-        ensures settings { OnOk result (settings_in parts.new.items ≡ settings_in parts.old.items
-            ++ map (λ set. CoincidenceSettings set) (map coincidence_view sets.now)) }
-        ensures opened { AllOpened parts.old.items → OnOk result (AllOpened parts.new.items) }
-    {
-        for set in sets {
-            let part = Part::open_coincidence(alloc, *set)?;
-            parts.push(part)?;
-        }
-        Ok(())
-    }
-
-    /// Puts the images of a plan behind the tables that are there.
-    fn open_images(
-        alloc: Global,
-        sets: &[ImageSet],
-        parts: &mut Vec<Part>,
-    ) -> Result<(), AllocError>
-        ensures settings { OnOk result (settings_in parts.new.items ≡ settings_in parts.old.items
-            ++ map (λ set. ImageSettings set) (map image_view sets.now)) }
-        ensures opened { AllOpened parts.old.items → OnOk result (AllOpened parts.new.items) }
-    {
-        for set in sets {
-            let part = Part::open_image(alloc, *set)?;
-            parts.push(part)?;
-        }
-        Ok(())
-    }
-
-    /// Puts the correlations of a plan behind the tables that are there.
-    fn open_correlations(
-        alloc: Global,
-        sets: &[CorrelationSet],
-        parts: &mut Vec<Part>,
-    ) -> Result<(), AllocError>
-        ensures settings { OnOk result (settings_in parts.new.items ≡ settings_in parts.old.items
-            ++ map (λ set. CorrelationSettings set) (map correlation_view sets.now)) }
-        ensures opened { AllOpened parts.old.items → OnOk result (AllOpened parts.new.items) }
-    {
-        for set in sets {
-            let part = Part::open_correlation(alloc, *set)?;
-            parts.push(part)?;
-        }
-        Ok(())
-    }
-
-    /// Puts the coincidences, the images and the correlations of a plan behind the tables that are there.
-    fn open_other_kinds(alloc: Global, plan: &Plan, parts: &mut Vec<Part>) -> Result<(), AllocError>
-        ensures settings { OnOk result (settings_in parts.new.items ≡ settings_in parts.old.items
-            ++ map (λ set. CoincidenceSettings set) (map coincidence_view plan.now.coincidences.items)
-            ++ map (λ set. ImageSettings set) (map image_view plan.now.images.items)
-            ++ map (λ set. CorrelationSettings set) (map correlation_view plan.now.correlations.items)) }
-        ensures opened { AllOpened parts.old.items → OnOk result (AllOpened parts.new.items) }
-    {
-        Part::open_coincidences(alloc, plan.coincidences.as_slice(), parts)?;
-        Part::open_images(alloc, plan.images.as_slice(), parts)?;
-        Part::open_correlations(alloc, plan.correlations.as_slice(), parts)?;
-        Ok(())
-    }
-
-    /// How many tables a plan has.
-    fn count_of(plan: &Plan) -> usize {
-        plan.histograms.len()
-            + plan.traces.len()
-            + plan.startstops.len()
-            + plan.coincidences.len()
-            + plan.images.len()
-            + plan.correlations.len()
-    }
-
-    /// The tables of a plan, in the order of the report, which were given nothing.
-    pub(crate) fn open_all(alloc: Global, plan: &Plan) -> Result<Vec<Part>, AllocError>
-        ensures settings { IfOk result (λ parts.
-            settings_in parts.items ≡ parts_of (plan_view plan.now)) }
-        ensures opened { IfOk result (λ parts. AllOpened parts.items) }
-    {
-        let mut parts = Vec::with_capacity(alloc, Part::count_of(plan))?;
-        Part::open_hists(alloc, plan.histograms.as_slice(), &mut parts)?;
-        Part::open_traces(alloc, plan.traces.as_slice(), &mut parts)?;
-        Part::open_startstops(alloc, plan.startstops.as_slice(), &mut parts)?;
-        Part::open_other_kinds(alloc, plan, &mut parts)?;
-        Ok(parts)
     }
 }

@@ -1,6 +1,7 @@
 use Rattle.std.proofs.Common.{rules, ◌≡◌, ◌∙◌, arith}
 use Rattle.std.proofs.lemmas.Result.{err_from_is_err_and}
 use Rattle.tally_base.specs.Tally.{History}
+use Rattle.table_out.specs.Report.{printed}
 use Rattle.table_out.proofs.Putting.{puts-piece, cuts-piece, puts-next, cuts-next}
 use Rattle.table_out.proofs.cells.put_row.Goals as goal
 
@@ -8,18 +9,18 @@ pub returns-in_err-put-clause-short : goal.returns-in_err-put-clause-short
 returns-in_err-put-clause-short g c =
     let e = err_from_is_err_and c.from_residual.result c.from_residual.ensures.1 in
     let t = c.args.table.now in
-    let holds = g.T.Cells.holds t in
-    let text = g.T.Cells.text t c.args.row in
+    let holds = g.T.Tally.holds t in
+    let text = (printed (g.T.Tally.settings t)).cell c.args.row in
     let n = c.loop-column.column in
     let next : (h : History) → holds h → c.as_slice.result.now ≡ text n h = λ h is. c.as_slice.ensures.value ∙ c.line_of.ensures h is in
-    rw e.1 (cuts-next holds text n (g.T.Cells.columns t c.args.row) _ _ _ c.args.block.now c.loop-column.block (search rules) c.loop-column.invariant.put
+    rw e.1 (cuts-next holds text n ((printed (g.T.Tally.settings t)).columns c.args.row) _ _ _ c.args.block.now c.loop-column.block (search rules) c.loop-column.invariant.put
     (cuts-piece holds (text n) c.as_slice.result.now _ _ c.loop-column.block next c.in_err-put.ensures.short))
 
 pub loop-column-preserved : goal.loop-column-preserved
 loop-column-preserved g c =
     let t = c.args.table.now in
-    let holds = g.T.Cells.holds t in
-    let text = g.T.Cells.text t c.args.row in
+    let holds = g.T.Tally.holds t in
+    let text = (printed (g.T.Tally.settings t)).cell c.args.row in
     let n = c.loop-column.column in
     let next : (h : History) → holds h → c.as_slice.result.now ≡ text n h = λ h is. c.as_slice.ensures.value ∙ c.line_of.ensures h is in
     record {

@@ -1,7 +1,8 @@
 use Rattle.std.proofs.Common.{rules, ℕ, List, arith}
 use Rattle.std.proofs.lemmas.Result.{err_from_is_err_and}
 use Rattle.tally_base.specs.Tally.{History}
-use Rattle.table_out.specs.Puts.{texts_of}
+use Rattle.table_out.specs.Printed.{texts_of}
+use Rattle.table_out.specs.Report.{printed}
 use Rattle.table_out.proofs.Putting.{puts-next, cuts-next}
 use Rattle.table_out.proofs.cells.put_rows.Goals as goal
 
@@ -9,14 +10,14 @@ pub returns-in_err-put_row-clause-short : goal.returns-in_err-put_row-clause-sho
 returns-in_err-put_row-clause-short g c =
     let e = err_from_is_err_and c.from_residual.result c.from_residual.ensures.1 in
     let t = c.args.table.now in
-    let text : ℕ → History → List ℕ = λ row. texts_of (g.T.Cells.text t row) (g.T.Cells.columns t row) in
-    rw e.1 (cuts-next (g.T.Cells.holds t) text c.loop-row.row (g.T.Cells.rows t) _ _ _ c.args.block.now c.loop-row.block (search rules) c.loop-row.invariant.put c.in_err-put_row.ensures.short)
+    let text : ℕ → History → List ℕ = λ row. texts_of ((printed (g.T.Tally.settings t)).cell row) ((printed (g.T.Tally.settings t)).columns row) in
+    rw e.1 (cuts-next (g.T.Tally.holds t) text c.loop-row.row (printed (g.T.Tally.settings t)).rows _ _ _ c.args.block.now c.loop-row.block (search rules) c.loop-row.invariant.put c.in_err-put_row.ensures.short)
 
 pub loop-row-preserved : goal.loop-row-preserved
 loop-row-preserved g c =
     let t = c.args.table.now in
-    let text : ℕ → History → List ℕ = λ row. texts_of (g.T.Cells.text t row) (g.T.Cells.columns t row) in
+    let text : ℕ → History → List ℕ = λ row. texts_of ((printed (g.T.Tally.settings t)).cell row) ((printed (g.T.Tally.settings t)).columns row) in
     record {
-      put = puts-next (g.T.Cells.holds t) text c.loop-row.row _ _ _ c.args.block.now c.loop-row.block _ c.loop-row.invariant.put c.in_ok-put_row.ensures.all;
+      put = puts-next (g.T.Tally.holds t) text c.loop-row.row _ _ _ c.args.block.now c.loop-row.block _ c.loop-row.invariant.put c.in_ok-put_row.ensures.all;
       later = omega (arith, c.loop-row.invariant.later, c.put_row.ensures.cause.later);
     }

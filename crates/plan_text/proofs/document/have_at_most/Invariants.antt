@@ -1,0 +1,16 @@
+use Rattle.std.proofs.Common.{◌≡◌, ◌+◌, ◌≤◌, map, drop, take, length}
+use Rattle.tally_base.specs.declared.fault.Fault.TheVariants.{PlanRule}
+use Rattle.toml.specs.View.{view}
+use Rattle.toml_rules.specs.Rules.{held_from}
+use Rattle.plan_text.specs.Document.{rule_of_lengths, AreShort}
+use Rattle.plan_text.proofs.document.have_at_most.Given as goal
+
+abbrev pub invariant-lists : goal.invariant-lists
+unfolding rule_of_lengths
+invariant-lists l = record {
+  place : l.place ≡ l.key-index + 1;
+  few : length l.lists ≤ 255;
+  rest : held_from (PlanRule 7) l.place (rule_of_lengths (map (λ list. (list.0.now, list.1)) (drop l.key-index l.lists)) (view l.document)).tests
+      ≡ held_from (PlanRule 7) 1 (rule_of_lengths (map (λ list. (list.0.now, list.1)) l.lists) (view l.document)).tests;
+  so_far : AreShort (map (λ list. (list.0.now, list.1)) (take l.key-index l.lists)) (view l.document);
+}

@@ -1,0 +1,14 @@
+use Rattle.std.proofs.Common.{◌≡◌, ◌+◌, ◌≤◌, map, drop, length}
+use Rattle.tally_base.specs.declared.part.PartKind.TheVariants.{Gate}
+use Rattle.tally_base.specs.Settings.{group_view}
+use Rattle.tally_base.specs.declared.fault.Fault.TheVariants.{PlanMode}
+use Rattle.toml_rules.specs.Rules.{held_from}
+use Rattle.plan_text.specs.Fits.{group_suits}
+use Rattle.plan_text.proofs.fits.suit_groups.Given as goal
+
+abbrev pub invariant-groups : goal.invariant-groups
+invariant-groups l = record {
+  index : l.index ≡ l.group-index + 1;
+  few : length l.groups ≤ 64;
+  rest : held_from (λ number. PlanMode Gate number l.mode) l.index (map (group_suits l.mode) (map group_view (drop l.group-index l.groups))) ≡ held_from (λ number. PlanMode Gate number l.mode) 1 (map (group_suits l.mode) (map group_view l.groups));
+}

@@ -1,0 +1,31 @@
+-- What a plan says of one kind of tables.
+use Rattle.std.specs.Prelude.{ℕ, List, [], ◌∷◌, ◌++◌, Option, is_some}
+use Rattle.toml.specs.Data.{Data}
+use Rattle.tally_base.specs.Settings.{PartSettings}
+use Rattle.toml_rules.specs.Rules.{Rule, each}
+use Rattle.toml_rules.specs.Values.{list_at}
+
+-- One kind of tables.
+pub record Kind : Type 0 where
+  -- the key of their list in a document
+  pub key : List ℕ
+  -- how many a plan has at most
+  pub most : ℕ
+  -- the rules on them but the last
+  pub before : Data → List Rule
+  -- the number of the last rule, by which each of them gives settings
+  pub last : ℕ
+  -- the settings that a table of the document gives
+  pub read : Data → Data → Option PartSettings
+
+-- the tables of a kind in a document
+abbrev pub tables : Kind → Data → List Data
+tables kind = list_at kind.key
+
+-- the last rule on a kind
+abbrev pub last_rule : Kind → Data → Rule
+last_rule kind d = each kind.last (λ table. is_some (kind.read d table)) (tables kind d)
+
+-- the rules on a kind
+abbrev pub kind_rules : Kind → Data → List Rule
+kind_rules kind d = kind.before d ++ last_rule kind d ∷ []

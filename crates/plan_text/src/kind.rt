@@ -1,0 +1,100 @@
+// What a plan says of one kind of tables: the rules on them, and the settings that they give.
+ghost use Rattle.std.specs.Prelude.{◌≡◌, ◌+◌, ◌≤◌, Option, map, filter_map, length, is_some, option_map};
+ghost use Rattle.toml.specs.View.{view};
+ghost use Rattle.tally_base.specs.Settings.{PartSettings};
+ghost use Rattle.toml_rules.specs.Rules.{all_kept, kept, each};
+ghost use Rattle.plan_text.specs.Fits.{misfit, parts_fit};
+ghost use Rattle.plan_text.specs.Groups.{groups};
+ghost use Rattle.plan_text.specs.Kind.{Kind, tables, kind_rules};
+
+use arrayvec::ArrayVec;
+use tally_base::{Fault, Mode, PartKind};
+use toml::Value;
+use toml_rules::held;
+
+/// The settings of one kind of tables.
+pub(crate) trait PlanKind: Copy + Default {
+    /// What a plan says of the kind.
+    ghost kind: { Kind };
+
+    /// The settings, as those of a table of any kind.
+    ghost settings: { Self → PartSettings };
+
+    /// The tables of the kind in a document.
+    fn tables(document: &Value) -> &[Value]
+        ensures { map view result.now ≡ tables kind (view document.now) };
+
+    /// Goes through the rules on the kind but the last, which asks that each table gives settings.
+    fn keeps_before(document: &Value) -> Result<(), Fault>
+        requires few { length (tables kind (view document.now)) ≤ 255 }
+        ensures { result ≡ all_kept (kind.before (view document.now)) };
+
+    /// The number of that last rule.
+    fn last_rule() -> u8
+        ensures { result ≡ kind.last };
+
+    /// The settings that a table of a document gives.
+    fn read(document: &Value, table: &Value) -> Option<Self>
+        requires few { length (groups (view document.now)) ≤ 64 }
+        ensures { option_map settings result ≡ kind.read (view document.now) (view table.now) };
+
+    /// The name of the kind, where it doesn't suit a mode.
+    fn misfit(mode: Mode) -> Option<PartKind>
+        ensures { (set : Self) → misfit mode (settings set) ≡ result };
+}
+
+/// Goes through the rules on a kind.
+#[tactic(auto, using(toml_rules::proofs::Least::all_kept_after))]
+pub(crate) fn keeps_kind_rules<K: PlanKind>(document: &Value) -> Result<(), Fault>
+    requires groups { length (groups (view document.now)) ≤ 64 }
+    requires few { length (tables K.kind (view document.now)) ≤ 255 }
+    ensures { result ≡ all_kept (kind_rules K.kind (view document.now)) }
+{
+    K::keeps_before(document)?;
+    each_gives::<K>(K::last_rule(), document, K::tables(document))
+}
+
+/// Each of the tables gives settings. Refused with the rule and the number of the first, from 1, that gives none.
+fn each_gives<K: PlanKind>(rule: u8, document: &Value, items: &[Value]) -> Result<(), Fault>
+    requires groups { length (groups (view document.now)) ≤ 64 }
+    requires few { length (map view items.now) ≤ 255 }
+    ensures { result ≡ kept (each rule (λ table. is_some (K.kind.read (view document.now) table)) (map view items.now)) }
+{
+    let mut index: u16 = 1;
+    'items: for item in items {
+        held(rule, index, K::read(document, item).is_some())?;
+        index += 1;
+    }
+    Ok(())
+}
+
+/// The settings of the tables of a kind that give some, in their order.
+pub(crate) fn list_of<K: PlanKind, const N: usize>(document: &Value) -> ArrayVec<K, N>
+    requires groups { length (groups (view document.now)) ≤ 64 }
+    requires few { length (tables K.kind (view document.now)) ≤ N }
+    ensures { map K.settings result.items
+        ≡ filter_map (K.kind.read (view document.now)) (tables K.kind (view document.now)) }
+{
+    let mut found: ArrayVec<K, N> = ArrayVec::new();
+    let items = K::tables(document);
+    'items: for item in items {
+        if let Some(set) = K::read(document, item) {
+            found.push(set);
+        }
+    }
+    found
+}
+
+/// There is no table of a kind that the mode does not suit.
+pub(crate) fn suit_tables<K: PlanKind>(sets: &[K], mode: Mode) -> Result<(), Fault>
+    ensures { result ≡ parts_fit mode (map K.settings sets.now) }
+{
+    match K::misfit(mode) {
+        Some(kind) if !sets.is_empty() => Err(Fault::PlanMode {
+            kind,
+            index: 1,
+            mode,
+        }),
+        _ => Ok(()),
+    }
+}

@@ -1,0 +1,16 @@
+-- How a trace is printed.
+use Rattle.std.specs.Prelude.{◌++◌, codes, decimal}
+use Rattle.tally_base.specs.Settings.{TraceView}
+use Rattle.count_trace.specs.Counts.{in_trace_bin, before_origin, past_trace}
+use Rattle.table_out.specs.Lines.{line}
+use Rattle.table_out.specs.Printed.{Printed, cell_line}
+
+unfoldable pub trace_printed : TraceView → Printed
+trace_printed set = record {
+  word = codes "trace";
+  settings = codes " origin " ++ decimal set.origin ++ codes " width " ++ decimal set.width ++ codes " bins " ++ decimal set.bins;
+  rows = 1;
+  columns = λ row. set.bins;
+  cell = λ row b h. cell_line b (in_trace_bin set b h);
+  rest = λ h. line (codes "before") (decimal (before_origin set h)) ++ line (codes "beyond") (decimal (past_trace set h));
+}
