@@ -1,57 +1,92 @@
--- Good words and files end well.
-use Rattle.std.proofs.Common.{◌≡◌, ℕ, List, length, true, false, None, Some, Ok, refl, sym, ap, subst, arith, inl, inr}
-use Rattle.std.specs.Prelude.{nat_lt, ◌⊎◌}
+-- Good words and files end well, and only words that are no command end as a bad command line.
+use Rattle.std.proofs.Common.{◌≡◌, ℕ, List, true, false, None, Some, Ok, Err, refl, sym, ap, ◌∙◌, subst, arith, inl, inr}
+use Rattle.std.specs.Prelude.{◌≢◌, ◌⊎◌, Bool, Result}
 use Rattle.std.specs.declared.option.Option.{Option}
-use Rattle.std.proofs.lemmas.Bool.Decides.{nat_tests}
 use Rattle.tally_base.specs.declared.slot.Slot.{Slot}
 use Rattle.tally_base.specs.declared.fault.Fault.{Fault}
-use Rattle.tally_base.specs.declared.fault.Fault.TheVariants.{OpenFault, ReadFault, WriteFault, OutOfMemory}
-use Rattle.tally_base.specs.declared.header.RecordType.{RecordType}
+use Rattle.tally_base.specs.declared.fault.Fault.TheVariants.{Usage, OpenFault, ReadFault, WriteFault, OutOfMemory}
 use Rattle.tally_base.specs.Faults.{is_outside, status_of, HasReason}
 use Rattle.tally_base.specs.Counts.{Rose}
-use Rattle.bench_io.specs.Inputs.{File}
-use Rattle.ptu_definitions.specs.Words.{words_of}
-use Rattle.ptu_definitions.specs.Kinds.{counts_of}
-use Rattle.ptu_definitions.specs.Counted.{counted, records_of, record_limit}
-use Rattle.ptu_cli.specs.Commands.{Request, Count, Header as HeaderOf, Events as EventsOf, Run as RunOf, Demo as DemoOf}
-use Rattle.ptu_definitions.specs.Streams.{Reading, summary, streamed}
-use Rattle.tally_engine.specs.Plans.{reading_by}
-use Rattle.tally_base.specs.Faults.{fault_in}
-use Rattle.ptu_cli.specs.Outcomes.{outcome, status, listing}
-use Rattle.ptu_cli.specs.Endings.{Span, HasCauses, NoneRose, IsGood, AreWhole, AreRead, EndsWith, RunsOut, MeansStatus}
+use Rattle.bench_io.specs.Inputs.{File, InputState}
+use Rattle.plan_text.specs.Plan.{PlanView}
+use Rattle.plan_text.specs.Reading.{plan_answer}
+use Rattle.ptu_cli.specs.Commands.{Request, Count, Header, Events, Run, Demo}
+use Rattle.ptu_cli.specs.Outcomes.{Outcome, status}
+use Rattle.ptu_cli.specs.Behaviours.{Work, Behaviour, NoCommand, Alone, OnFile, ByPlan, behaviour}
+use Rattle.ptu_cli.specs.Endings.{on_file, unless, by_plan, outcome, Span, HasCauses, NoneRose, IsGood, IsGoodFor, EndsWith, Answers, Tells, RunsOut, MeansStatus}
+use Rattle.ptu_cli.proofs.ByteFaults.{IsOfBytes}
+use Rattle.ptu_cli.proofs.RunFaults.{plan_answer-bytes}
+use Rattle.ptu_cli.proofs.PlanTold.{outcome-planned}
+use Rattle.ptu_cli.proofs.Answers.{answers-told}
+use Rattle.ptu_cli.proofs.Sound.{WorkIsSound, IsSound, sound}
 
-counted-whole : (record_type : RecordType) (behind : List ℕ) → AreWhole behind → counted record_type behind ≡ Ok (counts_of (records_of record_type behind))
-unfolding counted
-counted-whole record_type behind h =
-    let few : nat_lt record_limit (length (words_of behind)) ≡ false = grind (arith, nat_tests, h.few) in
-    rw (few, h.whole) refl
+-- ## Good files
 
-streamed-read : (how : Reading) (behind : List ℕ) → AreRead how behind → streamed how behind ≡ Ok (summary how (words_of behind))
-unfolding streamed
-streamed-read how behind h = rw (h.unrefused, h.whole) refl
+good-work : (work : Work) (data_file : File) → WorkIsSound work → IsGoodFor work data_file → (on_file work data_file).fault ≡ None
+good-work work None is h = absurd h
+good-work work (Some bytes) is h = is.well bytes h
 
-pub good-ends : (request : Option Request) (plan_file data_file : File) → IsGood request plan_file data_file → (outcome request plan_file data_file).fault ≡ None
+good-does : (does : Behaviour) (plan_file data_file : File) → IsSound does → IsGood does plan_file data_file → (outcome does plan_file data_file).fault ≡ None
 unfolding outcome
-good-ends None plan_file data_file h = absurd h
-good-ends (Some (Count file)) plan_file None h = let none = h.2.present in cc
-good-ends (Some (Count file)) plan_file (Some bytes) h =
-    let same : bytes ≡ h.2.bytes = let e = h.2.present in cc in
-    rw (same, h.2.answer, counted-whole h.0.record_type h.1 h.3) refl
-good-ends (Some (HeaderOf file)) plan_file None h = let none = h.2.present in cc
-good-ends (Some (HeaderOf file)) plan_file (Some bytes) h =
-    let same : bytes ≡ h.2.bytes = let e = h.2.present in cc in
-    rw (same, h.2.answer) refl
-good-ends (Some (EventsOf file)) plan_file None h = let none = h.2.present in cc
-good-ends (Some (EventsOf file)) plan_file (Some bytes) h =
-    let same : bytes ≡ h.2.bytes = let e = h.2.present in cc in
-    rw (same, h.2.answer) (ap fault_in (streamed-read (listing h.0) h.1 h.3))
-good-ends (Some (RunOf plan name)) None data_file h = let none = h.1.present in cc
-good-ends (Some (RunOf plan name)) (Some text) None h = let none = h.2.2.present in cc
-good-ends (Some (RunOf plan name)) (Some text) (Some bytes) h =
-    let same_text : text ≡ h.1.text = let e = h.1.present in cc in
-    let same : bytes ≡ h.2.2.bytes = let e = h.2.2.present in cc in
-    rw (same_text, same, h.1.answer, h.2.2.answer, h.2.3, streamed-read (reading_by h.0 h.2.0) h.2.1 h.2.4) refl
-good-ends (Some (DemoOf seed count)) plan_file data_file h = refl
+good-does NoCommand plan_file data_file is h = absurd h
+good-does (Alone end) plan_file data_file is h = h
+good-does (OnFile file writing work) plan_file data_file is h = good-work work data_file is h
+good-does (ByPlan plan file writing memory lacks work) plan_file data_file is h =
+    ap (λ (o : Outcome). o.fault) (outcome-planned plan file writing memory lacks work plan_file data_file h.0 h.1 h.2) ∙ good-work (work h.0) data_file (is h.0).0 h.3
+
+pub good-ends : (request : Option Request) (plan_file data_file : File) → IsGood (behaviour request) plan_file data_file → (outcome (behaviour request) plan_file data_file).fault ≡ None
+good-ends request plan_file data_file h = good-does (behaviour request) plan_file data_file (sound request) h
+
+-- ## A bad command line
+
+abbrev is_command : Behaviour → Bool
+is_command NoCommand = false
+is_command _ = true
+
+no-command : (request : Option Request) → is_command (behaviour request) ≡ false → request ≡ None
+no-command None e = refl
+no-command (Some (Count file)) e = cc
+no-command (Some (Header file)) e = cc
+no-command (Some (Events file)) e = cc
+no-command (Some (Run plan file)) e = cc
+no-command (Some (Demo seed count)) e = cc
+
+file-words : (work : Work) (data_file : File) → WorkIsSound work → status (on_file work data_file).fault ≢ 1
+file-words work None is = λ e. omega arith
+file-words work (Some bytes) is = is.no_usage bytes
+
+unless-words : (lack : Option Fault) (end : Outcome) → status lack ≢ 1 → status end.fault ≢ 1 → status (unless lack end).fault ≢ 1
+unless-words None end p q = q
+unless-words (Some fault) end p q = p
+
+plan-words : (lacks : PlanView → Option Fault) (work : PlanView → Work) (answer : Result PlanView Fault) (data_file : File) → ((view : PlanView) → WorkIsSound (work view) × (status (lacks view) ≢ 1)) → IsOfBytes answer
+    → status (by_plan lacks work answer data_file).fault ≢ 1
+plan-words lacks work (Err fault) data_file is h = h
+plan-words lacks work (Ok view) data_file is h = unless-words (lacks view) (on_file (work view) data_file) (is view).1 (file-words (work view) data_file (is view).0)
+
+outcome-words : (does : Behaviour) (plan_file data_file : File) → IsSound does → status (outcome does plan_file data_file).fault ≡ 1 → is_command does ≡ false
+unfolding outcome
+outcome-words NoCommand plan_file data_file is e = refl
+outcome-words (Alone end) plan_file data_file is e = absurd (is e)
+outcome-words (OnFile file writing work) plan_file data_file is e = absurd (file-words work data_file is e)
+outcome-words (ByPlan plan file writing memory lacks work) None data_file is e = absurd (omega arith)
+outcome-words (ByPlan plan file writing memory lacks work) (Some text) data_file is e = absurd (plan-words lacks work (plan_answer text) data_file is (plan_answer-bytes text) e)
+
+outside-status : (fault : Fault) → is_outside fault ≡ true → status_of fault ≢ 1
+outside-status Usage e = cc
+outside-status (OpenFault slot) e = λ one. omega arith
+outside-status (ReadFault slot) e = λ one. omega arith
+outside-status WriteFault e = λ one. omega arith
+outside-status OutOfMemory e = λ one. omega arith
+outside-status _ e = cc
+
+-- A run that ends so had words that are no command.
+pub bad-words : (request : Option Request) (fault : Fault) (plan_file data_file : File) (old new : Option (List ℕ))
+    → ((is_outside fault ≡ true) ⊎ EndsWith (outcome (behaviour request) plan_file data_file) (Some fault) old new) → status_of fault ≡ 1 → request ≡ None
+bad-words request fault plan_file data_file old new (inl outside) one = absurd (outside-status fault outside one)
+bad-words request fault plan_file data_file old new (inr ends) one = no-command request (outcome-words (behaviour request) plan_file data_file (sound request) (sym (ap status ends.same) ∙ one))
+
+-- ## Nothing but memory is wanting
 
 -- only want of memory is left
 only_memory : (opening reading : Slot → Type 0) (writing memory : Type 0) (fault : Fault) → is_outside fault ≡ true → ((slot : Slot) → opening slot → ⊥) → ((slot : Slot) → reading slot → ⊥) → (writing → ⊥)
@@ -62,33 +97,37 @@ only_memory o r w m WriteFault e no_o no_r no_w h = absurd (no_w h)
 only_memory o r w m OutOfMemory e no_o no_r no_w h = (refl, h)
 only_memory o r w m _ e no_o no_r no_w h = cc
 
-may_want : (request : Option Request) (span : Span) (fault : Fault) (wanted : ℕ) → fault ≡ OutOfMemory → RunsOut request span.before span.after span.old span.new → MeansStatus request (status_of fault) wanted
-may_want None span fault wanted is h = absurd h
-may_want (Some (Count file)) span fault wanted is h = absurd h
-may_want (Some (HeaderOf file)) span fault wanted is h = absurd h
-may_want (Some (EventsOf file)) span fault wanted is h = absurd h
-may_want (Some (RunOf plan file)) span fault wanted is h = inr (ap status_of is)
-may_want (Some (DemoOf seed count)) span fault wanted is h = inr (ap status_of is)
+may_want : (does : Behaviour) (span : Span) (fault : Fault) (wanted : ℕ) → fault ≡ OutOfMemory → RunsOut does span.before span.after span.old span.new → MeansStatus does (status_of fault) wanted
+may_want NoCommand span fault wanted is h = absurd h
+may_want (Alone end) span fault wanted is h = inr (ap status_of is)
+may_want (OnFile file writing work) span fault wanted is h = absurd h
+may_want (ByPlan plan file writing memory lacks work) span fault wanted is h = inr (ap status_of is)
 
-pub means_same : (request : Option Request) (result wanted : ℕ) → result ≡ wanted → MeansStatus request result wanted
-means_same None result wanted e = e
-means_same (Some (Count file)) result wanted e = e
-means_same (Some (HeaderOf file)) result wanted e = e
-means_same (Some (EventsOf file)) result wanted e = e
-means_same (Some (RunOf plan file)) result wanted e = inl e
-means_same (Some (DemoOf seed count)) result wanted e = inl e
+pub means_same : (does : Behaviour) (result wanted : ℕ) → result ≡ wanted → MeansStatus does result wanted
+means_same NoCommand result wanted e = e
+means_same (Alone end) result wanted e = inl e
+means_same (OnFile file writing work) result wanted e = e
+means_same (ByPlan plan file writing memory lacks work) result wanted e = inl e
 
-pub means_as : (request : Option Request) (result now wanted : ℕ) → result ≡ now → MeansStatus request now wanted → MeansStatus request result wanted
-means_as request result now wanted e h = subst (λ (n : ℕ). MeansStatus request n wanted) (sym e) h
+pub means_as : (does : Behaviour) (result now wanted : ℕ) → result ≡ now → MeansStatus does now wanted → MeansStatus does result wanted
+means_as does result now wanted e h = subst (λ (n : ℕ). MeansStatus does n wanted) (sym e) h
 
-pub means_good : (request : Option Request) (result wanted : ℕ) (fault : Option Fault) → fault ≡ None → MeansStatus request result (status fault) → MeansStatus request result 0
-means_good request result wanted fault none h = subst (λ (o : Option Fault). MeansStatus request result (status o)) none h
+pub means_good : (does : Behaviour) (result wanted : ℕ) (fault : Option Fault) → fault ≡ None → MeansStatus does result (status fault) → MeansStatus does result 0
+means_good does result wanted fault none h = subst (λ (o : Option Fault). MeansStatus does result (status o)) none h
 
 -- a fault without a cause is that of the outcome, or want of memory
-pub inside-ends : (request : Option Request) (span : Span) (fault : Fault) (plan_file data_file : File) → NoneRose span.before span.after → ¬ (Rose span.faults_before span.faults_after) → HasCauses request span fault
-    → ((is_outside fault ≡ true) ⊎ EndsWith (outcome request plan_file data_file) (Some fault) span.old span.new) → MeansStatus request (status_of fault) (status (outcome request plan_file data_file).fault)
+pub inside-ends : (does : Behaviour) (span : Span) (fault : Fault) (plan_file data_file : File) → NoneRose span.before span.after → ¬ (Rose span.faults_before span.faults_after) → HasCauses does span fault
+    → ((is_outside fault ≡ true) ⊎ EndsWith (outcome does plan_file data_file) (Some fault) span.old span.new) → MeansStatus does (status_of fault) (status (outcome does plan_file data_file).fault)
 unfolding HasCauses
-inside-ends request span fault plan_file data_file none quiet causes (inr ends) = means_same request _ _ (ap status ends.same)
-inside-ends request span fault plan_file data_file none quiet causes (inl outside) =
+inside-ends does span fault plan_file data_file none quiet causes (inr ends) = means_same does _ _ (ap status ends.same)
+inside-ends does span fault plan_file data_file none quiet causes (inl outside) =
     let want = only_memory _ _ _ _ fault outside (λ slot h. (none slot).0 h.1) (λ slot h. (none slot).1 h.1) (λ h. quiet h.0) causes in
-    may_want request span fault _ want.0 want.1
+    may_want does span fault _ want.0 want.1
+
+-- a run without a fault is one that is called for
+pub ok-ends : (does : Behaviour) (state : InputState) (old new : Option (List ℕ)) (plan_file data_file : File) → Answers does state (Ok tt) old new → Tells state does plan_file data_file → MeansStatus does 0 (status (outcome does plan_file data_file).fault)
+ok-ends does state old new plan_file data_file answers tells = of_end (answers-told does state (Ok tt) old new plan_file data_file answers tells)
+  where
+    of_end : (⊥ ⊎ EndsWith (outcome does plan_file data_file) None old new) → MeansStatus does 0 (status (outcome does plan_file data_file).fault)
+    of_end (inl none) = absurd none
+    of_end (inr ends) = means_same does 0 _ (ap status ends.same)

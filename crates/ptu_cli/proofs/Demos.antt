@@ -37,10 +37,11 @@ use Rattle.ptu_made.proofs.Unrefused.{unrefused}
 use Rattle.ptu_cli.specs.Commands.{Run, Demo, photon_limit}
 use Rattle.ptu_cli.specs.Demo.{demo_text, demo_plan, demo_reading, demo_report}
 use Rattle.ptu_cli.specs.Reports.{file_report}
-use Rattle.ptu_cli.specs.Outcomes.{outcome}
+use Rattle.ptu_cli.specs.Outcomes.{Outcome, written, report_outcome}
+use Rattle.ptu_cli.specs.Behaviours.{behaviour, reporting}
 use Rattle.ptu_cli.specs.RunPieces.{IsReport, AnswersReport, RunReason}
-use Rattle.ptu_cli.specs.Endings.{EndsWith, HasCauses}
-use Rattle.ptu_cli.proofs.RunTold.{report-told}
+use Rattle.ptu_cli.specs.Endings.{EndsWith, HasCauses, on_file, outcome}
+use Rattle.ptu_cli.proofs.WorkTold.{file-told}
 
 -- ## The plan
 
@@ -80,18 +81,23 @@ made-report seed count few =
     rw (answer, suits, made-streamed seed count few, whole) refl
 
 -- `demo` ends as a run of these files
-pub demo-run : (plan_name name : List ℕ) (seed count : ℕ) → count ≤ photon_limit → outcome (Some (Run plan_name name)) (Some demo_text) (Some (made_file seed count)) ≡ outcome (Some (Demo seed count)) None None
+pub demo-run : (plan_name name : List ℕ) (seed count : ℕ) → count ≤ photon_limit → outcome (behaviour (Some (Run plan_name name))) (Some demo_text) (Some (made_file seed count)) ≡ outcome (behaviour (Some (Demo seed count))) None None
 unfolding outcome
 demo-run plan_name name seed count few = rw (demo-plan, made-report seed count few) refl
+
+-- an outcome that is a text tells its answer
+same-answer : (answer : Result (List ℕ) Fault) (text : List ℕ) → report_outcome answer ≡ report_outcome (Ok text) → answer ≡ Ok text
+same-answer (Ok bytes) text e = ap Ok (ap (λ (o : Outcome). o.text) e)
+same-answer (Err fault) text e = let none : Some fault ≡ None = ap (λ (o : Outcome). o.fault) e in cc
 
 -- what is said of the made file is its report
 pub demo-told : (seed count : ℕ) (plan : PlanView) (rest left : Option (List ℕ)) (taken : List ℕ) (answer : Result (List ℕ) Fault) → count ≤ photon_limit → plan ≡ demo_plan → rest ≡ Some (made_file seed count) → Consumes rest left taken
     → Says (file_report plan) taken left answer → answer ≡ Ok (demo_report seed count)
 demo-told seed count plan rest left taken answer few is opened took says =
     let file = made_file seed count in
-    let told = report-told plan (Some (Some file)) rest left taken (Some file) answer (opened, search rules) refl took says in
-    let same : told.0 ≡ file = let e = told.1 in cc in
-    sym told.2 ∙ ap (file_report plan) same ∙ ap (λ (view : PlanView). file_report view file) is ∙ made-report seed count few
+    let told : on_file (reporting plan) (Some file) ≡ report_outcome answer = file-told (reporting plan) (Some (Some file)) rest left taken (Some file) (report_outcome answer) (opened, search rules) refl took (λ more l. ap report_outcome (says more l)) in
+    let made : report_outcome (file_report plan file) ≡ report_outcome (Ok (demo_report seed count)) = ap report_outcome (ap (λ (view : PlanView). file_report view file) is ∙ made-report seed count few) in
+    same-answer answer (demo_report seed count) (sym told ∙ made)
 
 -- a fault is from outside
 pub demo-outside : (seed count : ℕ) (plan : PlanView) (rest left : Option (List ℕ)) (taken : List ℕ) (fault : Fault) → count ≤ photon_limit → plan ≡ demo_plan → rest ≡ Some (made_file seed count) → Consumes rest left taken
@@ -101,7 +107,7 @@ demo-outside seed count plan rest left taken fault few is opened took (inr says)
 
 -- no read of the made file fails
 pub demo-causes : (seed count : ℕ) (plan : PlanView) (before after : Made) (state : InputState) (old : Option (List ℕ)) (faults : ℕ) (fault : Fault) → RunReason plan (made_state before) (made_state after) fault
-    → HasCauses (Some (Demo seed count)) (record { before = state; after = state; old = old; new = old; faults_before = faults; faults_after = faults }) fault
+    → HasCauses (behaviour (Some (Demo seed count))) (record { before = state; after = state; old = old; new = old; faults_before = faults; faults_after = faults }) fault
 unfolding HasCauses made_state
 demo-causes seed count plan before after state old faults fault reason =
     HasReason-follows _ _ _ _ _ _ _ _ fault
@@ -114,21 +120,20 @@ demo-causes seed count plan before after state old faults fault reason =
 -- ## The report
 
 -- a report that was written, or cut short
-pub ends-demo : (seed count : ℕ) (plan : PlanView) (rest left : Option (List ℕ)) (taken : List ℕ) (results : Results) (plan_file data_file : File) (r : Result (Unit {0}) Fault) (old new : Option (List ℕ)) → count ≤ photon_limit → plan ≡ demo_plan
+pub ends-demo : (seed count : ℕ) (plan : PlanView) (rest left : Option (List ℕ)) (taken : List ℕ) (results : Results) (r : Result (Unit {0}) Fault) (old new : Option (List ℕ)) → count ≤ photon_limit → plan ≡ demo_plan
     → rest ≡ Some (made_file seed count) → Consumes rest left taken → IsReport plan taken left results → IfErr r (λ fault. fault ≡ WriteFault)
     → OnOk r ((tables : List Table) → EachHolds results.parts.items tables → Appends old new (report results.header results.summary tables))
-    → IsErrAnd r (λ fault. is_outside fault ≡ true) ⊎ EndsWith (outcome (Some (Demo seed count)) plan_file data_file) (fault_in r) old new
-unfolding outcome
-ends-demo seed count plan rest left taken results plan_file data_file (Ok done) old new few is opened took counted fault text =
+    → IsErrAnd r (λ fault. is_outside fault ≡ true) ⊎ EndsWith (written (demo_report seed count)) (fault_in r) old new
+ends-demo seed count plan rest left taken results (Ok done) old new few is opened took counted fault text =
     let told = demo-told seed count plan rest left taken _ few is opened took counted.says in
     let same : report results.header results.summary counted.tables ≡ demo_report seed count = cc in
     inr (record { same = refl; text = subst (λ (bytes : List ℕ). Appends old new bytes) same (text counted.tables counted.counts) })
-ends-demo seed count plan rest left taken results plan_file data_file (Err fault) old new few is opened took counted write text = inl (rw write refl)
+ends-demo seed count plan rest left taken results (Err fault) old new few is opened took counted write text = inl (rw write refl)
 
 pub untold-causes : (seed count : ℕ) (plan : PlanView) (rest left : Option (List ℕ)) (taken : List ℕ) (results : Results) (state : InputState) (r : Result (Unit {0}) Fault) (old new : Option (List ℕ)) (faults now : ℕ) → count ≤ photon_limit → plan ≡ demo_plan
     → rest ≡ Some (made_file seed count) → Consumes rest left taken → IsReport plan taken left results → IfErr r (λ fault. fault ≡ WriteFault) → OnErr r (Rose faults now)
     → OnErr r ((tables : List Table) → EachHolds results.parts.items tables → AppendsShort old new (report results.header results.summary tables))
-    → IfErr r (HasCauses (Some (Demo seed count)) (record { before = state; after = state; old = old; new = new; faults_before = faults; faults_after = now }))
+    → IfErr r (HasCauses (behaviour (Some (Demo seed count))) (record { before = state; after = state; old = old; new = new; faults_before = faults; faults_after = now }))
 unfolding HasCauses outcome
 untold-causes seed count plan rest left taken results state (Ok done) old new faults now few is opened took counted write rose short = tt
 untold-causes seed count plan rest left taken results state (Err fault) old new faults now few is opened took counted write rose short =

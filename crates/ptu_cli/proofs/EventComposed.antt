@@ -18,7 +18,8 @@ use Rattle.tally_base.specs.Faults.{fault_in}
 use Rattle.ptu_cli.specs.EventPieces.{Wrote, WroteShort, Writes}
 use Rattle.table_out.specs.EventText.{lines_of}
 use Rattle.ptu_cli.specs.EventRuns.{SaysLines, AnswersLines}
-use Rattle.ptu_cli.specs.EventOutcomes.{AnswersEvents}
+use Rattle.ptu_cli.specs.Behaviours.{listing_all}
+use Rattle.ptu_cli.specs.Works.{AnswersWork}
 use Rattle.ptu_cli.specs.Outcomes.{listing, listed, events_outcome, events_behind}
 use Rattle.ptu_cli.proofs.Composed.{ShowsHeader}
 use Rattle.ptu_cli.proofs.EventEnds.{says-refused}
@@ -32,7 +33,7 @@ listed-says how bytes text fault says = rw (says.lines, says.ends, lines_of-none
 
 -- the first piece behind the header was refused, or its lines were cut short
 pub answers-first : (header : Header) (front behind : List ℕ) (before after a b : Option (List ℕ)) (faults now : ℕ) (fault : Fault) → Consumes before after front → ShowsHeader front header behind
-    → Writes {X = Unit {0}} (listing header) a b faults now (words_of []) (words_of behind) (Err fault) → AnswersEvents before after a b (Err fault)
+    → Writes {X = Unit {0}} (listing header) a b faults now (words_of []) (words_of behind) (Err fault) → AnswersWork listing_all before after a b (Err fault)
 answers-first header front behind before after a b faults now fault consumes shows writes =
     ⊎_elim
     (λ (r : (record_refusal (listing header) (words_of behind) ≡ Some fault) × Wrote (listing header) a b (words_of []) (words_of behind)).
@@ -48,7 +49,7 @@ answers-first header front behind before after a b faults now fault consumes sho
 
 -- the pieces behind it
 pub answers-behind : (header : Header) (front behind : List ℕ) (before mid after a b c : Option (List ℕ)) (r : Result (Unit {0}) Fault) → Consumes before mid front → ShowsHeader front header behind
-    → Wrote (listing header) a b (words_of []) (words_of behind) → AnswersLines (listing header) behind mid after b c r → AnswersEvents before after a c r
+    → Wrote (listing header) a b (words_of []) (words_of behind) → AnswersLines (listing header) behind mid after b c r → AnswersWork listing_all before after a c r
 answers-behind header front behind before mid after a b c r consumes shows wrote (inl outside) = inl outside
 answers-behind header front behind before mid after a b c r consumes shows wrote (inr ends) = inr (record {
   taken = front ++ ends.taken;
@@ -62,7 +63,7 @@ answers-behind header front behind before mid after a b c r consumes shows wrote
 })
 
 -- there is no header
-pub answers-header : (taken : List ℕ) (before after a : Option (List ℕ)) (fault : Fault) → Consumes before after taken → (is_outside fault ≡ true) ⊎ Says header_answer taken after (Err fault) → AnswersEvents before after a a (Err fault)
+pub answers-header : (taken : List ℕ) (before after a : Option (List ℕ)) (fault : Fault) → Consumes before after taken → (is_outside fault ≡ true) ⊎ Says header_answer taken after (Err fault) → AnswersWork listing_all before after a a (Err fault)
 answers-header taken before after a fault consumes (inl outside) = inl outside
 answers-header taken before after a fault consumes (inr says) = inr (record {
   taken = taken;

@@ -13,11 +13,12 @@ use Rattle.ptu_definitions.proofs.WordsLemmas.{words_of-append}
 use Rattle.ptu_definitions.proofs.StreamLemmas.{given-front}
 use Rattle.tally_base.specs.Faults.{fault_in}
 use Rattle.table_out.specs.EventText.{events_text}
-use Rattle.ptu_cli.specs.HeaderPieces.{IsCut}
+use Rattle.ptu_cli.specs.Outcomes.{IsCut}
 use Rattle.ptu_cli.specs.EventPieces.{Wrote, WroteShort}
 use Rattle.table_out.specs.EventText.{lines_of}
 use Rattle.ptu_cli.specs.EventRuns.{ReadsLines, CutsLines}
-use Rattle.ptu_cli.specs.EventOutcomes.{ReadsEvents, CutsEvents}
+use Rattle.ptu_cli.specs.Behaviours.{listing_all}
+use Rattle.ptu_cli.specs.Works.{CutsWork, ReadsWork}
 use Rattle.ptu_cli.specs.Outcomes.{MayGoOnFrom}
 use Rattle.ptu_cli.specs.Outcomes.{listing, listed, events_outcome, events_behind}
 use Rattle.ptu_cli.proofs.Composed.{ShowsHeader}
@@ -32,7 +33,7 @@ streamed-open how bytes none = elim (cases_Bool (nat_eq (length (rest_of bytes))
 ]
 
 -- the header was read in part
-pub reads-header : (taken : List ℕ) (before after a : Option (List ℕ)) → Consumes before after taken → IsCut taken → ReadsEvents before after a a
+pub reads-header : (taken : List ℕ) (before after a : Option (List ℕ)) → Consumes before after taken → IsCut taken → ReadsWork listing_all before after a a
 reads-header taken before after a consumes cut = record { taken = taken; consumes = consumes; written = rw cut (Appends-nil a); goes_on = rw cut refl }
 
 -- the lines of some bytes, and of more
@@ -46,7 +47,7 @@ all-lines how behind bytes first text one two = sym (two ∙ ap (λ l. l ++ text
 
 -- a read failed behind the header
 pub reads-behind : (header : Header) (front behind : List ℕ) (before mid after a b c : Option (List ℕ)) → Consumes before mid front → ShowsHeader front header behind
-    → Wrote (listing header) a b (words_of []) (words_of behind) → ReadsLines (listing header) behind mid after b c → ReadsEvents before after a c
+    → Wrote (listing header) a b (words_of []) (words_of behind) → ReadsLines (listing header) behind mid after b c → ReadsWork listing_all before after a c
 reads-behind header front behind before mid after a b c consumes shows wrote reads =
     let is : events_outcome (front ++ reads.taken) ≡ listed (listing header) (behind ++ reads.taken) = ap events_behind (shows reads.taken) in
     record {
@@ -63,7 +64,7 @@ cut-text header front behind bytes more text a c is lines cut =
 
 -- a write failed at the first piece behind the header
 pub cuts-first : (header : Header) (front behind : List ℕ) (before after a b : Option (List ℕ)) (faults now : ℕ) → Consumes before after front → ShowsHeader front header behind
-    → WroteShort (listing header) a b faults now (words_of []) (words_of behind) → CutsEvents before after a b
+    → WroteShort (listing header) a b faults now (words_of []) (words_of behind) → CutsWork listing_all before after a b
 cuts-first header front behind before after a b faults now consumes shows short = record {
   taken = front;
   consumes = consumes;
@@ -72,7 +73,7 @@ cuts-first header front behind before after a b faults now consumes shows short 
 
 -- or behind it
 pub cuts-behind : (header : Header) (front behind : List ℕ) (before mid after a b c : Option (List ℕ)) → Consumes before mid front → ShowsHeader front header behind
-    → Wrote (listing header) a b (words_of []) (words_of behind) → CutsLines (listing header) behind mid after b c → CutsEvents before after a c
+    → Wrote (listing header) a b (words_of []) (words_of behind) → CutsLines (listing header) behind mid after b c → CutsWork listing_all before after a c
 cuts-behind header front behind before mid after a b c consumes shows wrote cuts = record {
   taken = front ++ cuts.taken;
   consumes = Consumes-trans before mid after front cuts.taken consumes cuts.consumes;

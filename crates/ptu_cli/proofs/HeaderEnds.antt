@@ -1,24 +1,18 @@
 -- How printing the header of a file ends.
 use Rattle.std.proofs.Common.{◌≡◌, ℕ, List, [], ◌++◌, None, Some, refl, sym, ap, ◌∙◌, subst, Ok, Err}
-use Rattle.std.specs.Prelude.{Result}
 use Rattle.std.specs.declared.option.Option.{Option}
-use Rattle.std.specs.Io.KnownBytes.{Appends, Consumes}
+use Rattle.std.specs.Io.KnownBytes.{Appends}
 use Rattle.tally_base.specs.declared.fault.Fault.{Fault}
 use Rattle.tally_base.specs.declared.header.Header.{Header}
-use Rattle.bench_io.specs.Inputs.{File, IsOpened}
 use Rattle.bench_io.specs.Sinks.{AppendsShort}
 use Rattle.bench_io.proofs.Bytes.{Appends-trans, Appends-same, AppendsShort-behind, AppendsShort-more, AppendsShort-same}
 use Rattle.ptu_definitions.specs.Headers.{header_answer}
 use Rattle.ptu_definitions.specs.Shown.{Shows}
 use Rattle.table_out.specs.HeaderText.{header_text}
 use Rattle.table_out.proofs.Final.{header_text-grows, header_text-refused, header_text-done}
-use Rattle.ptu_definitions.specs.declared.records.KindCounts.{KindCounts}
-use Rattle.ptu_cli.specs.Commands.{Count as CountOf, Header as HeaderOf}
-use Rattle.ptu_cli.specs.Outcomes.{header_outcome, outcome, MayChange, count_outcome}
+use Rattle.ptu_cli.specs.Outcomes.{header_outcome}
 use Rattle.tally_base.specs.Faults.{fault_in}
-use Rattle.ptu_cli.specs.Endings.{MayGoOn}
 use Rattle.ptu_cli.specs.Printing.{AppendsText, CutsText}
-use Rattle.ptu_cli.specs.HeaderRuns.{CutsFile}
 
 outcome-at : (file text : List ℕ) (fault : Option Fault) → header_text file ≡ text → fault_in (header_answer file) ≡ fault → header_outcome file ≡ record { text = text; fault = fault }
 outcome-at file text fault t f = rw (t, f) refl
@@ -38,32 +32,3 @@ outcome-done bytes more behind header h = outcome-at (bytes ++ more) (header_tex
 
 pub outcome-refused : (bytes more : List ℕ) (fault : Fault) → Shows header_answer bytes (Err fault) → header_outcome (bytes ++ more) ≡ record { text = header_text bytes; fault = Some fault }
 outcome-refused bytes more fault h = outcome-at (bytes ++ more) (header_text bytes) (Some fault) (header_text-refused bytes more fault h) (ap fault_in (h more))
-
--- the bytes taken from a file that is told
-pub taken-told : (contents : Option File) (rest new : Option (List ℕ)) (taken bytes : List ℕ) → IsOpened contents rest → Consumes rest new taken → contents ≡ Some (Some bytes) → Consumes (Some bytes) new taken
-taken-told None rest new taken bytes opened took known = cc
-taken-told (Some file) rest new taken bytes opened took known =
-    let same : file ≡ Some bytes = cc in
-    subst (λ (r : Option (List ℕ)). Consumes r new taken) (opened.0 ∙ same) took
-
--- a text that is cut is that of the file
-cut-all : (bytes : List ℕ) (rest new a b : Option (List ℕ)) → rest ≡ Some bytes → CutsFile rest new a b → AppendsShort a b (header_text bytes)
-cut-all bytes rest None a b known h = absurd (subst (λ (r : Option (List ℕ)). Consumes r None h.taken) known h.consumes)
-cut-all bytes rest (Some more) a b known h =
-    let split : bytes ≡ h.taken ++ more = subst (λ (r : Option (List ℕ)). Consumes r (Some more) h.taken) known h.consumes in
-    AppendsShort-same a b _ _ (ap header_text (sym split)) (h.cut more refl)
-
-pub cut-told : (name : List ℕ) (contents : Option File) (rest new a b : Option (List ℕ)) (plan_file data_file : File) → IsOpened contents rest → contents ≡ Some data_file → CutsFile rest new a b
-    → AppendsShort a b (outcome (Some (HeaderOf name)) plan_file data_file).text
-unfolding outcome
-cut-told name None rest new a b plan_file data_file opened known h = cc
-cut-told name (Some None) rest new a b plan_file data_file opened known h = let none = opened.1 in cc
-cut-told name (Some (Some file)) rest new a b plan_file None opened known h = cc
-cut-told name (Some (Some file)) rest new a b plan_file (Some bytes) opened known h =
-    let same : file ≡ bytes = cc in
-    cut-all bytes rest new a b (opened.0 ∙ ap Some same) h
-
--- an answer that may change gives an outcome that may
-pub may_go_on : (name : List ℕ) (answer : Result (Header × KindCounts) Fault) → MayChange answer → MayGoOn (Some (CountOf name)) (count_outcome answer).fault
-may_go_on name (Ok found) h = tt
-may_go_on name (Err fault) h = h

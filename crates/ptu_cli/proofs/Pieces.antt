@@ -13,7 +13,7 @@ use Rattle.ptu_definitions.specs.Words.{words_of, rest_of}
 use Rattle.ptu_definitions.specs.Counted.{counted, record_limit}
 use Rattle.ptu_definitions.specs.Endings.{ending}
 use Rattle.ptu_definitions.specs.Headers.{header_answer}
-use Rattle.ptu_cli.specs.HeaderPieces.{IsCut}
+use Rattle.ptu_cli.specs.Outcomes.{IsCut}
 use Rattle.ptu_cli.specs.Outcomes.{MayChange, file_counts, with_counts}
 use Rattle.ptu_header.specs.declared.reader.HeaderReader.{HeaderReader}
 use Rattle.ptu_header.specs.Reading.{HasRead}

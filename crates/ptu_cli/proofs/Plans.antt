@@ -14,7 +14,7 @@ use Rattle.plan_text.specs.declared.plan.Plan.{Plan}
 use Rattle.plan_text.specs.Reading.{plan_answer, plan_seen}
 use Rattle.plan_text.proofs.Documents.{plan_answer_long}
 use Rattle.ptu_cli.specs.PlanPieces.{IsRead}
-use Rattle.ptu_cli.proofs.HeaderEnds.{taken-told}
+use Rattle.ptu_cli.proofs.WorkTold.{taken-told}
 
 -- bytes that end the file, or are too many for a plan by themselves
 same_answer : (taken more : List ℕ) → (length taken < 65537 → more ≡ []) → plan_answer (taken ++ more) ≡ plan_answer taken
@@ -34,13 +34,19 @@ answers plan_file text (Err fault) present answer = elim (cases_Bool (is_outside
   | inr inside ↦ inr (record { text = text; present = present; answer = answer (λ e. let same : fault ≡ OutOfMemory = cc in let bad : is_outside OutOfMemory ≡ false = rw same at inside in cc) })
 ]
 
-pub plan_told : (contents : Option File) (rest new : Option (List ℕ)) (taken : List ℕ) (plan_file : File) (r : Result Plan Fault) → IsOpened contents rest → Consumes rest new taken → (length taken < 65537 → IsAtEnd new)
-    → (r ≢ Err OutOfMemory → plan_seen r ≡ plan_answer taken) → contents ≡ Some plan_file → IsErrAnd r (λ fault. is_outside fault ≡ true) ⊎ IsRead plan_file r
-plan_told None rest new taken plan_file r opened took ended answer known = cc
-plan_told (Some None) rest new taken plan_file r opened took ended answer known = let none = opened.1 in cc
-plan_told (Some (Some bytes)) rest new taken plan_file r opened took ended answer known =
-    let same : plan_file ≡ Some bytes = cc in
-    answers plan_file bytes r same (λ enough. read_told bytes taken new (taken-told (Some (Some bytes)) rest new taken bytes opened took refl) ended ∙ sym (answer enough))
+-- what a file answers that may be the one read
+read_of : (contents : Option File) (plan_file : File) (r : Result Plan Fault) → ((told : File) → contents ≡ Some told → plan_file ≡ told) → IsErrAnd r (λ fault. is_outside fault ≡ true) ⊎ IsRead plan_file r
+    → IsErrAnd r (λ fault. is_outside fault ≡ true) ⊎ ((file : File) × ((told : File) → contents ≡ Some told → file ≡ told) × IsRead file r)
+read_of contents plan_file r may_be (inl outside) = inl outside
+read_of contents plan_file r may_be (inr read) = inr (plan_file, may_be, read)
+
+pub plan_told : (contents : Option File) (rest new : Option (List ℕ)) (taken : List ℕ) (r : Result Plan Fault) → IsOpened contents rest → Consumes rest new taken → (length taken < 65537 → IsAtEnd new)
+    → (r ≢ Err OutOfMemory → plan_seen r ≡ plan_answer taken) → IsErrAnd r (λ fault. is_outside fault ≡ true) ⊎ ((file : File) × ((told : File) → contents ≡ Some told → file ≡ told) × IsRead file r)
+plan_told None rest new taken r opened took ended answer =
+    read_of None (Some taken) r (λ told e. cc) (answers (Some taken) taken r refl (λ enough. sym (answer enough)))
+plan_told (Some None) rest new taken r opened took ended answer = let none = opened.1 in cc
+plan_told (Some (Some bytes)) rest new taken r opened took ended answer =
+    read_of (Some (Some bytes)) (Some bytes) r (λ told e. cc) (answers (Some bytes) bytes r refl (λ enough. read_told bytes taken new (taken-told (Some (Some bytes)) rest new taken bytes opened took refl) ended ∙ sym (answer enough)))
 
 pub plan_reason : (opening reading : Slot → Type 0) (writing : Type 0) (fault : Fault) → (fault ≢ OutOfMemory → is_outside fault ≡ false) → HasReason opening reading writing (Unit {0}) fault
 plan_reason o r w (OpenFault slot) h = let inside = h (λ e. cc) in cc

@@ -15,7 +15,8 @@ use Rattle.ptu_definitions.specs.Seen.{seen, seen_preamble}
 use Rattle.table_out.specs.HeaderText.{shown_text, header_text}
 use Rattle.ptu_cli.specs.CountText.{counts_text}
 use Rattle.ptu_cli.specs.Commands.{Count, Header, Demo, number_in, request_of}
-use Rattle.ptu_cli.specs.Outcomes.{outcome}
+use Rattle.ptu_cli.specs.Behaviours.{behaviour}
+use Rattle.ptu_cli.specs.Endings.{outcome}
 
 abbrev known : List ℕ
 known =
@@ -63,27 +64,27 @@ pub row-no_digit : request_of (codes "demo" ∷ [] ∷ codes "1" ∷ []) ≡ Non
 unfolding number_in
 row-no_digit = refl
 
-pub row-usage : outcome None None None ≡ record { text = []; fault = Some Usage }
+pub row-usage : outcome (behaviour None) None None ≡ record { text = []; fault = Some Usage }
 unfolding outcome
 row-usage = refl
 
-pub row-absent : outcome (Some (Count [])) None None ≡ record { text = []; fault = Some (OpenFault Data) }
+pub row-absent : outcome (behaviour (Some (Count []))) None None ≡ record { text = []; fault = Some (OpenFault Data) }
 unfolding outcome
 row-absent = refl
 
-pub row-rest : outcome (Some (Count [])) None (Some (known ++ 1 ∷ 0 ∷ 0 ∷ 0 ∷ 9 ∷ 9 ∷ [])) ≡ record { text = []; fault = Some (TruncatedRecord 2) }
+pub row-rest : outcome (behaviour (Some (Count []))) None (Some (known ++ 1 ∷ 0 ∷ 0 ∷ 0 ∷ 9 ∷ 9 ∷ [])) ≡ record { text = []; fault = Some (TruncatedRecord 2) }
 unfolding outcome header_answer ending walk name_in code_in value_in has_body is_known value_under found_in header_of type_with counted records_of hydra_t3 counts_text
 row-rest = refl
 
-pub row-short : outcome (Some (Header [])) None (Some (codes "PQ")) ≡ record { text = []; fault = Some (TruncatedHeader 2) }
+pub row-short : outcome (behaviour (Some (Header []))) None (Some (codes "PQ")) ≡ record { text = []; fault = Some (TruncatedHeader 2) }
 unfolding outcome header_answer ending walk header_text shown_text seen seen_preamble
 row-short = refl
 
-pub row-magic : outcome (Some (Header [])) None (Some (codes "PQTTTS")) ≡ record { text = []; fault = Some BadMagic }
+pub row-magic : outcome (behaviour (Some (Header []))) None (Some (codes "PQTTTS")) ≡ record { text = []; fault = Some BadMagic }
 unfolding outcome header_answer ending walk header_text shown_text seen seen_preamble
 row-magic = refl
 
-pub row-lines : outcome (Some (Count [])) None (Some (known ++ 1 ∷ 0 ∷ 0 ∷ 0 ∷ [])) ≡ record {
+pub row-lines : outcome (behaviour (Some (Count []))) None (Some (known ++ 1 ∷ 0 ∷ 0 ∷ 0 ∷ [])) ≡ record {
   text = counts_text (record { record_type = HydraHarp2T3; count = None; global = None; resolution = None; version = codes "1.0.00" ++ 0 ∷ 0 ∷ [] }) (record { records = 1; photons = 1; markers = 0; wraps = 0; reserved = 0 });
   fault = None;
 }

@@ -8,7 +8,6 @@ use Rattle.tally_base.specs.declared.header.Header.{Header}
 use Rattle.tally_base.specs.declared.header.Mode.{Mode}
 use Rattle.tally_base.specs.Faults.{status_of, fault_in}
 use Rattle.tally_base.specs.RecordTypes.{mode_of}
-use Rattle.bench_io.specs.Inputs.{File}
 use Rattle.ptu_definitions.specs.declared.records.Summary.{Summary}
 use Rattle.ptu_definitions.specs.Headers.{header_answer}
 use Rattle.ptu_definitions.specs.Words.{words_of, rest_of}
@@ -20,8 +19,13 @@ use Rattle.plan_text.specs.Plan.{PlanView, plan_rules, plan}
 use Rattle.plan_text.specs.Reading.{document, if_kept, plan_of_document, plan_answer}
 use Rattle.plan_text.specs.Fits.{fits, IsMisfit}
 use Rattle.plan_text.proofs.Rise.{plan_rules_rise}
+<<<<<<< ours
 use Rattle.plan_text.proofs.Misfits.{misfit_named}
 use Rattle.ptu_cli.specs.Outcomes.{status, report_outcome, planned}
+=======
+use Rattle.plan_text.proofs.Misfits.{misfit}
+use Rattle.ptu_cli.specs.Outcomes.{status, report_outcome}
+>>>>>>> theirs
 use Rattle.tally_engine.specs.Plans.{reading_by}
 use Rattle.ptu_cli.specs.Reports.{report_of, if_fits, report_behind, file_report}
 use Rattle.ptu_cli.proofs.ByteFaults.{IsOfBytes, header_answer-bytes, streamed-bytes}
@@ -43,7 +47,7 @@ short-bytes : (short : Bool) (r : Result PlanView Fault) → IsOfBytes r → IsO
 short-bytes true r h = h
 short-bytes false r h = λ e. omega arith
 
-plan_answer-bytes : (text : List ℕ) → IsOfBytes (plan_answer text)
+pub plan_answer-bytes : (text : List ℕ) → IsOfBytes (plan_answer text)
 unfolding plan_answer
 plan_answer-bytes text = short-bytes (nat_le (length text) 65536) (plan_of_document (document text)) (document-bytes (document text))
 
@@ -73,10 +77,5 @@ report_outcome-bytes : (r : Result (List ℕ) Fault) → IsOfBytes r → status 
 report_outcome-bytes (Ok text) h = λ e. omega arith
 report_outcome-bytes (Err fault) h = h
 
-planned-answer : (r : Result PlanView Fault) (data_file : File) → IsOfBytes r → status (planned r data_file).fault ≢ 1
-planned-answer (Err fault) data_file h = h
-planned-answer (Ok view) None h = λ e. omega arith
-planned-answer (Ok view) (Some bytes) h = report_outcome-bytes (file_report view bytes) (report_behind-bytes view (header_answer bytes) (header_answer-bytes bytes))
-
-pub planned-bytes : (text : List ℕ) (data_file : File) → status (planned (plan_answer text) data_file).fault ≢ 1
-planned-bytes text data_file = planned-answer (plan_answer text) data_file (plan_answer-bytes text)
+pub report-bytes : (view : PlanView) (bytes : List ℕ) → status (report_outcome (file_report view bytes)).fault ≢ 1
+report-bytes view bytes = report_outcome-bytes (file_report view bytes) (report_behind-bytes view (header_answer bytes) (header_answer-bytes bytes))

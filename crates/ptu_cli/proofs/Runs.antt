@@ -31,7 +31,7 @@ use Rattle.tally_engine.specs.Parts.{settings_in}
 use Rattle.ptu_definitions.specs.Words.{words_of}
 use Rattle.table_out.specs.Report.{with_events}
 use Rattle.table_out.proofs.Tables.{each_holds_all}
-use Rattle.ptu_cli.specs.HeaderPieces.{IsCut}
+use Rattle.ptu_cli.specs.Outcomes.{IsCut}
 use Rattle.ptu_cli.specs.Outcomes.{MayChange}
 use Rattle.ptu_cli.specs.Pieces.{ReadReason, TakesOpen}
 use Rattle.ptu_cli.specs.Reports.{report_of, if_fits, report_behind, file_report}
@@ -137,6 +137,14 @@ ends-finished old new bytes left (Err fault) same end answer = inr (Says-at_end 
 -- an engine that refused a piece
 pub ends-refused : (old new : Engine) (bytes : List ℕ) (left : Option (List ℕ)) (fault : Fault) → SameEngine old new → Shows (streamed (reading_of new)) bytes (Err fault) → EndsEngine old bytes left (Err fault)
 ends-refused old new bytes left fault same shown = inr (λ more known. rw same.same_reading at (shown more))
+
+-- what an engine was given that goes on may change
+pub fed-open : (old new : Engine) (bytes : List ℕ) → SameEngine old new → record_refusal (reading_of new) (words_of bytes) ≡ None → MayChange (streamed (reading_of old) bytes)
+fed-open old new bytes same none = streamed-open (reading_of old) bytes (rw same.same_reading at none)
+
+-- records that may go on behind a header make a report that may
+pub report-open : (plan : PlanView) (header : Header) (taken behind next : List ℕ) → ShowsHeader taken header behind → fits (mode_of header.record_type) plan ≡ Ok tt → MayChange (streamed (reading_by plan header) (behind ++ next)) → MayChange (file_report plan (taken ++ next))
+report-open plan header taken behind next shows fit goes = rw (file-behind plan header taken behind shows fit next) (report_of-open plan header (behind ++ next) (streamed (reading_by plan header) (behind ++ next)) goes)
 
 -- an engine that goes on
 pub takes-on : (old new : Engine) (bytes taken : List ℕ) (before after : Option (List ℕ)) → SameEngine old new → Consumes before after taken → record_refusal (reading_of new) (words_of (bytes ++ taken)) ≡ None → TakesOpen (streamed (reading_of old)) bytes before after

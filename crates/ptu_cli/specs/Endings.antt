@@ -1,36 +1,53 @@
--- What a run of the program leaves.
-use Rattle.std.specs.Prelude.{ℕ, ◌≡◌, ◌⊎◌, ◌≤◌, ◌<◌, List, [], length, true, false, None, Some, Result, Ok, IsErrAnd}
+-- What a run of the program leaves, by what its command does.
+use Rattle.std.specs.Prelude.{ℕ, ◌≡◌, ◌⊎◌, ◌≤◌, ◌<◌, List, ◌++◌, length, true, false, None, Some, Result, Ok, Err, IsErrAnd, IfErr}
 use Rattle.std.specs.declared.option.Option.{Option}
 use Rattle.std.specs.Io.KnownBytes.{Keeps, Appends, Consumes}
 use Rattle.tally_base.specs.declared.slot.Slot.{Slot}
 use Rattle.tally_base.specs.declared.slot.Slot.TheVariants.{Plan, Data}
 use Rattle.tally_base.specs.declared.fault.Fault.{Fault}
+use Rattle.tally_base.specs.declared.fault.Fault.TheVariants.{Usage, OpenFault}
 use Rattle.tally_base.specs.Faults.{line_of, is_outside, fault_in, HasReason}
 use Rattle.tally_base.specs.Counts.{Rose}
 use Rattle.bench_io.specs.Sinks.{AppendsShort}
 use Rattle.bench_io.specs.Inputs.{File, InputState}
 use Rattle.tally_base.specs.declared.header.Header.{Header}
 use Rattle.ptu_definitions.specs.Headers.{header_answer}
-use Rattle.ptu_definitions.specs.Words.{words_of, rest_of}
-use Rattle.ptu_definitions.specs.Counted.{record_limit}
-use Rattle.ptu_definitions.specs.Streams.{Reading, record_refusal}
 use Rattle.tally_base.specs.RecordTypes.{mode_of}
 use Rattle.plan_text.specs.Plan.{PlanView}
 use Rattle.plan_text.specs.Reading.{plan_answer}
 use Rattle.plan_text.specs.Fits.{fits}
-use Rattle.tally_engine.specs.Plans.{reading_by}
-use Rattle.table_out.specs.HeaderText.{header_text}
-use Rattle.ptu_cli.specs.Commands.{Request, Count, Header as HeaderOf, Events as EventsOf, Run as RunOf, Demo as DemoOf}
-use Rattle.ptu_cli.specs.Outcomes.{Outcome, outcome, events_outcome, listing, MayGoOnFrom}
+use Rattle.ptu_cli.specs.Outcomes.{Outcome, refused}
+use Rattle.ptu_cli.specs.Behaviours.{Work, Writing, AtEnd, AsItReads, Memory, ForPlan, ForTables, Behaviour, NoCommand, Alone, OnFile, ByPlan}
+
+-- ## What the files call for
+
+abbrev pub on_file : Work → File → Outcome
+on_file work None = refused (OpenFault Data)
+on_file work (Some bytes) = work.outcome bytes
+
+abbrev pub unless : Option Fault → Outcome → Outcome
+unless None end = end
+unless (Some fault) end = refused fault
+
+-- the data are not looked at before the plan is good and lacks nothing
+abbrev pub by_plan : (PlanView → Option Fault) → (PlanView → Work) → Result PlanView Fault → File → Outcome
+by_plan lacks work (Err fault) data_file = refused fault
+by_plan lacks work (Ok plan) data_file = unless (lacks plan) (on_file (work plan) data_file)
+
+-- what a command ends with over the files of its words PLAN and FILE, where nothing outside fails
+unfoldable pub outcome : Behaviour → File → File → Outcome
+outcome NoCommand plan_file data_file = refused Usage
+outcome (Alone end) plan_file data_file = end
+outcome (OnFile file writing work) plan_file data_file = on_file work data_file
+outcome (ByPlan plan file writing memory lacks work) None data_file = refused (OpenFault Plan)
+outcome (ByPlan plan file writing memory lacks work) (Some text) data_file = by_plan lacks work (plan_answer text) data_file
 
 -- each word FILE or PLAN is meant for its slot
-abbrev pub IsMeant : InputState → Option Request → Type 0
-IsMeant state None = Unit {0}
-IsMeant state (Some (Count file)) = state.meant Data file ≡ true
-IsMeant state (Some (HeaderOf file)) = state.meant Data file ≡ true
-IsMeant state (Some (EventsOf file)) = state.meant Data file ≡ true
-IsMeant state (Some (RunOf plan file)) = (state.meant Plan plan ≡ true) × (state.meant Data file ≡ true)
-IsMeant state (Some (DemoOf seed count)) = Unit {0}
+abbrev pub IsMeant : InputState → Behaviour → Type 0
+IsMeant state NoCommand = Unit {0}
+IsMeant state (Alone end) = Unit {0}
+IsMeant state (OnFile file writing work) = state.meant Data file ≡ true
+IsMeant state (ByPlan plan file writing memory lacks work) = (state.meant Plan plan ≡ true) × (state.meant Data file ≡ true)
 
 -- The file is there and is this plan.
 pub record IsPlan (plan_file : File) (plan : PlanView) : Type 0 where
@@ -38,45 +55,63 @@ pub record IsPlan (plan_file : File) (plan : PlanView) : Type 0 where
   pub present : plan_file ≡ Some text
   pub answer : plan_answer text ≡ Ok plan
 
--- the file of a name is a plan, where the inputs tell it
-abbrev pub NamesPlan : InputState → List ℕ → Type 0
-NamesPlan state name = (plan_file : File) → state.contents name ≡ Some plan_file → (plan : PlanView) × IsPlan plan_file plan
+-- This may be the file of a name: it is the one that the inputs tell, where they tell one.
+abbrev pub MayBe : InputState → List ℕ → File → Type 0
+MayBe state name file = (told : File) → state.contents name ≡ Some told → file ≡ told
 
--- The command asks for this slot, and no earlier case ends the run.
-abbrev pub Reaches : Option Request → InputState → Slot → Type 0
-Reaches None state slot = ⊥
-Reaches (Some (Count file)) state Plan = ⊥
-Reaches (Some (Count file)) state Data = Unit {0}
-Reaches (Some (HeaderOf file)) state Plan = ⊥
-Reaches (Some (HeaderOf file)) state Data = Unit {0}
-Reaches (Some (EventsOf file)) state Plan = ⊥
-Reaches (Some (EventsOf file)) state Data = Unit {0}
-Reaches (Some (RunOf plan file)) state Plan = Unit {0}
-Reaches (Some (RunOf plan file)) state Data = NamesPlan state plan
-Reaches (Some (DemoOf seed count)) state slot = ⊥
+-- A file that may be that of a name is this plan, and it lacks nothing.
+pub record HasPlan (state : InputState) (name : List ℕ) (lacks : PlanView → Option Fault) (plan : PlanView) : Type 0 where
+  pub plan_file : File
+  pub may_be : MayBe state name plan_file
+  pub is_plan : IsPlan plan_file plan
+  pub whole : lacks plan ≡ None
+
+-- This may be the file of the word PLAN.
+abbrev pub PlanMayBe : InputState → Behaviour → File → Type 0
+PlanMayBe state NoCommand plan_file = Unit {0}
+PlanMayBe state (Alone end) plan_file = Unit {0}
+PlanMayBe state (OnFile file writing work) plan_file = Unit {0}
+PlanMayBe state (ByPlan plan file writing memory lacks work) plan_file = MayBe state plan plan_file
+
+-- The inputs tell this file for the word FILE, if the command comes to it by such a file of PLAN: that of a plan that is refused or lacks something never does.
+abbrev pub TellsData : InputState → Behaviour → File → File → Type 0
+TellsData state NoCommand plan_file data_file = Unit {0}
+TellsData state (Alone end) plan_file data_file = Unit {0}
+TellsData state (OnFile file writing work) plan_file data_file = state.contents file ≡ Some data_file
+TellsData state (ByPlan plan file writing memory lacks work) plan_file data_file = (view : PlanView) → IsPlan plan_file view → lacks view ≡ None → state.contents file ≡ Some data_file
+
+-- The inputs tell this file for the word PLAN.
+abbrev pub TellsPlan : InputState → Behaviour → File → Type 0
+TellsPlan state NoCommand plan_file = Unit {0}
+TellsPlan state (Alone end) plan_file = Unit {0}
+TellsPlan state (OnFile file writing work) plan_file = Unit {0}
+TellsPlan state (ByPlan plan file writing memory lacks work) plan_file = state.contents plan ≡ Some plan_file
 
 -- the inputs tell these files for the words PLAN and FILE
-abbrev pub Tells : InputState → Option Request → File → File → Type 0
-Tells state None plan_file data_file = Unit {0}
-Tells state (Some (Count file)) plan_file data_file = state.contents file ≡ Some data_file
-Tells state (Some (HeaderOf file)) plan_file data_file = state.contents file ≡ Some data_file
-Tells state (Some (EventsOf file)) plan_file data_file = state.contents file ≡ Some data_file
-Tells state (Some (RunOf plan file)) plan_file data_file = (state.contents plan ≡ Some plan_file) × (state.contents file ≡ Some data_file)
-Tells state (Some (DemoOf seed count)) plan_file data_file = Unit {0}
+abbrev pub Tells : InputState → Behaviour → File → File → Type 0
+Tells state does plan_file data_file = TellsPlan state does plan_file × TellsData state does plan_file data_file
+
+-- ## What a run leaves
 
 -- the run ended so, and its text was written
 pub record EndsWith (outcome : Outcome) (fault : Option Fault) (old new : Option (List ℕ)) : Type 0 where
   pub same : fault ≡ outcome.fault
   pub text : Appends old new outcome.text
 
--- The text was cut short. That of `count`, `run` and `demo` is cut only where the run would have ended well.
-abbrev pub CutsShort : Option Request → Outcome → Option (List ℕ) → Option (List ℕ) → Type 0
-CutsShort None outcome old new = ⊥
-CutsShort (Some (Count file)) outcome old new = (outcome.fault ≡ None) × AppendsShort old new outcome.text
-CutsShort (Some (HeaderOf file)) outcome old new = AppendsShort old new outcome.text
-CutsShort (Some (EventsOf file)) outcome old new = AppendsShort old new outcome.text
-CutsShort (Some (RunOf plan file)) outcome old new = (outcome.fault ≡ None) × AppendsShort old new outcome.text
-CutsShort (Some (DemoOf seed count)) outcome old new = (outcome.fault ≡ None) × AppendsShort old new outcome.text
+-- what a command leaves where the fault is not from outside: it ends as some file of PLAN calls for, which is the one told, if one is told
+abbrev pub Answers : Behaviour → InputState → Result (Unit {0}) Fault → Option (List ℕ) → Option (List ℕ) → Type 0
+Answers does state result old new =
+    IsErrAnd result (λ fault. is_outside fault ≡ true)
+    ⊎ ((plan_file : File) × PlanMayBe state does plan_file × ((data_file : File) → TellsData state does plan_file data_file → EndsWith (outcome does plan_file data_file) (fault_in result) old new))
+
+-- The command asks for this slot, and no earlier case ends the run.
+abbrev pub Reaches : Behaviour → InputState → Slot → Type 0
+Reaches NoCommand state slot = ⊥
+Reaches (Alone end) state slot = ⊥
+Reaches (OnFile file writing work) state Plan = ⊥
+Reaches (OnFile file writing work) state Data = Unit {0}
+Reaches (ByPlan plan file writing memory lacks work) state Plan = Unit {0}
+Reaches (ByPlan plan file writing memory lacks work) state Data = (view : PlanView) × HasPlan state plan lacks view
 
 -- These are the bytes that were taken from the file of a name, where the inputs tell it.
 abbrev pub IsTakenFrom : Slot → InputState → InputState → List ℕ → List ℕ → Type 0
@@ -89,30 +124,31 @@ IsTaken = IsTakenFrom Data
 abbrev pub plan_limit : ℕ
 plan_limit = 65536
 
--- An outcome that more bytes may change: `count`, `events` and `run` have no fault yet, or only that the data end too early, and `header` only that.
-abbrev pub MayGoOn : Option Request → Option Fault → Type 0
-MayGoOn None fault = ⊥
-MayGoOn (Some (Count file)) fault = MayGoOnFrom fault
-MayGoOn (Some (HeaderOf file)) None = ⊥
-MayGoOn (Some (HeaderOf file)) (Some fault) = MayGoOnFrom (Some fault)
-MayGoOn (Some (EventsOf file)) fault = MayGoOnFrom fault
-MayGoOn (Some (RunOf plan file)) fault = MayGoOnFrom fault
-MayGoOn (Some (DemoOf seed count)) fault = ⊥
+-- The bytes taken from FILE call for no end by themselves, and what the command writes of them meanwhile was written.
+pub record StopsIn (work : Work) (before after : InputState) (file : List ℕ) (old new : Option (List ℕ)) : Type 0 where
+  pub taken : List ℕ
+  pub is_taken : IsTaken before after file taken
+  pub goes_on : work.goes_on taken
+  pub text : Appends old new (work.so_far taken)
 
--- What a run leaves on standard output where a read failed: `count` and `run` nothing, `header` and `events` the text of the bytes taken. Had the file ended
--- with these bytes, more of them might have changed the outcome: so they call for no refusal by themselves.
-abbrev pub LeavesUnread : Option Request → Slot → InputState → InputState → Option (List ℕ) → Option (List ℕ) → Type 0
-LeavesUnread None slot before after old new = ⊥
-LeavesUnread (Some (Count file)) slot before after old new =
-    Keeps old new × ((taken : List ℕ) × IsTaken before after file taken × MayGoOn (Some (Count file)) (outcome (Some (Count file)) None (Some taken)).fault)
-LeavesUnread (Some (HeaderOf file)) slot before after old new =
-    (taken : List ℕ) × IsTaken before after file taken × Appends old new (header_text taken) × MayGoOn (Some (HeaderOf file)) (outcome (Some (HeaderOf file)) None (Some taken)).fault
-LeavesUnread (Some (EventsOf file)) slot before after old new =
-    (taken : List ℕ) × IsTaken before after file taken × Appends old new (events_outcome taken).text × MayGoOn (Some (EventsOf file)) (outcome (Some (EventsOf file)) None (Some taken)).fault
-LeavesUnread (Some (RunOf plan file)) Plan before after old new = Keeps old new × ((taken : List ℕ) × IsTakenFrom Plan before after plan taken × (length taken ≤ plan_limit))
-LeavesUnread (Some (RunOf plan file)) Data before after old new =
-    Keeps old new × ((taken : List ℕ) × IsTaken before after file taken × ((plan_file : File) → before.contents plan ≡ Some plan_file → MayGoOn (Some (RunOf plan file)) (outcome (Some (RunOf plan file)) plan_file (Some taken)).fault))
-LeavesUnread (Some (DemoOf seed count)) slot before after old new = ⊥
+-- What a run leaves on standard output where a read failed.
+abbrev pub LeavesUnread : Behaviour → Slot → InputState → InputState → Option (List ℕ) → Option (List ℕ) → Type 0
+LeavesUnread NoCommand slot before after old new = ⊥
+LeavesUnread (Alone end) slot before after old new = ⊥
+LeavesUnread (OnFile file writing work) slot before after old new = StopsIn work before after file old new
+LeavesUnread (ByPlan plan file writing memory lacks work) Plan before after old new = Keeps old new × ((taken : List ℕ) × IsTakenFrom Plan before after plan taken × (length taken ≤ plan_limit))
+LeavesUnread (ByPlan plan file writing memory lacks work) Data before after old new = (view : PlanView) × HasPlan before plan lacks view × StopsIn (work view) before after file old new
+
+-- A text was cut short. One that is written at the end is cut only where the run would have ended well.
+abbrev pub Cuts : Writing → Outcome → Option (List ℕ) → Option (List ℕ) → Type 0
+Cuts AtEnd end old new = (end.fault ≡ None) × AppendsShort old new end.text
+Cuts AsItReads end old new = AppendsShort old new end.text
+
+abbrev pub CutsShort : Behaviour → Outcome → Option (List ℕ) → Option (List ℕ) → Type 0
+CutsShort NoCommand end old new = ⊥
+CutsShort (Alone written) end old new = Cuts AtEnd end old new
+CutsShort (OnFile file writing work) end old new = Cuts writing end old new
+CutsShort (ByPlan plan file writing memory lacks work) end old new = Cuts writing end old new
 
 -- The bytes that were taken from the file are a header that the plan's parts suit, and less than one piece behind it.
 pub record StopsAtHeader (plan : PlanView) (taken : List ℕ) : Type 0 where
@@ -122,45 +158,44 @@ pub record StopsAtHeader (plan : PlanView) (taken : List ℕ) : Type 0 where
   pub suits : fits (mode_of header.record_type) plan ≡ Ok (tt {0})
   pub few : length behind < 8192
 
--- What a run leaves where memory was refused: nothing is written, and for `run` either the data were not opened, or no more of them was taken than the read
--- gave that gave the header's last byte. Commands without a plan take no memory.
-abbrev pub RunsOut : Option Request → InputState → InputState → Option (List ℕ) → Option (List ℕ) → Type 0
-RunsOut None before after old new = ⊥
-RunsOut (Some (Count file)) before after old new = ⊥
-RunsOut (Some (HeaderOf file)) before after old new = ⊥
-RunsOut (Some (EventsOf file)) before after old new = ⊥
-RunsOut (Some (RunOf plan file)) before after old new =
-    Keeps old new × ((after.asked Data ≡ false)
-    ⊎ ((plan_file : File) → before.contents plan ≡ Some plan_file → (view : PlanView) × IsPlan plan_file view × ((taken : List ℕ) × IsTaken before after file taken × StopsAtHeader view taken)))
-RunsOut (Some (DemoOf seed count)) before after old new = Keeps old new
+-- Memory is wanting behind the data's header: no more of them was taken than the read gave that gave the header's last byte.
+abbrev pub WantsTables : Memory → InputState → InputState → List ℕ → PlanView → Type 0
+WantsTables ForPlan before after file view = ⊥
+WantsTables ForTables before after file view = (taken : List ℕ) × IsTaken before after file taken × StopsAtHeader view taken
 
--- A command without a word PLAN never asks for a plan.
-abbrev pub LeavesPlan : Option Request → InputState → Type 0
-LeavesPlan None state = state.asked Plan ≡ false
-LeavesPlan (Some (Count file)) state = state.asked Plan ≡ false
-LeavesPlan (Some (HeaderOf file)) state = state.asked Plan ≡ false
-LeavesPlan (Some (EventsOf file)) state = state.asked Plan ≡ false
-LeavesPlan (Some (RunOf plan file)) state = Unit {0}
-LeavesPlan (Some (DemoOf seed count)) state = state.asked Plan ≡ false
+-- What a run leaves where memory was refused: nothing is written, and the data were not opened, or the tables take memory and the plan suits their header.
+abbrev pub RunsOut : Behaviour → InputState → InputState → Option (List ℕ) → Option (List ℕ) → Type 0
+RunsOut NoCommand before after old new = ⊥
+RunsOut (Alone end) before after old new = Keeps old new
+RunsOut (OnFile file writing work) before after old new = ⊥
+RunsOut (ByPlan plan file writing memory lacks work) before after old new =
+    Keeps old new × ((after.asked Data ≡ false) ⊎ ((view : PlanView) × HasPlan before plan lacks view × WantsTables memory before after file view))
 
--- `demo` and words that are no command leave the inputs as they were.
-abbrev pub LeavesInputs : Option Request → InputState → InputState → Type 0
-LeavesInputs None before after = after ≡ before
-LeavesInputs (Some (Count file)) before after = Unit {0}
-LeavesInputs (Some (HeaderOf file)) before after = Unit {0}
-LeavesInputs (Some (EventsOf file)) before after = Unit {0}
-LeavesInputs (Some (RunOf plan file)) before after = Unit {0}
-LeavesInputs (Some (DemoOf seed count)) before after = after ≡ before
+-- No more of a plan is taken than one byte more than a plan may have.
+abbrev pub TakesPlan : InputState → InputState → List ℕ → Type 0
+TakesPlan before after plan = after.opened Plan ≡ true → (taken : List ℕ) × IsTakenFrom Plan before after plan taken × (length taken ≤ 65537)
+
+-- The bytes taken from FILE are some that call for no end by themselves, and no more behind them than one read gives.
+pub record TakesData (work : Work) (before after : InputState) (file : List ℕ) : Type 0 where
+  pub front : List ℕ
+  pub last : List ℕ
+  pub is_taken : IsTaken before after file (front ++ last)
+  pub goes_on : work.goes_on front
+  pub few : length last ≤ 8192
+
+-- What a command asks for and takes, however it ends. Without a word PLAN it never asks for a plan, and without a word FILE it leaves the inputs as they were.
+-- The data are asked for only behind a plan that lacks nothing.
+abbrev pub Asks : Behaviour → InputState → InputState → Type 0
+Asks NoCommand before after = after ≡ before
+Asks (Alone end) before after = after ≡ before
+Asks (OnFile file writing work) before after = (after.asked Plan ≡ false) × (after.opened Data ≡ true → TakesData work before after file)
+Asks (ByPlan plan file writing memory lacks work) before after =
+    TakesPlan before after plan × (after.asked Data ≡ true → (view : PlanView) × HasPlan before plan lacks view × (after.opened Data ≡ true → TakesData (work view) before after file))
 
 -- A fault has its line on standard error, or a prefix of it where a write there failed.
 abbrev pub TellsFault : Option (List ℕ) → Option (List ℕ) → ℕ → ℕ → Option Fault → Type 0
 TellsFault old new before now None = Keeps old new
 TellsFault old new before now (Some fault) = Appends old new (line_of fault) ⊎ (Rose before now × AppendsShort old new (line_of fault))
-
--- what a command leaves where the fault is not from outside
-abbrev pub Answers : Option Request → InputState → Result (Unit {0}) Fault → Option (List ℕ) → Option (List ℕ) → Type 0
-Answers request state result old new =
-    (plan_file data_file : File) → Tells state request plan_file data_file → IsErrAnd result (λ fault. is_outside fault ≡ true) ⊎ EndsWith (outcome request plan_file data_file) (fault_in result) old new
 
 -- the states of the inputs and of standard output before a command and behind it
 pub record Span : Type 0 where
@@ -172,48 +207,40 @@ pub record Span : Type 0 where
   pub faults_after : ℕ
 
 -- what a command's fault from outside says: which count rose, and what was written
-unfoldable pub HasCauses : Option Request → Span → Fault → Type 0
-HasCauses request span = HasReason
-    (λ slot. Reaches request span.before slot × Rose (span.before.open_faults slot) (span.after.open_faults slot) × Keeps span.old span.new)
-    (λ slot. Reaches request span.before slot × Rose (span.before.read_faults slot) (span.after.read_faults slot) × LeavesUnread request slot span.before span.after span.old span.new)
-    (Rose span.faults_before span.faults_after × ((plan_file data_file : File) → Tells span.before request plan_file data_file → CutsShort request (outcome request plan_file data_file) span.old span.new))
-    (RunsOut request span.before span.after span.old span.new)
+unfoldable pub HasCauses : Behaviour → Span → Fault → Type 0
+HasCauses does span = HasReason
+    (λ slot. Reaches does span.before slot × Rose (span.before.open_faults slot) (span.after.open_faults slot) × Keeps span.old span.new)
+    (λ slot. Reaches does span.before slot × Rose (span.before.read_faults slot) (span.after.read_faults slot) × LeavesUnread does slot span.before span.after span.old span.new)
+    (Rose span.faults_before span.faults_after × ((plan_file data_file : File) → Tells span.before does plan_file data_file → CutsShort does (outcome does plan_file data_file) span.old span.new))
+    (RunsOut does span.before span.after span.old span.new)
+
+-- all that a command does
+pub record Does (behaves : Behaviour) (span : Span) (result : Result (Unit {0}) Fault) : Type 0 where
+  pub answer : Answers behaves span.before result span.old span.new
+  pub causes : IfErr result (HasCauses behaves span)
+  pub asks : Asks behaves span.before span.after
+
+-- ## Good words and files
 
 -- The status is the one that is called for. A command that takes memory may end with that of want of memory instead.
-abbrev pub MeansStatus : Option Request → ℕ → ℕ → Type 0
-MeansStatus None result wanted = result ≡ wanted
-MeansStatus (Some (Count file)) result wanted = result ≡ wanted
-MeansStatus (Some (HeaderOf file)) result wanted = result ≡ wanted
-MeansStatus (Some (EventsOf file)) result wanted = result ≡ wanted
-MeansStatus (Some (RunOf plan file)) result wanted = (result ≡ wanted) ⊎ (result ≡ 5)
-MeansStatus (Some (DemoOf seed count)) result wanted = (result ≡ wanted) ⊎ (result ≡ 5)
+abbrev pub MeansStatus : Behaviour → ℕ → ℕ → Type 0
+MeansStatus NoCommand result wanted = result ≡ wanted
+MeansStatus (Alone end) result wanted = (result ≡ wanted) ⊎ (result ≡ 5)
+MeansStatus (OnFile file writing work) result wanted = result ≡ wanted
+MeansStatus (ByPlan plan file writing memory lacks work) result wanted = (result ≡ wanted) ⊎ (result ≡ 5)
 
 -- No opening and no read has failed in a run.
 abbrev pub NoneRose : InputState → InputState → Type 0
 NoneRose before after = (slot : Slot) → ¬ (Rose (before.open_faults slot) (after.open_faults slot)) × ¬ (Rose (before.read_faults slot) (after.read_faults slot))
 
--- The file is there and has a header.
-pub record IsHeaded (data_file : File) (header : Header) (behind : List ℕ) : Type 0 where
-  pub bytes : List ℕ
-  pub present : data_file ≡ Some bytes
-  pub answer : header_answer bytes ≡ Ok (header, behind)
-
--- The records behind a header are few enough and whole.
-pub record AreWhole (behind : List ℕ) : Type 0 where
-  pub few : length (words_of behind) ≤ record_limit
-  pub whole : rest_of behind ≡ []
-
--- The records behind a header are whole, and none is refused.
-pub record AreRead (how : Reading) (behind : List ℕ) : Type 0 where
-  pub unrefused : record_refusal how (words_of behind) ≡ None
-  pub whole : rest_of behind ≡ []
+-- The file is there and good for this work.
+abbrev pub IsGoodFor : Work → File → Type 0
+IsGoodFor work None = ⊥
+IsGoodFor work (Some bytes) = work.good bytes
 
 -- The words are a command, and its files are good ones.
-abbrev pub IsGood : Option Request → File → File → Type 0
-IsGood None plan_file data_file = ⊥
-IsGood (Some (Count file)) plan_file data_file = (header : Header) × (behind : List ℕ) × IsHeaded data_file header behind × AreWhole behind
-IsGood (Some (HeaderOf file)) plan_file data_file = (header : Header) × (behind : List ℕ) × IsHeaded data_file header behind
-IsGood (Some (EventsOf file)) plan_file data_file = (header : Header) × (behind : List ℕ) × IsHeaded data_file header behind × AreRead (listing header) behind
-IsGood (Some (RunOf plan file)) plan_file data_file =
-    (view : PlanView) × IsPlan plan_file view × ((header : Header) × (behind : List ℕ) × IsHeaded data_file header behind × (fits (mode_of header.record_type) view ≡ Ok (tt {0})) × AreRead (reading_by view header) behind)
-IsGood (Some (DemoOf seed count)) plan_file data_file = Unit {0}
+abbrev pub IsGood : Behaviour → File → File → Type 0
+IsGood NoCommand plan_file data_file = ⊥
+IsGood (Alone end) plan_file data_file = end.fault ≡ None
+IsGood (OnFile file writing work) plan_file data_file = IsGoodFor work data_file
+IsGood (ByPlan plan file writing memory lacks work) plan_file data_file = (view : PlanView) × IsPlan plan_file view × (lacks view ≡ None) × IsGoodFor (work view) data_file

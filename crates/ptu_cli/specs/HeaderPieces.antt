@@ -2,19 +2,15 @@
 use Rattle.std.specs.Prelude.{ℕ, ◌≡◌, ◌⊎◌, ◌+◌, ◌≤◌, List, [], ◌++◌, take, drop, length, slice_range, true, false, Result, Ok, Err}
 use Rattle.std.specs.declared.option.Option.{Option}
 use Rattle.tally_base.specs.declared.fault.Fault.{Fault}
-use Rattle.tally_base.specs.declared.fault.Fault.TheVariants.{TruncatedHeader}
 use Rattle.tally_base.specs.Faults.{is_outside}
 use Rattle.ptu_definitions.specs.Headers.{header_answer}
 use Rattle.ptu_definitions.specs.Shown.{Says, Shows}
 use Rattle.ptu_header.specs.declared.reader.HeaderReader.{HeaderReader}
 use Rattle.ptu_header.specs.Reading.{HasRead, is_open, bytes_taken}
+use Rattle.ptu_cli.specs.Outcomes.{IsCut}
 use Rattle.ptu_cli.specs.declared.header.Fed.{Fed}
 use Rattle.ptu_cli.specs.declared.header.Fed.TheVariants.{More, Done, Refused}
 use Rattle.ptu_cli.specs.declared.data.FoundHeader.{FoundHeader}
-
--- The bytes are the front of a header, and call for no refusal by themselves.
-abbrev pub IsCut : List ℕ → Type 0
-IsCut bytes = header_answer bytes ≡ Err (TruncatedHeader (length bytes))
 
 -- How a piece leaves a reader that was given these bytes before.
 abbrev pub Ends : List ℕ → List ℕ → HeaderReader → Fed → Type 0

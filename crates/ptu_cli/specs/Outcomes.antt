@@ -1,9 +1,8 @@
--- What a run of the program ends with, where nothing outside fails.
-use Rattle.std.specs.Prelude.{ℕ, ◌≡◌, List, [], None, Some, Bool, true, false, Result, Ok, Err}
+-- What the commands end with over the bytes of a file, where nothing outside fails.
+use Rattle.std.specs.Prelude.{ℕ, ◌≡◌, List, [], length, None, Some, Bool, true, false, Result, Ok, Err}
 use Rattle.std.specs.declared.option.Option.{Option}
-use Rattle.tally_base.specs.declared.slot.Slot.TheVariants.{Plan, Data}
 use Rattle.tally_base.specs.declared.fault.Fault.{Fault}
-use Rattle.tally_base.specs.declared.fault.Fault.TheVariants.{Usage, OpenFault, TruncatedHeader, TruncatedRecord}
+use Rattle.tally_base.specs.declared.fault.Fault.TheVariants.{TruncatedHeader, TruncatedRecord}
 use Rattle.tally_base.specs.declared.header.Header.{Header}
 use Rattle.tally_base.specs.Faults.{status_of}
 use Rattle.ptu_definitions.specs.declared.records.KindCounts.{KindCounts}
@@ -18,11 +17,6 @@ use Rattle.tally_base.specs.Faults.{fault_in}
 use Rattle.table_out.specs.EventText.{lines_of}
 use Rattle.ptu_cli.specs.CountText.{counts_text}
 use Rattle.table_out.specs.HeaderText.{header_text}
-use Rattle.ptu_cli.specs.Commands.{Request, Count, Header as HeaderOf, Events as EventsOf, Run as RunOf, Demo as DemoOf}
-use Rattle.plan_text.specs.Plan.{PlanView}
-use Rattle.plan_text.specs.Reading.{plan_answer}
-use Rattle.ptu_cli.specs.Reports.{file_report}
-use Rattle.ptu_cli.specs.Demo.{demo_report}
 
 -- the text on standard output, and the fault where there is one
 pub record Outcome : Type 0 where
@@ -71,6 +65,10 @@ MayGoOnFrom (Some fault) = ends_early fault ≡ true
 abbrev pub MayChange : {A : Type 0} → Result A Fault → Type 0
 MayChange answer = MayGoOnFrom (fault_in answer)
 
+-- The bytes are the front of a header, and call for no refusal by themselves.
+abbrev pub IsCut : List ℕ → Type 0
+IsCut bytes = header_answer bytes ≡ Err (TruncatedHeader (length bytes))
+
 -- A header is printed as far as it goes.
 abbrev pub header_outcome : List ℕ → Outcome
 header_outcome file = record { text = header_text file; fault = fault_in (header_answer file) }
@@ -97,22 +95,3 @@ events_outcome file = events_behind (header_answer file)
 abbrev pub report_outcome : Result (List ℕ) Fault → Outcome
 report_outcome (Ok text) = written text
 report_outcome (Err fault) = refused fault
-
--- the data are not looked at before the plan is good
-abbrev pub planned : Result PlanView Fault → Option (List ℕ) → Outcome
-planned (Err fault) file = refused fault
-planned (Ok plan) None = refused (OpenFault Data)
-planned (Ok plan) (Some bytes) = report_outcome (file_report plan bytes)
-
--- `plan` and `file` are the files of the command's names, or None where there is none
-unfoldable pub outcome : Option Request → Option (List ℕ) → Option (List ℕ) → Outcome
-outcome None plan file = refused Usage
-outcome (Some (Count name)) plan None = refused (OpenFault Data)
-outcome (Some (Count name)) plan (Some bytes) = count_outcome (file_counts bytes)
-outcome (Some (HeaderOf name)) plan None = refused (OpenFault Data)
-outcome (Some (HeaderOf name)) plan (Some bytes) = header_outcome bytes
-outcome (Some (EventsOf name)) plan None = refused (OpenFault Data)
-outcome (Some (EventsOf name)) plan (Some bytes) = events_outcome bytes
-outcome (Some (RunOf plan_name name)) None file = refused (OpenFault Plan)
-outcome (Some (RunOf plan_name name)) (Some text) file = planned (plan_answer text) file
-outcome (Some (DemoOf seed count)) plan file = written (demo_report seed count)

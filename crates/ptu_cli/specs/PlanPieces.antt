@@ -7,7 +7,7 @@ use Rattle.tally_base.specs.Counts.{Rose}
 use Rattle.bench_io.specs.Inputs.{File, InputState}
 use Rattle.plan_text.specs.declared.plan.Plan.{Plan}
 use Rattle.plan_text.specs.Reading.{plan_answer, plan_seen}
-use Rattle.ptu_cli.specs.Endings.{IsTakenFrom, plan_limit}
+use Rattle.ptu_cli.specs.Endings.{MayBe, IsTakenFrom, plan_limit}
 
 -- The file is there, and this is what its bytes answer as a plan.
 pub record IsRead (plan_file : File) (result : Result Plan Fault) : Type 0 where
@@ -15,9 +15,9 @@ pub record IsRead (plan_file : File) (result : Result Plan Fault) : Type 0 where
   pub present : plan_file ≡ Some text
   pub answer : plan_answer text ≡ plan_seen result
 
--- A fault from outside, or what the file of the name answers as a plan.
+-- A fault from outside, or what a file answers as a plan that may be that of the name.
 abbrev pub AnswersPlan : InputState → List ℕ → Result Plan Fault → Type 0
-AnswersPlan before name result = (plan_file : File) → before.contents name ≡ Some plan_file → IsErrAnd result (λ fault. is_outside fault ≡ true) ⊎ IsRead plan_file result
+AnswersPlan before name result = IsErrAnd result (λ fault. is_outside fault ≡ true) ⊎ ((plan_file : File) × MayBe before name plan_file × IsRead plan_file result)
 
 -- The plan could not be opened, or a read failed where no more bytes were taken than a plan may have, or memory was refused.
 abbrev pub PlanReason : InputState → InputState → List ℕ → Fault → Type 0

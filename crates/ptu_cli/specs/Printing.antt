@@ -13,7 +13,7 @@ use Rattle.ptu_definitions.specs.Shown.{Shows}
 use Rattle.ptu_header.specs.Reading.{HasRead, bytes_taken, is_open}
 use Rattle.table_out.specs.HeaderText.{kind_with, header_text}
 use Rattle.table_out.specs.Body.{HasPut}
-use Rattle.ptu_cli.specs.HeaderPieces.{IsCut}
+use Rattle.ptu_cli.specs.Outcomes.{IsCut}
 use Rattle.ptu_cli.specs.declared.print.HeaderPrinter.{HeaderPrinter}
 use Rattle.ptu_cli.specs.declared.print.Printed.{Printed}
 use Rattle.ptu_cli.specs.declared.print.Printed.TheVariants.{More, Done, Refused}

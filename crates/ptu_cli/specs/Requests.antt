@@ -4,6 +4,7 @@ use Rattle.std.specs.declared.string.String.{String}
 use Rattle.std.specs.declared.alloc.Global.{Global}
 use Rattle.std.specs.declared.option.Option.{Option}
 use Rattle.ptu_cli.specs.Commands.{Request, Count as CountOf, Header as HeaderOf, Events as EventsOf, Run as RunOf, Demo as DemoOf, photon_limit, request_of}
+use Rattle.ptu_cli.specs.Behaviours.{Behaviour, behaviour}
 use Rattle.ptu_cli.specs.declared.words.Command.{Command}
 use Rattle.ptu_cli.specs.declared.words.Command.TheVariants.{Count, Header, Events, Run, Demo}
 
@@ -23,3 +24,7 @@ AsksFew other = Unit {0}
 -- what the words ask for
 abbrev pub request_in : List (String Global) → Option Request
 request_in words = request_of (map (λ word. string_bytes word) words)
+
+-- how the command of the words behaves
+abbrev pub behaviour_of : List (String Global) → Behaviour
+behaviour_of words = behaviour (request_in words)

@@ -3,7 +3,8 @@ ghost use Rattle.std.specs.Prelude.{◌≡◌, true, false, Some, IfErr};
 ghost use Rattle.tally_base.specs.declared.slot.Slot.{Slot};
 ghost use Rattle.tally_base.specs.declared.slot.Slot.TheVariants.{Plan, Data};
 ghost use Rattle.ptu_cli.specs.Commands.{Count, Header, Events, Run};
-ghost use Rattle.ptu_cli.specs.Endings.{Answers, HasCauses};
+ghost use Rattle.ptu_cli.specs.Behaviours.{behaviour};
+ghost use Rattle.ptu_cli.specs.Endings.{Answers, Asks, HasCauses};
 
 use crate::counts::write_counts;
 use crate::data::{count_data, list_data, print_data};
@@ -17,17 +18,17 @@ use tally_base::{Failed, Fault, Slot};
 const OPEN_FAULT: Fault = Fault::OpenFault { slot: Slot::Data };
 
 /// Counts the records of a file by kind.
-#[tactic(auto, unfolding(crate::specs::Outcomes::outcome, crate::specs::Endings::HasCauses))]
+#[tactic(auto, unfolding(crate::specs::Endings::outcome, crate::specs::Endings::HasCauses))]
 pub(crate) fn count<I: Inputs, O: Sink>(
     inputs: &mut I,
     out: &mut O,
     file: &str,
 ) -> Result<(), Fault>
     requires meant { (I.state inputs.old).meant Data file.now ≡ true }
-    requires first { (I.state inputs.old).asked Data ≡ false }
-    ensures answer { Answers (Some (Count file.now)) (I.state inputs.old) result
+    requires first { (slot : Slot) → (I.state inputs.old).asked slot ≡ false }
+    ensures answer { Answers (behaviour (Some (Count file.now))) (I.state inputs.old) result
         (O.written out.old) (O.written out.new) }
-    ensures causes { IfErr result (HasCauses (Some (Count file.now)) (record {
+    ensures causes { IfErr result (HasCauses (behaviour (Some (Count file.now))) (record {
       before = I.state inputs.old;
       after = I.state inputs.new;
       old = O.written out.old;
@@ -35,7 +36,7 @@ pub(crate) fn count<I: Inputs, O: Sink>(
       faults_before = O.faults out.old;
       faults_after = O.faults out.new;
     })) }
-    ensures plan { (I.state inputs.new).asked Plan ≡ (I.state inputs.old).asked Plan }
+    ensures asks { Asks (behaviour (Some (Count file.now))) (I.state inputs.old) (I.state inputs.new) }
 {
     match inputs.open(Slot::Data, file) {
         Err(Failed) => return Err(OPEN_FAULT),
@@ -47,17 +48,17 @@ pub(crate) fn count<I: Inputs, O: Sink>(
 }
 
 /// Prints the header of a file while it is read.
-#[tactic(auto, unfolding(crate::specs::Outcomes::outcome, crate::specs::Endings::HasCauses))]
+#[tactic(auto, unfolding(crate::specs::Endings::outcome, crate::specs::Endings::HasCauses))]
 pub(crate) fn header<I: Inputs, O: Sink>(
     inputs: &mut I,
     out: &mut O,
     file: &str,
 ) -> Result<(), Fault>
     requires meant { (I.state inputs.old).meant Data file.now ≡ true }
-    requires first { (I.state inputs.old).asked Data ≡ false }
-    ensures answer { Answers (Some (Header file.now)) (I.state inputs.old) result
+    requires first { (slot : Slot) → (I.state inputs.old).asked slot ≡ false }
+    ensures answer { Answers (behaviour (Some (Header file.now))) (I.state inputs.old) result
         (O.written out.old) (O.written out.new) }
-    ensures causes { IfErr result (HasCauses (Some (Header file.now)) (record {
+    ensures causes { IfErr result (HasCauses (behaviour (Some (Header file.now))) (record {
       before = I.state inputs.old;
       after = I.state inputs.new;
       old = O.written out.old;
@@ -65,7 +66,7 @@ pub(crate) fn header<I: Inputs, O: Sink>(
       faults_before = O.faults out.old;
       faults_after = O.faults out.new;
     })) }
-    ensures plan { (I.state inputs.new).asked Plan ≡ (I.state inputs.old).asked Plan }
+    ensures asks { Asks (behaviour (Some (Header file.now))) (I.state inputs.old) (I.state inputs.new) }
 {
     match inputs.open(Slot::Data, file) {
         Err(Failed) => return Err(OPEN_FAULT),
@@ -75,17 +76,17 @@ pub(crate) fn header<I: Inputs, O: Sink>(
 }
 
 /// Lists the events of a file while it is read.
-#[tactic(auto, unfolding(crate::specs::Outcomes::outcome, crate::specs::Endings::HasCauses))]
+#[tactic(auto, unfolding(crate::specs::Endings::outcome, crate::specs::Endings::HasCauses))]
 pub(crate) fn events<I: Inputs, O: Sink>(
     inputs: &mut I,
     out: &mut O,
     file: &str,
 ) -> Result<(), Fault>
     requires meant { (I.state inputs.old).meant Data file.now ≡ true }
-    requires first { (I.state inputs.old).asked Data ≡ false }
-    ensures answer { Answers (Some (Events file.now)) (I.state inputs.old) result
+    requires first { (slot : Slot) → (I.state inputs.old).asked slot ≡ false }
+    ensures answer { Answers (behaviour (Some (Events file.now))) (I.state inputs.old) result
         (O.written out.old) (O.written out.new) }
-    ensures causes { IfErr result (HasCauses (Some (Events file.now)) (record {
+    ensures causes { IfErr result (HasCauses (behaviour (Some (Events file.now))) (record {
       before = I.state inputs.old;
       after = I.state inputs.new;
       old = O.written out.old;
@@ -93,7 +94,7 @@ pub(crate) fn events<I: Inputs, O: Sink>(
       faults_before = O.faults out.old;
       faults_after = O.faults out.new;
     })) }
-    ensures plan { (I.state inputs.new).asked Plan ≡ (I.state inputs.old).asked Plan }
+    ensures asks { Asks (behaviour (Some (Events file.now))) (I.state inputs.old) (I.state inputs.new) }
 {
     match inputs.open(Slot::Data, file) {
         Err(Failed) => return Err(OPEN_FAULT),
@@ -104,7 +105,7 @@ pub(crate) fn events<I: Inputs, O: Sink>(
 
 /// Counts what a plan asks for in a file, and writes the report. The plan is read whole before the data
 /// are opened, and nothing is written before the data are read to their end.
-#[tactic(auto, unfolding(crate::specs::Outcomes::outcome, crate::specs::Endings::HasCauses))]
+#[tactic(auto, unfolding(crate::specs::Endings::outcome, crate::specs::Endings::HasCauses))]
 pub(crate) fn run<I: Inputs, O: Sink>(
     alloc: Global,
     inputs: &mut I,
@@ -115,9 +116,9 @@ pub(crate) fn run<I: Inputs, O: Sink>(
     requires meant_plan { (I.state inputs.old).meant Plan plan_name.now ≡ true }
     requires meant_data { (I.state inputs.old).meant Data data_name.now ≡ true }
     requires first { (slot : Slot) → (I.state inputs.old).asked slot ≡ false }
-    ensures answer { Answers (Some (Run plan_name.now data_name.now)) (I.state inputs.old) result
+    ensures answer { Answers (behaviour (Some (Run plan_name.now data_name.now))) (I.state inputs.old) result
         (O.written out.old) (O.written out.new) }
-    ensures causes { IfErr result (HasCauses (Some (Run plan_name.now data_name.now)) (record {
+    ensures causes { IfErr result (HasCauses (behaviour (Some (Run plan_name.now data_name.now))) (record {
       before = I.state inputs.old;
       after = I.state inputs.new;
       old = O.written out.old;
@@ -125,6 +126,8 @@ pub(crate) fn run<I: Inputs, O: Sink>(
       faults_before = O.faults out.old;
       faults_after = O.faults out.new;
     })) }
+    ensures asks { Asks (behaviour (Some (Run plan_name.now data_name.now))) (I.state inputs.old)
+        (I.state inputs.new) }
 {
     let plan = plan_of(alloc, inputs, plan_name)?;
     match inputs.open(Slot::Data, data_name) {

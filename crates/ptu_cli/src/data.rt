@@ -6,13 +6,13 @@ ghost use Rattle.tally_base.specs.declared.header.RecordType.{RecordType};
 ghost use Rattle.bench_io.specs.Inputs.{OnlyReads};
 ghost use Rattle.ptu_definitions.specs.Words.{words_of};
 ghost use Rattle.ptu_definitions.specs.Counted.{counted, record_limit};
-ghost use Rattle.ptu_cli.specs.Outcomes.{file_counts};
-ghost use Rattle.ptu_cli.specs.EventOutcomes.{AnswersEvents, ReadsEvents, CutsEvents};
+ghost use Rattle.ptu_cli.specs.Outcomes.{file_counts, MayChange};
+ghost use Rattle.ptu_cli.specs.Behaviours.{counting, printing, listing_all};
+ghost use Rattle.ptu_cli.specs.Works.{AnswersWork, TakesFew, WorkReason};
 ghost use Rattle.ptu_cli.specs.Pieces.{ReadReason, AnswersAs, TakesOpen};
-ghost use Rattle.ptu_cli.specs.HeaderPieces.{HeaderEnds, IsCut};
-ghost use Rattle.ptu_cli.specs.HeaderRuns.{AnswersText, ReadsText, CutsFile};
-ghost use Rattle.tally_base.specs.Faults.{HasReason, is_outside};
-ghost use Rattle.tally_base.specs.Counts.{Rose};
+ghost use Rattle.ptu_cli.specs.HeaderPieces.{HeaderEnds};
+ghost use Rattle.ptu_cli.specs.Outcomes.{IsCut};
+ghost use Rattle.tally_base.specs.Faults.{is_outside};
 ghost use Rattle.record_layout.specs.Counting.{HasCounted};
 
 use crate::events::{list_piece, list_rest};
@@ -44,6 +44,7 @@ fn count_rest<I: Inputs>(
 ) -> Result<KindCounts, Fault>
     requires opened { (I.state inputs.old).opened Data ≡ true }
     requires room { 0 < length buffer.old }
+    requires small { length buffer.old ≤ 8192 }
     ensures reads { OnlyReads Data (I.state inputs.old) (I.state inputs.new) }
     ensures reason { IfErr result (ReadReason (I.state inputs.old) (I.state inputs.new)) }
     ensures answer { (record_type : RecordType) (bytes : List ℕ)
@@ -55,6 +56,11 @@ fn count_rest<I: Inputs>(
         → IfErr result (λ fault. is_outside fault ≡ true
         → TakesOpen (counted record_type) bytes ((I.state inputs.old).rest Data)
         ((I.state inputs.new).rest Data)) }
+    ensures few { (record_type : RecordType) (bytes : List ℕ)
+        → HasCounted counter record_type bytes → length (words_of bytes) ≤ record_limit
+        → TakesFew (λ front. MayChange (counted record_type (bytes ++ front)))
+        ((I.state inputs.old).rest Data)
+        ((I.state inputs.new).rest Data) }
 {
     'pieces: loop {
         let Ok(len) = inputs.read(Slot::Data, buffer) else {
@@ -82,6 +88,7 @@ pub(crate) fn read_header<I: Inputs>(
 ) -> Result<FoundHeader, Fault>
     requires opened { (I.state inputs.old).opened Data ≡ true }
     requires room { 0 < length buffer.old }
+    requires small { length buffer.old ≤ 8192 }
     ensures reads { OnlyReads Data (I.state inputs.old) (I.state inputs.new) }
     ensures reason { IfErr result (ReadReason (I.state inputs.old) (I.state inputs.new)) }
     ensures part { IfOk result (λ found. (found.used ≤ found.len)
@@ -93,6 +100,8 @@ pub(crate) fn read_header<I: Inputs>(
     ensures unread { IfErr result (λ fault. is_outside fault ≡ true → (taken : List ℕ)
         × Consumes ((I.state inputs.old).rest Data) ((I.state inputs.new).rest Data) taken
         × IsCut taken) }
+    ensures few { TakesFew IsCut ((I.state inputs.old).rest Data)
+        ((I.state inputs.new).rest Data) }
 {
     let mut reader = HeaderReader::new();
     'pieces: loop {
@@ -121,6 +130,8 @@ pub(crate) fn count_data<I: Inputs>(inputs: &mut I) -> Result<(Header, KindCount
     ensures unread { IfErr result (λ fault. is_outside fault ≡ true
         → TakesOpen file_counts [] ((I.state inputs.old).rest Data)
         ((I.state inputs.new).rest Data)) }
+    ensures few { TakesFew counting.goes_on ((I.state inputs.old).rest Data)
+        ((I.state inputs.new).rest Data) }
 {
     let mut buffer = [0u8; PIECE];
     let found = read_header(inputs, &mut buffer)?;
@@ -134,17 +145,12 @@ pub(crate) fn count_data<I: Inputs>(inputs: &mut I) -> Result<(Header, KindCount
 pub(crate) fn print_data<I: Inputs, O: Sink>(inputs: &mut I, out: &mut O) -> Result<(), Fault>
     requires { (I.state inputs.old).opened Data ≡ true }
     ensures reads { OnlyReads Data (I.state inputs.old) (I.state inputs.new) }
-    ensures answer { AnswersText ((I.state inputs.old).rest Data) ((I.state inputs.new).rest Data)
+    ensures answer { AnswersWork printing ((I.state inputs.old).rest Data) ((I.state inputs.new).rest Data)
         (O.written out.old) (O.written out.new) result }
-    ensures reason { IfErr result (HasReason (λ slot. ⊥)
-        (λ slot. (slot ≡ Data)
-        × Rose ((I.state inputs.old).read_faults slot) ((I.state inputs.new).read_faults slot)
-        × ReadsText ((I.state inputs.old).rest Data) ((I.state inputs.new).rest Data)
-        (O.written out.old) (O.written out.new))
-        (Rose (O.faults out.old) (O.faults out.new)
-        × CutsFile ((I.state inputs.old).rest Data) ((I.state inputs.new).rest Data)
-        (O.written out.old) (O.written out.new))
-        ⊥) }
+    ensures reason { IfErr result (WorkReason printing (I.state inputs.old) (I.state inputs.new)
+        (O.written out.old) (O.written out.new) (O.faults out.old) (O.faults out.new)) }
+    ensures few { TakesFew IsCut ((I.state inputs.old).rest Data)
+        ((I.state inputs.new).rest Data) }
     ensures later { O.faults out.old ≤ O.faults out.new }
 {
     let mut buffer = [0u8; PIECE];
@@ -169,18 +175,13 @@ pub(crate) fn print_data<I: Inputs, O: Sink>(inputs: &mut I, out: &mut O) -> Res
 pub(crate) fn list_data<I: Inputs, O: Sink>(inputs: &mut I, out: &mut O) -> Result<(), Fault>
     requires { (I.state inputs.old).opened Data ≡ true }
     ensures reads { OnlyReads Data (I.state inputs.old) (I.state inputs.new) }
-    ensures answer { AnswersEvents ((I.state inputs.old).rest Data)
+    ensures answer { AnswersWork listing_all ((I.state inputs.old).rest Data)
         ((I.state inputs.new).rest Data) (O.written out.old) (O.written out.new) result }
-    ensures reason { IfErr result (HasReason (λ slot. ⊥)
-        (λ slot. (slot ≡ Data)
-        × Rose ((I.state inputs.old).read_faults slot) ((I.state inputs.new).read_faults slot)
-        × ReadsEvents ((I.state inputs.old).rest Data) ((I.state inputs.new).rest Data)
-        (O.written out.old) (O.written out.new))
-        (Rose (O.faults out.old) (O.faults out.new)
-        × CutsEvents ((I.state inputs.old).rest Data) ((I.state inputs.new).rest Data)
-        (O.written out.old) (O.written out.new))
-        ⊥) }
+    ensures reason { IfErr result (WorkReason listing_all (I.state inputs.old) (I.state inputs.new)
+        (O.written out.old) (O.written out.new) (O.faults out.old) (O.faults out.new)) }
     ensures later { O.faults out.old ≤ O.faults out.new }
+    ensures few { TakesFew listing_all.goes_on ((I.state inputs.old).rest Data)
+        ((I.state inputs.new).rest Data) }
 {
     let mut buffer = [0u8; PIECE];
     let found = read_header(inputs, &mut buffer)?;

@@ -6,6 +6,7 @@ ghost use Rattle.tally_base.specs.declared.slot.Slot.TheVariants.{Data};
 ghost use Rattle.ptu_made.specs.ShortFile.{made_file};
 ghost use Rattle.ptu_made.specs.Made.{made_state};
 ghost use Rattle.ptu_cli.specs.Commands.{Demo, photon_limit};
+ghost use Rattle.ptu_cli.specs.Behaviours.{behaviour};
 ghost use Rattle.ptu_cli.specs.Endings.{Answers, HasCauses};
 
 use crate::run::run_data;
@@ -55,12 +56,12 @@ fn made_data(seed: u64, count: u64) -> Made
 
 /// Counts what the fixed plan asks for in the photons of a seed, and writes the report. Nothing is
 /// written before all are counted.
-#[tactic(auto, unfolding(crate::specs::Outcomes::outcome, crate::specs::Endings::HasCauses))]
+#[tactic(auto, unfolding(crate::specs::Endings::outcome, crate::specs::Endings::HasCauses))]
 pub(crate) fn demo<O: Sink>(alloc: Global, out: &mut O, seed: u64, count: u64) -> Result<(), Fault>
     requires { count ≤ photon_limit }
-    ensures answer { (state : InputState) → Answers (Some (Demo seed count)) state result
+    ensures answer { (state : InputState) → Answers (behaviour (Some (Demo seed count))) state result
         (O.written out.old) (O.written out.new) }
-    ensures causes { (state : InputState) → IfErr result (HasCauses (Some (Demo seed count)) (record {
+    ensures causes { (state : InputState) → IfErr result (HasCauses (behaviour (Some (Demo seed count))) (record {
       before = state;
       after = state;
       old = O.written out.old;

@@ -9,6 +9,9 @@ ghost use Rattle.tally_base.specs.declared.slot.Slot.TheVariants.{Data};
 ghost use Rattle.tally_base.specs.Faults.{HasReason};
 ghost use Rattle.bench_io.specs.Inputs.{OnlyReads};
 ghost use Rattle.tally_base.specs.Counts.{Rose};
+ghost use Rattle.ptu_definitions.specs.Streams.{streamed};
+ghost use Rattle.ptu_cli.specs.Outcomes.{MayChange};
+ghost use Rattle.ptu_cli.specs.Works.{TakesFew};
 ghost use Rattle.ptu_cli.specs.EventRuns.{AnswersLines, ReadsLines, CutsLines};
 
 use arrayvec::ArrayVec;
@@ -153,6 +156,7 @@ pub(crate) fn list_rest<I: Inputs, O: Sink>(
 ) -> Result<(), Fault>
     requires opened { (I.state inputs.old).opened Data ≡ true }
     requires room { 0 < length buffer.old }
+    requires small { length buffer.old ≤ 8192 }
     requires mode { mode ≡ (how_of stream).mode }
     requires going { refused_with stream ≡ None }
     ensures reads { OnlyReads Data (I.state inputs.old) (I.state inputs.new) }
@@ -170,6 +174,10 @@ pub(crate) fn list_rest<I: Inputs, O: Sink>(
         ((I.state inputs.new).rest Data) (O.written out.old) (O.written out.new))
         ⊥) }
     ensures later { O.faults out.old ≤ O.faults out.new }
+    ensures few { (bytes : List ℕ) → HasStreamed stream bytes
+        → TakesFew (λ front. MayChange (streamed (how_of stream) (bytes ++ front)))
+        ((I.state inputs.old).rest Data)
+        ((I.state inputs.new).rest Data) }
 {
     'pieces: loop {
         let Ok(len) = inputs.read(Slot::Data, buffer) else {

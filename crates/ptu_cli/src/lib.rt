@@ -1,6 +1,7 @@
 //! The top call of the program, its commands, and its edge to files and streams.
 #![tactic(auto)]
 
+pub mod as_before;
 mod command;
 mod counts;
 mod data;

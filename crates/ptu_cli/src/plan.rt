@@ -5,6 +5,7 @@ ghost use Rattle.tally_base.specs.declared.slot.Slot.TheVariants.{Plan as PlanSl
 ghost use Rattle.tally_base.specs.declared.fault.Fault.TheVariants.{ReadFault};
 ghost use Rattle.tally_base.specs.Counts.{Rose};
 ghost use Rattle.bench_io.specs.Inputs.{OnlyReads, Keeps, KeepsOther};
+ghost use Rattle.ptu_cli.specs.Endings.{TakesPlan};
 ghost use Rattle.ptu_cli.specs.PlanPieces.{AnswersPlan, PlanReason};
 
 use bench_io::Inputs;
@@ -63,6 +64,7 @@ fn plan_in<I: Inputs>(
     ensures keeps_other { KeepsOther PlanSlot (I.state inputs.old) (I.state inputs.new) }
     ensures answer { AnswersPlan (I.state inputs.old) name.now result }
     ensures reason { IfErr result (PlanReason (I.state inputs.old) (I.state inputs.new) name.now) }
+    ensures takes { TakesPlan (I.state inputs.old) (I.state inputs.new) name.now }
     ensures records { IfOk result (λ plan. (0 < plan.policy.records)
         × (plan.policy.records ≤ 2 ^ 40)) }
 {
@@ -82,6 +84,7 @@ pub(crate) fn plan_of<I: Inputs>(alloc: Global, inputs: &mut I, name: &str) -> R
     ensures keeps_other { KeepsOther PlanSlot (I.state inputs.old) (I.state inputs.new) }
     ensures answer { AnswersPlan (I.state inputs.old) name.now result }
     ensures reason { IfErr result (PlanReason (I.state inputs.old) (I.state inputs.new) name.now) }
+    ensures takes { TakesPlan (I.state inputs.old) (I.state inputs.new) name.now }
     ensures records { IfOk result (λ plan. (0 < plan.policy.records)
         × (plan.policy.records ≤ 2 ^ 40)) }
 {

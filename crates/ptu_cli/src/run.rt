@@ -1,5 +1,5 @@
 // Counts the records of a file by a plan.
-ghost use Rattle.std.specs.Prelude.{◌≡◌, ◌≤◌, ◌<◌, ◌^◌, ◌++◌, [], List, ℕ, length, slice_range, true, None, IfErr, IfOk};
+ghost use Rattle.std.specs.Prelude.{◌≡◌, ◌⊎◌, ◌≤◌, ◌<◌, ◌^◌, ◌++◌, [], List, ℕ, length, slice_range, true, None, IfErr, IfOk};
 ghost use Rattle.std.specs.Io.KnownBytes.{Consumes};
 ghost use Rattle.tally_base.specs.declared.slot.Slot.TheVariants.{Data};
 ghost use Rattle.tally_base.specs.Faults.{is_outside};
@@ -8,6 +8,9 @@ ghost use Rattle.ptu_definitions.specs.Streams.{streamed};
 ghost use Rattle.plan_text.specs.Reading.{plan_view};
 ghost use Rattle.tally_engine.specs.Engine.{HasFed, reading_of, refused_by};
 ghost use Rattle.ptu_cli.specs.Pieces.{ReadReason, TakesOpen};
+ghost use Rattle.ptu_cli.specs.Outcomes.{MayChange};
+ghost use Rattle.ptu_cli.specs.Behaviours.{reporting};
+ghost use Rattle.ptu_cli.specs.Works.{TakesFew};
 ghost use Rattle.ptu_cli.specs.RunPieces.{EndsEngine, AnswersReport, RunReason};
 
 use crate::data::{PIECE, READ_FAULT, read_header};
@@ -28,6 +31,7 @@ fn feed_rest<I: Inputs, L: Ledger>(
 ) -> Result<Results, Fault>
     requires opened { (I.state inputs.old).opened Data ≡ true }
     requires room { 0 < length buffer.old }
+    requires small { length buffer.old ≤ 8192 }
     requires going { refused_by engine ≡ None }
     ensures reads { OnlyReads Data (I.state inputs.old) (I.state inputs.new) }
     ensures reason { IfErr result (ReadReason (I.state inputs.old) (I.state inputs.new)) }
@@ -38,6 +42,10 @@ fn feed_rest<I: Inputs, L: Ledger>(
         → IfErr result (λ fault. is_outside fault ≡ true
         → TakesOpen (streamed (reading_of engine)) bytes ((I.state inputs.old).rest Data)
         ((I.state inputs.new).rest Data)) }
+    ensures few { (bytes : List ℕ) → HasFed engine bytes
+        → TakesFew (λ front. MayChange (streamed (reading_of engine) (bytes ++ front)))
+        ((I.state inputs.old).rest Data)
+        ((I.state inputs.new).rest Data) }
 {
     'pieces: loop {
         let Ok(len) = inputs.read(Slot::Data, buffer) else {
@@ -65,6 +73,7 @@ fn feed_data<I: Inputs, L: Ledger>(
     requires some { 0 < blank.parts }
     requires opened { (I.state inputs.old).opened Data ≡ true }
     requires room { 0 < length buffer.old }
+    requires small { length buffer.old ≤ 8192 }
     requires part { (used ≤ len) × (len ≤ length buffer.old) }
     requires fresh { HasFed engine [] }
     requires going { refused_by engine ≡ None }
@@ -77,6 +86,12 @@ fn feed_data<I: Inputs, L: Ledger>(
     ensures unread { IfErr result (λ fault. is_outside fault ≡ true
         → TakesOpen (streamed (reading_of engine)) (slice_range buffer.old used len)
         ((I.state inputs.old).rest Data) ((I.state inputs.new).rest Data)) }
+    // No piece was read, or few bytes were taken.
+    ensures few { ((I.state inputs.new).rest Data ≡ (I.state inputs.old).rest Data)
+        ⊎ TakesFew (λ front. MayChange (streamed (reading_of engine)
+        (slice_range buffer.old used len ++ front)))
+        ((I.state inputs.old).rest Data)
+        ((I.state inputs.new).rest Data) }
 {
     let mut steps = Steps::<L>::new(blank);
     engine.feed(&buffer[used..len], &mut steps)?;
@@ -97,6 +112,8 @@ pub(crate) fn run_data<I: Inputs>(
     ensures answer { (taken : List ℕ)
         × Consumes ((I.state inputs.old).rest Data) ((I.state inputs.new).rest Data) taken
         × AnswersReport (plan_view plan.now) taken ((I.state inputs.new).rest Data) result }
+    ensures few { TakesFew (reporting (plan_view plan.now)).goes_on ((I.state inputs.old).rest Data)
+        ((I.state inputs.new).rest Data) }
 {
     let mut buffer = [0u8; PIECE];
     let found = read_header(inputs, &mut buffer)?;

@@ -8,9 +8,9 @@ ghost use Rattle.tally_base.specs.declared.slot.Slot.TheVariants.{Plan};
 ghost use Rattle.tally_base.specs.declared.fault.Fault.TheVariants.{OpenFault, ReadFault, WriteFault, OutOfMemory};
 ghost use Rattle.tally_base.specs.Counts.{Rose};
 ghost use Rattle.bench_io.specs.Inputs.{File};
-ghost use Rattle.ptu_cli.specs.Outcomes.{outcome, status};
-ghost use Rattle.ptu_cli.specs.Endings.{IsMeant, Tells, TellsFault, CutsShort, Answers, HasCauses, Reaches, LeavesUnread, RunsOut, LeavesInputs, LeavesPlan, MeansStatus, NoneRose, IsGood};
-ghost use Rattle.ptu_cli.specs.Requests.{request_in};
+ghost use Rattle.ptu_cli.specs.Outcomes.{status};
+ghost use Rattle.ptu_cli.specs.Endings.{outcome, IsMeant, PlanMayBe, TellsData, Tells, TellsFault, CutsShort, Does, Reaches, LeavesUnread, RunsOut, Asks, MeansStatus, NoneRose, IsGood};
+ghost use Rattle.ptu_cli.specs.Requests.{request_in, behaviour_of};
 
 use crate::command::{count, events, header, run};
 use crate::demo::demo;
@@ -21,28 +21,23 @@ use std::alloc::Global;
 use tally_base::{Fault, fault_line};
 
 /// Does what the words ask for.
-#[tactic(auto, unfolding(crate::specs::Outcomes::outcome, crate::specs::Endings::HasCauses))]
+#[tactic(auto, unfolding(crate::specs::Endings::outcome, crate::specs::Endings::HasCauses))]
 fn obey<I: Inputs, O: Sink>(
     alloc: Global,
     words: &[String],
     inputs: &mut I,
     out: &mut O,
 ) -> Result<(), Fault>
-    requires meant { IsMeant (I.state inputs.old) (request_in words.now) }
+    requires meant { IsMeant (I.state inputs.old) (behaviour_of words.now) }
     requires first { (slot : Slot) → (I.state inputs.old).asked slot ≡ false }
-    ensures answer { Answers (request_in words.now) (I.state inputs.old) result
-        (O.written out.old) (O.written out.new) }
-    ensures causes { IfErr result (HasCauses (request_in words.now) (record {
+    ensures does { Does (behaviour_of words.now) (record {
       before = I.state inputs.old;
       after = I.state inputs.new;
       old = O.written out.old;
       new = O.written out.new;
       faults_before = O.faults out.old;
       faults_after = O.faults out.new;
-    })) }
-    ensures plan { LeavesPlan (request_in words.now) (I.state inputs.new) }
-    ensures inputs { LeavesInputs (request_in words.now) (I.state inputs.old)
-        (I.state inputs.new) }
+    }) result }
     ensures usage { request_in words.now ≡ None → result ≡ Err Fault.Usage }
 {
     let Some(command) = read_words(words) else {
@@ -83,18 +78,20 @@ pub fn ptu_main<I: Inputs, O: Sink, E: Sink>(
     out: &mut O,
     err: &mut E,
 ) -> u8
-    requires meant { IsMeant (I.state inputs.old) (request_in words.now) }
+    requires meant { IsMeant (I.state inputs.old) (behaviour_of words.now) }
     requires first { (slot : Slot) → (I.state inputs.old).asked slot ≡ false }
 
     // Where nothing outside failed, the run ends as the words and the files call for.
-    ensures answered { (plan_file data_file : File)
-        → Tells (I.state inputs.old) (request_in words.now) plan_file data_file
-        → (2 ≤ result → 5 < result)
-        → let end = outcome (request_in words.now) plan_file data_file in
+    // The file of PLAN is the one told, where one is told; that of FILE counts only where a plan leads to it.
+    ensures answered { (2 ≤ result → 5 < result)
+        → (plan_file : File) × PlanMayBe (I.state inputs.old) (behaviour_of words.now) plan_file
+        × ((data_file : File)
+        → TellsData (I.state inputs.old) (behaviour_of words.now) plan_file data_file
+        → let end = outcome (behaviour_of words.now) plan_file data_file in
         (result ≡ status end.fault)
         × Appends (O.written out.old) (O.written out.new) end.text
         × TellsFault (E.written err.old) (E.written err.new)
-        (E.faults err.old) (E.faults err.new) end.fault }
+        (E.faults err.old) (E.faults err.new) end.fault) }
 
     // Whatever the inputs tell, the status is 0 or that of one fault, and its line is told.
     ensures told { (fault : Option Fault)
@@ -105,14 +102,14 @@ pub fn ptu_main<I: Inputs, O: Sink, E: Sink>(
     // The command line is bad exactly where the words are no command.
     ensures usage { request_in words.now ≡ None → result ≡ 1 }
     ensures words { (plan_file data_file : File)
-        → Tells (I.state inputs.old) (request_in words.now) plan_file data_file
+        → Tells (I.state inputs.old) (behaviour_of words.now) plan_file data_file
         → result ≡ 1
         → request_in words.now ≡ None }
 
     // An opening failed.
     ensures unopened { result ≡ 2
         → (slot : Slot)
-        × Reaches (request_in words.now) (I.state inputs.old) slot
+        × Reaches (behaviour_of words.now) (I.state inputs.old) slot
         × Rose ((I.state inputs.old).open_faults slot) ((I.state inputs.new).open_faults slot)
         × Keeps (O.written out.old) (O.written out.new)
         × TellsFault (E.written err.old) (E.written err.new)
@@ -121,9 +118,9 @@ pub fn ptu_main<I: Inputs, O: Sink, E: Sink>(
     // A read failed.
     ensures unread { result ≡ 3
         → (slot : Slot)
-        × Reaches (request_in words.now) (I.state inputs.old) slot
+        × Reaches (behaviour_of words.now) (I.state inputs.old) slot
         × Rose ((I.state inputs.old).read_faults slot) ((I.state inputs.new).read_faults slot)
-        × LeavesUnread (request_in words.now) slot (I.state inputs.old) (I.state inputs.new)
+        × LeavesUnread (behaviour_of words.now) slot (I.state inputs.old) (I.state inputs.new)
         (O.written out.old) (O.written out.new)
         × TellsFault (E.written err.old) (E.written err.new)
         (E.faults err.old) (E.faults err.new) (Some (ReadFault slot)) }
@@ -132,38 +129,38 @@ pub fn ptu_main<I: Inputs, O: Sink, E: Sink>(
     ensures unwritten { result ≡ 4
         → Rose (O.faults out.old) (O.faults out.new)
         × ((plan_file data_file : File)
-        → Tells (I.state inputs.old) (request_in words.now) plan_file data_file
-        → CutsShort (request_in words.now) (outcome (request_in words.now) plan_file data_file)
+        → Tells (I.state inputs.old) (behaviour_of words.now) plan_file data_file
+        → CutsShort (behaviour_of words.now) (outcome (behaviour_of words.now) plan_file data_file)
         (O.written out.old) (O.written out.new))
         × TellsFault (E.written err.old) (E.written err.new)
         (E.faults err.old) (E.faults err.new) (Some WriteFault) }
 
     // Memory was refused.
     ensures memory { result ≡ 5
-        → RunsOut (request_in words.now) (I.state inputs.old) (I.state inputs.new)
+        → RunsOut (behaviour_of words.now) (I.state inputs.old) (I.state inputs.new)
         (O.written out.old) (O.written out.new)
         × TellsFault (E.written err.old) (E.written err.new)
         (E.faults err.old) (E.faults err.new) (Some OutOfMemory) }
 
     ensures quiet { result ≡ 0 → Keeps (E.written err.old) (E.written err.new) }
-    ensures plan { LeavesPlan (request_in words.now) (I.state inputs.new) }
-    ensures inputs { LeavesInputs (request_in words.now) (I.state inputs.old)
-        (I.state inputs.new) }
+
+    // What the run asked for and took, whatever its status is.
+    ensures asks { Asks (behaviour_of words.now) (I.state inputs.old) (I.state inputs.new) }
 
     // Where no count of the inputs and of `out` rose, the run ends as the words and the files call
     // for, and well where they are good.
     ensures complete { (plan_file data_file : File)
-        → Tells (I.state inputs.old) (request_in words.now) plan_file data_file
+        → Tells (I.state inputs.old) (behaviour_of words.now) plan_file data_file
         → NoneRose (I.state inputs.old) (I.state inputs.new)
         → ¬ (Rose (O.faults out.old) (O.faults out.new))
-        → MeansStatus (request_in words.now) result
-        (status (outcome (request_in words.now) plan_file data_file).fault) }
+        → MeansStatus (behaviour_of words.now) result
+        (status (outcome (behaviour_of words.now) plan_file data_file).fault) }
     ensures good { (plan_file data_file : File)
-        → Tells (I.state inputs.old) (request_in words.now) plan_file data_file
-        → IsGood (request_in words.now) plan_file data_file
+        → Tells (I.state inputs.old) (behaviour_of words.now) plan_file data_file
+        → IsGood (behaviour_of words.now) plan_file data_file
         → NoneRose (I.state inputs.old) (I.state inputs.new)
         → ¬ (Rose (O.faults out.old) (O.faults out.new))
-        → MeansStatus (request_in words.now) result 0 }
+        → MeansStatus (behaviour_of words.now) result 0 }
 {
     match obey(alloc, words, inputs, out) {
         Ok(()) => 0,

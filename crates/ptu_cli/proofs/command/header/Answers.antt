@@ -1,18 +1,30 @@
-use Rattle.std.proofs.Common.{refl}
+use Rattle.std.proofs.Common.{refl, sym, ap, ◌∙◌}
+use Rattle.tally_base.specs.declared.slot.Slot.TheVariants.{Plan, Data}
 use Rattle.std.proofs.lemmas.Result.{IfErr-weaker}
-use Rattle.tally_base.proofs.Reasons.{HasReason-follows}
-use Rattle.bench_io.proofs.Rises.{Rose-behind}
-use Rattle.ptu_cli.specs.Outcomes.{outcome}
-use Rattle.ptu_cli.specs.Endings.{HasCauses}
-use Rattle.ptu_cli.proofs.HeaderEnds.{taken-told, cut-told}
+use Rattle.ptu_cli.specs.Behaviours.{AsItReads, printing}
+use Rattle.ptu_cli.proofs.WorkTold.{file-answers, file-causes, few-told}
 use Rattle.ptu_cli.proofs.command.header.Goals as goal
 
+pub returns-clause-answer : goal.returns-clause-answer
+returns-clause-answer g c = file-answers c.args.file.now AsItReads printing (g.I.Inputs.state c.args.inputs.now) _ _ _ _ _ c.in-Ok.ensures.file c.print_data.ensures.answer
+
 pub returns-clause-causes : goal.returns-clause-causes
-unfolding HasCauses outcome
 returns-clause-causes g c =
     let opened = c.in-Ok.ensures in
     IfErr-weaker c.print_data.result _ _
-    (λ fault h. HasReason-follows _ _ _ _ _ _ _ _ fault (λ slot none. absurd none)
-    (λ slot r. (rw r.0 tt, Rose-behind _ _ _ (opened.keeps.read_faults slot) r.1, (r.2.taken, λ bytes known. taken-told _ _ _ _ bytes opened.file r.2.consumes known, r.2.written, rw r.2.cut refl)))
-    (λ w. (w.0, λ plan_file data_file tells. cut-told c.args.file.now _ _ _ _ _ plan_file data_file opened.file tells w.1)) (λ none. none) h)
+    (λ fault h. file-causes c.args.file.now printing (g.I.Inputs.state c.args.inputs.now) (g.I.Inputs.state c.open.new.self) _ _ _ _ _ fault opened.file opened.keeps.read_faults h)
     c.print_data.ensures.reason
+
+pub returns-in-Err-clause-asks : goal.returns-in-Err-clause-asks
+returns-in-Err-clause-asks g c = (c.open.ensures.keeps_other.asked ∙ c.requires.first Plan, λ opened.
+    let asked = g.met.I.Inputs.asked_first c.args.inputs.now Data (sym c.in-Err.ensures.unopened ∙ opened) in
+    let first = c.requires.first Data in
+    cc)
+
+pub returns-clause-asks : goal.returns-clause-asks
+returns-clause-asks g c =
+    let before = g.I.Inputs.state c.args.inputs.now in
+    (
+      ap (λ f. f Plan) c.print_data.ensures.reads.opens_none.asked ∙ c.open.ensures.keeps_other.asked ∙ c.requires.first Plan,
+      λ opened. few-told printing (before.contents c.args.file.now) before (g.I.Inputs.state c.open.new.self) _ c.args.file.now refl c.in-Ok.ensures.file c.print_data.ensures.few,
+    )

@@ -1,10 +1,13 @@
-use Rattle.std.proofs.Common.{[]}
+use Rattle.std.proofs.Common.{[], refl}
 use Rattle.std.proofs.lemmas.Result.{IfErr-weaker, err_from_is_err_and}
 use Rattle.tally_base.proofs.Reasons.{HasReason-follows, HasReason-with}
 use Rattle.bench_io.proofs.Rises.{Rose-behind}
 use Rattle.ptu_cli.proofs.EventEnds.{reason-piece}
 use Rattle.ptu_cli.proofs.EventReasons.{reads-header, reads-behind, cuts-first, cuts-behind}
 use Rattle.ptu_cli.proofs.EventComposed.{answers-header, answers-first, answers-behind}
+use Rattle.ptu_cli.specs.Outcomes.{IsCut}
+use Rattle.ptu_cli.specs.Behaviours.{listing_all}
+use Rattle.ptu_cli.proofs.Few.{few-map, few-behind}
 use Rattle.ptu_cli.proofs.data.list_data.Goals as goal
 
 pub returns-in_err-found-clause-answer : goal.returns-in_err-found-clause-answer
@@ -60,3 +63,16 @@ returns-clause-reason g c =
     (λ no. no)
     h)
     rest
+
+pub returns-in_err-found-clause-few : goal.returns-in_err-found-clause-few
+returns-in_err-found-clause-few g c = few-map IsCut listing_all.goes_on _ _ (λ l cut. rw cut refl) c.read_header.ensures.few
+
+pub returns-in_err-list_piece-clause-few : goal.returns-in_err-list_piece-clause-few
+returns-in_err-list_piece-clause-few g c = few-map IsCut listing_all.goes_on _ _ (λ l cut. rw cut refl) c.read_header.ensures.few
+
+pub returns-clause-few : goal.returns-clause-few
+returns-clause-few g c =
+    let front = c.in_ok-found.ensures.answer in
+    let how = c.new-stream.ensures.how in
+    let rest = rw (c.list_piece.ensures.same_how, how) at (c.list_rest.ensures.few _ (c.list_piece.ensures.taken [] c.new-stream.ensures.empty)) in
+    few-behind _ listing_all.goes_on front.0 _ _ _ front.1 (λ l h. rw (front.2 l) h) rest

@@ -1,11 +1,13 @@
-use Rattle.std.proofs.Common.{◌++◌, [], take, sym, arith, inr}
-use Rattle.bench_io.proofs.Bytes.{Appends-nil, Appends-same, Consumes-nil, Consumes-trans}
+use Rattle.std.proofs.Common.{◌≡◌, length, rules, ◌++◌, [], take, sym, arith, inr}
+use Rattle.bench_io.proofs.Bytes.{Appends-nil, Appends-same, Consumes-nil, Consumes-kept, Consumes-trans}
 use Rattle.bench_io.proofs.Rises.{Rose-behind}
 use Rattle.bench_io.proofs.States.{OnlyReads-refl, OnlyReads-trans}
 use Rattle.table_out.specs.HeaderText.{header_text}
 use Rattle.table_out.proofs.StepTexts.{header_text-nil}
 use Rattle.ptu_cli.proofs.Pieces.{IsCut-nil}
 use Rattle.ptu_cli.proofs.HeaderEnds.{text-appended, text-cut, outcome-done, outcome-refused}
+use Rattle.ptu_cli.specs.Outcomes.{IsCut}
+use Rattle.ptu_cli.proofs.Few.{few-none, few-piece}
 use Rattle.ptu_cli.proofs.data.print_data.Goals as goal
 
 pub pieces-init : goal.pieces-init
@@ -70,3 +72,28 @@ returns-in-Ok-Refused-clause-answer g c =
       written = text-appended so_far.0 piece _ _ _ so_far.3 (c.in-Ok-Refused.ensures.text so_far.0 so_far.2);
       says = λ more left. outcome-refused (so_far.0 ++ piece) more c.in-Ok-Refused.fault (rw c.in-Ok-Refused.field-0-is at (c.in-Ok-Refused.ensures.leaves so_far.0 so_far.2));
     })
+
+pub returns-in_default-clause-few : goal.returns-in_default-clause-few
+returns-in_default-clause-few g c =
+    let so_far = c.pieces.invariant.taken in
+    few-none IsCut so_far.0 _ _ (Consumes-kept _ _ _ so_far.0 so_far.1 c.in_default.ensures.bytes) so_far.4
+
+pub returns-then-len-eq0-clause-few : goal.returns-then-len-eq0-clause-few
+returns-then-len-eq0-clause-few g c =
+    let so_far = c.pieces.invariant.taken in
+    few-piece IsCut so_far.0 c.in-Ok.len c.read.new.into _ _ (Consumes-trans _ _ _ so_far.0 (take c.in-Ok.len c.read.new.into) so_far.1 c.in-Ok.ensures.bytes.0) so_far.4 (let size : length c.read.new.into ≡ 8192 = Prim.search rules in omega (arith, size))
+
+pub returns-in-Err-clause-few : goal.returns-in-Err-clause-few
+returns-in-Err-clause-few g c =
+    let so_far = c.pieces.invariant.taken in
+    few-piece IsCut so_far.0 c.in-Ok.len c.read.new.into _ _ (Consumes-trans _ _ _ so_far.0 (take c.in-Ok.len c.read.new.into) so_far.1 c.in-Ok.ensures.bytes.0) so_far.4 (let size : length c.read.new.into ≡ 8192 = Prim.search rules in omega (arith, size))
+
+pub returns-in-Ok-Done-clause-few : goal.returns-in-Ok-Done-clause-few
+returns-in-Ok-Done-clause-few g c =
+    let so_far = c.pieces.invariant.taken in
+    few-piece IsCut so_far.0 c.in-Ok.len c.read.new.into _ _ (Consumes-trans _ _ _ so_far.0 (take c.in-Ok.len c.read.new.into) so_far.1 c.in-Ok.ensures.bytes.0) so_far.4 (let size : length c.read.new.into ≡ 8192 = Prim.search rules in omega (arith, size))
+
+pub returns-in-Ok-Refused-clause-few : goal.returns-in-Ok-Refused-clause-few
+returns-in-Ok-Refused-clause-few g c =
+    let so_far = c.pieces.invariant.taken in
+    few-piece IsCut so_far.0 c.in-Ok.len c.read.new.into _ _ (Consumes-trans _ _ _ so_far.0 (take c.in-Ok.len c.read.new.into) so_far.1 c.in-Ok.ensures.bytes.0) so_far.4 (let size : length c.read.new.into ≡ 8192 = Prim.search rules in omega (arith, size))

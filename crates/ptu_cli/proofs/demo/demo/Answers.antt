@@ -5,10 +5,11 @@ use Rattle.plan_text.specs.Reading.{plan_view}
 use Rattle.ptu_cli.specs.Demo.{demo_plan}
 use Rattle.ptu_cli.specs.Endings.{HasCauses}
 use Rattle.ptu_cli.proofs.Demos.{demo-view, plan-wanted, demo-outside, demo-causes, ends-demo, untold-causes}
+use Rattle.ptu_cli.proofs.Answers.{alone-answers}
 use Rattle.ptu_cli.proofs.demo.demo.Goals as goal
 
 pub returns-in_err-plan-clause-answer : goal.returns-in_err-plan-clause-answer
-returns-in_err-plan-clause-answer g c = λ state plan_file data_file tells.
+returns-in_err-plan-clause-answer g c = λ state.
     let p = err_from_is_err_and c.from_residual.result c.from_residual.ensures.1 in
     let wanted = plan-wanted c.in_err-plan.field-0.0 c.in_err-plan.ensures.answer in
     rw (p.1, p.2, wanted) (inl refl)
@@ -21,7 +22,7 @@ returns-in_err-plan-clause-causes g c = λ state.
     rw (p.1, p.2, wanted) (Keeps-from_none _ _ (Appends-nil _))
 
 pub returns-in_err-results-clause-answer : goal.returns-in_err-results-clause-answer
-returns-in_err-results-clause-answer g c = λ state plan_file data_file tells.
+returns-in_err-results-clause-answer g c = λ state.
     let p = err_from_is_err_and c.from_residual-in_err-results.result c.from_residual-in_err-results.ensures.1 in
     let front = c.in_err-results.ensures.answer in
     let view : plan_view c.in_ok-plan.plan ≡ demo_plan = demo-view c.in_ok-plan.plan c.in_ok-plan.ensures.answer in
@@ -33,10 +34,10 @@ returns-in_err-results-clause-causes g c = λ state.
     rw (p.1, p.2) (demo-causes c.args.seed c.args.count (plan_view c.in_ok-plan.plan) c.made_data-made.result c.run_data.new.inputs state _ _ c.in_err-results.field-0.0 c.in_err-results.ensures.reason)
 
 pub returns-clause-answer : goal.returns-clause-answer
-returns-clause-answer g c = λ state plan_file data_file tells.
+returns-clause-answer g c = λ state.
     let front = c.in_ok-results.ensures.answer in
     let view : plan_view c.in_ok-plan.plan ≡ demo_plan = demo-view c.in_ok-plan.plan c.in_ok-plan.ensures.answer in
-    ends-demo c.args.seed c.args.count (plan_view c.in_ok-plan.plan) _ _ front.0 c.in_ok-results.results plan_file data_file c.write_report.result _ _ c.requires view c.made_data-made.ensures.rest front.1 front.2 c.write_report.ensures.fault c.write_report.ensures.text
+    alone-answers _ state _ _ _ (ends-demo c.args.seed c.args.count (plan_view c.in_ok-plan.plan) _ _ front.0 c.in_ok-results.results c.write_report.result _ _ c.requires view c.made_data-made.ensures.rest front.1 front.2 c.write_report.ensures.fault c.write_report.ensures.text)
 
 pub returns-clause-causes : goal.returns-clause-causes
 returns-clause-causes g c = λ state.

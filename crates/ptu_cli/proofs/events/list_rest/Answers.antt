@@ -7,6 +7,8 @@ use Rattle.ptu_definitions.specs.Words.{words_of}
 use Rattle.tally_base.specs.declared.slot.Slot.TheVariants.{Data}
 use Rattle.tally_base.specs.Faults.{fault_in}
 use Rattle.ptu_cli.proofs.EventEnds.{Wrote-none, Wrote-trans, answers-piece, cuts-piece, streamed-clear, answers-end, reason-piece, not_written}
+use Rattle.ptu_cli.proofs.EventReasons.{streamed-open}
+use Rattle.ptu_cli.proofs.Few.{few-none, few-piece}
 use Rattle.ptu_cli.proofs.events.list_rest.Goals as goal
 
 pub pieces-init : goal.pieces-init
@@ -97,3 +99,35 @@ returns-then-len-eq0-clause-answer g c = λ bytes h.
     let end = c.in-Ok.ensures.bytes.1 c.if-len-eq0.true (omega (arith, c.requires.room, c.pieces.auto.buffer, c.read.auto.into)) in
     let is = rw inv.how at (c.finish.ensures.answer (not_written _ inv.going) (bytes ++ so_far.0) at.0) in
     answers-end _ bytes so_far.0 _ _ _ _ _ (Ok (tt {0})) consumes end at.1 is (ap fault_in c.in_ok-finish.was)
+
+pub returns-in_default-clause-few : goal.returns-in_default-clause-few
+returns-in_default-clause-few g c = λ bytes h.
+    let inv = c.pieces.invariant in
+    let so_far = inv.taken in
+    let at = so_far.2 bytes h in
+    let goes = streamed-open _ (bytes ++ so_far.0) (rw inv.how at (streamed-clear _ _ _ _ _ _ _ at.0 inv.going)) in
+    few-none _ so_far.0 _ _ (Consumes-kept _ _ _ so_far.0 so_far.1 c.in_default.ensures.bytes) goes
+
+pub returns-then-len-eq0-clause-few : goal.returns-then-len-eq0-clause-few
+returns-then-len-eq0-clause-few g c = λ bytes h.
+    let inv = c.pieces.invariant in
+    let so_far = inv.taken in
+    let at = so_far.2 bytes h in
+    let goes = streamed-open _ (bytes ++ so_far.0) (rw inv.how at (streamed-clear _ _ _ _ _ _ _ at.0 inv.going)) in
+    few-piece _ so_far.0 c.in-Ok.len c.read.new.into _ _ (Consumes-trans _ _ _ so_far.0 (take c.in-Ok.len c.read.new.into) so_far.1 c.in-Ok.ensures.bytes.0) goes (omega (arith, c.requires.small, c.pieces.auto.buffer, c.read.auto.into))
+
+pub returns-in_err-finish-clause-few : goal.returns-in_err-finish-clause-few
+returns-in_err-finish-clause-few g c = λ bytes h.
+    let inv = c.pieces.invariant in
+    let so_far = inv.taken in
+    let at = so_far.2 bytes h in
+    let goes = streamed-open _ (bytes ++ so_far.0) (rw inv.how at (streamed-clear _ _ _ _ _ _ _ at.0 inv.going)) in
+    few-piece _ so_far.0 c.in-Ok.len c.read.new.into _ _ (Consumes-trans _ _ _ so_far.0 (take c.in-Ok.len c.read.new.into) so_far.1 c.in-Ok.ensures.bytes.0) goes (omega (arith, c.requires.small, c.pieces.auto.buffer, c.read.auto.into))
+
+pub returns-in_err-list_piece-clause-few : goal.returns-in_err-list_piece-clause-few
+returns-in_err-list_piece-clause-few g c = λ bytes h.
+    let inv = c.pieces.invariant in
+    let so_far = inv.taken in
+    let at = so_far.2 bytes h in
+    let goes = streamed-open _ (bytes ++ so_far.0) (rw inv.how at (streamed-clear _ _ _ _ _ _ _ at.0 inv.going)) in
+    few-piece _ so_far.0 c.in-Ok.len c.read.new.into _ _ (Consumes-trans _ _ _ so_far.0 (take c.in-Ok.len c.read.new.into) so_far.1 c.in-Ok.ensures.bytes.0) goes (omega (arith, c.requires.small, c.pieces.auto.buffer, c.read.auto.into))

@@ -1,7 +1,10 @@
-use Rattle.std.proofs.Common.{rules, take}
+use Rattle.std.proofs.Common.{◌≡◌, rules, take, length, arith, sym, ◌∙◌}
 use Rattle.std.proofs.lemmas.Result.{IfErr-weaker}
+use Rattle.std.proofs.lemmas.List.{length-take-le}
+use Rattle.tally_base.specs.declared.slot.Slot.TheVariants.{Plan as PlanSlot}
 use Rattle.bench_io.proofs.States.{Keeps-trans}
 use Rattle.ptu_cli.proofs.Plans.{plan_told, plan_reason, ended_short}
+use Rattle.ptu_cli.proofs.WorkTold.{taken-told}
 use Rattle.ptu_cli.proofs.plan.plan_in.Goals as goal
 
 pub returns-in_err-len-clause-keeps : goal.returns-in_err-len-clause-keeps
@@ -11,10 +14,30 @@ pub returns-clause-keeps : goal.returns-clause-keeps
 returns-clause-keeps g c = Keeps-trans _ _ _ c.in-Ok.ensures.keeps c.read_text.ensures.reads.keeps
 
 pub returns-clause-answer : goal.returns-clause-answer
-returns-clause-answer g c = λ plan_file known.
-    plan_told _ _ _ (take c.in_ok-len.len c.read_text.new.text) plan_file c.read_plan.result c.in-Ok.ensures.file c.in_ok-len.ensures.taken
+returns-clause-answer g c =
+    plan_told _ _ _ (take c.in_ok-len.len c.read_text.new.text) c.read_plan.result c.in-Ok.ensures.file c.in_ok-len.ensures.taken
     (ended_short 65537 c.in_ok-len.len c.read_text.new.text _ (Prim.search rules) c.in_ok-len.ensures.room c.in_ok-len.ensures.ended)
-    c.read_plan.ensures.answer known
+    c.read_plan.ensures.answer
 
 pub returns-clause-reason : goal.returns-clause-reason
 returns-clause-reason g c = IfErr-weaker c.read_plan.result _ _ (λ fault h. plan_reason _ _ _ fault h) c.read_plan.ensures.inside
+
+pub returns-in-Err-clause-takes : goal.returns-in-Err-clause-takes
+returns-in-Err-clause-takes g c = λ opened.
+    let asked = g.met.I.Inputs.asked_first c.args.inputs.now PlanSlot (sym c.in-Err.ensures.unopened ∙ opened) in
+    let first = c.requires.first in
+    cc
+
+pub returns-in_err-len-clause-takes : goal.returns-in_err-len-clause-takes
+returns-in_err-len-clause-takes g c = λ opened.
+    let h = c.in_err-len.ensures.unread in
+    let size = c.requires.size in
+    (h.0, λ bytes known. taken-told _ _ _ _ bytes c.in-Ok.ensures.file h.1 known, omega (arith, h.2, size))
+
+pub returns-clause-takes : goal.returns-clause-takes
+returns-clause-takes g c = λ opened.
+    let text = c.read_text.new.text in
+    let size : length text ≡ 65537 = Prim.search rules in
+    let room = c.in_ok-len.ensures.room in
+    let short : length (take c.in_ok-len.len text) ≡ c.in_ok-len.len = length-take-le c.in_ok-len.len text room in
+    (take c.in_ok-len.len text, λ bytes known. taken-told _ _ _ _ bytes c.in-Ok.ensures.file c.in_ok-len.ensures.taken known, omega (arith, size, room, short))

@@ -1,4 +1,4 @@
-use Rattle.std.proofs.Common.{[], slice_range, append-nil}
+use Rattle.std.proofs.Common.{refl, inl, inr, [], slice_range, append-nil}
 use Rattle.std.proofs.lemmas.Result.{err_from_is_err_and}
 use Rattle.bench_io.proofs.Bytes.{Consumes-nil}
 use Rattle.ptu_cli.proofs.Runs.{SameEngine-refl, ends-refused}
@@ -12,3 +12,9 @@ returns-in_err-feed-clause-answer g c =
       Consumes-nil _,
       rw (p.1, p.2, append-nil behind) (ends-refused c.args.engine c.args.engine behind _ c.in_err-feed.field-0.0 (SameEngine-refl c.args.engine) (c.in_err-feed.ensures.shown [] c.requires.fresh)),
     )
+
+pub returns-in_err-feed-clause-few : goal.returns-in_err-feed-clause-few
+returns-in_err-feed-clause-few g c = inl refl
+
+pub returns-clause-few : goal.returns-clause-few
+returns-clause-few g c = inr (rw c.feed.ensures.same.same_reading at (c.feed_rest.ensures.few (slice_range c.args.buffer.now c.args.used c.args.len) (c.feed.ensures.taken [] c.requires.fresh)))

@@ -6,7 +6,8 @@ use Rattle.tally_engine.specs.Engine.{HasFed, Finishes, reading_of}
 use Rattle.ptu_definitions.specs.Shown.{Shows}
 use Rattle.ptu_definitions.specs.Streams.{streamed}
 use Rattle.ptu_cli.proofs.EventEnds.{streamed-clear}
-use Rattle.ptu_cli.proofs.Runs.{SameEngine-refl, SameEngine-trans, ends-finished, ends-refused, takes-on}
+use Rattle.ptu_cli.proofs.Runs.{SameEngine-refl, SameEngine-trans, ends-finished, ends-refused, takes-on, fed-open}
+use Rattle.ptu_cli.proofs.Few.{few-none, few-piece}
 use Rattle.ptu_cli.proofs.run.feed_rest.Goals as goal
 
 pub pieces-init : goal.pieces-init
@@ -66,3 +67,24 @@ returns-in_err-feed-clause-answer g c = λ bytes h.
       Consumes-trans _ _ _ so_far.0 piece so_far.1 c.in-Ok.ensures.bytes.0,
       rw (p.1, p.2) (ends-refused c.args.engine c.pieces.engine (bytes ++ (so_far.0 ++ piece)) _ c.in_err-feed.field-0.0 inv.same shown),
     )
+
+pub returns-in_default-clause-few : goal.returns-in_default-clause-few
+returns-in_default-clause-few g c = λ bytes h.
+    let inv = c.pieces.invariant in
+    let so_far = inv.taken in
+    let goes = fed-open c.args.engine c.pieces.engine (bytes ++ so_far.0) inv.same (streamed-clear _ _ _ _ _ _ (bytes ++ so_far.0) (so_far.2 bytes h).0 inv.going) in
+    few-none _ so_far.0 _ _ (Consumes-kept _ _ _ so_far.0 so_far.1 c.in_default.ensures.bytes) goes
+
+pub returns-then-len-eq0-clause-few : goal.returns-then-len-eq0-clause-few
+returns-then-len-eq0-clause-few g c = λ bytes h.
+    let inv = c.pieces.invariant in
+    let so_far = inv.taken in
+    let goes = fed-open c.args.engine c.pieces.engine (bytes ++ so_far.0) inv.same (streamed-clear _ _ _ _ _ _ (bytes ++ so_far.0) (so_far.2 bytes h).0 inv.going) in
+    few-piece _ so_far.0 c.in-Ok.len c.read.new.into _ _ (Consumes-trans _ _ _ so_far.0 (take c.in-Ok.len c.read.new.into) so_far.1 c.in-Ok.ensures.bytes.0) goes (omega (arith, c.requires.small, c.pieces.auto.buffer, c.read.auto.into))
+
+pub returns-in_err-feed-clause-few : goal.returns-in_err-feed-clause-few
+returns-in_err-feed-clause-few g c = λ bytes h.
+    let inv = c.pieces.invariant in
+    let so_far = inv.taken in
+    let goes = fed-open c.args.engine c.pieces.engine (bytes ++ so_far.0) inv.same (streamed-clear _ _ _ _ _ _ (bytes ++ so_far.0) (so_far.2 bytes h).0 inv.going) in
+    few-piece _ so_far.0 c.in-Ok.len c.read.new.into _ _ (Consumes-trans _ _ _ so_far.0 (take c.in-Ok.len c.read.new.into) so_far.1 c.in-Ok.ensures.bytes.0) goes (omega (arith, c.requires.small, c.pieces.auto.buffer, c.read.auto.into))

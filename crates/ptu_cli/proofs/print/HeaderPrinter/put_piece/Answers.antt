@@ -4,7 +4,7 @@ use Rattle.std.proofs.lemmas.Result.{err_from_is_err_and}
 use Rattle.ptu_definitions.specs.TagFields.{code_in}
 use Rattle.ptu_definitions.specs.Headers.{header_answer}
 use Rattle.table_out.specs.HeaderText.{kind_with}
-use Rattle.ptu_cli.specs.HeaderPieces.{IsCut}
+use Rattle.ptu_cli.specs.Outcomes.{IsCut}
 use Rattle.ptu_cli.specs.Printing.{Prints}
 use Rattle.ptu_cli.specs.BodyPieces.{end_line}
 use Rattle.ptu_cli.proofs.Pieces.{whole-piece}

@@ -1,0 +1,71 @@
+-- What is shown of each command's work: good files end it well, and no end of it is that of a bad command line.
+use Rattle.std.proofs.Common.{◌≡◌, ℕ, List, length, true, false, None, Some, Ok, Err, refl, ap, arith}
+use Rattle.std.specs.Prelude.{◌≢◌, nat_lt}
+use Rattle.std.specs.declared.option.Option.{Option}
+use Rattle.std.proofs.lemmas.Bool.Decides.{nat_tests}
+use Rattle.tally_base.specs.declared.header.RecordType.{RecordType}
+use Rattle.tally_base.specs.Faults.{fault_in}
+use Rattle.ptu_definitions.specs.Headers.{header_answer}
+use Rattle.ptu_definitions.specs.Words.{words_of}
+use Rattle.ptu_definitions.specs.Kinds.{counts_of}
+use Rattle.ptu_definitions.specs.Counted.{counted, records_of, record_limit}
+use Rattle.ptu_definitions.specs.Streams.{Reading, summary, streamed}
+use Rattle.plan_text.specs.Plan.{PlanView}
+use Rattle.tally_engine.specs.Plans.{reading_by}
+use Rattle.ptu_cli.specs.Commands.{Request, Count, Header, Events, Run, Demo}
+use Rattle.ptu_cli.specs.Outcomes.{status, file_counts, listing}
+use Rattle.ptu_cli.specs.Behaviours.{Work, Behaviour, NoCommand, Alone, OnFile, ByPlan, AreWhole, AreRead, counting, printing, listing_all, reporting, behaviour}
+use Rattle.ptu_cli.proofs.ByteFaults.{header_answer-bytes, counts_behind-bytes, count_outcome-bytes, fault_in-bytes, events_behind-bytes}
+use Rattle.ptu_cli.proofs.RunFaults.{report-bytes}
+
+pub record WorkIsSound (work : Work) : Type 0 where
+  pub well : (bytes : List ℕ) → work.good bytes → (work.outcome bytes).fault ≡ None
+  pub no_usage : (bytes : List ℕ) → status (work.outcome bytes).fault ≢ 1
+
+abbrev pub IsSound : Behaviour → Type 0
+IsSound NoCommand = Unit {0}
+IsSound (Alone end) = status end.fault ≢ 1
+IsSound (OnFile file writing work) = WorkIsSound work
+IsSound (ByPlan plan file writing memory lacks work) = (view : PlanView) → WorkIsSound (work view) × (status (lacks view) ≢ 1)
+
+counted-whole : (record_type : RecordType) (behind : List ℕ) → AreWhole behind → counted record_type behind ≡ Ok (counts_of (records_of record_type behind))
+unfolding counted
+counted-whole record_type behind h =
+    let few : nat_lt record_limit (length (words_of behind)) ≡ false = grind (arith, nat_tests, h.few) in
+    rw (few, h.whole) refl
+
+streamed-read : (how : Reading) (behind : List ℕ) → AreRead how behind → streamed how behind ≡ Ok (summary how (words_of behind))
+unfolding streamed
+streamed-read how behind h = rw (h.unrefused, h.whole) refl
+
+counting-sound : WorkIsSound counting
+counting-sound = record {
+  well = λ bytes h. rw (h.2, counted-whole h.0.record_type h.1 h.3) refl;
+  no_usage = λ bytes. count_outcome-bytes (file_counts bytes) (counts_behind-bytes (header_answer bytes) (header_answer-bytes bytes));
+}
+
+printing-sound : WorkIsSound printing
+printing-sound = record {
+  well = λ bytes h. rw h.2 refl;
+  no_usage = λ bytes. fault_in-bytes (header_answer bytes) (header_answer-bytes bytes);
+}
+
+listing-sound : WorkIsSound listing_all
+listing-sound = record {
+  well = λ bytes h. rw h.2 (ap fault_in (streamed-read (listing h.0) h.1 h.3));
+  no_usage = λ bytes. events_behind-bytes (header_answer bytes) (header_answer-bytes bytes);
+}
+
+reporting-sound : (view : PlanView) → WorkIsSound (reporting view)
+reporting-sound view = record {
+  well = λ bytes h. rw (h.2, h.3, streamed-read (reading_by view h.0) h.1 h.4) refl;
+  no_usage = λ bytes. report-bytes view bytes;
+}
+
+pub sound : (request : Option Request) → IsSound (behaviour request)
+sound None = tt
+sound (Some (Count file)) = counting-sound
+sound (Some (Header file)) = printing-sound
+sound (Some (Events file)) = listing-sound
+sound (Some (Run plan file)) = λ view. (reporting-sound view, λ e. omega arith)
+sound (Some (Demo seed count)) = λ e. omega arith

@@ -1,0 +1,53 @@
+-- What a command's work on the bytes of FILE leaves.
+use Rattle.std.specs.Prelude.{ℕ, ◌≡◌, ◌⊎◌, ◌≤◌, List, ◌++◌, length, true, Some, Result, IsErrAnd}
+use Rattle.std.specs.declared.option.Option.{Option}
+use Rattle.std.specs.Io.KnownBytes.{Appends, Consumes}
+use Rattle.tally_base.specs.declared.slot.Slot.TheVariants.{Data}
+use Rattle.tally_base.specs.declared.fault.Fault.{Fault}
+use Rattle.tally_base.specs.Counts.{Rose}
+use Rattle.tally_base.specs.Faults.{is_outside, fault_in, HasReason}
+use Rattle.bench_io.specs.Inputs.{InputState}
+use Rattle.bench_io.specs.Sinks.{AppendsShort}
+use Rattle.ptu_definitions.specs.Shown.{Says}
+use Rattle.ptu_cli.specs.Behaviours.{Work}
+
+-- The bytes taken and those left end so, and this text was written.
+pub record EndsWork (work : Work) (rest_before rest_after old new : Option (List ℕ)) (fault : Option Fault) : Type 0 where
+  pub taken : List ℕ
+  pub consumes : Consumes rest_before rest_after taken
+  pub text : List ℕ
+  pub written : Appends old new text
+  pub says : Says work.outcome taken rest_after (record { text = text; fault = fault })
+
+-- A fault from outside, or the end that the bytes call for.
+abbrev pub AnswersWork : Work → Option (List ℕ) → Option (List ℕ) → Option (List ℕ) → Option (List ℕ) → Result (Unit {0}) Fault → Type 0
+AnswersWork work rest_before rest_after old new result = IsErrAnd result (λ fault. is_outside fault ≡ true) ⊎ EndsWork work rest_before rest_after old new (fault_in result)
+
+-- What the work writes of the bytes taken was written, and more of them may change the end.
+pub record ReadsWork (work : Work) (rest_before rest_after old new : Option (List ℕ)) : Type 0 where
+  pub taken : List ℕ
+  pub consumes : Consumes rest_before rest_after taken
+  pub written : Appends old new (work.so_far taken)
+  pub goes_on : work.goes_on taken
+
+-- The text of the file was cut short.
+pub record CutsWork (work : Work) (rest_before rest_after old new : Option (List ℕ)) : Type 0 where
+  pub taken : List ℕ
+  pub consumes : Consumes rest_before rest_after taken
+  pub cut : (more : List ℕ) → rest_after ≡ Some more → AppendsShort old new (work.outcome (taken ++ more)).text
+
+-- Why the work ended by a fault from outside.
+abbrev pub WorkReason : Work → InputState → InputState → Option (List ℕ) → Option (List ℕ) → ℕ → ℕ → Fault → Type 0
+WorkReason work before after old new faults_before faults_after = HasReason
+    (λ slot. ⊥)
+    (λ slot. (slot ≡ Data) × Rose (before.read_faults slot) (after.read_faults slot) × ReadsWork work (before.rest Data) (after.rest Data) old new)
+    (Rose faults_before faults_after × CutsWork work (before.rest Data) (after.rest Data) old new)
+    ⊥
+
+-- The bytes taken are some that call for no end by themselves, and no more behind them than one read gives.
+pub record TakesFew (goes_on : List ℕ → Type 0) (rest_before rest_after : Option (List ℕ)) : Type 0 where
+  pub front : List ℕ
+  pub last : List ℕ
+  pub consumes : Consumes rest_before rest_after (front ++ last)
+  pub goes : goes_on front
+  pub few : length last ≤ 8192
