@@ -24,7 +24,7 @@ pub enum Placed {
 
 /// Where the records of a file stand in time. In T2 the photons must come in order of time. In T3 all
 /// events must.
-#[derive(Drop)]
+#[derive(Clone, Copy)]
 pub struct Clock {
     mode: Mode,
     placed: u64,

@@ -10,3 +10,5 @@ pub mod Shut
 pub mod Puts
 pub mod Gives
 pub mod Photons
+pub mod Ends
+pub mod Slices

@@ -7,3 +7,4 @@ pub mod Pairing
 pub mod Counts
 pub mod Coincidence
 pub mod CoincidenceLaws
+pub mod Ends

@@ -1,5 +1,6 @@
 // A table of the times from a photon of one group to the next of another.
-ghost use Rattle.std.specs.Prelude.{◌≡◌, ◌+◌, ◌≤◌, Some, None, vec_len, sum, if◌then◌else◌};
+ghost use Rattle.std.specs.Prelude.{◌≡◌, ◌+◌, ◌/◌, ◌^◌, ◌<◌, ◌≤◌, ◌==◌, ℕ, Some, None, length, nat_le, slice_index, vec_len, sum, if◌then◌else◌};
+ghost use Rattle.coincidence.specs.Ends.{since_or, ended};
 ghost use Rattle.std.specs.Option.{ForSome};
 ghost use Rattle.tally_base.specs.Tally.{History};
 
@@ -80,16 +81,77 @@ impl StartStop {
 }
 
 /// The start that is open behind a photon: its own time where it starts, and none where it only stops.
+/// It takes no branch.
+#[inline(always)]
 fn start_behind(start: Option<u64>, time: u64, starts: bool, stops: bool) -> Option<u64>
     ensures { result ≡ (if starts then Some time else if stops then None else start) }
 {
-    if starts {
-        Some(time)
-    } else if stops {
-        None
-    } else {
-        start
+    let waits = start.is_some();
+    let opens = starts | (!stops & waits);
+    some_if(opens, one_of(starts, time, since(start, time)))
+}
+
+/// A time, if it is to be one.
+#[inline(always)]
+fn some_if(opens: bool, time: u64) -> Option<u64>
+    ensures { result ≡ (if opens then Some time else None) }
+{
+    if opens { Some(time) } else { None }
+}
+
+/// The first time, or else the second.
+#[inline(always)]
+fn one_of(first: bool, time: u64, other: u64) -> u64
+    ensures { result ≡ (if first then time else other) }
+{
+    if first { time } else { other }
+}
+
+/// When an interval began, or this time where none is open.
+#[inline(always)]
+fn since(start: Option<u64>, time: u64) -> u64
+    ensures { result ≡ since_or time start }
+{
+    match start {
+        Some(since) => since,
+        None => time,
     }
+}
+
+/// How many intervals a photon ends: one where it stops and one is open.
+#[inline(always)]
+fn ended(start: Option<u64>, stops: bool) -> u64
+    ensures value { result ≡ ended stops start }
+    ensures one { result ≤ 1 }
+{
+    let open = start.is_some();
+    u64::from(stops & open)
+}
+
+/// The bin of a time. Bins of one tick need no division.
+#[inline(always)]
+fn bin_of(time: u64, width: u64) -> u64
+    requires { 0 < width }
+    ensures { result ≡ time / width }
+{
+    if width == 1 { time } else { time / width }
+}
+
+/// Adds to the cell of a bin, or answers what is to be added past the last. It takes no branch.
+#[inline(always)]
+fn put(cells: &mut [u64], bin: u64, more: u64) -> u64
+    requires some { 0 < length cells.old }
+    requires room { sum cells.old + more < 2 ^ 64 }
+    ensures cells { (b : ℕ) → b < length cells.old → slice_index cells.new b
+        ≡ slice_index cells.old b + (if bin == b then more else 0) }
+    ensures rest { result ≡ (if nat_le (length cells.old) bin then more else 0) }
+    ensures sum { sum cells.new + result ≡ sum cells.old + more }
+{
+    let inside = bin < cells.len() as u64;
+    let at = if inside { bin as usize } else { 0 };
+    let here = if inside { more } else { 0 };
+    cells[at] += here;
+    more - here
 }
 
 impl Tally for StartStop {
@@ -118,20 +180,13 @@ impl Tally for StartStop {
     fn event<L: Ledger>(&mut self, e: &Event, groups: u64, _steps: &mut Steps<L>) {
         self.taken += 1;
         if e.is_photon() {
+            // No branch on the groups, which are as good as random from photon to photon.
             let start = self.start;
             let stops = is_in(groups, self.set.stop);
             self.start = start_behind(start, e.time, is_in(groups, self.set.start), stops);
             self.floor = e.time;
-            if stops {
-                if let Some(since) = start {
-                    let bin = (e.time - since) / self.set.width;
-                    if bin < u64::from(self.set.bins) {
-                        self.cells[bin as usize] += 1;
-                    } else {
-                        self.over += 1;
-                    }
-                }
-            }
+            let bin = bin_of(e.time - since(start, e.time), self.set.width);
+            self.over += put(&mut self.cells, bin, ended(start, stops));
         }
     }
 

@@ -1,5 +1,6 @@
 -- A number by its bits.
-use Rattle.std.proofs.Common.{◌≡◌, ap, sym, refl, ◌∙◌, ℕ, zero, suc, ◌+◌, ◌*◌, ◌/◌, ◌^◌, ◌<◌, ◌≤◌, Bool, true, false, ◌==◌, List, [], ◌∷◌, map, drop, length, get_or, arith}
+use Rattle.std.proofs.Common.{◌≡◌, ap, sym, refl, ◌∙◌, ℕ, zero, suc, ◌+◌, ◌*◌, ◌/◌, ◌^◌, ◌<◌, ◌≤◌, Bool, true, false, ◌==◌, List, [], ◌∷◌, map, drop, length, get_or, set, arith}
+use Rattle.std.proofs.lemmas.Grind.{common_steps}
 use Rattle.std.specs.Int.{bit_at}
 use Rattle.std.proofs.lemmas.Nat.Bits.{bit_at-zero, bit_at-suc, bit_at_lowest}
 use Rattle.std.proofs.lemmas.List.{drop_more}
@@ -8,7 +9,10 @@ use Rattle.tally_base.specs.declared.settings.Group.{Group}
 use Rattle.std.proofs.lemmas.Grind.{pow_more}
 use Rattle.std.proofs.Math.Pow.{pow_mono}
 use Rattle.tally_base.specs.Settings.{group_view}
-use Rattle.gate_plan.specs.Groups.{one_if, takes, bits_of}
+use Rattle.gate_plan.specs.Taking.{is_among, is_in_gate, one_if, takes, bits_of}
+use Rattle.tally_base.specs.declared.event.EventKind.TheVariants.{Photon, Marker}
+use Rattle.tally_base.specs.Settings.{GroupView}
+use Rattle.gate_plan.specs.Parting.{takes_plainly, takes_gated, plain_bits, gated_bits}
 
 pub bit_of_bits : (tests : List Bool) (i : ℕ) → bit_at (bits_of tests) i ≡ one_if (get_or tests i false)
 bit_of_bits [] i = bit_at-zero i
@@ -57,14 +61,28 @@ bits_step : (sum i rest added : ℕ) (test : Bool) → added ≡ one_if test * 2
 bits_step sum i rest added true is = omega (arith, is, bits_taken sum i rest)
 bits_step sum i rest added false is = omega (arith, is, bits_left sum i rest)
 
-first_of : (gs : List Group) (place : ℕ) (g : Group) (e : Event) → place < length gs → g ≡ get_or gs place g
-    → map (λ group. takes group e) (map group_view (drop place gs)) ≡ takes (group_view g) e ∷ map (λ group. takes group e) (map group_view (drop (place + 1) gs))
-first_of gs place g e within is = ap (λ xs. map (λ group. takes group e) (map group_view xs)) (drop_more gs place g within) ∙ ap (λ w. takes (group_view w) e ∷ map (λ group. takes group e) (map group_view (drop (place + 1) gs))) (sym is)
+first_of : (P : GroupView → Bool) (gs : List Group) (place : ℕ) (g : Group) → place < length gs → g ≡ get_or gs place g
+    → map P (map group_view (drop place gs)) ≡ P (group_view g) ∷ map P (map group_view (drop (place + 1) gs))
+first_of P gs place g within is = ap (λ xs. map P (map group_view xs)) (drop_more gs place g within) ∙ ap (λ w. P (group_view w) ∷ map P (map group_view (drop (place + 1) gs))) (sym is)
 
-pub bits_kept : (sum i added place : ℕ) (gs : List Group) (g : Group) (e : Event) (test : Bool) (all : ℕ) → place < length gs → g ≡ get_or gs place g → test ≡ takes (group_view g) e → added ≡ one_if test * 2 ^ i
-    → sum + 2 ^ i * bits_of (map (λ group. takes group e) (map group_view (drop place gs))) ≡ all
-    → sum + added + 2 ^ (i + 1) * bits_of (map (λ group. takes group e) (map group_view (drop (place + 1) gs))) ≡ all
-bits_kept sum i added place gs g e test all within is tests adds rest =
-    let so_far = rw (first_of gs place g e within is) at rest in
-    let step = bits_step sum i (bits_of (map (λ group. takes group e) (map group_view (drop (place + 1) gs)))) added (takes (group_view g) e) (rw tests at adds) in
+pub bits_kept : (P : GroupView → Bool) (sum i added place : ℕ) (gs : List Group) (g : Group) (test : Bool) (all : ℕ) → place < length gs → g ≡ get_or gs place g → test ≡ P (group_view g) → added ≡ one_if test * 2 ^ i
+    → sum + 2 ^ i * bits_of (map P (map group_view (drop place gs))) ≡ all
+    → sum + added + 2 ^ (i + 1) * bits_of (map P (map group_view (drop (place + 1) gs))) ≡ all
+bits_kept P sum i added place gs g test all within is tests adds rest =
+    let so_far = rw (first_of P gs place g within is) at rest in
+    let step = bits_step sum i (bits_of (map P (map group_view (drop (place + 1) gs)))) added (P (group_view g)) (rw tests at adds) in
     sym step ∙ so_far
+
+one_most : (test : Bool) → one_if test ≤ 1
+one_most true = omega arith
+one_most false = omega arith
+
+pub bits_below : (P : GroupView → Bool) (groups : List GroupView) → bits_of (map P groups) < 2 ^ length groups
+bits_below P [] = omega arith
+bits_below P (group ∷ groups) =
+    let one : length (group ∷ groups) ≡ length groups + 1 = omega arith in
+    let more : 2 ^ length (group ∷ groups) ≡ 2 ^ (length groups + 1) = ap (λ n. 2 ^ n) one in
+    omega (arith, bits_below P groups, one_most (P group), more, pow_more 2 (length groups))
+
+pub filled_more : (table : List ℕ) (at v : ℕ) (f : ℕ → ℕ) → at < length table → ((i : ℕ) → i < at → get_or table i 0 ≡ f i) → v ≡ f at → (i : ℕ) → i < at + 1 → get_or (set table at v) i 0 ≡ f i
+filled_more table at v f inside were is i below = grind (arith, common_steps, were i)

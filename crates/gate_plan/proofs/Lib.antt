@@ -1,2 +1,4 @@
 pub mod Bits
+pub mod Parts
 pub mod Rows
+pub mod Inputs

@@ -2,3 +2,4 @@ pub mod Rows
 pub mod Lasts
 pub mod Steps
 pub mod Parts
+pub mod Shares

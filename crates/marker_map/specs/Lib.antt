@@ -3,3 +3,4 @@ pub mod Marks
 pub mod Places
 pub mod Rows
 pub mod Lines
+pub mod Divisors

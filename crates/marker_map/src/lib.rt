@@ -2,6 +2,7 @@
 #![tactic(auto)]
 
 mod bits;
+mod divisor;
 pub mod laws;
 mod lines;
 

@@ -3,8 +3,10 @@ ghost use Rattle.std.specs.Prelude.{◌≡◌, ◌+◌, ◌^◌, ◌<◌, ◌≤
 ghost use Rattle.std.specs.Option.{ForSome};
 ghost use Rattle.tally_base.specs.Settings.{image_view};
 ghost use Rattle.marker_map.specs.Rows.{line_at, row_after};
+ghost use Rattle.marker_map.specs.Divisors.{divisor_of};
 
 use crate::bits::{has_bit, has_named_bit};
+use crate::divisor::Divisor;
 use tally_base::ImageSet;
 
 /// A line that no stop has ended, and its row.
@@ -25,12 +27,14 @@ struct Line {
 #[derive(Drop)]
 pub struct Lines {
     set: ImageSet,
+    dwell: Divisor,
     // None before the first line, behind a stop, and at a line that has no row.
     line: Option<Line>,
     // The row of the next line. None before the first frame.
     next_row: Option<u64>,
     given: u64,
     latest: u64,
+    ghost divides: { divisor_of dwell ≡ set.dwell },
     ghost begun: { ForSome line (λ line. line.start ≤ latest) },
     ghost counted: { ForSome next_row (λ row. row ≤ given) },
 }
@@ -87,6 +91,7 @@ impl Lines {
     {
         Lines {
             set: *set,
+            dwell: Divisor::new(set.dwell),
             line: None,
             next_row: if set.frame.is_none() { Some(0) } else { None },
             given: 0,
@@ -130,7 +135,7 @@ impl Lines {
             × (place.1 < (image_of self.now).height)) }
     {
         let line = self.line?;
-        let column = (time - line.start) / self.set.dwell;
+        let column = self.dwell.quotient(time - line.start);
         if column < u64::from(self.set.width) && line.row < u64::from(self.set.height) {
             Some((column as u32, line.row as u32))
         } else {

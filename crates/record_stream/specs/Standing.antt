@@ -9,18 +9,19 @@ use Rattle.ptu_definitions.specs.Words.{words_of, rest_of}
 use Rattle.abs_time.specs.declared.clock.Clock.{Clock}
 use Rattle.abs_time.specs.Placing.{greatest_by}
 use Rattle.record_stream.specs.Feeding.{IsAt}
+use Rattle.record_stream.specs.Summing.{summed}
 use Rattle.record_stream.specs.declared.stream.RecordStream.{RecordStream}
 
 abbrev pub how_of : RecordStream → Reading
-how_of stream = reading stream.record_type stream.policy
+how_of stream = reading stream.walk.record_type stream.walk.policy
 
 -- how many events it has given
 abbrev pub given_by : RecordStream → ℕ
-given_by stream = stream.given
+given_by stream = stream.walk.given
 
 -- the greatest time of the ordered events that it gave and that weren't late
 abbrev pub top_of : RecordStream → ℕ
-top_of stream = greatest_by stream.clock
+top_of stream = greatest_by stream.walk.clock
 
 abbrev pub refused_with : RecordStream → Option Fault
 refused_with stream = stream.refused
@@ -29,21 +30,21 @@ abbrev pub carried_by : RecordStream → List ℕ
 carried_by stream = stream.carried.items
 
 abbrev pub summary_in : RecordStream → Summary
-summary_in stream = stream.summary
+summary_in stream = summed stream.walk.sums
 
 abbrev pub records_of : RecordStream → ℕ
-records_of stream = stream.summary.records
+records_of stream = stream.walk.sums.records
 
 -- how many bytes it took, as long as it refused none
 abbrev pub bytes_in : RecordStream → ℕ
-bytes_in stream = 4 * stream.summary.records + length stream.carried.items
+bytes_in stream = 4 * stream.walk.sums.records + length stream.carried.items
 
 abbrev pub clock_in : RecordStream → Clock
-clock_in stream = stream.clock
+clock_in stream = stream.walk.clock
 
 -- It took these words and refused none.
 abbrev pub IsBehind : RecordStream → List ℕ → Type 0
-IsBehind stream words = IsAt (how_of stream) stream.clock stream.summary stream.given words
+IsBehind stream words = IsAt (how_of stream) stream.walk.clock (summed stream.walk.sums) stream.walk.given words
 
 -- It took these bytes and refused none.
 abbrev pub CarriesOn : RecordStream → List ℕ → Type 0
@@ -56,4 +57,4 @@ Stands how clock sum count carried (Some fault) bytes = fault ≢ WriteFault →
 
 -- The stream was given these bytes.
 abbrev pub HasStreamed : RecordStream → List ℕ → Type 0
-HasStreamed stream bytes = Stands (how_of stream) stream.clock stream.summary stream.given stream.carried.items stream.refused bytes
+HasStreamed stream bytes = Stands (how_of stream) stream.walk.clock (summed stream.walk.sums) stream.walk.given stream.carried.items stream.refused bytes

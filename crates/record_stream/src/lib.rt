@@ -5,6 +5,7 @@ mod count;
 pub mod laws;
 mod stream;
 mod taker;
+mod walk;
 
 pub use ptu_definitions::Summary;
 pub use stream::RecordStream;

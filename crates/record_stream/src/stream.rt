@@ -1,17 +1,16 @@
 // A stream of records that comes in pieces.
 ghost use Rattle.std.specs.Prelude.{◌≡◌, ◌+◌, ◌*◌, ◌^◌, ◌<◌, ◌≤◌, ◌++◌, ◌∷◌, [], List, ℕ, length, None, Some, OnOk, OnErr, IfErr, ◌≢◌};
 ghost use Rattle.arrayvec.specs.ArrayVec.{array_vec_len};
-ghost use Rattle.abs_time.specs.Placing.{mode_of as clock_mode, placed_by};
-ghost use Rattle.tally_base.specs.RecordTypes.{mode_of};
 
-use crate::count::{add_event, add_raw, stops_at, stops_late};
+use crate::count::Sums;
 use crate::taker::EventTaker;
-use abs_time::{Clock, Placed};
+use crate::walk::Walk;
+use abs_time::Clock;
 use arrayvec::ArrayVec;
 use byteorder::{ByteOrder, LittleEndian};
-use ptu_definitions::{Raw, Summary};
+use ptu_definitions::Summary;
 use record_layout::{HydraT2, HydraT3, PicoT2, PicoT3, RecordLayout};
-use tally_base::{Event, Fault, Policy, RecordType, put_text};
+use tally_base::{Fault, Policy, RecordType, put_text};
 
 /// The records of a file, of which the bytes come in pieces. It gives each photon and marker of the
 /// whole words to a taker, once and in order, each with whether it is late.
@@ -20,21 +19,10 @@ use tally_base::{Event, Fault, Policy, RecordType, put_text};
 /// refusal to each piece.
 #[derive(Drop)]
 pub struct RecordStream {
-    record_type: RecordType,
-    policy: Policy,
+    walk: Walk,
     carried: ArrayVec<u8, 4>,
-    clock: Clock,
-    summary: Summary,
-    given: u64,
     refused: Option<Fault>,
     ghost short: { array_vec_len carried < 4 },
-    ghost limit: { policy.records ≤ 2 ^ 40 },
-    ghost few: { summary.records ≤ policy.records },
-    ghost parts: { summary.photons + summary.markers + summary.wraps + summary.reserved ≡ summary.records },
-    ghost few_given: { given ≤ summary.records },
-    ghost few_late: { summary.late ≤ given },
-    ghost same_mode: { clock_mode clock ≡ mode_of record_type },
-    ghost few_placed: { placed_by clock ≤ summary.records },
 }
 
 impl RecordStream {
@@ -69,153 +57,26 @@ impl RecordStream {
         ensures top { top_of result ≡ 0 }
     {
         RecordStream {
-            record_type,
-            policy,
-            carried: ArrayVec::new(),
-            clock: Clock::new(record_type.mode()),
-            summary: Summary {
-                records: 0,
-                photons: 0,
-                markers: 0,
-                wraps: 0,
-                reserved: 0,
-                late: 0,
-                first: None,
-                last: None,
+            walk: Walk {
+                record_type,
+                policy,
+                clock: Clock::new(record_type.mode()),
+                sums: Sums {
+                    records: 0,
+                    photons: 0,
+                    markers: 0,
+                    wraps: 0,
+                    reserved: 0,
+                    late: 0,
+                    kept: false,
+                    first: 0,
+                    last: 0,
+                },
+                given: 0,
             },
-            given: 0,
+            carried: ArrayVec::new(),
             refused: None,
         }
-    }
-
-    /// What a word means.
-    #[inline(always)]
-    fn decode<R: RecordLayout>(&self, word: u32) -> Raw
-        requires meaning { R.meaning ≡ (how_of self.now).meaning }
-        ensures meaning { result ≡ (how_of self.now).meaning word }
-        ensures fits { Fits (how_of self.now).mode result }
-    {
-        R::decode(word)
-    }
-
-    /// Takes the next word.
-    #[inline(always)]
-    fn step<R: RecordLayout, S: EventTaker>(
-        &mut self,
-        word: u32,
-        taker: &mut S,
-    ) -> Result<(), Fault>
-        requires meaning { R.meaning ≡ (how_of self.old).meaning }
-        requires follows { Follows S.EventTaker (how_of self.old).mode (given_by self.old)
-            (top_of self.old) taker.old }
-        ensures at { (words : List ℕ) → IsBehind self.old words
-            → OnOk result (IsBehind self.new (words ++ word ∷ [])) }
-        ensures fed { (words : List ℕ) → IsBehind self.old words
-            → Fed S.EventTaker (how_of self.old) taker.old taker.new words
-            (words ++ word ∷ []) result }
-        ensures follows { OnOk result (Follows S.EventTaker (how_of self.old).mode
-            (given_by self.new) (top_of self.new) taker.new) }
-        ensures one_more { OnOk result (records_of self.new ≡ records_of self.old + 1) }
-        ensures same_how { how_of self.new ≡ how_of self.old }
-        ensures same_carried { carried_by self.new ≡ carried_by self.old }
-        ensures same_refused { refused_with self.new ≡ refused_with self.old }
-        ensures later { S.faults taker.old ≤ S.faults taker.new }
-        ensures same { S.same taker.old taker.new }
-    {
-        if self.summary.records == self.policy.records {
-            return Err(Fault::RecordLimit {
-                limit: self.policy.records,
-            });
-        }
-        let raw = self.decode::<R>(word);
-        if stops_at(self.policy.reserved, &raw) {
-            return Err(Fault::ReservedRecord {
-                place: self.summary.records + 1,
-                word,
-            });
-        }
-        add_raw(&mut self.summary, &raw);
-        match self.clock.place(&raw)? {
-            Placed::Event(event) => self.give(&event, false, taker),
-            Placed::Late { event, before } => {
-                if stops_late(self.policy.order) {
-                    return Err(Fault::BackwardTime {
-                        place: event.place,
-                        time: event.time,
-                        before,
-                    });
-                }
-                self.give(&event, true, taker)
-            }
-            Placed::Wrap | Placed::Reserved => Ok(()),
-        }
-    }
-
-    /// Gives an event whose record is counted already.
-    #[inline(always)]
-    fn give<S: EventTaker>(&mut self, event: &Event, late: bool, taker: &mut S) -> Result<(), Fault>
-        requires mode { S.mode taker.old ≡ (how_of self.old).mode }
-        requires few { S.taken taker.old ≤ given_by self.old }
-        requires room { given_by self.old < records_of self.old }
-        requires small { IsSmall (how_of self.old).mode event.now }
-        requires in_order { IsTrue (is_ordered (how_of self.old).mode event.now && not late)
-            → S.floor taker.old ≤ event.now.time }
-        ensures follows { OnOk result ((start : S) (l : Marked) → S.got start taker.old l
-            → S.got start taker.new (l ++ (event.now, late) ∷ [])) }
-        ensures same_mode { OnOk result (S.mode taker.new ≡ S.mode taker.old) }
-        ensures few { OnOk result (S.taken taker.new ≤ given_by self.new) }
-        ensures moved { OnOk result (S.floor taker.new ≡ (if is_ordered
-            (how_of self.old).mode event.now && not late then event.now.time else S.floor
-            taker.old)) }
-        ensures given { OnOk result (given_by self.new ≡ given_by self.old + 1) }
-        ensures summary { OnOk result (summary_in self.new ≡ with_event
-            (summary_in self.old) event.now late) }
-        ensures broken { OnErr result ((start : S) (l : Marked) → S.got start taker.old l
-            → S.broke start taker.new (l ++ (event.now, late) ∷ [])) }
-        ensures fault { IfErr result (λ fault. fault ≡ WriteFault) }
-        ensures cause { HasCause (S.faults taker.old) (S.faults taker.new) result }
-        ensures same { S.same taker.old taker.new }
-        ensures same_how { how_of self.new ≡ how_of self.old }
-        ensures same_records { records_of self.new ≡ records_of self.old }
-        ensures same_clock { clock_in self.new ≡ clock_in self.old }
-        ensures same_carried { carried_by self.new ≡ carried_by self.old }
-        ensures same_refused { refused_with self.new ≡ refused_with self.old }
-    {
-        if taker.take(event, late).is_err() {
-            return Err(Fault::WriteFault);
-        }
-        self.given += 1;
-        add_event(&mut self.summary, event, late);
-        Ok(())
-    }
-
-    /// Takes the next words.
-    fn words<R: RecordLayout, S: EventTaker>(
-        &mut self,
-        words: &[[u8; 4]],
-        taker: &mut S,
-    ) -> Result<(), Fault>
-        requires meaning { R.meaning ≡ (how_of self.old).meaning }
-        requires follows { Follows S.EventTaker (how_of self.old).mode (given_by self.old)
-            (top_of self.old) taker.old }
-        ensures at { (before : List ℕ) → IsBehind self.old before
-            → OnOk result (IsBehind self.new (before ++ numbers words.now)) }
-        ensures fed { (before : List ℕ) → IsBehind self.old before
-            → Fed S.EventTaker (how_of self.old) taker.old taker.new before
-            (before ++ numbers words.now) result }
-        ensures follows { OnOk result (Follows S.EventTaker (how_of self.old).mode
-            (given_by self.new) (top_of self.new) taker.new) }
-        ensures counted { OnOk result (records_of self.new ≡ records_of self.old + length words.now) }
-        ensures same_how { how_of self.new ≡ how_of self.old }
-        ensures same_carried { carried_by self.new ≡ carried_by self.old }
-        ensures same_refused { refused_with self.new ≡ refused_with self.old }
-        ensures later { S.faults taker.old ≤ S.faults taker.new }
-        ensures same { S.same taker.old taker.new }
-    {
-        for word in words {
-            self.step::<R, S>(u32::from_le_bytes(*word), taker)?;
-        }
-        Ok(())
     }
 
     /// Takes a piece that begins with a whole word, and carries what is left over.
@@ -243,7 +104,7 @@ impl RecordStream {
         ensures same { S.same taker.old taker.new }
     {
         let (words, cut) = piece.as_chunks::<4>();
-        self.words::<R, S>(words, taker)?;
+        self.walk.words::<R, S>(words, taker)?;
         put_text(&mut self.carried, cut);
         Ok(())
     }
@@ -283,7 +144,7 @@ impl RecordStream {
         put_text(&mut self.carried, first);
         let word = LittleEndian::read_u32(self.carried.as_slice());
         self.carried.clear();
-        self.step::<R, S>(word, taker)?;
+        self.walk.step::<R, S>(word, taker)?;
         self.fours::<R, S>(rest, taker)
     }
 
@@ -304,7 +165,7 @@ impl RecordStream {
         ensures later { S.faults taker.old ≤ S.faults taker.new }
         ensures same { S.same taker.old taker.new }
     {
-        match self.record_type {
+        match self.walk.record_type {
             RecordType::PicoHarpT2 => self.piece::<PicoT2, S>(piece, taker),
             RecordType::PicoHarpT3 => self.piece::<PicoT3, S>(piece, taker),
             RecordType::HydraHarpT2 => self.piece::<HydraT2<true>, S>(piece, taker),
@@ -374,7 +235,7 @@ impl RecordStream {
         }
         let bytes = self.carried.len();
         if bytes == 0 {
-            return Ok(self.summary);
+            return Ok(self.walk.sums.summary());
         }
         Err(Fault::TruncatedRecord { bytes: bytes as u8 })
     }

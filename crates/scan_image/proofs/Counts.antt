@@ -33,3 +33,10 @@ placed-photon set test h x place photon of_group is = count_behind-push (is_plac
 -- Other events count nowhere.
 pub placed-other : (set : ImageView) (test : Option (ℕ × ℕ) → Bool) (h : History) (x : Event × ℕ) → (is_photon x.0 && is_in x.1 set.group) ≡ false → count_placed set test (h ++ x ∷ []) ≡ count_placed set test h
 placed-other set test h x other = count_behind-push (is_placed set test) h x ∙ left (count_placed set test h) (is_photon x.0) (is_in x.1 set.group) (test (place_of set x.0.time (markers h))) other
+
+added : (n more : ℕ) (photon group place test : Bool) → photon ≡ true → more ≡ cond group 1 0 → place ≡ test → n + cond (photon && (group && place)) 1 0 ≡ n + cond test more 0
+added n more photon group place test is was same = grind arith
+
+-- A photon adds so much where its place passes the test: 1 if it is of the group, and else 0.
+pub placed-added : (set : ImageView) (test : Option (ℕ × ℕ) → Bool) (h : History) (x : Event × ℕ) (place : Option (ℕ × ℕ)) (more : ℕ) → is_photon x.0 ≡ true → more ≡ cond (is_in x.1 set.group) 1 0 → place_of set x.0.time (markers h) ≡ place → count_placed set test (h ++ x ∷ []) ≡ count_placed set test h + cond (test place) more 0
+placed-added set test h x place more photon of_group is = count_behind-push (is_placed set test) h x ∙ added (count_placed set test h) more (is_photon x.0) (is_in x.1 set.group) (test (place_of set x.0.time (markers h))) (test place) photon of_group (ap test is)

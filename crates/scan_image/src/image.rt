@@ -118,18 +118,19 @@ impl Tally for Image {
 
     ghost within = { within_bound };
 
+    #[inline(always)]
     fn event<L: Ledger>(&mut self, e: &Event, groups: u64, _steps: &mut Steps<L>) {
         self.taken += 1;
         self.floor = e.time;
         match e.kind {
             EventKind::Marker { bits } => self.lines.marker(bits, e.time),
             EventKind::Photon { .. } => {
-                if is_in(groups, self.set.group) {
-                    if let Some((column, row)) = self.lines.place(e.time) {
-                        self.cells[cell_of(&self.set, column, row)] += 1;
-                    } else {
-                        self.outside += 1;
-                    }
+                // No branch on the group, which is as good as random from photon to photon.
+                let more = u64::from(is_in(groups, self.set.group));
+                if let Some((column, row)) = self.lines.place(e.time) {
+                    self.cells[cell_of(&self.set, column, row)] += more;
+                } else {
+                    self.outside += more;
                 }
             }
         }

@@ -1,18 +1,22 @@
 -- One event more for all tables.
-use Rattle.std.proofs.Common.{◌≡◌, ◌+◌, ◌≤◌, ◌<◌, ℕ, List, [], ◌∷◌, ◌++◌, Bool, true, false, All, max, refl, ◌∙◌, append_assoc, append-nil, arith, length, length-append}
+use Rattle.std.proofs.Common.{◌≡◌, ◌+◌, ◌≤◌, ◌<◌, ℕ, List, [], ◌∷◌, ◌++◌, Bool, true, false, All, max, refl, sym, ap, ◌^◌, ◌∙◌, append_assoc, append-nil, arith, length, length-append}
 use Rattle.std.specs.Prelude.{◌&&◌, not, IsTrue, if◌then◌else◌, slice_index_or}
 use Rattle.std.proofs.lemmas.List.{map-append}
 use Rattle.std.proofs.lemmas.List.Elements.{filter-append}
 use Rattle.tally_base.specs.declared.event.Event.{Event}
 use Rattle.tally_base.specs.declared.header.Mode.{Mode}
+use Rattle.tally_base.specs.declared.header.Mode.TheVariants.{T2, T3}
 use Rattle.tally_base.specs.declared.tally.Tally.{Ghosts}
 use Rattle.tally_base.specs.Events.{is_ordered}
-use Rattle.tally_base.specs.Settings.{GroupView}
-use Rattle.tally_base.specs.Tally.{History}
+use Rattle.tally_base.specs.Settings.{GroupView, is_strict}
+use Rattle.tally_base.specs.Tally.{History, moves_floor}
 use Rattle.ptu_definitions.specs.Kept.{Marked, floor_of}
 use Rattle.gate_plan.specs.Groups.{groups_in}
 use Rattle.tally_engine.specs.Histories.{with_groups, unmarked}
-use Rattle.tally_engine.specs.Taker.{TookUnless, Gave}
+use Rattle.event_block.specs.Order.{floor_after, InOrder}
+use Rattle.event_block.proofs.Order.{floor-push, order-push, order-front, order-last}
+use Rattle.tally_engine.specs.Give.{kept_of, CanTake, Took, Holding, Moves}
+use Rattle.tally_engine.specs.Taker.{Waits, Gave}
 
 floor_of-push : (mode : Mode) (l : Marked) (e : Event) (late : Bool) → floor_of mode (l ++ (e, late) ∷ []) ≡ max (floor_of mode l) (if is_ordered mode e && not late then e.time else 0)
 floor_of-push mode [] e late = omega arith
@@ -31,26 +35,117 @@ unmarked-push l e = rw (filter-append, map-append) refl
 pub with_groups-push : (groups : List GroupView) (es : List Event) (e : Event) → with_groups groups (es ++ e ∷ []) ≡ with_groups groups es ++ (e, groups_in groups e) ∷ []
 with_groups-push groups es e = rw map-append refl
 
-module _ {T : Type 0} (g : Ghosts T) where
-  follows-more : (groups : List GroupView) (old new : List T) (h : History) (l : Marked) (e : Event) (late : Bool) → length new ≡ length old
-      → ((k : ℕ) (d : T) → k < length old → TookUnless g late e (groups_in groups e) (slice_index_or old k d) (slice_index_or new k d))
-      → All (λ t. g.holds t (h ++ with_groups groups (unmarked l))) old → All (λ t. g.holds t (h ++ with_groups groups (unmarked (l ++ (e, late) ∷ [])))) new
-  follows-more groups old new h l e true same took held = λ k d inside.
-      let within : k < length old = omega arith in
-      rw (unmarked-late l e, took k d within) (held k d within)
-  follows-more groups old new h l e false same took held = λ k d inside.
-      let within : k < length old = omega arith in
-      rw (unmarked-push l e, with_groups-push groups (unmarked l) e, ← append_assoc h) ((took k d within).follows _ (held k d within))
+unmarked-more : (l : Marked) (e : Event) (late : Bool) → unmarked (l ++ (e, late) ∷ []) ≡ unmarked l ++ kept_of late e
+unmarked-more l e true = unmarked-late l e ∙ sym (append-nil (unmarked l))
+unmarked-more l e false = unmarked-push l e
 
-  pub gave_more : (groups groups' : List GroupView) (mode mode' : Mode) (taken taken' floor floor' now : ℕ) (first old new : List T) (l : Marked) (e : Event) (late : Bool)
-      → Gave g groups groups' mode mode' taken taken' floor floor' first old l → length new ≡ length old
-      → ((k : ℕ) (d : T) → k < length old → TookUnless g late e (groups_in groups' e) (slice_index_or old k d) (slice_index_or new k d))
+with_groups-more : (groups : List GroupView) (es more : List Event) → with_groups groups (es ++ more) ≡ with_groups groups es ++ with_groups groups more
+with_groups-more groups es more = rw map-append refl
+
+-- what moves the floor of a table is in the order of its mode
+ordered : (mode : Mode) (strict : Bool) (e : Event) → (mode ≡ T2 → strict ≡ false) → IsTrue (moves_floor strict e) → IsTrue (is_ordered mode e)
+ordered T2 strict e loose moves = rw (loose refl) at moves
+ordered T3 strict e loose moves = refl
+
+-- the floor of a table stays below that of the stream
+floor_below : (moves ordered : Bool) (low floor time : ℕ) → low ≤ floor → (IsTrue moves → IsTrue ordered) → (IsTrue (ordered && not false) → floor ≤ time) → (if moves then time else low) ≤ (if ordered && not false then time else floor)
+floor_below true true low floor time below is later = omega arith
+floor_below true false low floor time below is later = let e : false ≡ true = is refl in cc
+floor_below false true low floor time below is later = let h : floor ≤ time = later refl in omega (arith, below, h)
+floor_below false false low floor time below is later = below
+
+not_late : (b : Bool) → IsTrue b → IsTrue (b && not false)
+not_late true is = refl
+not_late false is = is
+
+late_floor : (b : Bool) (time floor : ℕ) → (if b && not true then time else floor) ≡ floor
+late_floor true time floor = refl
+late_floor false time floor = refl
+
+module _ {T : Type 0} (g : Ghosts T) where
+  pub can_front : (es : List Event) (e : Event) (t : T) → CanTake g (es ++ e ∷ []) t → CanTake g es t
+  can_front es e t can = record { open' = can.open'; room = omega (arith, can.room, length-append es (e ∷ [])); in_order = order-front (is_strict (g.settings t)) (g.floor t) es e can.in_order }
+
+  pub moves_none : (groups : List GroupView) (es : List Event) (t : T) → g.closed t ≡ false → InOrder (is_strict (g.settings t)) (g.floor t) es → Moves g groups es es [] t t
+  moves_none groups es t still order = record {
+    follows = λ h held. (held.0, append-nil h ∙ held.1, held.2);
+    still_open = still;
+    count = rw (append-nil es) refl;
+    moved = rw (append-nil es) refl;
+    in_order = order;
+    same_settings = refl;
+  }
+
+  pub moves_all : (groups : List GroupView) (es none : List Event) (old new : T) → none ≡ [] → Took g es (with_groups groups es) old new → Moves g groups es none [] old new
+  moves_all groups es none old new empty took = rw empty (record {
+    follows = λ h held. (held.0 ++ with_groups groups es, append-nil h ∙ held.1 ∙ sym (append-nil (held.0 ++ with_groups groups es)), took.follows held.0 held.2);
+    still_open = took.still_open;
+    count = rw (append-nil es) (omega (arith, took.count));
+    moved = rw (append-nil es) took.moved;
+    in_order = tt;
+    same_settings = took.same_settings;
+  })
+
+  pub moves_push : (groups : List GroupView) (es es' now : List Event) (e : Event) (old new : T) → CanTake g (es ++ e ∷ []) old → now ≡ es' ++ e ∷ [] → Moves g groups es es' [] old new → Moves g groups es now (e ∷ []) old new
+  moves_push groups es es' now e old new can pushed m =
+      let strict = is_strict (g.settings old) in
+      let same : floor_after strict (g.floor new) es' ≡ floor_after strict (g.floor old) es = m.moved ∙ ap (floor_after strict (g.floor old)) (append-nil es) in
+      let next = order-last strict (g.floor old) es e can.in_order in
+      rw pushed (record {
+        follows = λ h held.
+            let w = m.follows h held in
+            (w.0, rw (with_groups-push groups es' e, ← append_assoc w.0, ← w.1, append-nil h) refl, w.2);
+        still_open = m.still_open;
+        count = omega (arith, m.count, ap length (append-nil es), length-append es (e ∷ []), length-append es' (e ∷ []));
+        moved = floor-push strict (g.floor new) es' e ∙ rw same (sym (floor-push strict (g.floor old) es e));
+        in_order = order-push strict (g.floor new) es' e m.in_order next.0 (λ is. rw same (next.1 is));
+        same_settings = m.same_settings;
+      })
+
+  pub can_take : (mode : Mode) (taken floor : ℕ) (es : List Event) (e : Event) (late : Bool) (t : T) → Waits g mode taken floor es t → taken < 2 ^ 40 → e.time ≤ 2 ^ 62 + 2 ^ 28 → (IsTrue (is_ordered mode e && not late) → floor ≤ e.time) → CanTake g (es ++ kept_of late e) t
+  can_take mode taken floor es e true t w room time order = rw (append-nil es) (record { open' = w.still_open; room = omega (arith, w.few, room); in_order = w.in_order })
+  can_take mode taken floor es e false t w room time order = record {
+    open' = w.still_open;
+    room = omega (arith, w.few, room, length-append es (e ∷ []));
+    in_order = order-push (is_strict (g.settings t)) (g.floor t) es e w.in_order time (λ is. let h : floor ≤ e.time = order (not_late (is_ordered mode e) (ordered mode (is_strict (g.settings t)) e w.suits is)) in omega (arith, w.before, h));
+  }
+
+  waits_floor : (mode : Mode) (taken floor : ℕ) (es : List Event) (e : Event) (late : Bool) (t : T) → Waits g mode taken floor es t → (IsTrue (is_ordered mode e && not late) → floor ≤ e.time)
+      → floor_after (is_strict (g.settings t)) (g.floor t) (es ++ kept_of late e) ≤ (if is_ordered mode e && not late then e.time else floor)
+  waits_floor mode taken floor es e true t w order = rw (append-nil es, late_floor (is_ordered mode e) e.time floor) w.before
+  waits_floor mode taken floor es e false t w order = rw (floor-push (is_strict (g.settings t)) (g.floor t) es e) (floor_below (moves_floor (is_strict (g.settings t)) e) (is_ordered mode e) (floor_after (is_strict (g.settings t)) (g.floor t) es) floor e.time w.before (ordered mode (is_strict (g.settings t)) e w.suits) order)
+
+  few_kept : (es : List Event) (e : Event) (late : Bool) → length (es ++ kept_of late e) ≤ length es + 1
+  few_kept es e true = omega (arith, ap length (append-nil es))
+  few_kept es e false = omega (arith, length-append es (e ∷ []))
+
+  pub waits_on : (groups : List GroupView) (mode : Mode) (taken floor now : ℕ) (es es' : List Event) (e : Event) (late : Bool) (old new : T) → Waits g mode taken floor es old → Moves g groups es es' (kept_of late e) old new
+      → (IsTrue (is_ordered mode e && not late) → floor ≤ e.time) → now ≡ (if is_ordered mode e && not late then e.time else floor) → Waits g mode (taken + 1) now es' new
+  waits_on groups mode taken floor now es es' e late old new w m order moves = record {
+    still_open = m.still_open;
+    few = omega (arith, w.few, m.count, few_kept es e late);
+    before = rw (m.same_settings, m.moved, moves) (waits_floor mode taken floor es e late old w order);
+    suits = λ is. rw m.same_settings (w.suits is);
+    in_order = rw m.same_settings m.in_order;
+  }
+
+  pub gave_more : (groups groups' : List GroupView) (mode mode' : Mode) (taken taken' floor floor' now : ℕ) (es0 es es' : List Event) (first old new : List T) (l : Marked) (e : Event) (late : Bool)
+      → Gave g groups groups' mode mode' taken taken' floor floor' es0 es first old l → length new ≡ length old
+      → ((k : ℕ) (d : T) → k < length old → Moves g groups' es es' (kept_of late e) (slice_index_or old k d) (slice_index_or new k d))
       → (IsTrue (is_ordered mode' e && not late) → floor' ≤ e.time) → now ≡ (if is_ordered mode' e && not late then e.time else floor')
-      → Gave g groups groups' mode mode' taken (taken' + 1) floor now first new (l ++ (e, late) ∷ [])
-  gave_more groups groups' mode mode' taken taken' floor floor' now first old new l e late gave same took in_order moves = record {
+      → Gave g groups groups' mode mode' taken (taken' + 1) floor now es0 es' first new (l ++ (e, late) ∷ [])
+  gave_more groups groups' mode mode' taken taken' floor floor' now es0 es es' first old new l e late gave same moves in_order is = record {
     same_groups = gave.same_groups;
     same_mode = gave.same_mode;
     counted = omega (arith, gave.counted, length-append l ((e, late) ∷ []));
-    moved = moves ∙ moved_on (is_ordered mode' e && not late) floor floor' e.time (floor_of mode l) gave.moved in_order ∙ rw (floor_of-push mode l e late, gave.same_mode) refl;
-    follows = λ h held. follows-more groups old new h l e late same (rw gave.same_groups at took) (gave.follows h held);
+    moved = is ∙ moved_on (is_ordered mode' e && not late) floor floor' e.time (floor_of mode l) gave.moved in_order ∙ rw (floor_of-push mode l e late, gave.same_mode) refl;
+    follows = λ h held. λ k d inside.
+        let within : k < length old = omega (arith, same, inside) in
+        rw (unmarked-more l e late, with_groups-more groups (unmarked l) (kept_of late e), ← append_assoc h) ((rw gave.same_groups at (moves k d within)).follows _ (gave.follows h held k d within));
   }
+
+  pub holding_none : (groups : List GroupView) (none : List Event) (t : T) (h : History) → none ≡ [] → g.holds t h → Holding g groups none t h
+  holding_none groups none t h empty held = rw empty (h, sym (append-nil h), held)
+
+  pub holding_all : (groups : List GroupView) (es : List Event) (old new : T) (h : History) → Holding g groups es old h → Took g es (with_groups groups es) old new → g.holds new h
+  holding_all groups es old new h held took = rw held.1 (took.follows held.0 held.2)

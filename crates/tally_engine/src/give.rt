@@ -1,23 +1,132 @@
-// One event to every table, for tables of any kind.
-ghost use Rattle.std.specs.Prelude.{◌≡◌, ℕ, ◌<◌, All, false, length, slice_index_or};
-ghost use Rattle.tally_engine.specs.Give.{CanTake, Took, Closed};
+// A block of events to every table.
+ghost use Rattle.std.specs.Prelude.{◌≡◌, ℕ, ◌+◌, ◌<◌, ◌++◌, ◌∷◌, [], All, false, length, slice_index_or};
+ghost use Rattle.tally_base.specs.declared.event.Event.{Event};
+ghost use Rattle.event_block.specs.Codes.{kind_of};
+ghost use Rattle.event_block.specs.Columns.{gathered, events_in};
+ghost use Rattle.gate_plan.specs.Groups.{groups_of, groups_in};
+ghost use Rattle.tally_engine.specs.Give.{CanTake, Took, Moves, Closed, kept_of};
+ghost use Rattle.tally_engine.specs.Histories.{with_groups};
 
+use crate::part::Part;
+use event_block::Block;
+use gate_plan::Gates;
 use std::sync::ledger::Ledger;
 use tally_base::{Event, Steps, Tally};
 
-/// Gives an event to every table.
-pub(crate) fn give_all<T: Tally, L: Ledger>(
-    parts: &mut [T],
-    e: &Event,
-    groups: u64,
+/// Gives an event to a block behind its others, unless it is late. Where the block is full, its events
+/// first go to every table.
+#[inline(always)]
+pub(crate) fn gather<L: Ledger>(
+    gates: &Gates,
+    event: &Event,
+    late: bool,
+    parts: &mut [Part],
+    block: &mut Block,
     steps: &mut Steps<L>,
 )
-    requires may { All (CanTake T.Tally e.now) parts.old }
-    ensures took { (k : ℕ) (d : T) → k < length parts.old
-        → Took T.Tally e.now groups (slice_index_or parts.old k d) (slice_index_or parts.new k d) }
+    requires may { All (CanTake ⟦<Part as Tally>⟧ (gathered block.old ++ kept_of late event.now)) parts.old }
+    ensures moves { (k : ℕ) (d : Part) → k < length parts.old
+        → Moves ⟦<Part as Tally>⟧ (groups_of gates.now) (gathered block.old)
+        (gathered block.new) (kept_of late event.now) (slice_index_or parts.old k d)
+        (slice_index_or parts.new k d) }
+{
+    if !late && !parts.is_empty() {
+        gather_one(gates, event, parts, block, steps);
+    }
+}
+
+/// Gives an event to a block behind its others. Where it is full, its events first go to every table.
+#[inline(always)]
+fn gather_one<L: Ledger>(
+    gates: &Gates,
+    event: &Event,
+    parts: &mut [Part],
+    block: &mut Block,
+    steps: &mut Steps<L>,
+)
+    requires may { All (CanTake ⟦<Part as Tally>⟧ (gathered block.old ++ event.now ∷ [])) parts.old }
+    ensures moves { (k : ℕ) (d : Part) → k < length parts.old
+        → Moves ⟦<Part as Tally>⟧ (groups_of gates.now) (gathered block.old)
+        (gathered block.new) (event.now ∷ []) (slice_index_or parts.old k d)
+        (slice_index_or parts.new k d) }
+{
+    make_room(gates, parts, block, steps);
+    block.push(event);
+}
+
+/// Gives the events of a block to every table, if it is full.
+#[inline(always)]
+fn make_room<L: Ledger>(
+    gates: &Gates,
+    parts: &mut [Part],
+    block: &mut Block,
+    steps: &mut Steps<L>,
+)
+    requires may { All (CanTake ⟦<Part as Tally>⟧ (gathered block.old)) parts.old }
+    ensures room { length (gathered block.new) < 64 }
+    ensures moves { (k : ℕ) (d : Part) → k < length parts.old
+        → Moves ⟦<Part as Tally>⟧ (groups_of gates.now) (gathered block.old)
+        (gathered block.new) [] (slice_index_or parts.old k d) (slice_index_or parts.new k d) }
+{
+    if block.len() == 64 {
+        flush(gates, parts, block, steps);
+    }
+}
+
+/// Gives the events of a block to every table, each with its groups.
+#[inline(never)]
+pub(crate) fn flush<L: Ledger>(
+    gates: &Gates,
+    parts: &mut [Part],
+    block: &mut Block,
+    steps: &mut Steps<L>,
+)
+    requires may { All (CanTake ⟦<Part as Tally>⟧ (gathered block.old)) parts.old }
+    ensures empty { gathered block.new ≡ [] }
+    ensures took { (k : ℕ) (d : Part) → k < length parts.old
+        → Took ⟦<Part as Tally>⟧ (gathered block.old)
+        (with_groups (groups_of gates.now) (gathered block.old)) (slice_index_or parts.old k d)
+        (slice_index_or parts.new k d) }
+{
+    sort(gates, block);
+    give_all(parts, block, steps);
+    block.clear();
+}
+
+/// Finds the groups of the events of a block.
+fn sort(gates: &Gates, block: &mut Block)
+    ensures same { gathered block.new ≡ gathered block.old }
+    ensures sorted { events_in block.new
+        ≡ with_groups (groups_of gates.now) (gathered block.old) }
+{
+    for at in 0..block.len().min(64) {
+        let groups = groups_at(gates, block.code(at), block.dtime(at));
+        block.put(at, groups);
+    }
+}
+
+/// The groups of an event in a block.
+#[inline(always)]
+fn groups_at(gates: &Gates, code: u16, dtime: u16) -> u64
+    ensures { (e : Event) → e.kind ≡ kind_of code dtime
+        → result ≡ groups_in (groups_of gates.now) e }
+{
+    if code < 256 {
+        gates.of_photon(code as u8, dtime)
+    } else {
+        0
+    }
+}
+
+/// Gives the events of a block to every table.
+fn give_all<L: Ledger>(parts: &mut [Part], block: &Block, steps: &mut Steps<L>)
+    requires may { All (CanTake ⟦<Part as Tally>⟧ (gathered block.now)) parts.old }
+    ensures took { (k : ℕ) (d : Part) → k < length parts.old
+        → Took ⟦<Part as Tally>⟧ (gathered block.now) (events_in block.now)
+        (slice_index_or parts.old k d) (slice_index_or parts.new k d) }
 {
     for part in parts.iter_mut() {
-        part.event(e, groups, steps);
+        part.events(block, steps);
     }
 }
 

@@ -1,5 +1,5 @@
 // The taker of a stream's events that gives them to every table.
-ghost use Rattle.std.specs.Prelude.{◌≡◌, ◌≢◌, ℕ, ◌+◌, ◌*◌, ◌^◌, ◌<◌, ◌≤◌, ◌++◌, List, All, length, false, None, Some, Err, OnOk, IfErr, slice_index_or, if◌then◌else◌, ◌&&◌, not};
+ghost use Rattle.std.specs.Prelude.{◌≡◌, ◌≢◌, ℕ, ◌+◌, ◌*◌, ◌^◌, ◌<◌, ◌≤◌, ◌++◌, [], List, All, length, false, None, Some, Err, OnOk, IfErr, slice_index_or, if◌then◌else◌, ◌&&◌, not};
 ghost use Rattle.tally_base.specs.declared.fault.Fault.{Fault};
 ghost use Rattle.tally_base.specs.declared.fault.Fault.TheVariants.{WriteFault};
 ghost use Rattle.tally_base.specs.Events.{is_ordered};
@@ -8,13 +8,18 @@ ghost use Rattle.ptu_definitions.specs.Streams.{record_refusal, streamed};
 ghost use Rattle.ptu_definitions.specs.Words.{words_of};
 ghost use Rattle.record_stream.specs.Standing.{how_of, given_by, top_of, refused_with, bytes_in, HasStreamed};
 ghost use Rattle.tally_base.specs.Faults.{fault_in};
-ghost use Rattle.tally_engine.specs.Histories.{history};
+ghost use Rattle.tally_engine.specs.Histories.{history, with_groups};
 ghost use Rattle.tally_engine.specs.Same.{SameTables};
-ghost use Rattle.gate_plan.specs.Groups.{groups_of, groups_in};
-ghost use Rattle.tally_engine.specs.Give.{CanTake};
-ghost use Rattle.tally_engine.specs.Taker.{Standing, TookUnless};
+ghost use Rattle.gate_plan.specs.Groups.{groups_of};
+ghost use Rattle.event_block.specs.Columns.{gathered};
+ghost use Rattle.event_block.proofs.Props.{in_order-prop};
+ghost use Rattle.std.proofs.Props.{props};
+ghost use Rattle.tally_engine.specs.Give.{CanTake, Took};
+ghost use Rattle.tally_engine.specs.Taker.{Standing, Waits};
 
-use crate::give::give_all;
+use crate::give::{flush, gather};
+use crate::part::Part;
+use event_block::Block;
 use gate_plan::Gates;
 use record_stream::{EventTaker, RecordStream};
 use std::sync::ledger::Ledger;
@@ -29,24 +34,27 @@ pub(crate) struct Reached {
     pub(crate) floor: u64,
 }
 
-/// Gives each event that isn't late to every table, with its groups. It lives for one piece.
+/// Gives each event that isn't late to every table, with its groups. It gathers up to 64 of them in a
+/// block, so that the kind of a table is tested once for many events. It lives for one piece.
 #[derive(Drop)]
-struct Taker<'g, 'p, 's, T: Tally, L: Ledger> {
+struct Taker<'g, 'p, 's, L: Ledger> {
     gates: &'g Gates,
-    parts: &'p mut [T],
+    parts: &'p mut [Part],
     steps: &'s mut Steps<L>,
     mode: Mode,
     taken: u64,
     floor: u64,
-    ghost standing: { All (Standing T.Tally mode taken floor) parts.now },
+    block: Block,
+    ghost waiting: { All (Waits ⟦<Part as Tally>⟧ mode taken floor (gathered block)) parts.now } by { Prim.hlevel (props, in_order-prop) },
+    ghost limit: { 0 < length (gathered block) → taken ≤ 2 ^ 40 },
 }
 
-impl<'g, 'p, 's, T: Tally, L: Ledger> EventTaker for Taker<'g, 'p, 's, T, L> {
+impl<'g, 'p, 's, L: Ledger> EventTaker for Taker<'g, 'p, 's, L> {
     ghost use Rattle.tally_engine.specs.Same.{SameTaker, same_taker_none, same_taker_more};
     ghost use Rattle.tally_engine.specs.Taker.{Gave, gave_none};
 
-    ghost got = { λ s t l. Gave T.Tally (groups_of s.gates.now) (groups_of t.gates.now) s.mode t.mode
-        s.taken t.taken s.floor t.floor s.parts.now t.parts.now l };
+    ghost got = { λ s t l. Gave ⟦<Part as Tally>⟧ (groups_of s.gates.now) (groups_of t.gates.now) s.mode
+        t.mode s.taken t.taken s.floor t.floor (gathered s.block) (gathered t.block) s.parts.now t.parts.now l };
 
     ghost broke = { λ s t l. ⊥ };
 
@@ -58,44 +66,25 @@ impl<'g, 'p, 's, T: Tally, L: Ledger> EventTaker for Taker<'g, 'p, 's, T, L> {
 
     ghost faults = { λ t. 0 };
 
-    ghost same = { λ t u. SameTaker T.Tally t.parts.ghost_name u.parts.ghost_name t.steps.ghost_name
+    ghost same = { λ t u. SameTaker ⟦<Part as Tally>⟧ t.parts.ghost_name u.parts.ghost_name t.steps.ghost_name
         u.steps.ghost_name t.parts.now u.parts.now };
 
-    ghost got_none = { λ t. gave_none T.Tally.own _ _ _ _ _ };
+    ghost got_none = { λ t. gave_none ⟦<Part as Tally>⟧ _ _ _ _ _ _ };
 
     ghost taken_is = { λ s t l is. is.counted };
 
     ghost floor_is = { λ s t l is. is.moved };
 
-    ghost same_none = { λ t. same_taker_none T.Tally.own _ _ _ };
+    ghost same_none = { λ t. same_taker_none ⟦<Part as Tally>⟧ _ _ _ };
 
-    ghost same_more = { λ t u v. same_taker_more T.Tally.own _ _ _ _ _ _ _ _ _ };
+    ghost same_more = { λ t u v. same_taker_more ⟦<Part as Tally>⟧ _ _ _ _ _ _ _ _ _ };
 
     #[inline(always)]
     fn take(&mut self, event: &Event, late: bool) -> Result<(), Failed> {
-        give(self.gates, event, late, self.parts, self.steps);
+        gather(self.gates, event, late, self.parts, &mut self.block, self.steps);
         self.taken += 1;
         self.floor = moved(self.mode, event, late, self.floor);
         Ok(())
-    }
-}
-
-/// Gives an event to every table, with its groups, unless it is late.
-#[inline(always)]
-fn give<T: Tally, L: Ledger>(
-    gates: &Gates,
-    event: &Event,
-    late: bool,
-    parts: &mut [T],
-    steps: &mut Steps<L>,
-)
-    requires may { late ≡ false → All (CanTake T.Tally event.now) parts.old }
-    ensures took { (k : ℕ) (d : T) → k < length parts.old
-        → TookUnless T.Tally late event.now (groups_in (groups_of gates.now) event.now)
-        (slice_index_or parts.old k d) (slice_index_or parts.new k d) }
-{
-    if !late && !parts.is_empty() {
-        give_all(parts, event, gates.groups(event), steps);
     }
 }
 
@@ -112,17 +101,17 @@ fn moved(mode: Mode, event: &Event, late: bool, floor: u64) -> u64
 }
 
 /// Takes a piece of the bytes of a stream, and gives each of its events that isn't late to every table.
-pub(crate) fn feed_parts<T: Tally, L: Ledger>(
+pub(crate) fn feed_parts<L: Ledger>(
     stream: &mut RecordStream,
     piece: &[u8],
     mode: Mode,
     gates: &Gates,
-    parts: &mut [T],
+    parts: &mut [Part],
     reached: &mut Reached,
     steps: &mut Steps<L>,
 ) -> Result<(), Fault>
     requires mode { mode ≡ (how_of stream.old).mode }
-    requires standing { All (Standing T.Tally mode reached.old.taken reached.old.floor) parts.old }
+    requires standing { All (Standing ⟦<Part as Tally>⟧ mode reached.old.taken reached.old.floor) parts.old }
     requires few { refused_with stream.old ≡ None → reached.old.taken ≤ given_by stream.old }
     requires before { refused_with stream.old ≡ None → reached.old.floor ≤ top_of stream.old }
     ensures taken { (bytes : List ℕ) → HasStreamed stream.old bytes
@@ -131,15 +120,15 @@ pub(crate) fn feed_parts<T: Tally, L: Ledger>(
         → HasStreamed stream.old bytes
         → fault_in result ≡ record_refusal (how_of stream.old) (words_of (bytes ++ piece.now)) }
     ensures counts { (bytes : List ℕ) → HasStreamed stream.old bytes → OnOk result
-        (All (λ t. T.holds t (history (groups_of gates.now) (how_of stream.old)
+        (All (λ t. ⟦<Part as Tally>⟧.holds t (history (groups_of gates.now) (how_of stream.old)
         (words_of bytes))) parts.old
-        → All (λ t. T.holds t (history (groups_of gates.now) (how_of stream.old)
+        → All (λ t. ⟦<Part as Tally>⟧.holds t (history (groups_of gates.now) (how_of stream.old)
         (words_of (bytes ++ piece.now)))) parts.new) }
     ensures kept { (fault : Fault) → refused_with stream.old ≡ Some fault
         → (result ≡ Err fault) × (stream.new ≡ stream.old) × (parts.new ≡ parts.old)
         × (reached.new ≡ reached.old) }
     ensures refused { refused_with stream.new ≡ fault_in result }
-    ensures standing { All (Standing T.Tally mode reached.new.taken reached.new.floor) parts.new }
+    ensures standing { All (Standing ⟦<Part as Tally>⟧ mode reached.new.taken reached.new.floor) parts.new }
     ensures few { OnOk result (reached.new.taken ≤ given_by stream.new) }
     ensures before { OnOk result (reached.new.floor ≤ top_of stream.new) }
     ensures counted { OnOk result (bytes_in stream.new ≡ bytes_in stream.old + length piece.now) }
@@ -148,7 +137,7 @@ pub(crate) fn feed_parts<T: Tally, L: Ledger>(
         → IfErr result (λ fault. fault ≢ WriteFault → Shows (streamed (how_of stream.old))
         (bytes ++ piece.now) (Err fault)) }
     ensures same_how { how_of stream.new ≡ how_of stream.old }
-    ensures same_tables { SameTables T.Tally parts.old parts.new }
+    ensures same_tables { SameTables ⟦<Part as Tally>⟧ parts.old parts.new }
 {
     let mut taker = Taker {
         gates,
@@ -157,11 +146,40 @@ pub(crate) fn feed_parts<T: Tally, L: Ledger>(
         mode,
         taken: reached.taken,
         floor: reached.floor,
+        block: Block::new(),
     };
     let fed = stream.feed(piece, &mut taker);
-    *reached = Reached {
-        taken: taker.taken,
-        floor: taker.floor,
-    };
+    let Taker {
+        gates,
+        parts,
+        steps,
+        mode: _,
+        taken,
+        floor,
+        mut block,
+    } = taker;
+    give_rest(gates, parts, &mut block, steps);
+    *reached = Reached { taken, floor };
     fed
+}
+
+/// Gives the last events of a piece to every table.
+fn give_rest<L: Ledger>(
+    gates: &Gates,
+    parts: &mut [Part],
+    block: &mut Block,
+    steps: &mut Steps<L>,
+)
+    requires open { All (λ t. ⟦<Part as Tally>⟧.closed t ≡ false) parts.old }
+    requires may { 0 < length (gathered block.old)
+        → All (CanTake ⟦<Part as Tally>⟧ (gathered block.old)) parts.old }
+    ensures kept { gathered block.old ≡ [] → parts.new ≡ parts.old }
+    ensures took { (k : ℕ) (d : Part) → k < length parts.old
+        → Took ⟦<Part as Tally>⟧ (gathered block.old)
+        (with_groups (groups_of gates.now) (gathered block.old)) (slice_index_or parts.old k d)
+        (slice_index_or parts.new k d) }
+{
+    if block.len() > 0 {
+        flush(gates, parts, block, steps);
+    }
 }

@@ -1,7 +1,11 @@
 // A histogram of photons by their dtimes.
-ghost use Rattle.std.specs.Prelude.{◌≡◌, ◌+◌, ◌≤◌, vec_len, sum};
+ghost use Rattle.std.specs.Prelude.{◌≡◌, ◌+◌, ◌*◌, ◌/◌, ◌^◌, ◌<◌, ◌≤◌, ℕ, vec_len, sum, length, slice_index, nat_le, ◌==◌, if◌then◌else◌};
+ghost use Rattle.tally_base.specs.Settings.{hist_view};
 ghost use Rattle.tally_base.specs.Tally.{History};
+ghost use Rattle.event_block.specs.Columns.{gathered, events_in};
+ghost use Rattle.tcspc_hist.specs.Counts.{in_bin, past_bins};
 
+use event_block::Block;
 use std::alloc::{AllocError, Global};
 use std::sync::ledger::Ledger;
 use tally_base::{Event, EventKind, HistSet, Steps, Tally, is_in};
@@ -23,10 +27,9 @@ pub struct Hist {
 }
 
 impl Hist {
-    ghost use Rattle.std.specs.Prelude.{◌≡◌, ◌<◌, IfOk, [], false};
-    ghost use Rattle.tally_base.specs.Settings.{hist_view};
+    ghost use Rattle.std.specs.Prelude.{◌++◌, IfOk, [], false};
     ghost use Rattle.tally_base.specs.Settings.PartSettings.{HistSettings};
-    ghost use Rattle.tcspc_hist.specs.Counts.{in_bin, past_bins};
+    ghost use Rattle.event_block.specs.Order.{floor_after, InOrder};
     ghost use Rattle.tcspc_hist.specs.Hist.{Holds, set_of};
 
     /// A histogram of no events, with all the memory that it ever takes, or `AllocError` where it is wanting.
@@ -71,6 +74,78 @@ impl Hist {
     {
         self.over
     }
+
+    /// Takes the events of a block, as `event` does one by one.
+    pub fn events(&mut self, block: &Block)
+        requires open { ⟦<Hist as Tally>⟧.closed self.old ≡ false }
+        requires room { ⟦<Hist as Tally>⟧.taken self.old + length (gathered block.now) ≤ 2 ^ 40 }
+        requires in_order { InOrder false (⟦<Hist as Tally>⟧.floor self.old) (gathered block.now) }
+        ensures follows { (h : History) → Holds self.old h
+            → Holds self.new (h ++ events_in block.now) }
+        ensures still_open { ⟦<Hist as Tally>⟧.closed self.new ≡ false }
+        ensures more { ⟦<Hist as Tally>⟧.taken self.new
+            ≡ ⟦<Hist as Tally>⟧.taken self.old + length (gathered block.now) }
+        ensures moved { ⟦<Hist as Tally>⟧.floor self.new
+            ≡ floor_after false (⟦<Hist as Tally>⟧.floor self.old) (gathered block.now) }
+        ensures same_settings { ⟦<Hist as Tally>⟧.settings self.new
+            ≡ ⟦<Hist as Tally>⟧.settings self.old }
+    {
+        self.taken += block.len() as u64;
+        self.floor = block.floor_after(false, self.floor);
+        self.over = count_block(&self.set, &mut self.cells, self.over, block);
+    }
+}
+
+/// Counts the photons of a block, and answers how many are now past the last bin.
+fn count_block(set: &HistSet, cells: &mut [u64], over: u64, block: &Block) -> u64
+    requires sized { length cells.old ≡ set.now.bins }
+    requires room { sum cells.old + over + length (gathered block.now) ≤ 2 ^ 40 }
+    ensures cells { (b : ℕ) → b < set.now.bins → slice_index cells.new b
+        ≡ slice_index cells.old b + in_bin (hist_view set.now) b (events_in block.now) }
+    ensures over { result ≡ over + past_bins (hist_view set.now) (events_in block.now) }
+    ensures few { sum cells.new + result ≤ sum cells.old + over + length (gathered block.now) }
+{
+    let group = set.group;
+    let width = set.width;
+    let mut over = over;
+    for at in 0..block.len().min(64) {
+        // No branch on the group, which is as good as random from photon to photon.
+        let more = block.photons_in(at, group);
+        let bin = bin_of(width, block.dtime(at));
+        over += put(cells, bin, more);
+    }
+    over
+}
+
+/// Adds to the cell of a bin, or answers what is to be added past the last.
+#[inline(always)]
+fn put(cells: &mut [u64], bin: u32, more: u64) -> u64
+    requires { sum cells.old + more < 2 ^ 64 }
+    ensures cells { (b : ℕ) → b < length cells.old → slice_index cells.new b
+        ≡ slice_index cells.old b + (if bin == b then more else 0) }
+    ensures rest { result ≡ (if nat_le (length cells.old) bin then more else 0) }
+    ensures sum { sum cells.new + result ≡ sum cells.old + more }
+{
+    let bin = bin as usize;
+    if bin < cells.len() {
+        cells[bin] += more;
+        0
+    } else {
+        more
+    }
+}
+
+/// The bin of a dtime, or the one where it would be behind the last. Bins of one tick need no division.
+#[inline(always)]
+fn bin_of(width: u32, dtime: u16) -> u32
+    requires { 0 < width }
+    ensures { result ≡ dtime / width }
+{
+    if width == 1 {
+        u32::from(dtime)
+    } else {
+        u32::from(dtime) / width
+    }
 }
 
 impl Tally for Hist {
@@ -96,17 +171,18 @@ impl Tally for Hist {
 
     ghost within = { within_bound };
 
+    #[inline(always)]
     fn event<L: Ledger>(&mut self, e: &Event, groups: u64, _steps: &mut Steps<L>) {
         self.taken += 1;
         if let EventKind::Photon { dtime, .. } = e.kind {
             self.floor = e.time;
-            if is_in(groups, self.set.group) {
-                let bin = u32::from(dtime) / self.set.width;
-                if bin < self.set.bins {
-                    self.cells[bin as usize] += 1;
-                } else {
-                    self.over += 1;
-                }
+            // No branch on the group, which is as good as random from photon to photon.
+            let more = u64::from(is_in(groups, self.set.group));
+            let bin = bin_of(self.set.width, dtime);
+            if bin < self.set.bins {
+                self.cells[bin as usize] += more;
+            } else {
+                self.over += more;
             }
         }
     }

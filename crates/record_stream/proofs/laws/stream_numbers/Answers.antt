@@ -5,4 +5,4 @@ pub returns-clause-given : goal.returns-clause-given
 returns-clause-given c = λ stream bytes h none. given-count _ _ _ _ _ _ bytes h none
 
 pub returns-clause-top : goal.returns-clause-top
-returns-clause-top c = λ stream bytes h none. given-top _ _ _ _ _ _ bytes stream.same_mode h none
+returns-clause-top c = λ stream bytes h none. given-top _ _ _ _ _ _ bytes stream.walk.same_mode h none

@@ -1,79 +1,41 @@
-use Rattle.std.proofs.Common.{rules, [], ◌∷◌, ◌++◌, ◌≡◌, ◌+◌, ◌-◌, ◌<◌, length, ℕ, Bool, true, false, Some, ◌/◌, arith, eqb, leb, cond, sym, ◌∙◌}
+use Rattle.std.proofs.Common.{rules, [], ◌∷◌, ◌++◌, ◌≡◌, ◌∙◌, ◌+◌, ◌-◌, ◌<◌, ◌/◌, length, ℕ, Bool, true, arith, sym, refl}
+use Rattle.std.specs.Prelude.{nat_le, ◌==◌, if◌then◌else◌}
 use Rattle.std.proofs.lemmas.Grind.{common_steps}
 use Rattle.tally_base.specs.declared.event.Event.{Event}
 use Rattle.tally_base.specs.Settings.{startstop_view}
 use Rattle.tally_base.specs.Events.{is_photon, is_in}
-use Rattle.tally_base.proofs.Cells.{raised}
+use Rattle.coincidence.specs.Ends.{since_or, ended}
 use Rattle.coincidence.specs.Intervals.{in_interval, count_intervals}
-use Rattle.coincidence.proofs.Intervals.{count-photon, count-passing, count-unstarted, start-photon}
+use Rattle.coincidence.proofs.Ends.{ends_as}
+use Rattle.coincidence.proofs.Slices.{whole_slice}
+use Rattle.coincidence.proofs.Intervals.{count-photon, start-photon}
 use Rattle.coincidence.proofs.start_stop.StartStopTally.event.Goals as goal
 
-pub returns-then-bin-from-clause-follows : goal.returns-then-bin-from-clause-follows
-returns-then-bin-from-clause-follows g c = λ h is.
-    let t = c.args.self.now in
-    let set = startstop_view t.set in
-    let x : Event × ℕ = (c.args.e.now, c.args.groups) in
-    let bin = (c.args.e.now.time - c.in-Some.since) / t.set.width in
-    let later = h ++ x ∷ [] in
-    let inside : bin < length t.cells.items = search rules in
-    let photon : is_photon c.args.e.now ≡ true = search rules in
-    let stops : is_in c.args.groups t.set.stop ≡ true = search rules in
-    let was = sym is.start ∙ c.in-Some.is in
-    let step : (b : ℕ) → in_interval set b later ≡ in_interval set b h + cond (eqb bin b) 1 0 = λ b. count-photon set (λ time. eqb (time / t.set.width) b) h x true (Some c.in-Some.since) photon stops was in
-    let past = count-photon set (λ time. leb t.set.bins (time / t.set.width)) h x true (Some c.in-Some.since) photon stops was in
-    record {
-      cells = raised t.cells.items t.set.bins bin _ (λ b. in_interval set b h) (λ b. in_interval set b later) inside c.index_mut.ensures.value is.cells step;
-      over = grind (arith, common_steps, past, is.over);
-      start = rw (start-photon set h x _ _ _ photon (sym c.is_in.ensures) (sym c.is_in-stops.ensures) (sym is.start)) c.start_behind-self.ensures;
-      taken = grind (arith, common_steps, is.taken);
-      floor = grind (arith, common_steps, is.floor);
-    }
-
-pub returns-else-bin-from-clause-follows : goal.returns-else-bin-from-clause-follows
-returns-else-bin-from-clause-follows g c = λ h is.
-    let t = c.args.self.now in
-    let set = startstop_view t.set in
-    let x : Event × ℕ = (c.args.e.now, c.args.groups) in
-    let bin = (c.args.e.now.time - c.in-Some.since) / t.set.width in
-    let photon : is_photon c.args.e.now ≡ true = search rules in
-    let stops : is_in c.args.groups t.set.stop ≡ true = search rules in
-    let was = sym is.start ∙ c.in-Some.is in
-    let step : (b : ℕ) → in_interval set b (h ++ x ∷ []) ≡ in_interval set b h + cond (eqb bin b) 1 0 = λ b. count-photon set (λ time. eqb (time / t.set.width) b) h x true (Some c.in-Some.since) photon stops was in
-    let past = count-photon set (λ time. leb t.set.bins (time / t.set.width)) h x true (Some c.in-Some.since) photon stops was in
-    record {
-      cells = λ b in_range. grind (arith, common_steps, is.cells b in_range, step b);
-      over = grind (arith, common_steps, past, is.over);
-      start = rw (start-photon set h x _ _ _ photon (sym c.is_in.ensures) (sym c.is_in-stops.ensures) (sym is.start)) c.start_behind-self.ensures;
-      taken = grind (arith, common_steps, is.taken);
-      floor = grind (arith, common_steps, is.floor);
-    }
-
-pub returns-in_default-clause-follows : goal.returns-in_default-clause-follows
-returns-in_default-clause-follows g c = λ h is.
+pub returns-then-is_photon-clause-follows : goal.returns-then-is_photon-clause-follows
+returns-then-is_photon-clause-follows g c = λ h is.
     let t = c.args.self.now in
     let set = startstop_view t.set in
     let x : Event × ℕ = (c.args.e.now, c.args.groups) in
     let photon : is_photon c.args.e.now ≡ true = search rules in
-    let same : (test : ℕ → Bool) → count_intervals set test (h ++ x ∷ []) ≡ count_intervals set test h = λ test. count-unstarted set test h x photon (sym is.start ∙ c.in_default.is) in
+    let time = c.args.e.now.time in
+    let stops = is_in c.args.groups t.set.stop in
+    let put = rw c.deref_mut.ensures.value at c.put.ensures in
+    let count : length c.put.new.cells ≡ length t.cells.items = search rules in
+    let all : t.cells.len ≡ length t.cells.items = search rules in
+    let sized : length t.cells.items ≡ t.set.bins = search rules in
+    let bin = c.bin_of-bin.result in
+    let more = c.ended.result in
+    let is_bin : bin ≡ (time - since_or time t.start) / t.set.width = search rules in
+    let is_more : more ≡ ended stops t.start = search rules in
+    let step : (test : ℕ → Bool) → count_intervals set test (h ++ x ∷ []) ≡ count_intervals set test h + (if test (time - since_or time t.start) then ended stops t.start else 0) = λ test. rw (← ends_as test time stops t.start) (count-photon set test h x stops t.start photon refl (sym is.start)) in
     record {
-      cells = λ b in_range. rw (same (λ time. eqb (time / t.set.width) b)) (is.cells b in_range);
-      over = rw (same (λ time. leb t.set.bins (time / t.set.width))) is.over;
-      start = rw (start-photon set h x _ _ _ photon (sym c.is_in.ensures) (sym c.is_in-stops.ensures) (sym is.start)) c.start_behind-self.ensures;
-      taken = grind (arith, common_steps, is.taken);
-      floor = grind (arith, common_steps, is.floor);
-    }
-
-pub returns-else-stops-clause-follows : goal.returns-else-stops-clause-follows
-returns-else-stops-clause-follows g c = λ h is.
-    let t = c.args.self.now in
-    let set = startstop_view t.set in
-    let x : Event × ℕ = (c.args.e.now, c.args.groups) in
-    let photon : is_photon c.args.e.now ≡ true = search rules in
-    let passes : is_in c.args.groups t.set.stop ≡ false = search rules in
-    let same : (test : ℕ → Bool) → count_intervals set test (h ++ x ∷ []) ≡ count_intervals set test h = λ test. count-passing set test h x photon passes in
-    record {
-      cells = λ b in_range. rw (same (λ time. eqb (time / t.set.width) b)) (is.cells b in_range);
-      over = rw (same (λ time. leb t.set.bins (time / t.set.width))) is.over;
+      cells = λ b lt.
+          let inside : b < length t.cells.items = omega (arith, sized, lt) in
+          let added : (if bin == b then more else 0) ≡ (if (time - since_or time t.start) / t.set.width == b then ended stops t.start else 0) = rw (is_bin, is_more) refl in
+          rw (whole_slice c.put.new.cells t.cells.items t.cells.len count all) (omega (arith, put.cells b inside, is.cells b lt, step (λ time. time / t.set.width == b), added));
+      over =
+          let added : (if nat_le (length t.cells.items) bin then more else 0) ≡ (if nat_le t.set.bins ((time - since_or time t.start) / t.set.width) then ended stops t.start else 0) = rw (sized, is_bin, is_more) refl in
+          omega (arith, put.rest, is.over, step (λ time. nat_le t.set.bins (time / t.set.width)), added);
       start = rw (start-photon set h x _ _ _ photon (sym c.is_in.ensures) (sym c.is_in-stops.ensures) (sym is.start)) c.start_behind-self.ensures;
       taken = grind (arith, common_steps, is.taken);
       floor = grind (arith, common_steps, is.floor);

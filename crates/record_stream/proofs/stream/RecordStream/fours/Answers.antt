@@ -22,4 +22,4 @@ returns-clause-fed g c = λ before h.
     rw e at (c.in_ok-words.ensures.fed before h)
 
 pub returns-clause-carried : goal.returns-clause-carried
-returns-clause-carried g c = c.put_text.ensures.items ∙ rw (c.words.ensures.same_carried, c.requires.none) (c.as_chunks.ensures.back ∙ drop-chunks c.args.piece.now)
+returns-clause-carried g c = c.put_text.ensures.items ∙ rw c.requires.none (c.as_chunks.ensures.back ∙ drop-chunks c.args.piece.now)

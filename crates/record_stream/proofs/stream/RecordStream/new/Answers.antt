@@ -6,8 +6,8 @@ use Rattle.record_stream.proofs.stream.RecordStream.new.Goals as goal
 
 pub returns-clause-empty : goal.returns-clause-empty
 unfolding refusals summary events marked kept
-returns-clause-empty c = (c.new.ensures, record { clear = refl; placed = c.new-2.ensures.empty; summary = refl; counted = refl })
+returns-clause-empty c = (c.new-2.ensures, record { clear = refl; placed = c.new.ensures.empty; summary = refl; counted = refl })
 
 pub returns-clause-top : goal.returns-clause-top
 unfolding events
-returns-clause-top c = c.new-2.ensures.empty.greatest
+returns-clause-top c = c.new.ensures.empty.greatest

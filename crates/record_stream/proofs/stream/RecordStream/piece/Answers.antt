@@ -3,7 +3,8 @@ use Rattle.std.proofs.lemmas.Result.{err_from_is_err_and}
 use Rattle.byteorder.specs.Endian.{little_number}
 use Rattle.ptu_definitions.specs.Words.{words_of}
 use Rattle.record_stream.specs.Feeding.{Fed}
-use Rattle.record_stream.specs.Standing.{how_of, IsBehind}
+use Rattle.record_stream.specs.Standing.{how_of}
+use Rattle.record_stream.specs.Walking.{IsBehind}
 use Rattle.record_stream.proofs.Feeds.{GaveOn-refl, Fed-trans, Fed-more}
 use Rattle.record_stream.proofs.Fours.{word_in, none-words, none-rest, few-words, few-rest, four-words, four-rest, little_number-word}
 use Rattle.record_stream.proofs.Lasts.{on_both, unrefused}

@@ -1,7 +1,7 @@
 use Rattle.std.proofs.Common.{rules, [], ◌∷◌, ◌++◌, ◌≡◌, ◌+◌, ◌<◌, length, ℕ, ◌/◌, arith, eqb, cond}
 use Rattle.std.proofs.lemmas.Grind.{common_steps}
 use Rattle.tally_base.specs.Settings.{hist_view}
-use Rattle.tally_base.proofs.Cells.{raised}
+use Rattle.tcspc_hist.proofs.Cells.{raised_by}
 use Rattle.tcspc_hist.specs.Counts.{in_bin}
 use Rattle.tcspc_hist.proofs.hist.HistTally.event.Goals as goal
 
@@ -9,12 +9,13 @@ pub returns-then-bin-self-clause-follows : goal.returns-then-bin-self-clause-fol
 returns-then-bin-self-clause-follows g c = λ h is.
     let t = c.args.self.now in
     let set = hist_view t.set in
-    let bin = c.from.result / t.set.width in
+    let bin = c.bin_of-bin.result in
+    let more = c.from-more.result in
     let later = h ++ (c.args.e.now, c.args.groups) ∷ [] in
     let inside : bin < length t.cells.items = search rules in
-    let step : (b : ℕ) → in_bin set b later ≡ in_bin set b h + cond (eqb bin b) 1 0 = λ b. grind (arith, common_steps) in
+    let step : (b : ℕ) → in_bin set b later ≡ in_bin set b h + cond (eqb bin b) more 0 = λ b. grind (arith, common_steps) in
     record {
-      cells = raised t.cells.items t.set.bins bin _ (λ b. in_bin set b h) (λ b. in_bin set b later) inside c.index_mut.ensures.value is.cells step;
+      cells = raised_by t.cells.items t.set.bins bin _ more (λ b. in_bin set b h) (λ b. in_bin set b later) inside c.index_mut.ensures.value is.cells step;
       over = grind (arith, common_steps, is.over);
       taken = grind (arith, common_steps, is.taken);
       floor = grind (arith, common_steps, is.floor);

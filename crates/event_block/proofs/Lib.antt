@@ -1,0 +1,5 @@
+pub mod Rows
+pub mod Order
+pub mod Props
+pub mod Greatest
+pub mod Back

@@ -1,0 +1,42 @@
+-- One row more.
+use Rattle.std.proofs.Common.{◌≡◌, ◌∙◌, ℕ, zero, suc, ◌+◌, ◌%◌, ◌<◌, List, [], ◌∷◌, ◌++◌, length, get_or, set, refl, arith, length-append}
+use Rattle.std.proofs.lemmas.Grind.{common_steps}
+use Rattle.std.proofs.lemmas.List.{get_or-set_same}
+use Rattle.std.proofs.lemmas.Bool.Decides.{nat_tests}
+use Rattle.tally_base.specs.declared.event.Event.{Event}
+use Rattle.tally_base.specs.declared.event.EventKind.{EventKind}
+use Rattle.tally_base.specs.declared.event.EventKind.TheVariants.{Photon, Marker}
+use Rattle.event_block.specs.Codes.{code_of, dtime_of, kind_of, IsByte}
+use Rattle.event_block.specs.Columns.{row, rows}
+
+pub length-rows : {A : Type 0} (f : ℕ → A) (n : ℕ) → length (rows f n) ≡ n
+length-rows f zero = refl
+length-rows f (suc n) = omega (arith, length-append (rows f n) (f n ∷ []), length-rows f n)
+
+pub same-rows : {A : Type 0} (f g : ℕ → A) (n : ℕ) → ((i : ℕ) → i < n → f i ≡ g i) → rows f n ≡ rows g n
+same-rows f g zero same = refl
+same-rows f g (suc n) same = rw (same-rows f g n (λ i lt. same i (omega (arith, lt))), same n (omega arith)) refl
+
+pub kind-again : (kind : EventKind) → IsByte kind → kind_of (code_of kind) (dtime_of kind) ≡ kind
+kind-again (Photon input dtime) byte = grind (arith, nat_tests)
+kind-again (Marker bits) byte = let e : (256 + bits) % 256 ≡ bits = omega (arith, byte) in grind (arith, nat_tests, e)
+
+pub more_rows : {A : Type 0} (f : ℕ → A) (n : ℕ) → rows f (n + 1) ≡ rows f n ++ f n ∷ []
+more_rows f n = let e : n + 1 ≡ suc n = omega arith in rw e refl
+
+here : (xs : List ℕ) (n v : ℕ) → n < length xs → get_or (set xs n v) n 0 ≡ v
+here xs n v inside = get_or-set_same xs n v 0 inside
+
+other : (xs : List ℕ) (n i v : ℕ) → i < n → get_or (set xs n v) i 0 ≡ get_or xs i 0
+other xs n i v lt = grind (arith, common_steps)
+
+pub rows-push : (places times codes dtimes : List ℕ) (n place time code dtime : ℕ) (e : Event)
+    → n < length places → n < length times → n < length codes → n < length dtimes
+    → IsByte e.kind → place ≡ e.place → time ≡ e.time → code ≡ code_of e.kind → dtime ≡ dtime_of e.kind
+    → rows (row (set places n place) (set times n time) (set codes n code) (set dtimes n dtime)) (n + 1) ≡ rows (row places times codes dtimes) n ++ e ∷ []
+rows-push places times codes dtimes n place time code dtime e in1 in2 in3 in4 byte p t c d =
+    let f = row (set places n place) (set times n time) (set codes n code) (set dtimes n dtime) in
+    let one : rows f (n + 1) ≡ rows f n ++ f n ∷ [] = more_rows f n in
+    let old : rows f n ≡ rows (row places times codes dtimes) n = same-rows f (row places times codes dtimes) n (λ i lt. rw (other places n i place lt, other times n i time lt, other codes n i code lt, other dtimes n i dtime lt) refl) in
+    let new : f n ≡ e = rw (here places n place in1, here times n time in2, here codes n code in3, here dtimes n dtime in4, p, t, c, d, kind-again e.kind byte) refl in
+    one ∙ rw (old, new) refl

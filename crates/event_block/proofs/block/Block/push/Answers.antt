@@ -1,0 +1,10 @@
+use Rattle.std.proofs.Common.{◌<◌, refl, arith, rules}
+use Rattle.event_block.specs.Columns.{row}
+use Rattle.event_block.proofs.Rows.{length-rows, rows-push}
+use Rattle.event_block.proofs.block.Block.push.Goals as goal
+
+pub returns : goal.returns
+returns c =
+    let b = c.args.self.now in
+    let few : b.len < 64 = omega (arith, length-rows (row b.places b.times b.codes b.dtimes) b.len, c.requires) in
+    rows-push b.places b.times b.codes b.dtimes b.len _ _ _ _ c.args.e.now (search (rules, arith, few)) (search (rules, arith, few)) (search (rules, arith, few)) (search (rules, arith, few)) c.code_of.ensures.byte refl refl c.code_of.ensures.value c.dtime_of.ensures

@@ -1,0 +1,41 @@
+-- The events of a block.
+use Rattle.std.specs.Prelude.{ℕ, zero, suc, List, [], ◌∷◌, ◌++◌, slice_index}
+use Rattle.tally_base.specs.declared.event.Event.{Event}
+use Rattle.tally_base.specs.Tally.{History}
+use Rattle.event_block.specs.Codes.{kind_of}
+use Rattle.event_block.specs.declared.block.Block.{Block}
+
+-- the event in row i of the columns
+abbrev pub row : List ℕ → List ℕ → List ℕ → List ℕ → ℕ → Event
+row places times codes dtimes i = record { place = slice_index places i; kind = kind_of (slice_index codes i) (slice_index dtimes i); time = slice_index times i }
+
+-- the first so many rows
+abbrev pub rows : {A : Type 0} → (ℕ → A) → ℕ → List A
+rows f zero = []
+rows f (suc n) = rows f n ++ f n ∷ []
+
+abbrev pub event_at : Block → ℕ → Event
+event_at b i = row b.places b.times b.codes b.dtimes i
+
+abbrev pub groups_at : Block → ℕ → ℕ
+groups_at b i = slice_index b.groups i
+
+abbrev pub code_at : Block → ℕ → ℕ
+code_at b i = slice_index b.codes i
+
+abbrev pub dtime_at : Block → ℕ → ℕ
+dtime_at b i = slice_index b.dtimes i
+
+abbrev pub item : Block → ℕ → Event × ℕ
+item b i = (event_at b i, groups_at b i)
+
+abbrev pub count : Block → ℕ
+count b = b.len
+
+-- its events
+abbrev pub gathered : Block → List Event
+gathered b = rows (event_at b) b.len
+
+-- its events, each with its groups
+abbrev pub events_in : Block → History
+events_in b = rows (item b) b.len

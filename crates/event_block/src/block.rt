@@ -1,0 +1,185 @@
+// Events in columns.
+ghost use Rattle.std.specs.Prelude.{◌≡◌, ◌≤◌};
+ghost use Rattle.event_block.specs.Codes.{code_of, dtime_of, kind_of, IsByte};
+
+use tally_base::{Event, EventKind, is_in};
+
+/// Up to 64 events in columns, each with its groups, so that a table reads only the columns that it needs.
+#[derive(Clone, Copy)]
+pub struct Block {
+    len: usize,
+    places: [u64; 64],
+    times: [u64; 64],
+    // The input of a photon, or 256 and the bits of a marker.
+    codes: [u16; 64],
+    dtimes: [u16; 64],
+    groups: [u64; 64],
+    ghost few: { len ≤ 64 },
+}
+
+impl Block {
+    ghost use Rattle.std.specs.Prelude.{◌≡◌, ◌+◌, ◌<◌, ◌++◌, ◌∷◌, ◌&&◌, [], length, ℕ, nat_lt, if◌then◌else◌};
+    ghost use Rattle.tally_base.specs.Events.{is_in};
+    ghost use Rattle.event_block.specs.Columns.{count, event_at, groups_at, code_at, dtime_at, item, gathered};
+    ghost use Rattle.event_block.specs.Order.{floor_after};
+
+    /// No events.
+    pub fn new() -> Block
+        ensures empty { gathered result ≡ [] }
+    {
+        Block {
+            len: 0,
+            places: [0; 64],
+            times: [0; 64],
+            codes: [0; 64],
+            dtimes: [0; 64],
+            groups: [0; 64],
+        }
+    }
+
+    /// How many events there are.
+    #[inline(always)]
+    pub fn len(&self) -> usize
+        ensures value { result ≡ length (gathered self.now) }
+        ensures count { result ≡ count self.now }
+        ensures few { result ≤ 64 }
+    {
+        self.len
+    }
+
+    /// The event at a place, from 0, with its groups.
+    #[inline(always)]
+    pub fn get(&self, at: usize) -> (Event, u64)
+        requires { at < count self.now }
+        ensures { result ≡ item self.now at }
+    {
+        (self.event(at), self.groups[at])
+    }
+
+    /// The event at a place, from 0.
+    #[inline(always)]
+    pub fn event(&self, at: usize) -> Event
+        requires { at < count self.now }
+        ensures { result ≡ event_at self.now at }
+    {
+        Event {
+            place: self.places[at],
+            kind: kind_of(self.codes[at], self.dtimes[at]),
+            time: self.times[at],
+        }
+    }
+
+    /// The input of the photon at a place, from 0, or at least 256 for a marker.
+    #[inline(always)]
+    pub fn code(&self, at: usize) -> u16
+        requires { at < count self.now }
+        ensures { result ≡ code_at self.now at }
+    {
+        self.codes[at]
+    }
+
+    /// The dtime of the event at a place, from 0. That of a marker has no meaning.
+    #[inline(always)]
+    pub fn dtime(&self, at: usize) -> u16
+        requires { at < count self.now }
+        ensures { result ≡ dtime_at self.now at }
+    {
+        self.dtimes[at]
+    }
+
+    /// 1 where the event at a place, from 0, is a photon of the group, 1 to 64, else 0. It takes no branch.
+    #[inline(always)]
+    pub fn photons_in(&self, at: usize, group: u8) -> u64
+        requires inside { at < count self.now }
+        requires group { (0 < group) × (group ≤ 64) }
+        ensures { result ≡ (if is_in (groups_at self.now at) group && nat_lt (code_at self.now at) 256 then 1 else 0) }
+    {
+        u64::from(is_in(self.groups[at], group) & (self.codes[at] < 256))
+    }
+
+    /// The time of the last event that comes in order, or this one. In a strict order markers come too.
+    pub fn floor_after(&self, strict: bool, floor: u64) -> u64
+        ensures { result ≡ floor_after strict floor (gathered self.now) }
+    {
+        let mut at = self.len().min(64);
+        'back: while at > 0 {
+            at -= 1;
+            let moves = strict | (self.codes[at] < 256);
+            if moves {
+                return self.times[at];
+            }
+        }
+        floor
+    }
+
+    /// Puts an event behind the others. There are fewer than 64. Its groups are to be put.
+    #[inline(always)]
+    pub fn push(&mut self, e: &Event)
+        requires { length (gathered self.old) < 64 }
+        ensures { gathered self.new ≡ gathered self.old ++ e.now ∷ [] }
+    {
+        let at = self.len;
+        self.places[at] = e.place;
+        self.times[at] = e.time;
+        self.codes[at] = code_of(&e.kind);
+        self.dtimes[at] = dtime_of(&e.kind);
+        self.len = at + 1;
+    }
+
+    /// Puts the groups of the event at a place, from 0.
+    #[inline(always)]
+    pub fn put(&mut self, at: usize, groups: u64)
+        requires { at < count self.old }
+        ensures same { (i : ℕ) → event_at self.new i ≡ event_at self.old i }
+        ensures count { count self.new ≡ count self.old }
+        ensures there { groups_at self.new at ≡ groups }
+        ensures before { (i : ℕ) → i < at → groups_at self.new i ≡ groups_at self.old i }
+    {
+        self.groups[at] = groups;
+    }
+
+    /// Drops all events.
+    #[inline(always)]
+    pub fn clear(&mut self)
+        ensures { gathered self.new ≡ [] }
+    {
+        self.len = 0;
+    }
+}
+
+#[inline(always)]
+fn code_of(kind: &EventKind) -> u16
+    ensures value { result ≡ code_of kind.now }
+    ensures byte { IsByte kind.now }
+{
+    match *kind {
+        EventKind::Photon { input, .. } => u16::from(input),
+        EventKind::Marker { bits } => 256 + u16::from(bits),
+    }
+}
+
+#[inline(always)]
+fn dtime_of(kind: &EventKind) -> u16
+    ensures { result ≡ dtime_of kind.now }
+{
+    match *kind {
+        EventKind::Photon { dtime, .. } => dtime,
+        EventKind::Marker { .. } => 0,
+    }
+}
+
+#[inline(always)]
+fn kind_of(code: u16, dtime: u16) -> EventKind
+    ensures { result ≡ kind_of code dtime }
+{
+    if code < 256 {
+        EventKind::Photon {
+            input: code as u8,
+            dtime,
+        }
+    } else {
+        EventKind::Marker {
+            bits: (code % 256) as u8,
+        }
+    }
+}

@@ -1,0 +1,38 @@
+-- A table of inputs.
+use Rattle.std.proofs.Common.{◌≡◌, ℕ, zero, suc, ◌+◌, ◌^◌, ◌<◌, ◌≤◌, Bool, false, List, [], ◌∷◌, length, get_or, set, refl, arith, ◌⊎◌, ⊎_elim}
+use Rattle.std.proofs.lemmas.Bool.Decides.{nat_tests}
+use Rattle.std.proofs.lemmas.Grind.{common_steps}
+use Rattle.std.proofs.lemmas.List.{get_or-set_same}
+use Rattle.std.proofs.lemmas.Nat.Bits.{bit_at_above}
+use Rattle.gate_plan.specs.Taking.{is_among}
+
+beyond : (has : List Bool) (i : ℕ) → length has ≤ i → get_or has i false ≡ false
+beyond [] i past = refl
+beyond (b ∷ has) zero past = absurd (omega (arith, past))
+beyond (b ∷ has) (suc i) past = beyond has i (omega (arith, past))
+
+side : (i : ℕ) → (i < 256) ⊎ (256 ≤ i)
+side i = grind arith
+
+no_such : (inputs i : ℕ) → inputs < 2 ^ 65 → 256 ≤ i → is_among inputs i ≡ false
+no_such inputs i few past = rw (bit_at_above inputs 65 i few (omega (arith, past))) (grind (arith, nat_tests))
+
+pub has_all : (has : List Bool) (inputs : ℕ) → length has ≡ 256 → inputs < 2 ^ 65 → ((i : ℕ) → i < 256 → get_or has i false ≡ is_among inputs i) → (i : ℕ) → get_or has i false ≡ is_among inputs i
+has_all has inputs all few filled i =
+    ⊎_elim
+    (λ (inside : i < 256). filled i inside)
+    (λ (past : 256 ≤ i). rw (beyond has i (omega (arith, all, past)), no_such inputs i few past) refl)
+    (side i)
+
+last_or : (i n : ℕ) → i < n + 1 → (i ≡ n) ⊎ (i < n)
+last_or i n lt = grind (arith, lt)
+
+other : (xs : List Bool) (n i : ℕ) (v : Bool) → i < n → get_or (set xs n v) i false ≡ get_or xs i false
+other xs n i v lt = grind (arith, common_steps)
+
+pub filled_on : (has : List Bool) (at : ℕ) (v : Bool) (f : ℕ → Bool) → at < length has → ((i : ℕ) → i < at → get_or has i false ≡ f i) → v ≡ f at → (i : ℕ) → i < at + 1 → get_or (set has at v) i false ≡ f i
+filled_on has at v f inside were is i below =
+    ⊎_elim
+    (λ (same : i ≡ at). rw (same, get_or-set_same has at v false inside) is)
+    (λ (less : i < at). rw (other has at i v less) (were i less))
+    (last_or i at below)

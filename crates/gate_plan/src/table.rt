@@ -1,0 +1,119 @@
+// The groups without a gate by input, and those with a gate.
+ghost use Rattle.std.specs.Prelude.{◌≡◌, ◌<◌, ◌≤◌, ◌*◌, ◌^◌, ℕ, map, length, slice_index, slice_index_or, false};
+ghost use Rattle.std.specs.Int.{bit_at};
+ghost use Rattle.tally_base.specs.Settings.{group_view};
+ghost use Rattle.gate_plan.specs.Taking.{is_among, one_if};
+ghost use Rattle.gate_plan.specs.Parting.{takes_plainly, plain_bits, gated_bits, gated_bit, gated_sum};
+
+use crate::gated::Gated;
+use arrayvec::ArrayVec;
+use tally_base::Group;
+
+/// For each input the number of those of its groups that have no gate.
+pub(crate) fn plain_table(groups: &[Group]) -> [u64; 256]
+    requires few { length groups.now ≤ 64 }
+    ensures { (input : ℕ) → input < 256
+        → slice_index result input ≡ plain_bits (map group_view groups.now) input }
+{
+    let mut table = [0; 256];
+    for input in 0..256u16 {
+        table[input as usize] = plain_of(groups, input as u8);
+    }
+    table
+}
+
+/// The number of the groups of an input that have no gate.
+fn plain_of(groups: &[Group], input: u8) -> u64
+    requires few { length groups.now ≤ 64 }
+    ensures { result ≡ plain_bits (map group_view groups.now) input }
+{
+    let mut bits: u64 = 0;
+    let mut place: u64 = 0;
+    'groups: for group in groups {
+        bits += bit_if(is_plain(group, input), place);
+        place += 1;
+    }
+    bits
+}
+
+/// Whether a group has the input, and no gate.
+#[inline]
+fn is_plain(group: &Group, input: u8) -> bool
+    ensures { result ≡ takes_plainly input (group_view group.now) }
+{
+    is_among(group.inputs, input) && group.gate.is_none()
+}
+
+/// The groups that have a gate.
+pub(crate) fn gated_of(groups: &[Group]) -> ArrayVec<Gated, 64>
+    requires few { length groups.now ≤ 64 }
+    ensures { (input dtime : ℕ) → gated_sum result.items input dtime
+        ≡ gated_bits (map group_view groups.now) input dtime }
+{
+    let mut gated: ArrayVec<Gated, 64> = ArrayVec::new();
+    let mut place: u64 = 0;
+    'groups: for group in groups {
+        if let Some((first, end)) = group.gate {
+            gated.push(Gated {
+                place,
+                has: inputs_of(group.inputs),
+                first,
+                end,
+            });
+        }
+        place += 1;
+    }
+    gated
+}
+
+/// The number of those of these groups that a photon is in.
+#[inline(always)]
+pub(crate) fn bits_of_gated(gated: &[Gated], input: u8, dtime: u16) -> u64
+    requires fits { gated_sum gated.now input dtime < 2 ^ 64 }
+    ensures { result ≡ gated_sum gated.now input dtime }
+{
+    let mut bits: u64 = 0;
+    'gated: for group in gated {
+        bits += bit_in(group, input, dtime);
+    }
+    bits
+}
+
+/// The bit of a group, if a photon is in it. It takes no branch.
+#[inline(always)]
+fn bit_in(group: &Gated, input: u8, dtime: u16) -> u64
+    ensures { result ≡ gated_bit input dtime group.now }
+{
+    let set = group.has[input as usize] & ((group.first <= dtime) & (dtime < group.end));
+    u64::from(set) << group.place
+}
+
+/// For each input whether it is one of these.
+fn inputs_of(inputs: u128) -> [bool; 256]
+    requires { inputs < 2 ^ 65 }
+    ensures { (input : ℕ) → slice_index_or result input false ≡ is_among inputs input }
+{
+    let mut has = [false; 256];
+    for input in 0..256u16 {
+        has[input as usize] = is_among(inputs, input as u8);
+    }
+    has
+}
+
+/// The bit at a place, if it is set.
+#[inline]
+fn bit_if(set: bool, place: u64) -> u64
+    requires { place < 64 }
+    ensures { result ≡ one_if set * 2 ^ place }
+{
+    if set { 1u64 << place } else { 0 }
+}
+
+/// Whether an input is one of these.
+#[inline]
+fn is_among(inputs: u128, input: u8) -> bool
+    requires { inputs < 2 ^ 65 }
+    ensures { result ≡ is_among inputs input }
+{
+    input <= 64 && (inputs >> input) & 1 == 1
+}

@@ -1,0 +1,169 @@
+// The records of a stream, one behind the other.
+ghost use Rattle.std.specs.Prelude.{◌≡◌, ◌+◌, ◌*◌, ◌^◌, ◌<◌, ◌≤◌, ◌++◌, ◌∷◌, [], List, ℕ, length, OnOk, OnErr, IfErr};
+ghost use Rattle.abs_time.specs.Placing.{mode_of as clock_mode, placed_by};
+ghost use Rattle.tally_base.specs.RecordTypes.{mode_of};
+
+use crate::count::{Sums, add_event, add_raw, stops_at, stops_late};
+use crate::taker::EventTaker;
+use abs_time::{Clock, Placed};
+use ptu_definitions::Raw;
+use record_layout::RecordLayout;
+use tally_base::{Event, Fault, Policy, RecordType};
+
+/// How far a stream is in whole records that it refused none of.
+#[derive(Clone, Copy)]
+pub struct Walk {
+    pub record_type: RecordType,
+    pub policy: Policy,
+    pub clock: Clock,
+    pub sums: Sums,
+    pub given: u64,
+    pub ghost limit: { policy.records ≤ 2 ^ 40 },
+    pub ghost few: { sums.records ≤ policy.records },
+    pub ghost parts: { sums.photons + sums.markers + sums.wraps + sums.reserved ≡ sums.records },
+    pub ghost few_given: { given ≤ sums.records },
+    pub ghost few_late: { sums.late ≤ given },
+    pub ghost same_mode: { clock_mode clock ≡ mode_of record_type },
+    pub ghost few_placed: { placed_by clock ≤ sums.records },
+}
+
+impl Walk {
+    ghost use Rattle.std.specs.Prelude.{◌&&◌, not, IsTrue, if◌then◌else◌};
+    ghost use Rattle.tally_base.specs.declared.fault.Fault.TheVariants.{WriteFault};
+    ghost use Rattle.tally_base.specs.Counts.{HasCause};
+    ghost use Rattle.tally_base.specs.Events.{is_ordered};
+    ghost use Rattle.ptu_definitions.specs.Kept.{Marked};
+    ghost use Rattle.abs_time.specs.Placing.{IsSmall};
+    ghost use Rattle.record_stream.specs.OneMore.{with_event};
+    ghost use Rattle.ptu_definitions.specs.Fitting.{Fits};
+    ghost use Rattle.ptu_definitions.specs.Fours.{numbers};
+    ghost use Rattle.record_stream.specs.Feeding.{Follows, Fed};
+    ghost use Rattle.record_stream.specs.Walking.{how_of, given_by, top_of, records_of, summary_in, clock_in, IsBehind};
+
+    /// What a word means.
+    #[inline(always)]
+    fn decode<R: RecordLayout>(&self, word: u32) -> Raw
+        requires meaning { R.meaning ≡ (how_of self.now).meaning }
+        ensures meaning { result ≡ (how_of self.now).meaning word }
+        ensures fits { Fits (how_of self.now).mode result }
+    {
+        R::decode(word)
+    }
+
+    /// Takes the next word.
+    #[inline(always)]
+    pub(crate) fn step<R: RecordLayout, S: EventTaker>(
+        &mut self,
+        word: u32,
+        taker: &mut S,
+    ) -> Result<(), Fault>
+        requires meaning { R.meaning ≡ (how_of self.old).meaning }
+        requires follows { Follows S.EventTaker (how_of self.old).mode (given_by self.old)
+            (top_of self.old) taker.old }
+        ensures at { (words : List ℕ) → IsBehind self.old words
+            → OnOk result (IsBehind self.new (words ++ word ∷ [])) }
+        ensures fed { (words : List ℕ) → IsBehind self.old words
+            → Fed S.EventTaker (how_of self.old) taker.old taker.new words
+            (words ++ word ∷ []) result }
+        ensures follows { OnOk result (Follows S.EventTaker (how_of self.old).mode
+            (given_by self.new) (top_of self.new) taker.new) }
+        ensures one_more { OnOk result (records_of self.new ≡ records_of self.old + 1) }
+        ensures same_how { how_of self.new ≡ how_of self.old }
+        ensures later { S.faults taker.old ≤ S.faults taker.new }
+        ensures same { S.same taker.old taker.new }
+    {
+        if self.sums.records == self.policy.records {
+            return Err(Fault::RecordLimit {
+                limit: self.policy.records,
+            });
+        }
+        let raw = self.decode::<R>(word);
+        if stops_at(self.policy.reserved, &raw) {
+            return Err(Fault::ReservedRecord {
+                place: self.sums.records + 1,
+                word,
+            });
+        }
+        add_raw(&mut self.sums, &raw);
+        match self.clock.place(&raw)? {
+            Placed::Event(event) => self.give(&event, false, taker),
+            Placed::Late { event, before } => {
+                if stops_late(self.policy.order) {
+                    return Err(Fault::BackwardTime {
+                        place: event.place,
+                        time: event.time,
+                        before,
+                    });
+                }
+                self.give(&event, true, taker)
+            }
+            Placed::Wrap | Placed::Reserved => Ok(()),
+        }
+    }
+
+    /// Gives an event whose record is counted already.
+    #[inline(always)]
+    fn give<S: EventTaker>(&mut self, event: &Event, late: bool, taker: &mut S) -> Result<(), Fault>
+        requires mode { S.mode taker.old ≡ (how_of self.old).mode }
+        requires few { S.taken taker.old ≤ given_by self.old }
+        requires room { given_by self.old < records_of self.old }
+        requires small { IsSmall (how_of self.old).mode event.now }
+        requires in_order { IsTrue (is_ordered (how_of self.old).mode event.now && not late)
+            → S.floor taker.old ≤ event.now.time }
+        ensures follows { OnOk result ((start : S) (l : Marked) → S.got start taker.old l
+            → S.got start taker.new (l ++ (event.now, late) ∷ [])) }
+        ensures same_mode { OnOk result (S.mode taker.new ≡ S.mode taker.old) }
+        ensures few { OnOk result (S.taken taker.new ≤ given_by self.new) }
+        ensures moved { OnOk result (S.floor taker.new ≡ (if is_ordered
+            (how_of self.old).mode event.now && not late then event.now.time else S.floor
+            taker.old)) }
+        ensures given { OnOk result (given_by self.new ≡ given_by self.old + 1) }
+        ensures summary { OnOk result (summary_in self.new ≡ with_event
+            (summary_in self.old) event.now late) }
+        ensures broken { OnErr result ((start : S) (l : Marked) → S.got start taker.old l
+            → S.broke start taker.new (l ++ (event.now, late) ∷ [])) }
+        ensures fault { IfErr result (λ fault. fault ≡ WriteFault) }
+        ensures cause { HasCause (S.faults taker.old) (S.faults taker.new) result }
+        ensures same { S.same taker.old taker.new }
+        ensures same_how { how_of self.new ≡ how_of self.old }
+        ensures same_records { records_of self.new ≡ records_of self.old }
+        ensures same_clock { clock_in self.new ≡ clock_in self.old }
+    {
+        if taker.take(event, late).is_err() {
+            return Err(Fault::WriteFault);
+        }
+        self.given += 1;
+        add_event(&mut self.sums, event, late);
+        Ok(())
+    }
+
+    /// Takes the next words.
+    pub(crate) fn words<R: RecordLayout, S: EventTaker>(
+        &mut self,
+        words: &[[u8; 4]],
+        taker: &mut S,
+    ) -> Result<(), Fault>
+        requires meaning { R.meaning ≡ (how_of self.old).meaning }
+        requires follows { Follows S.EventTaker (how_of self.old).mode (given_by self.old)
+            (top_of self.old) taker.old }
+        ensures at { (before : List ℕ) → IsBehind self.old before
+            → OnOk result (IsBehind self.new (before ++ numbers words.now)) }
+        ensures fed { (before : List ℕ) → IsBehind self.old before
+            → Fed S.EventTaker (how_of self.old) taker.old taker.new before
+            (before ++ numbers words.now) result }
+        ensures follows { OnOk result (Follows S.EventTaker (how_of self.old).mode
+            (given_by self.new) (top_of self.new) taker.new) }
+        ensures counted { OnOk result (records_of self.new ≡ records_of self.old + length words.now) }
+        ensures same_how { how_of self.new ≡ how_of self.old }
+        ensures later { S.faults taker.old ≤ S.faults taker.new }
+        ensures same { S.same taker.old taker.new }
+    {
+        // A copy, whose fields the loop keeps in registers. After a refusal no field is read again.
+        let mut at = *self;
+        for word in words {
+            at.step::<R, S>(u32::from_le_bytes(*word), taker)?;
+        }
+        *self = at;
+        Ok(())
+    }
+}

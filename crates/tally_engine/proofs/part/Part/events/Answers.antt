@@ -1,0 +1,13 @@
+use Rattle.tally_engine.proofs.part.Part.events.Goals as goal
+
+pub returns-in-Hist-clause-follows : goal.returns-in-Hist-clause-follows
+returns-in-Hist-clause-follows g c = λ h is. c.events.ensures.follows h (rw c.in-Hist.is at is)
+
+pub returns-in-Trace-clause-follows : goal.returns-in-Trace-clause-follows
+returns-in-Trace-clause-follows g c = λ h is. c.give_block.ensures.follows h (rw c.in-Trace.is at is)
+
+pub returns-in-StartStop-clause-follows : goal.returns-in-StartStop-clause-follows
+returns-in-StartStop-clause-follows g c = λ h is. c.give_block-in-StartStop.ensures.follows h (rw c.in-StartStop.is at is)
+
+pub returns-in-Image-clause-follows : goal.returns-in-Image-clause-follows
+returns-in-Image-clause-follows g c = λ h is. c.give_block-in-Image.ensures.follows h (rw c.in-Image.is at is)

@@ -1,0 +1,38 @@
+-- The counts over the rows of a block.
+use Rattle.std.proofs.Common.{◌≡◌, ◌∙◌, ℕ, zero, suc, ◌+◌, ◌<◌, ◌≤◌, ◌/◌, Bool, true, false, ◌&&◌, cond, eqb, List, [], ◌∷◌, ◌++◌, ap, sym, refl, arith}
+use Rattle.std.specs.Prelude.{nat_lt, nat_le, ◌==◌, if◌then◌else◌, count_by}
+use Rattle.std.proofs.lemmas.List.Sums.{sum_by-append, sum_by_push}
+use Rattle.tally_base.specs.declared.event.Event.{Event}
+use Rattle.tally_base.specs.declared.event.EventKind.TheVariants.{Photon, Marker}
+use Rattle.tally_base.specs.Events.{is_in}
+use Rattle.tally_base.specs.Settings.{HistView}
+use Rattle.tally_base.specs.Tally.{History}
+use Rattle.event_block.specs.Codes.{kind_of}
+use Rattle.event_block.specs.Columns.{rows, item, code_at, dtime_at, groups_at}
+use Rattle.event_block.specs.declared.block.Block.{Block}
+use Rattle.event_block.proofs.Rows.{more_rows}
+use Rattle.tcspc_hist.specs.Counts.{count_dtimes, dtime_passes}
+
+none_either : (b : Bool) → ◌≡◌ {A = ℕ} 0 (if b then 0 else 0)
+none_either true = refl
+none_either false = refl
+
+passes : (set : HistView) (test : ℕ → Bool) (group photon : Bool) (input dtime bits : ℕ) → ◌≡◌ {A = ℕ} (cond (group && dtime_passes test (if photon then Photon input dtime else Marker bits)) 1 0) (if test dtime then (if group && photon then 1 else 0) else 0)
+passes set test true true input dtime bits = refl
+passes set test true false input dtime bits = none_either (test dtime)
+passes set test false true input dtime bits = none_either (test dtime)
+passes set test false false input dtime bits = none_either (test dtime)
+
+pub count-append : (set : HistView) (test : ℕ → Bool) (h m : History) → count_dtimes set test (h ++ m) ≡ count_dtimes set test h + count_dtimes set test m
+count-append set test h m = sum_by-append (λ (x : Event × ℕ). cond (is_in x.1 set.group && dtime_passes test x.0.kind) 1 0) h m
+
+-- one row more
+pub count-row : (set : HistView) (test : ℕ → Bool) (b : Block) (n : ℕ) → count_dtimes set test (rows (item b) (n + 1)) ≡ count_dtimes set test (rows (item b) n) + (if test (dtime_at b n) then (if is_in (groups_at b n) set.group && nat_lt (code_at b n) 256 then 1 else 0) else 0)
+count-row set test b n =
+    ap (count_dtimes set test) (more_rows (item b) n)
+    ∙ sum_by_push (λ (x : Event × ℕ). cond (is_in x.1 set.group && dtime_passes test x.0.kind) 1 0) (rows (item b) n) (item b n)
+    ∙ ap (λ k. count_dtimes set test (rows (item b) n) + k) (passes set test (is_in (groups_at b n) set.group) (nat_lt (code_at b n) 256) (code_at b n) (dtime_at b n) _)
+
+pub one_at_most : (b : Bool) → (if b then 1 else 0) ≤ 1
+one_at_most true = omega arith
+one_at_most false = omega arith

@@ -1,0 +1,32 @@
+use Rattle.std.proofs.Common.{◌≡◌, ◌∙◌, ◌+◌, ◌++◌, ◌<◌, ◌/◌, ℕ, false, length, sym, ap, rules, arith, length-append}
+use Rattle.std.specs.Prelude.{nat_le, ◌==◌, slice_index}
+use Rattle.tally_base.specs.Settings.{hist_view}
+use Rattle.event_block.specs.Columns.{item, rows, gathered, events_in}
+use Rattle.event_block.specs.Order.{floor_after, InOrder}
+use Rattle.event_block.proofs.Rows.{length-rows}
+use Rattle.event_block.proofs.Greatest.{greatest-rows}
+use Rattle.tally_base.specs.Tally.{greatest_time}
+use Rattle.tcspc_hist.specs.Counts.{in_bin, past_bins}
+use Rattle.tcspc_hist.proofs.Blocks.{count-append}
+use Rattle.tcspc_hist.proofs.Slices.{whole_slice}
+use Rattle.tcspc_hist.proofs.hist.Hist.events.Goals as goal
+
+pub returns-clause-follows : goal.returns-clause-follows
+returns-clause-follows c = λ h is.
+    let t = c.args.self.now in
+    let set = hist_view t.set in
+    let block = c.args.block.now in
+    let e = rw c.deref_mut.ensures.value at c.count_block-self.ensures in
+    let count : length c.count_block-self.new.cells ≡ length t.cells.items = search rules in
+    let all : t.cells.len ≡ length t.cells.items = search rules in
+    let ordered : InOrder false (greatest_time false h) (gathered block) = rw (← is.floor) c.requires.in_order in
+    record {
+      cells = λ b lt.
+          let more = count-append set (λ dtime. dtime / set.width == b) h (events_in block) in
+          rw (whole_slice c.count_block-self.new.cells t.cells.items t.cells.len count all) (omega (arith, e.cells b lt, is.cells b lt, more));
+      over =
+          let more = count-append set (λ dtime. nat_le set.bins (dtime / set.width)) h (events_in block) in
+          omega (arith, e.over, is.over, more);
+      taken = omega (arith, is.taken, c.len.ensures.count, length-append h (events_in block), length-rows (item block) block.len);
+      floor = c.floor_after-self.ensures ∙ ap (λ n. floor_after false n (gathered block)) is.floor ∙ sym (greatest-rows false h (item block) block.len ordered);
+    }
