@@ -19,13 +19,8 @@ use Rattle.plan_text.specs.Plan.{PlanView, plan_rules, plan}
 use Rattle.plan_text.specs.Reading.{document, if_kept, plan_of_document, plan_answer}
 use Rattle.plan_text.specs.Fits.{fits, IsMisfit}
 use Rattle.plan_text.proofs.Rise.{plan_rules_rise}
-<<<<<<< ours
 use Rattle.plan_text.proofs.Misfits.{misfit_named}
-use Rattle.ptu_cli.specs.Outcomes.{status, report_outcome, planned}
-=======
-use Rattle.plan_text.proofs.Misfits.{misfit}
 use Rattle.ptu_cli.specs.Outcomes.{status, report_outcome}
->>>>>>> theirs
 use Rattle.tally_engine.specs.Plans.{reading_by}
 use Rattle.ptu_cli.specs.Reports.{report_of, if_fits, report_behind, file_report}
 use Rattle.ptu_cli.proofs.ByteFaults.{IsOfBytes, header_answer-bytes, streamed-bytes}

@@ -17,28 +17,15 @@ use Rattle.ptu_definitions.specs.Times.{events}
 use Rattle.ptu_definitions.specs.Streams.{Reading, summary}
 use Rattle.abs_time.specs.declared.clock.Clock.{Clock}
 use Rattle.record_stream.specs.Standing.{Stands}
-<<<<<<< ours
-use Rattle.coincidence.specs.CoincidenceLaws as pairs
-use Rattle.coincidence.specs.Laws as startstop
-use Rattle.count_trace.specs.Laws as trace
-use Rattle.scan_image.specs.Laws as image
-use Rattle.tau_cascade.specs.Laws as cascade
 use Rattle.tau_cascade.proofs.Work.{work_within}
-use Rattle.tcspc_hist.specs.Laws as hist
-=======
->>>>>>> theirs
 use Rattle.tally_engine.specs.declared.engine.Engine.{Engine}
 use Rattle.tally_engine.specs.declared.part.Part.{Part}
+use Rattle.tally_engine.specs.declared.part.Part.TheVariants.{Hist as InHist, Trace as InTrace, StartStop as InStartStop, Coincidence as InCoincidence, Image as InImage, Correlation as InCorrelation}
 use Rattle.tally_engine.specs.Engine.{held, bound}
 use Rattle.tally_engine.specs.contracts.part.PartTally.TheImpl.{ghosts}
 use Rattle.tally_engine.specs.Histories.{history}
-<<<<<<< ours
-use Rattle.tally_engine.specs.Part.{for_each_kind}
-use Rattle.tally_engine.specs.Parts.{settings_in, entries_in, IsOpened, IsWithinWork, AllOpened}
-=======
 use Rattle.tally_engine.specs.Part.{laws_of}
-use Rattle.tally_engine.specs.Parts.{settings_in, entries_in, IsOpened, AllOpened}
->>>>>>> theirs
+use Rattle.tally_engine.specs.Parts.{settings_in, entries_in, IsOpened, IsWithinWork, AllOpened}
 use Rattle.tally_engine.specs.Taker.{Standing}
 
 pub history-none : (groups : List GroupView) (how : Reading) → history groups how [] ≡ []
@@ -109,4 +96,9 @@ engine_within engine = kept_within engine.parts.items _ (search (rules, arith))
 
 -- What a correlation spent on the events that it stands for is within their work.
 pub part_worked : (h : History) (p : Part) → ghosts.holds p h → IsWithinWork h p
-part_worked h = for_each_kind (λ p. ghosts.holds p h → IsWithinWork h p) (λ t is. tt) (λ t is. tt) (λ t is. tt) (λ t is. tt) (λ t is. tt) (λ t is. work_within t h is)
+part_worked h (InHist t) is = tt
+part_worked h (InTrace t) is = tt
+part_worked h (InStartStop t) is = tt
+part_worked h (InCoincidence t) is = tt
+part_worked h (InImage t) is = tt
+part_worked h (InCorrelation t) is = work_within t h is

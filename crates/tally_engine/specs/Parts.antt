@@ -5,7 +5,7 @@ use Rattle.tally_base.specs.Tally.{History}
 use Rattle.tau_cascade.specs.Cascade.{set_of, spent_by}
 use Rattle.tau_cascade.specs.Work.{work}
 use Rattle.tally_engine.specs.declared.part.Part.{Part}
-use Rattle.tally_engine.specs.Part.{by_kind}
+use Rattle.tally_engine.specs.declared.part.Part.TheVariants.{Correlation as InCorrelation}
 use Rattle.tally_engine.specs.contracts.part.PartTally.TheImpl.{ghosts}
 
 -- what the tables were opened with
@@ -22,7 +22,8 @@ AllClosed parts = All (λ p. ghosts.closed p ≡ true) parts
 
 -- Where a table is a correlation, no more additions made its cells than the work of these events.
 abbrev pub IsWithinWork : History → Part → Type 0
-IsWithinWork h = by_kind (λ t. ⊤) (λ t. ⊤) (λ t. ⊤) (λ t. ⊤) (λ t. ⊤) (λ t. spent_by t ≤ work (correlation_view (set_of t)) h)
+IsWithinWork h (InCorrelation t) = spent_by t ≤ work (correlation_view (set_of t)) h
+IsWithinWork h _ = ⊤
 
 -- how many entries the tables keep
 abbrev pub entries_in : List Part → ℕ

@@ -1,11 +1,7 @@
 // A table of any kind.
 use coincidence::{Coincidence, StartStop};
 use count_trace::Trace;
-<<<<<<< ours
-=======
 use event_block::{Block, give_block};
-use plan_text::Plan;
->>>>>>> theirs
 use scan_image::Image;
 use std::sync::ledger::Ledger;
 use tally_base::{Event, Steps, Tally};
@@ -73,8 +69,6 @@ impl Tally for Part {
         }
     }
 }
-<<<<<<< ours
-=======
 
 impl Part {
     ghost use Rattle.std.specs.Prelude.{◌+◌, ◌^◌, ◌≤◌, false, length};
@@ -82,7 +76,6 @@ impl Part {
     ghost use Rattle.tally_base.specs.Tally.{History};
     ghost use Rattle.event_block.specs.Columns.{gathered, events_in};
     ghost use Rattle.event_block.specs.Order.{floor_after, InOrder};
-    ghost use Rattle.tally_engine.specs.Parts.{settings_in, IsOpened, AllOpened};
 
     /// Takes the events of a block, each as `event` does. The kind of the table is tested once.
     #[inline]
@@ -111,201 +104,4 @@ impl Part {
             Part::Correlation(t) => give_block(t, block, steps),
         }
     }
-
-    /// A histogram of no events.
-    fn open_hist(alloc: Global, set: HistSet) -> Result<Part, AllocError>
-        ensures opened { IfOk result (IsOpened (HistSettings (hist_view set))) }
-    {
-        match Hist::open(alloc, set) {
-            Ok(table) => Ok(Part::Hist(table)),
-            Err(error) => Err(error),
-        }
-    }
-
-    /// A trace of no events.
-    fn open_trace(alloc: Global, set: TraceSet) -> Result<Part, AllocError>
-        ensures opened { IfOk result (IsOpened (TraceSettings (trace_view set))) }
-    {
-        match Trace::open(alloc, set) {
-            Ok(table) => Ok(Part::Trace(table)),
-            Err(error) => Err(error),
-        }
-    }
-
-    /// A start-stop table of no events.
-    fn open_startstop(alloc: Global, set: StartStopSet) -> Result<Part, AllocError>
-        ensures opened { IfOk result (IsOpened (StartStopSettings (startstop_view set))) }
-    {
-        match StartStop::open(alloc, set) {
-            Ok(table) => Ok(Part::StartStop(table)),
-            Err(error) => Err(error),
-        }
-    }
-
-    /// A table of the pairs of no events.
-    fn open_coincidence(alloc: Global, set: CoincidenceSet) -> Result<Part, AllocError>
-        ensures opened { IfOk result (IsOpened (CoincidenceSettings (coincidence_view set))) }
-    {
-        match Coincidence::open(alloc, set) {
-            Ok(table) => Ok(Part::Coincidence(table)),
-            Err(error) => Err(error),
-        }
-    }
-
-    /// An image of no events.
-    fn open_image(alloc: Global, set: ImageSet) -> Result<Part, AllocError>
-        ensures opened { IfOk result (IsOpened (ImageSettings (image_view set))) }
-    {
-        match Image::open(alloc, set) {
-            Ok(table) => Ok(Part::Image(table)),
-            Err(error) => Err(error),
-        }
-    }
-
-    /// A correlation of no events.
-    fn open_correlation(alloc: Global, set: CorrelationSet) -> Result<Part, AllocError>
-        ensures opened { IfOk result (IsOpened (CorrelationSettings (correlation_view set))) }
-    {
-        match Cascade::open(alloc, set) {
-            Ok(table) => Ok(Part::Correlation(table)),
-            Err(error) => Err(error),
-        }
-    }
-
-    /// Puts the histograms of a plan behind the tables that are there.
-    fn open_hists(alloc: Global, sets: &[HistSet], parts: &mut Vec<Part>) -> Result<(), AllocError>
-        ensures settings { OnOk result (settings_in parts.new.items ≡ settings_in parts.old.items
-            ++ map (λ set. HistSettings set) (map hist_view sets.now)) }
-        ensures opened { AllOpened parts.old.items → OnOk result (AllOpened parts.new.items) }
-    {
-        for set in sets {
-            let part = Part::open_hist(alloc, *set)?;
-            parts.push(part)?;
-        }
-        Ok(())
-    }
-
-    /// Puts the traces of a plan behind the tables that are there.
-    fn open_traces(
-        alloc: Global,
-        sets: &[TraceSet],
-        parts: &mut Vec<Part>,
-    ) -> Result<(), AllocError>
-        ensures settings { OnOk result (settings_in parts.new.items ≡ settings_in parts.old.items
-            ++ map (λ set. TraceSettings set) (map trace_view sets.now)) }
-        ensures opened { AllOpened parts.old.items → OnOk result (AllOpened parts.new.items) }
-    {
-        for set in sets {
-            let part = Part::open_trace(alloc, *set)?;
-            parts.push(part)?;
-        }
-        Ok(())
-    }
-
-    /// Puts the start-stop tables of a plan behind the tables that are there.
-    fn open_startstops(
-        alloc: Global,
-        sets: &[StartStopSet],
-        parts: &mut Vec<Part>,
-    ) -> Result<(), AllocError>
-        ensures settings { OnOk result (settings_in parts.new.items ≡ settings_in parts.old.items
-            ++ map (λ set. StartStopSettings set) (map startstop_view sets.now)) }
-        ensures opened { AllOpened parts.old.items → OnOk result (AllOpened parts.new.items) }
-    {
-        for set in sets {
-            let part = Part::open_startstop(alloc, *set)?;
-            parts.push(part)?;
-        }
-        Ok(())
-    }
-
-    /// Puts the coincidence tables of a plan behind the tables that are there.
-    fn open_coincidences(
-        alloc: Global,
-        sets: &[CoincidenceSet],
-        parts: &mut Vec<Part>,
-    ) -> Result<(), AllocError>
-        ensures settings { OnOk result (settings_in parts.new.items ≡ settings_in parts.old.items
-            ++ map (λ set. CoincidenceSettings set) (map coincidence_view sets.now)) }
-        ensures opened { AllOpened parts.old.items → OnOk result (AllOpened parts.new.items) }
-    {
-        for set in sets {
-            let part = Part::open_coincidence(alloc, *set)?;
-            parts.push(part)?;
-        }
-        Ok(())
-    }
-
-    /// Puts the images of a plan behind the tables that are there.
-    fn open_images(
-        alloc: Global,
-        sets: &[ImageSet],
-        parts: &mut Vec<Part>,
-    ) -> Result<(), AllocError>
-        ensures settings { OnOk result (settings_in parts.new.items ≡ settings_in parts.old.items
-            ++ map (λ set. ImageSettings set) (map image_view sets.now)) }
-        ensures opened { AllOpened parts.old.items → OnOk result (AllOpened parts.new.items) }
-    {
-        for set in sets {
-            let part = Part::open_image(alloc, *set)?;
-            parts.push(part)?;
-        }
-        Ok(())
-    }
-
-    /// Puts the correlations of a plan behind the tables that are there.
-    fn open_correlations(
-        alloc: Global,
-        sets: &[CorrelationSet],
-        parts: &mut Vec<Part>,
-    ) -> Result<(), AllocError>
-        ensures settings { OnOk result (settings_in parts.new.items ≡ settings_in parts.old.items
-            ++ map (λ set. CorrelationSettings set) (map correlation_view sets.now)) }
-        ensures opened { AllOpened parts.old.items → OnOk result (AllOpened parts.new.items) }
-    {
-        for set in sets {
-            let part = Part::open_correlation(alloc, *set)?;
-            parts.push(part)?;
-        }
-        Ok(())
-    }
-
-    /// Puts the coincidences, the images and the correlations of a plan behind the tables that are there.
-    fn open_other_kinds(alloc: Global, plan: &Plan, parts: &mut Vec<Part>) -> Result<(), AllocError>
-        ensures settings { OnOk result (settings_in parts.new.items ≡ settings_in parts.old.items
-            ++ map (λ set. CoincidenceSettings set) (map coincidence_view plan.now.coincidences.items)
-            ++ map (λ set. ImageSettings set) (map image_view plan.now.images.items)
-            ++ map (λ set. CorrelationSettings set) (map correlation_view plan.now.correlations.items)) }
-        ensures opened { AllOpened parts.old.items → OnOk result (AllOpened parts.new.items) }
-    {
-        Part::open_coincidences(alloc, plan.coincidences.as_slice(), parts)?;
-        Part::open_images(alloc, plan.images.as_slice(), parts)?;
-        Part::open_correlations(alloc, plan.correlations.as_slice(), parts)?;
-        Ok(())
-    }
-
-    /// How many tables a plan has.
-    fn count_of(plan: &Plan) -> usize {
-        plan.histograms.len()
-            + plan.traces.len()
-            + plan.startstops.len()
-            + plan.coincidences.len()
-            + plan.images.len()
-            + plan.correlations.len()
-    }
-
-    /// The tables of a plan, in the order of the report, which were given nothing.
-    pub(crate) fn open_all(alloc: Global, plan: &Plan) -> Result<Vec<Part>, AllocError>
-        ensures settings { IfOk result (λ parts.
-            settings_in parts.items ≡ parts_of (plan_view plan.now)) }
-        ensures opened { IfOk result (λ parts. AllOpened parts.items) }
-    {
-        let mut parts = Vec::with_capacity(alloc, Part::count_of(plan))?;
-        Part::open_hists(alloc, plan.histograms.as_slice(), &mut parts)?;
-        Part::open_traces(alloc, plan.traces.as_slice(), &mut parts)?;
-        Part::open_startstops(alloc, plan.startstops.as_slice(), &mut parts)?;
-        Part::open_other_kinds(alloc, plan, &mut parts)?;
-        Ok(parts)
-    }
 }
->>>>>>> theirs
