@@ -1,4 +1,4 @@
-pub mod Counts
+pub mod CallCounts
 pub mod Inputs
 pub mod Sinks
 pub mod NamedBytes

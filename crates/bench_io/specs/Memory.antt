@@ -5,7 +5,7 @@ use Rattle.std.specs.declared.option.Option.{Option}
 use Rattle.std.specs.declared.result.Result.{Result}
 use Rattle.bench_io.specs.NamedBytes.{NamedBytes}
 use Rattle.tally_base.specs.declared.slot.Slot.{Slot}
-use Rattle.bench_io.specs.Counts.{one_more, CountsFailure, FailsNext}
+use Rattle.bench_io.specs.CallCounts.{one_more, CountsFailure, FailsNext}
 use Rattle.bench_io.specs.Inputs.{File, InputState, other}
 use Rattle.bench_io.specs.Turns.{next_turn, limited}
 

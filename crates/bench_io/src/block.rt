@@ -1,7 +1,7 @@
 // A block of bytes on the way to a sink.
 ghost use Rattle.std.specs.Prelude.{◌≡◌, ◌+◌, ◌≤◌, [], ◌++◌, length, IsOk, OnOk, OnErr};
 ghost use Rattle.std.specs.Io.KnownBytes.{Appends};
-ghost use Rattle.tally_base.specs.Counts.{HasCause};
+ghost use Rattle.tally_base.specs.FaultCounts.{HasCause};
 ghost use Rattle.bench_io.specs.Sinks.{AppendsShort, PassesOn};
 
 use crate::sink::{Sink, write_all};

@@ -2,7 +2,7 @@
 ghost use Rattle.std.specs.Prelude.{◌≡◌, ◌↔◌, true, false, length, min, IsSome, IsOk, IfOk, OnErr, OnOk};
 ghost use Rattle.std.specs.Io.{ReadsAtMost};
 ghost use Rattle.std.specs.Io.KnownBytes.{ReadConsumes};
-ghost use Rattle.tally_base.specs.Counts.{HasCause};
+ghost use Rattle.tally_base.specs.FaultCounts.{HasCause};
 ghost use Rattle.bench_io.specs.Inputs.{IsOpened, Keeps, KeepsOther, OpensNone};
 ghost use Rattle.bench_io.specs.Memory.{file_named, IsFresh, IsFailing, given_of, after_open, after_read, left_of, CountsOpening, CountsReading, KeepsOtherCounts};
 ghost use Rattle.bench_io.specs.MemorySlots.{input_state, memory_state};

@@ -2,8 +2,8 @@
 ghost use Rattle.std.specs.Prelude.{◌≡◌, ◌-◌, ◌<◌, ◌≤◌, ◌↔◌, [], length, min, vec_len, vec_capacity, Some, IsOk, IfOk};
 ghost use Rattle.std.specs.Io.{WritesAtMost};
 ghost use Rattle.std.specs.Io.KnownBytes.{WriteAppends};
-ghost use Rattle.bench_io.specs.Counts.{CountsFailure};
-ghost use Rattle.tally_base.specs.Counts.{HasCause};
+ghost use Rattle.bench_io.specs.CallCounts.{CountsFailure};
+ghost use Rattle.tally_base.specs.FaultCounts.{HasCause};
 ghost use Rattle.bench_io.specs.SinkState.{IsFailing, after_write};
 
 use crate::failing_calls::FailingCalls;

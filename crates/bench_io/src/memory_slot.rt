@@ -2,8 +2,8 @@
 ghost use Rattle.std.specs.Prelude.{◌≡◌, ◌+◌, ◌^◌, ◌<◌, Some, None, true, false, length, take, min, slice_get, IsSome, IfOk, IsOk, ◌↔◌, MatchOption, OnErr, OnOk};
 ghost use Rattle.std.specs.Io.{ReadsAtMost};
 ghost use Rattle.std.specs.Io.KnownBytes.{ReadConsumes};
-ghost use Rattle.bench_io.specs.Counts.{CountsFailure};
-ghost use Rattle.tally_base.specs.Counts.{HasCause};
+ghost use Rattle.bench_io.specs.CallCounts.{CountsFailure};
+ghost use Rattle.tally_base.specs.FaultCounts.{HasCause};
 ghost use Rattle.bench_io.specs.Inputs.{IsOpened};
 ghost use Rattle.bench_io.specs.Turns.{limited};
 ghost use Rattle.bench_io.specs.Memory.{file_named, rest_of_file};

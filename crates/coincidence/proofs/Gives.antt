@@ -11,7 +11,7 @@ use Rattle.tally_base.specs.Settings.{CoincidenceView}
 use Rattle.tally_base.specs.Tally.{History, moves_floor, greatest_time}
 use Rattle.lag_ring.proofs.Lists.{all_both, all_filter, all_passed}
 use Rattle.coincidence.specs.declared.pairing.Pairing.{Pairing}
-use Rattle.coincidence.specs.Counts.{CanGive, Counts}
+use Rattle.coincidence.specs.StandsFor.{CanGive, StandsFor}
 use Rattle.coincidence.specs.Pairs.{in_first, in_second, photons_of_groups}
 use Rattle.coincidence.specs.Pairing.{bin_of, CanPut, CanEnd, Came, PairingDone}
 
@@ -80,7 +80,7 @@ floor_more true time g t is after = let upto : time ≤ t = after refl in omega 
 floor_more false time g t is after = is
 
 -- what a table that isn't closed may be given
-pub may_give : (closed : Bool) → closed ≡ false → (set : CoincidenceView) (p : Pairing) (count time : ℕ) (h : History) (e : Event) → Counts closed set p count time h → count < 2 ^ 40 → (IsTrue (moves_floor false e) → time ≤ e.time) → CanGive set p e h
+pub may_give : (closed : Bool) → closed ≡ false → (set : CoincidenceView) (p : Pairing) (count time : ℕ) (h : History) (e : Event) → StandsFor closed set p count time h → count < 2 ^ 40 → (IsTrue (moves_floor false e) → time ≤ e.time) → CanGive set p e h
 may_give true open' set p count time h e is few after = absurd (false≢true (sym open'))
 may_give false open' set p count time h e is few after = record {
   few = omega (arith, is.taken);
@@ -89,8 +89,8 @@ may_give false open' set p count time h e is few after = record {
 }
 
 -- what it stands for then
-pub more_counts : (closed : Bool) → closed ≡ false → (set : CoincidenceView) (p p' : Pairing) (count time : ℕ) (h : History) (e : Event) (groups : ℕ) → Counts closed set p count time h → (IsTrue (moves_floor false e) → time ≤ e.time)
-    → Came set p' (photons_of_groups set (h ++ (e, groups) ∷ [])) → Counts closed set p' (count + 1) (cond (moves_floor false e) e.time time) (h ++ (e, groups) ∷ [])
+pub more_counts : (closed : Bool) → closed ≡ false → (set : CoincidenceView) (p p' : Pairing) (count time : ℕ) (h : History) (e : Event) (groups : ℕ) → StandsFor closed set p count time h → (IsTrue (moves_floor false e) → time ≤ e.time)
+    → Came set p' (photons_of_groups set (h ++ (e, groups) ∷ [])) → StandsFor closed set p' (count + 1) (cond (moves_floor false e) e.time time) (h ++ (e, groups) ∷ [])
 more_counts true open' set p p' count time h e groups is after came = absurd (false≢true (sym open'))
 more_counts false open' set p p' count time h e groups is after came = record {
   taken = omega (arith, is.taken, length-append h ((e, groups) ∷ []));
@@ -98,9 +98,9 @@ more_counts false open' set p p' count time h e groups is after came = record {
   photons = came;
 }
 
-pub may_end : (closed : Bool) → closed ≡ false → (set : CoincidenceView) (p : Pairing) (count time : ℕ) (h : History) → Counts closed set p count time h → count ≤ 2 ^ 40 → CanEnd set p (photons_of_groups set h)
+pub may_end : (closed : Bool) → closed ≡ false → (set : CoincidenceView) (p : Pairing) (count time : ℕ) (h : History) → StandsFor closed set p count time h → count ≤ 2 ^ 40 → CanEnd set p (photons_of_groups set h)
 may_end true open' set p count time h is few = absurd (false≢true (sym open'))
 may_end false open' set p count time h is few = record { few = omega (arith, is.taken, few_photons set h); was = is.photons }
 
-pub end_counts : (closed : Bool) (set : CoincidenceView) (p p' : Pairing) (count time : ℕ) (h : History) → Counts closed set p count time h → PairingDone set p' (photons_of_groups set h) → Counts true set p' count time h
+pub end_counts : (closed : Bool) (set : CoincidenceView) (p p' : Pairing) (count time : ℕ) (h : History) → StandsFor closed set p count time h → PairingDone set p' (photons_of_groups set h) → StandsFor true set p' count time h
 end_counts closed set p p' count time h is done = record { taken = is.taken; floor = is.floor; photons = done }

@@ -7,7 +7,7 @@ use Rattle.tally_base.specs.Settings.{CoincidenceView, coincidence_cells}
 use Rattle.tally_base.specs.Tally.{History}
 use Rattle.coincidence.specs.declared.pairing.Pairing.{Pairing}
 use Rattle.coincidence.specs.Pairs.{is_coincidence, coincidences, photons_of_groups}
-use Rattle.coincidence.specs.Counts.{Counts}
+use Rattle.coincidence.specs.StandsFor.{StandsFor}
 use Rattle.coincidence.proofs.Gives.{mine}
 use Rattle.coincidence.proofs.Hits.{pairs_in, zeros}
 use Rattle.coincidence.proofs.Apart.{pairs_apart-in}
@@ -37,6 +37,6 @@ coincidences-photons set c h =
     let same = pairs_in-filter (mine set) (is_coincidence set c) (λ x y is. grind (arith, is)) (λ x y is. grind (arith, is)) h in
     pairs_apart-in (is_coincidence set c) (photons_of_groups set h) ∙ same ∙ sym (pairs_apart-in (is_coincidence set c) h)
 
-pub cell_is : (closed : Bool) → closed ≡ true → (set : CoincidenceView) (p : Pairing) (count time : ℕ) (h : History) → Counts closed set p count time h → (c : ℕ) → c < coincidence_cells set → get_or p.cells.cells c 0 ≡ coincidences set c h
+pub cell_is : (closed : Bool) → closed ≡ true → (set : CoincidenceView) (p : Pairing) (count time : ℕ) (h : History) → StandsFor closed set p count time h → (c : ℕ) → c < coincidence_cells set → get_or p.cells.cells c 0 ≡ coincidences set c h
 cell_is false shut set p count time h is c inside = absurd (false≢true shut)
 cell_is true shut set p count time h is c inside = is.photons.cells.pairs c inside ∙ coincidences-photons set c h

@@ -5,7 +5,7 @@ use Rattle.tally_base.specs.Settings.{PartSettings, coincidence_view}
 use Rattle.tally_base.specs.Settings.PartSettings.{CoincidenceSettings}
 use Rattle.tally_base.specs.Tally.{History}
 use Rattle.coincidence.specs.declared.coincidence.Coincidence.{Coincidence}
-use Rattle.coincidence.specs.Counts.{Counts}
+use Rattle.coincidence.specs.StandsFor.{StandsFor}
 
 -- what it was opened with
 abbrev pub set_of : Coincidence → CoincidenceSet
@@ -16,7 +16,7 @@ settings t = CoincidenceSettings (coincidence_view t.set)
 
 -- It was given these events. Once it is closed, each cell is the count over them.
 abbrev pub Holds : Coincidence → History → Type 0
-Holds t h = Counts t.closed (coincidence_view t.set) t.pairing t.taken t.floor h
+Holds t h = StandsFor t.closed (coincidence_view t.set) t.pairing t.taken t.floor h
 
 -- how many entries it keeps: the cells, the closed bins in reach, and an open bin, which has one more number than an entry
 abbrev pub held : Coincidence → ℕ

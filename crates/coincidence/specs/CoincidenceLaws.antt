@@ -8,7 +8,7 @@ use Rattle.tally_base.specs.Tally.{History, greatest_time}
 use Rattle.coincidence.specs.declared.coincidence.Coincidence.{Coincidence}
 use Rattle.coincidence.specs.declared.pairing.Pairing.{Pairing}
 use Rattle.coincidence.specs.Coincidence.{Holds, set_of, settings, held, bins_kept}
-use Rattle.coincidence.specs.Counts.{HasPhotons}
+use Rattle.coincidence.specs.StandsFor.{HasPhotons}
 use Rattle.coincidence.specs.Pairing.{RingIs, CellsAre}
 
 pub taken_is : (t : Coincidence) (h : History) → Holds t h → t.taken ≡ length h

@@ -31,8 +31,8 @@ abbrev pub in_interval : StartStopView → ℕ → History → ℕ
 in_interval set b h = count_intervals set (λ time. time / set.width == b) h
 
 -- how many intervals are past the last bin
-abbrev pub past_intervals : StartStopView → History → ℕ
-past_intervals set h = count_intervals set (λ time. nat_le set.bins (time / set.width)) h
+abbrev pub count_over : StartStopView → History → ℕ
+count_over set h = count_intervals set (λ time. nat_le set.bins (time / set.width)) h
 
 -- the time of a photon that is in the start group
 abbrev pub start_of : StartStopView → Event × ℕ → Option ℕ

@@ -4,7 +4,7 @@ pub mod Laws
 pub mod Places
 pub mod Pairs
 pub mod Pairing
-pub mod Counts
+pub mod StandsFor
 pub mod Coincidence
 pub mod CoincidenceLaws
 pub mod Ends

@@ -5,7 +5,7 @@ use Rattle.tally_base.specs.Settings.{PartSettings, startstop_view}
 use Rattle.tally_base.specs.Settings.PartSettings.{StartStopSettings}
 use Rattle.tally_base.specs.Tally.{History, greatest_time}
 use Rattle.coincidence.specs.declared.start_stop.StartStop.{StartStop}
-use Rattle.coincidence.specs.Intervals.{in_interval, past_intervals, open_start}
+use Rattle.coincidence.specs.Intervals.{in_interval, count_over, open_start}
 
 -- what it was opened with
 abbrev pub set_of : StartStop → StartStopSet
@@ -17,7 +17,7 @@ settings t = StartStopSettings (startstop_view t.set)
 -- Each cell is the count over the events.
 pub record Holds (t : StartStop) (h : History) : Type 0 where
   pub cells : (b : ℕ) → b < t.set.bins → slice_index t.cells.items b ≡ in_interval (startstop_view t.set) b h
-  pub over : t.over ≡ past_intervals (startstop_view t.set) h
+  pub over : t.over ≡ count_over (startstop_view t.set) h
   pub start : t.start ≡ open_start (startstop_view t.set) h
   pub taken : t.taken ≡ length h
   pub floor : t.floor ≡ greatest_time false h

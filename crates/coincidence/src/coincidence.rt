@@ -2,7 +2,7 @@
 ghost use Rattle.std.specs.Prelude.{◌≡◌, ◌^◌, ◌≤◌, [], ◌∷◌, ◌++◌, if◌then◌else◌, false};
 ghost use Rattle.tally_base.specs.Settings.{coincidence_view};
 ghost use Rattle.tally_base.specs.Tally.{History};
-ghost use Rattle.coincidence.specs.Counts.{Counts, CanGive};
+ghost use Rattle.coincidence.specs.StandsFor.{StandsFor, CanGive};
 ghost use Rattle.coincidence.specs.Pairing.{Came};
 ghost use Rattle.coincidence.specs.Pairs.{photons_of_groups};
 
@@ -26,7 +26,7 @@ pub struct Coincidence {
     closed: bool,
     ghost few: { taken ≤ 2 ^ 40 },
     ghost stands: { ∥ ((h : History)
-        × Counts closed (coincidence_view set) pairing taken floor h) ∥₁ },
+        × StandsFor closed (coincidence_view set) pairing taken floor h) ∥₁ },
 }
 
 impl Coincidence {

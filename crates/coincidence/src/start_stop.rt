@@ -33,7 +33,7 @@ impl StartStop {
     ghost use Rattle.std.specs.Prelude.{◌≡◌, ◌<◌, IfOk, [], false};
     ghost use Rattle.tally_base.specs.Settings.{startstop_view};
     ghost use Rattle.tally_base.specs.Settings.PartSettings.{StartStopSettings};
-    ghost use Rattle.coincidence.specs.Intervals.{in_interval, past_intervals};
+    ghost use Rattle.coincidence.specs.Intervals.{in_interval, count_over};
     ghost use Rattle.coincidence.specs.StartStop.{Holds, set_of};
 
     /// A table of no events, with all the memory that it ever takes.
@@ -74,7 +74,7 @@ impl StartStop {
     /// How many intervals came past the last bin.
     pub fn over(&self) -> u64
         ensures { (h : History) → Holds self.now h
-            → result ≡ past_intervals (startstop_view (set_of self.now)) h }
+            → result ≡ count_over (startstop_view (set_of self.now)) h }
     {
         self.over
     }

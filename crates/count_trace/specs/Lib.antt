@@ -1,3 +1,3 @@
-pub mod Counts
+pub mod TraceCounts
 pub mod Trace
 pub mod Laws

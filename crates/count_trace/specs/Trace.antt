@@ -5,7 +5,7 @@ use Rattle.tally_base.specs.Settings.{PartSettings, trace_view}
 use Rattle.tally_base.specs.Settings.PartSettings.{TraceSettings}
 use Rattle.tally_base.specs.Tally.{History, greatest_time}
 use Rattle.count_trace.specs.declared.trace.Trace.{Trace}
-use Rattle.count_trace.specs.Counts.{in_trace_bin, before_origin, past_trace}
+use Rattle.count_trace.specs.TraceCounts.{in_trace_bin, count_before, count_beyond}
 
 -- what it was opened with
 abbrev pub set_of : Trace → TraceSet
@@ -17,7 +17,7 @@ settings t = TraceSettings (trace_view t.set)
 -- Each cell is the count over the events.
 pub record Holds (t : Trace) (h : History) : Type 0 where
   pub cells : (b : ℕ) → b < t.set.bins → slice_index t.cells.items b ≡ in_trace_bin (trace_view t.set) b h
-  pub before : t.before ≡ before_origin (trace_view t.set) h
-  pub beyond : t.beyond ≡ past_trace (trace_view t.set) h
+  pub before : t.before ≡ count_before (trace_view t.set) h
+  pub beyond : t.beyond ≡ count_beyond (trace_view t.set) h
   pub taken : t.taken ≡ length h
   pub floor : t.floor ≡ greatest_time false h

@@ -31,7 +31,7 @@ impl Trace {
     ghost use Rattle.std.specs.Prelude.{◌≡◌, ◌<◌, IfOk, [], false};
     ghost use Rattle.tally_base.specs.Settings.{trace_view};
     ghost use Rattle.tally_base.specs.Settings.PartSettings.{TraceSettings};
-    ghost use Rattle.count_trace.specs.Counts.{in_trace_bin, before_origin, past_trace};
+    ghost use Rattle.count_trace.specs.TraceCounts.{in_trace_bin, count_before, count_beyond};
     ghost use Rattle.count_trace.specs.Trace.{Holds, set_of};
 
     /// A trace of no events, with all the memory that it ever takes, or `AllocError` where it is wanting.
@@ -77,7 +77,7 @@ impl Trace {
     /// How many photons of the group came before the origin.
     pub fn before(&self) -> u64
         ensures { (h : History) → Holds self.now h
-            → result ≡ before_origin (trace_view (set_of self.now)) h }
+            → result ≡ count_before (trace_view (set_of self.now)) h }
     {
         self.before
     }
@@ -85,7 +85,7 @@ impl Trace {
     /// How many photons of the group came at or past the end of the last bin.
     pub fn beyond(&self) -> u64
         ensures { (h : History) → Holds self.now h
-            → result ≡ past_trace (trace_view (set_of self.now)) h }
+            → result ≡ count_beyond (trace_view (set_of self.now)) h }
     {
         self.beyond
     }

@@ -6,7 +6,7 @@ use Rattle.tally_base.specs.declared.slot.Slot.{Slot}
 use Rattle.tally_base.specs.declared.fault.Fault.{Fault}
 use Rattle.tally_base.specs.declared.fault.Fault.TheVariants.{Usage, OpenFault, ReadFault, WriteFault, OutOfMemory}
 use Rattle.tally_base.specs.Faults.{is_outside, status_of, HasReason}
-use Rattle.tally_base.specs.Counts.{Rose}
+use Rattle.tally_base.specs.FaultCounts.{Rose}
 use Rattle.bench_io.specs.Inputs.{File, InputState}
 use Rattle.plan_text.specs.Plan.{PlanView}
 use Rattle.plan_text.specs.Reading.{plan_answer}

@@ -6,7 +6,7 @@ use Rattle.std.specs.Io.KnownBytes.{Appends, Consumes}
 use Rattle.tally_base.specs.declared.fault.Fault.{Fault}
 use Rattle.tally_base.specs.declared.fault.Fault.TheVariants.{WriteFault}
 use Rattle.tally_base.specs.declared.slot.Slot.TheVariants.{Data}
-use Rattle.tally_base.specs.Counts.{Rose}
+use Rattle.tally_base.specs.FaultCounts.{Rose}
 use Rattle.tally_base.specs.Faults.{is_outside, fault_in}
 use Rattle.tally_base.proofs.Reasons.{HasReason-follows}
 use Rattle.bench_io.specs.Inputs.{File, InputState, IsOpened, NoneFalls}

@@ -7,7 +7,7 @@ use Rattle.tally_base.specs.declared.slot.Slot.TheVariants.{Plan, Data}
 use Rattle.tally_base.specs.declared.fault.Fault.{Fault}
 use Rattle.tally_base.specs.declared.fault.Fault.TheVariants.{Usage, OpenFault}
 use Rattle.tally_base.specs.Faults.{line_of, is_outside, fault_in, HasReason}
-use Rattle.tally_base.specs.Counts.{Rose}
+use Rattle.tally_base.specs.FaultCounts.{Rose}
 use Rattle.bench_io.specs.Sinks.{AppendsShort}
 use Rattle.bench_io.specs.Inputs.{File, InputState}
 use Rattle.tally_base.specs.declared.header.Header.{Header}

@@ -5,7 +5,7 @@ use Rattle.std.specs.Io.KnownBytes.{Appends}
 use Rattle.tally_base.specs.declared.fault.Fault.{Fault}
 use Rattle.tally_base.specs.declared.fault.Fault.TheVariants.{WriteFault}
 use Rattle.bench_io.specs.Sinks.{AppendsShort}
-use Rattle.tally_base.specs.Counts.{Rose}
+use Rattle.tally_base.specs.FaultCounts.{Rose}
 use Rattle.ptu_definitions.specs.Streams.{Reading, record_refusal}
 use Rattle.table_out.specs.EventText.{lines_of}
 

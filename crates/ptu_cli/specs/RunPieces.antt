@@ -5,7 +5,7 @@ use Rattle.std.specs.Io.KnownBytes.{Consumes, IsAtEnd}
 use Rattle.tally_base.specs.declared.slot.Slot.TheVariants.{Data}
 use Rattle.tally_base.specs.declared.fault.Fault.{Fault}
 use Rattle.tally_base.specs.Faults.{is_outside, HasReason}
-use Rattle.tally_base.specs.Counts.{Rose}
+use Rattle.tally_base.specs.FaultCounts.{Rose}
 use Rattle.bench_io.specs.Inputs.{InputState}
 use Rattle.ptu_definitions.specs.Shown.{Says}
 use Rattle.ptu_definitions.specs.Streams.{streamed}

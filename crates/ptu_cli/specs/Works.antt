@@ -4,7 +4,7 @@ use Rattle.std.specs.declared.option.Option.{Option}
 use Rattle.std.specs.Io.KnownBytes.{Appends, Consumes}
 use Rattle.tally_base.specs.declared.slot.Slot.TheVariants.{Data}
 use Rattle.tally_base.specs.declared.fault.Fault.{Fault}
-use Rattle.tally_base.specs.Counts.{Rose}
+use Rattle.tally_base.specs.FaultCounts.{Rose}
 use Rattle.tally_base.specs.Faults.{is_outside, fault_in, HasReason}
 use Rattle.bench_io.specs.Inputs.{InputState}
 use Rattle.bench_io.specs.Sinks.{AppendsShort}

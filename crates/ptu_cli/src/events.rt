@@ -8,7 +8,7 @@ ghost use Rattle.std.specs.Prelude.{◌<◌, true, IfErr};
 ghost use Rattle.tally_base.specs.declared.slot.Slot.TheVariants.{Data};
 ghost use Rattle.tally_base.specs.Faults.{HasReason};
 ghost use Rattle.bench_io.specs.Inputs.{OnlyReads};
-ghost use Rattle.tally_base.specs.Counts.{Rose};
+ghost use Rattle.tally_base.specs.FaultCounts.{Rose};
 ghost use Rattle.ptu_definitions.specs.Streams.{streamed};
 ghost use Rattle.ptu_cli.specs.Outcomes.{MayChange};
 ghost use Rattle.ptu_cli.specs.Works.{TakesFew};

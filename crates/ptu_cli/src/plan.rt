@@ -3,7 +3,7 @@ ghost use Rattle.std.specs.Prelude.{◌≡◌, ◌≤◌, ◌<◌, ◌^◌, List
 ghost use Rattle.std.specs.Io.KnownBytes.{Consumes, IsAtEnd};
 ghost use Rattle.tally_base.specs.declared.slot.Slot.TheVariants.{Plan as PlanSlot};
 ghost use Rattle.tally_base.specs.declared.fault.Fault.TheVariants.{ReadFault};
-ghost use Rattle.tally_base.specs.Counts.{Rose};
+ghost use Rattle.tally_base.specs.FaultCounts.{Rose};
 ghost use Rattle.bench_io.specs.Inputs.{OnlyReads, Keeps, KeepsOther};
 ghost use Rattle.ptu_cli.specs.Endings.{TakesPlan};
 ghost use Rattle.ptu_cli.specs.PlanPieces.{AnswersPlan, PlanReason};

@@ -2,7 +2,7 @@
 ghost use Rattle.std.specs.Prelude.{◌≡◌, ◌≤◌, ◌^◌, ◌++◌, [], List, ℕ, true, false, IfOk, OnOk, OnErr, Err};
 ghost use Rattle.tally_base.specs.Faults.{is_outside};
 ghost use Rattle.ptu_definitions.specs.Headers.{header_answer};
-ghost use Rattle.tally_base.specs.Counts.{HasCause};
+ghost use Rattle.tally_base.specs.FaultCounts.{HasCause};
 ghost use Rattle.ptu_tag.specs.declared.kind.TagKind.{TagKind};
 ghost use Rattle.ptu_tag.specs.Kinds.{IsHead, code_of};
 ghost use Rattle.ptu_definitions.specs.TagFields.{code_in};

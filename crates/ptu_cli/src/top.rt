@@ -6,7 +6,7 @@ ghost use Rattle.tally_base.specs.declared.slot.Slot.{Slot};
 ghost use Rattle.tally_base.specs.declared.fault.Fault.{Fault};
 ghost use Rattle.tally_base.specs.declared.slot.Slot.TheVariants.{Plan};
 ghost use Rattle.tally_base.specs.declared.fault.Fault.TheVariants.{OpenFault, ReadFault, WriteFault, OutOfMemory};
-ghost use Rattle.tally_base.specs.Counts.{Rose};
+ghost use Rattle.tally_base.specs.FaultCounts.{Rose};
 ghost use Rattle.bench_io.specs.Inputs.{File};
 ghost use Rattle.ptu_cli.specs.Outcomes.{status};
 ghost use Rattle.ptu_cli.specs.Endings.{outcome, IsMeant, PlanMayBe, TellsData, Tells, TellsFault, CutsShort, Does, Reaches, LeavesUnread, RunsOut, Asks, MeansStatus, NoneRose, IsGood};

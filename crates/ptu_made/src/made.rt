@@ -2,7 +2,7 @@
 ghost use Rattle.std.specs.Prelude.{◌≡◌, ◌≤◌, true, false, length, min, unwrap_or, [], IsOk, IfOk, OnErr, OnOk};
 ghost use Rattle.std.specs.Io.{ReadsAtMost};
 ghost use Rattle.std.specs.Io.KnownBytes.{ReadConsumes};
-ghost use Rattle.tally_base.specs.Counts.{HasCause};
+ghost use Rattle.tally_base.specs.FaultCounts.{HasCause};
 ghost use Rattle.bench_io.specs.Inputs.{IsOpened, Keeps, KeepsOther, OpensNone};
 ghost use Rattle.bench_io.specs.Memory.{left_of};
 ghost use Rattle.ptu_made.specs.ShortFile.{made_file};

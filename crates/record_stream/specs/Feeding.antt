@@ -4,7 +4,7 @@ use Rattle.ptu_definitions.specs.declared.records.Summary.{Summary}
 use Rattle.tally_base.specs.declared.fault.Fault.{Fault}
 use Rattle.tally_base.specs.declared.fault.Fault.TheVariants.{WriteFault}
 use Rattle.tally_base.specs.declared.header.Mode.{Mode}
-use Rattle.tally_base.specs.Counts.{Rose}
+use Rattle.tally_base.specs.FaultCounts.{Rose}
 use Rattle.ptu_definitions.specs.Kept.{Marked}
 use Rattle.ptu_definitions.specs.Streams.{Reading, refusals, record_refusal, given, events_in, summary}
 use Rattle.abs_time.specs.declared.clock.Clock.{Clock}

@@ -1,7 +1,7 @@
 // What events are given to.
 ghost use Rattle.std.specs.Prelude.{◌≡◌, ℕ, ◌+◌, ◌<◌, ◌≤◌, ◌^◌, ◌&&◌, not, IsTrue, List, [], ◌∷◌, ◌++◌, length, OnOk, OnErr, if◌then◌else◌, max};
 ghost use Rattle.tally_base.specs.declared.header.Mode.{Mode};
-ghost use Rattle.tally_base.specs.Counts.{HasCause};
+ghost use Rattle.tally_base.specs.FaultCounts.{HasCause};
 ghost use Rattle.tally_base.specs.Events.{is_ordered};
 ghost use Rattle.ptu_definitions.specs.Fitting.{KindFits};
 ghost use Rattle.ptu_definitions.specs.Kept.{Marked, floor_of};

@@ -30,7 +30,7 @@ pub struct Walk {
 impl Walk {
     ghost use Rattle.std.specs.Prelude.{◌&&◌, not, IsTrue, if◌then◌else◌};
     ghost use Rattle.tally_base.specs.declared.fault.Fault.TheVariants.{WriteFault};
-    ghost use Rattle.tally_base.specs.Counts.{HasCause};
+    ghost use Rattle.tally_base.specs.FaultCounts.{HasCause};
     ghost use Rattle.tally_base.specs.Events.{is_ordered};
     ghost use Rattle.ptu_definitions.specs.Kept.{Marked};
     ghost use Rattle.abs_time.specs.Placing.{IsSmall};

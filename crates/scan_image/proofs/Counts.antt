@@ -11,7 +11,7 @@ use Rattle.tally_base.specs.Settings.{ImageView}
 use Rattle.tally_base.specs.Tally.{History}
 use Rattle.marker_map.specs.Marks.{mark}
 use Rattle.marker_map.specs.Places.{place_of}
-use Rattle.scan_image.specs.Counts.{mark_at, markers, is_placed, count_placed}
+use Rattle.scan_image.specs.ImageCounts.{mark_at, markers, is_placed, count_placed}
 use Rattle.scan_image.proofs.Behind.{count_behind-push}
 
 pub markers-marker : (h : History) (x : Event × ℕ) (bits : ℕ) → x.0.kind ≡ Marker bits → markers (h ++ x ∷ []) ≡ markers h ++ mark bits x.0.time ∷ []

@@ -5,7 +5,7 @@ use Rattle.tally_base.specs.declared.event.Event.{Event}
 use Rattle.tally_base.specs.declared.event.EventKind.TheVariants.{Photon, Marker}
 use Rattle.tally_base.specs.Settings.{ImageView}
 use Rattle.tally_base.specs.Tally.{History}
-use Rattle.scan_image.specs.Counts.{in_cell, out_of_image}
+use Rattle.scan_image.specs.ImageCounts.{in_cell, count_outside}
 
 -- A photon of these groups, and a marker.
 abbrev photon : ℕ → ℕ → Event × ℕ
@@ -31,14 +31,14 @@ row-last_column = refl
 row-empty : in_cell (framed None) 0 1 together ≡ 0
 row-empty = refl
 
-row-behind : out_of_image (framed None) together ≡ 1
+row-behind : count_outside (framed None) together ≡ 1
 row-behind = refl
 
 -- A photon before any line, and one behind a stop.
 abbrev stopped : History
 stopped = photon 5 1 ∷ marker 10 3 ∷ marker 12 4 ∷ photon 13 1 ∷ []
 
-row-stopped : out_of_image (framed (Some 3)) stopped ≡ 2
+row-stopped : count_outside (framed (Some 3)) stopped ≡ 2
 row-stopped = refl
 
 row-no_cell : in_cell (framed (Some 3)) 0 0 stopped ≡ 0
@@ -57,7 +57,7 @@ row-row_0 = refl
 row-row_1 : in_cell unframed 0 1 three_lines ≡ 1
 row-row_1 = refl
 
-row-all_inside : out_of_image unframed three_lines ≡ 0
+row-all_inside : count_outside unframed three_lines ≡ 0
 row-all_inside = refl
 
 -- Photons of other groups count nowhere.
@@ -67,5 +67,5 @@ of_others = photon 0 2 ∷ marker 10 1 ∷ photon 10 2 ∷ photon 10 0 ∷ photo
 row-own : in_cell unframed 0 0 of_others ≡ 1
 row-own = refl
 
-row-other : out_of_image unframed of_others ≡ 0
+row-other : count_outside unframed of_others ≡ 0
 row-other = refl

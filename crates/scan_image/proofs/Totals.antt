@@ -12,7 +12,7 @@ use Rattle.tally_base.specs.Settings.{ImageView}
 use Rattle.tally_base.specs.Tally.{History}
 use Rattle.marker_map.specs.Marks.{Mark}
 use Rattle.marker_map.specs.Places.{line_of, row_of, within, place_of}
-use Rattle.scan_image.specs.Counts.{markers, is_at, in_cell, out_of_image}
+use Rattle.scan_image.specs.ImageCounts.{markers, is_at, in_cell, count_outside}
 use Rattle.scan_image.specs.Totals.{in_all_cells, photons_of_group}
 use Rattle.scan_image.proofs.Behind.{one_if}
 use Rattle.scan_image.proofs.Counts.{placed-photon, placed-other}
@@ -112,7 +112,7 @@ parts-true false b is = cc
 
 -- what is to be shown of the events
 abbrev pub Total : ImageView → History → Type 0
-Total set h = in_all_cells set h + out_of_image set h ≡ photons_of_group set h
+Total set h = in_all_cells set h + count_outside set h ≡ photons_of_group set h
 
 total-push : (set : ImageView) (h : History) (x : Event × ℕ) (of_group : Bool) → (is_photon x.0 && is_in x.1 set.group) ≡ of_group → Total set h → Total set (h ++ x ∷ [])
 total-push set h x true is so_far =

@@ -6,7 +6,7 @@ use Rattle.tally_base.specs.Settings.PartSettings.{ImageSettings}
 use Rattle.tally_base.specs.Tally.{History, greatest_time}
 use Rattle.marker_map.specs.Lines.{Saw}
 use Rattle.scan_image.specs.declared.image.Image.{Image}
-use Rattle.scan_image.specs.Counts.{markers, in_cell, out_of_image}
+use Rattle.scan_image.specs.ImageCounts.{markers, in_cell, count_outside}
 
 -- what it was opened with
 abbrev pub set_of : Image → ImageSet
@@ -18,7 +18,7 @@ settings t = ImageSettings (image_view t.set)
 -- Each cell is the count over the events.
 pub record Holds (t : Image) (h : History) : Type 0 where
   pub cells : (x y : ℕ) → x < t.set.width → y < t.set.height → slice_index t.cells.items (y * t.set.width + x) ≡ in_cell (image_view t.set) x y h
-  pub outside : t.outside ≡ out_of_image (image_view t.set) h
+  pub outside : t.outside ≡ count_outside (image_view t.set) h
   pub lines : Saw t.lines (markers h)
   pub taken : t.taken ≡ length h
   pub floor : t.floor ≡ greatest_time true h

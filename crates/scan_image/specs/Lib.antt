@@ -1,4 +1,4 @@
-pub mod Counts
+pub mod ImageCounts
 pub mod Totals
 pub mod Image
 pub mod Laws

@@ -4,7 +4,7 @@ use Rattle.std.specs.List.{range_with_len}
 use Rattle.tally_base.specs.Events.{is_photon, is_in}
 use Rattle.tally_base.specs.Settings.{ImageView}
 use Rattle.tally_base.specs.Tally.{History}
-use Rattle.scan_image.specs.Counts.{in_cell}
+use Rattle.scan_image.specs.ImageCounts.{in_cell}
 
 -- the sum over all cells, row by row
 abbrev pub in_all_cells : ImageView → History → ℕ

@@ -44,7 +44,7 @@ fn cell_of(set: &ImageSet, x: u32, y: u32) -> usize
 impl Image {
     ghost use Rattle.std.specs.Prelude.{IfOk, [], false};
     ghost use Rattle.tally_base.specs.Settings.PartSettings.{ImageSettings};
-    ghost use Rattle.scan_image.specs.Counts.{in_cell, out_of_image};
+    ghost use Rattle.scan_image.specs.ImageCounts.{in_cell, count_outside};
     ghost use Rattle.scan_image.specs.Image.{Holds, set_of};
 
     /// An image of no events, with all the memory that it ever takes, or `AllocError` where it is wanting.
@@ -87,7 +87,7 @@ impl Image {
     /// How many photons of the group came outside the image.
     pub fn outside(&self) -> u64
         ensures { (h : History) → Holds self.now h
-            → result ≡ out_of_image (image_view (set_of self.now)) h }
+            → result ≡ count_outside (image_view (set_of self.now)) h }
     {
         self.outside
     }

@@ -2,11 +2,11 @@
 ghost use Rattle.std.specs.Prelude.{◌≡◌, ◌+◌};
 ghost use Rattle.tally_base.specs.Settings.{ImageView};
 ghost use Rattle.tally_base.specs.Tally.{History};
-ghost use Rattle.scan_image.specs.Counts.{out_of_image};
+ghost use Rattle.scan_image.specs.ImageCounts.{count_outside};
 ghost use Rattle.scan_image.specs.Totals.{in_all_cells, photons_of_group};
 
 /// Each photon of the group counts once, in a cell or outside the image.
 pub fn each_photon_counts_once()
     ensures { (set : ImageView) (h : History)
-        → in_all_cells set h + out_of_image set h ≡ photons_of_group set h }
+        → in_all_cells set h + count_outside set h ≡ photons_of_group set h }
 {}

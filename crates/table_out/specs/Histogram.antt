@@ -1,7 +1,7 @@
 -- How a histogram is printed.
 use Rattle.std.specs.Prelude.{◌++◌, codes, decimal}
 use Rattle.tally_base.specs.Settings.{HistView}
-use Rattle.tcspc_hist.specs.Counts.{in_bin, past_bins}
+use Rattle.tcspc_hist.specs.HistogramCounts.{in_bin, count_over}
 use Rattle.table_out.specs.Lines.{line}
 use Rattle.table_out.specs.Printed.{Printed, cell_line}
 
@@ -12,5 +12,5 @@ histogram_printed set = record {
   rows = 1;
   columns = λ row. set.bins;
   cell = λ row b h. cell_line b (in_bin set b h);
-  rest = λ h. line (codes "over") (decimal (past_bins set h));
+  rest = λ h. line (codes "over") (decimal (count_over set h));
 }

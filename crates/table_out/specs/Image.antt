@@ -1,7 +1,7 @@
 -- How an image is printed.
 use Rattle.std.specs.Prelude.{◌++◌, codes, decimal}
 use Rattle.tally_base.specs.Settings.{ImageView}
-use Rattle.scan_image.specs.Counts.{in_cell, out_of_image}
+use Rattle.scan_image.specs.ImageCounts.{in_cell, count_outside}
 use Rattle.table_out.specs.Lines.{line}
 use Rattle.table_out.specs.Printed.{Printed, pair_line}
 
@@ -12,5 +12,5 @@ image_printed set = record {
   rows = set.height;
   columns = λ y. set.width;
   cell = λ y x h. pair_line x y (in_cell set x y h);
-  rest = λ h. line (codes "outside") (decimal (out_of_image set h));
+  rest = λ h. line (codes "outside") (decimal (count_outside set h));
 }

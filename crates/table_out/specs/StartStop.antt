@@ -1,7 +1,7 @@
 -- How a start-stop table is printed.
 use Rattle.std.specs.Prelude.{◌++◌, codes, decimal}
 use Rattle.tally_base.specs.Settings.{StartStopView}
-use Rattle.coincidence.specs.Intervals.{in_interval, past_intervals}
+use Rattle.coincidence.specs.Intervals.{in_interval, count_over}
 use Rattle.table_out.specs.Lines.{line}
 use Rattle.table_out.specs.Printed.{Printed, cell_line}
 
@@ -12,5 +12,5 @@ startstop_printed set = record {
   rows = 1;
   columns = λ row. set.bins;
   cell = λ row b h. cell_line b (in_interval set b h);
-  rest = λ h. line (codes "over") (decimal (past_intervals set h));
+  rest = λ h. line (codes "over") (decimal (count_over set h));
 }

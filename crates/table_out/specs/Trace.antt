@@ -1,7 +1,7 @@
 -- How a trace is printed.
 use Rattle.std.specs.Prelude.{◌++◌, codes, decimal}
 use Rattle.tally_base.specs.Settings.{TraceView}
-use Rattle.count_trace.specs.Counts.{in_trace_bin, before_origin, past_trace}
+use Rattle.count_trace.specs.TraceCounts.{in_trace_bin, count_before, count_beyond}
 use Rattle.table_out.specs.Lines.{line}
 use Rattle.table_out.specs.Printed.{Printed, cell_line}
 
@@ -12,5 +12,5 @@ trace_printed set = record {
   rows = 1;
   columns = λ row. set.bins;
   cell = λ row b h. cell_line b (in_trace_bin set b h);
-  rest = λ h. line (codes "before") (decimal (before_origin set h)) ++ line (codes "beyond") (decimal (past_trace set h));
+  rest = λ h. line (codes "before") (decimal (count_before set h)) ++ line (codes "beyond") (decimal (count_beyond set h));
 }

@@ -1,6 +1,6 @@
 // The lines of a table of cells.
 ghost use Rattle.std.specs.Prelude.{◌≡◌, ◌<◌, ◌≤◌, true, length, OnOk, OnErr, codes, decimal};
-ghost use Rattle.tally_base.specs.Counts.{HasCause};
+ghost use Rattle.tally_base.specs.FaultCounts.{HasCause};
 ghost use Rattle.tally_base.specs.Tally.{History};
 ghost use Rattle.table_out.specs.Lines.{line};
 ghost use Rattle.table_out.specs.Printed.{cell_line, pair_line, texts_of, rows_of, first_line};

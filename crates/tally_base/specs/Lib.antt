@@ -2,6 +2,6 @@ pub mod Hexadecimal
 pub mod RecordTypes
 pub mod Faults
 pub mod Events
-pub mod Counts
+pub mod FaultCounts
 pub mod Settings
 pub mod Tally

@@ -17,7 +17,7 @@ use Rattle.lag_ring.proofs.Lists.{all_both, all_filter, all_passed}
 use Rattle.lag_ring.proofs.Rising.{all_weaker}
 use Rattle.tau_cascade.specs.declared.level.Level.{Level}
 use Rattle.tau_cascade.specs.Correlation.{Given, bin, in_first, in_second, photons_of}
-use Rattle.tau_cascade.specs.Counts.{Counts, CanGive}
+use Rattle.tau_cascade.specs.StandsFor.{StandsFor, CanGive}
 use Rattle.tau_cascade.specs.Levels.{CanCarry, CanEnd, Chain, Complete}
 
 abbrev later : ℕ → Given → ℕ
@@ -102,7 +102,7 @@ floor_more true time g last is after = let upto : time ≤ last = after refl in 
 floor_more false time g last is after = is
 
 -- what a correlation that isn't closed may be given
-pub may_give : (closed : Bool) → closed ≡ false → (set : CorrelationSet) (ls : List Level) (count time : ℕ) (h : History) (e : Event) → Counts closed set ls count time h → count < 2 ^ 40 → (IsTrue (moves_floor false e) → time ≤ e.time) → CanGive (correlation_view set) ls e h
+pub may_give : (closed : Bool) → closed ≡ false → (set : CorrelationSet) (ls : List Level) (count time : ℕ) (h : History) (e : Event) → StandsFor closed set ls count time h → count < 2 ^ 40 → (IsTrue (moves_floor false e) → time ≤ e.time) → CanGive (correlation_view set) ls e h
 may_give true still set ls count time h e is few after = absurd (false≢true (sym still))
 may_give false still set ls count time h e is few after = record {
   few = omega (arith, is.taken);
@@ -111,8 +111,8 @@ may_give false still set ls count time h e is few after = record {
 }
 
 -- what it stands for then
-pub more_counts : (closed : Bool) → closed ≡ false → (set : CorrelationSet) (ls ls' : List Level) (count time : ℕ) (h : History) (e : Event) (groups : ℕ) → Counts closed set ls count time h → (IsTrue (moves_floor false e) → time ≤ e.time)
-    → Chain (correlation_view set) 0 ls' (photons_of (correlation_view set) (h ++ (e, groups) ∷ [])) → Counts closed set ls' (count + 1) (cond (moves_floor false e) e.time time) (h ++ (e, groups) ∷ [])
+pub more_counts : (closed : Bool) → closed ≡ false → (set : CorrelationSet) (ls ls' : List Level) (count time : ℕ) (h : History) (e : Event) (groups : ℕ) → StandsFor closed set ls count time h → (IsTrue (moves_floor false e) → time ≤ e.time)
+    → Chain (correlation_view set) 0 ls' (photons_of (correlation_view set) (h ++ (e, groups) ∷ [])) → StandsFor closed set ls' (count + 1) (cond (moves_floor false e) e.time time) (h ++ (e, groups) ∷ [])
 more_counts true still set ls ls' count time h e groups is after through = absurd (false≢true (sym still))
 more_counts false still set ls ls' count time h e groups is after through = record {
   taken = omega (arith, is.taken, length-append h ((e, groups) ∷ []));
@@ -121,9 +121,9 @@ more_counts false still set ls ls' count time h e groups is after through = reco
 }
 
 -- it may be closed
-pub may_end : (closed : Bool) → closed ≡ false → (set : CorrelationSet) (ls : List Level) (count time : ℕ) (h : History) → Counts closed set ls count time h → count ≤ 2 ^ 40 → CanEnd (correlation_view set) 0 ls (photons_of (correlation_view set) h)
+pub may_end : (closed : Bool) → closed ≡ false → (set : CorrelationSet) (ls : List Level) (count time : ℕ) (h : History) → StandsFor closed set ls count time h → count ≤ 2 ^ 40 → CanEnd (correlation_view set) 0 ls (photons_of (correlation_view set) h)
 may_end true still set ls count time h is few = absurd (false≢true (sym still))
 may_end false still set ls count time h is few = record { few = omega (arith, is.taken, few_photons (correlation_view set) h); chain = is.through }
 
-pub end_counts : (closed : Bool) → closed ≡ false → (set : CorrelationSet) (ls ls' : List Level) (count time : ℕ) (h : History) → Counts closed set ls count time h → Complete (correlation_view set) 0 ls' (photons_of (correlation_view set) h) → Counts true set ls' count time h
+pub end_counts : (closed : Bool) → closed ≡ false → (set : CorrelationSet) (ls ls' : List Level) (count time : ℕ) (h : History) → StandsFor closed set ls count time h → Complete (correlation_view set) 0 ls' (photons_of (correlation_view set) h) → StandsFor true set ls' count time h
 end_counts closed still set ls ls' count time h is through = record { taken = is.taken; floor = is.floor; through = through }

@@ -15,7 +15,7 @@ use Rattle.tally_base.specs.Tally.{History}
 use Rattle.tau_cascade.specs.declared.level.Level.{Level}
 use Rattle.tau_cascade.specs.Correlation.{Given, bin, in_first, in_second, photons_of}
 use Rattle.tau_cascade.specs.Levels.{OpenIs, Chain, Complete}
-use Rattle.tau_cascade.specs.Counts.{Counts}
+use Rattle.tau_cascade.specs.StandsFor.{StandsFor}
 use Rattle.std.proofs.lemmas.Bool.{false≢true}
 use Rattle.tau_cascade.proofs.Gives.{none_before}
 use Rattle.tau_cascade.proofs.Carries.{bin-suc}
@@ -169,7 +169,7 @@ opens_at set level (l ∷ ls) all came later most cut chain (suc i) o read =
     (rw here at above)
 
 -- until it is closed a correlation has the open bins that the events say
-pub open_bins : (closed : Bool) → closed ≡ false → (set : CorrelationSet) (ls : List Level) (count time : ℕ) (h : History) → Counts closed set ls count time h → (i : ℕ) (o : Option Entry) → option_map (λ (l : Level). l.open) (slice_get ls i) ≡ Some o → o ≡ open_bin (correlation_view set) i h
+pub open_bins : (closed : Bool) → closed ≡ false → (set : CorrelationSet) (ls : List Level) (count time : ℕ) (h : History) → StandsFor closed set ls count time h → (i : ℕ) (o : Option Entry) → option_map (λ (l : Level). l.open) (slice_get ls i) ≡ Some o → o ≡ open_bin (correlation_view set) i h
 open_bins true still set ls count time h is i o read = absurd (false≢true (sym still))
 open_bins false still set ls count time h is i o read =
     let view : CorrelationView = correlation_view set in
@@ -189,6 +189,6 @@ none_open set level [] came is i o read = cc
 none_open set level (l ∷ ls) came is zero o read = let same : l.open ≡ o = cc in sym same ∙ is.0.none
 none_open set level (l ∷ ls) came is (suc i) o read = none_open set (suc level) ls came is.1 i o read
 
-pub all_shut : (closed : Bool) → closed ≡ true → (set : CorrelationSet) (ls : List Level) (count time : ℕ) (h : History) → Counts closed set ls count time h → (i : ℕ) (o : Option Entry) → option_map (λ (l : Level). l.open) (slice_get ls i) ≡ Some o → o ≡ None
+pub all_shut : (closed : Bool) → closed ≡ true → (set : CorrelationSet) (ls : List Level) (count time : ℕ) (h : History) → StandsFor closed set ls count time h → (i : ℕ) (o : Option Entry) → option_map (λ (l : Level). l.open) (slice_get ls i) ≡ Some o → o ≡ None
 all_shut false shut set ls count time h is i o read = absurd (false≢true shut)
 all_shut true shut set ls count time h is i o read = none_open (correlation_view set) 0 ls (photons_of (correlation_view set) h) is.through i o read

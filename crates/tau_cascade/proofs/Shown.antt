@@ -14,7 +14,7 @@ use Rattle.lag_ring.specs.Ring.{Ring}
 use Rattle.lag_ring.proofs.Sums.{sum_by-same, sum_by-filter}
 use Rattle.tau_cascade.specs.declared.level.Level.{Level}
 use Rattle.tau_cascade.specs.Correlation.{Given, bin, in_first, in_second, is_pair, correlation, lag_floor, lag_count, photons_of}
-use Rattle.tau_cascade.specs.Counts.{Counts}
+use Rattle.tau_cascade.specs.StandsFor.{StandsFor}
 use Rattle.tau_cascade.specs.Levels.{RingIs, CellsAre, Chain, Complete}
 
 zeros : {X : Type 0} (f : X → ℕ) (xs : List X) → ((x : X) → f x ≡ 0) → sum_by f xs ≡ 0
@@ -64,21 +64,21 @@ done_level set level (x ∷ ls) came is (suc i) l read =
     let rest = done_level set (suc level) ls came is.1 i l read in
     (rw next at rest)
 
-pub any_level : (closed : Bool) (set : CorrelationSet) (ls : List Level) (count time : ℕ) (h : History) → Counts closed set ls count time h → (i : ℕ) (l : Level) → slice_get ls i ≡ Some l → (came : History) × Reads (correlation_view set) i l came
+pub any_level : (closed : Bool) (set : CorrelationSet) (ls : List Level) (count time : ℕ) (h : History) → StandsFor closed set ls count time h → (i : ℕ) (l : Level) → slice_get ls i ≡ Some l → (came : History) × Reads (correlation_view set) i l came
 any_level true set ls count time h is i l read = (photons_of (correlation_view set) h, (rw zero-add at (done_level (correlation_view set) 0 ls (photons_of (correlation_view set) h) is.through i l read)))
 any_level false set ls count time h is i l read =
     let found = open_level (correlation_view set) 0 ls (photons_of (correlation_view set) h) is.through i l read in
     (found.0, (rw zero-add at found.1))
 
-pub level_count : (closed : Bool) (set : CorrelationSet) (ls : List Level) (count time : ℕ) (h : History) → Counts closed set ls count time h → (i : ℕ) (l : Level) → slice_get ls i ≡ Some l → length l.cells.cells ≡ lag_count (correlation_view set) i
+pub level_count : (closed : Bool) (set : CorrelationSet) (ls : List Level) (count time : ℕ) (h : History) → StandsFor closed set ls count time h → (i : ℕ) (l : Level) → slice_get ls i ≡ Some l → length l.cells.cells ≡ lag_count (correlation_view set) i
 level_count closed set ls count time h is i l read = (any_level closed set ls count time h is i l read).1.cells.count
 
-pub level_ring : (closed : Bool) (set : CorrelationSet) (ls : List Level) (count time : ℕ) (h : History) → Counts closed set ls count time h → (i : ℕ) (l : Level) → slice_get ls i ≡ Some l → length l.ring.entries ≤ set.lags
+pub level_ring : (closed : Bool) (set : CorrelationSet) (ls : List Level) (count time : ℕ) (h : History) → StandsFor closed set ls count time h → (i : ℕ) (l : Level) → slice_get ls i ≡ Some l → length l.ring.entries ≤ set.lags
 level_ring closed set ls count time h is i l read =
     let found = any_level closed set ls count time h is i l read in
     omega (arith, found.1.ring.reach, found.1.ring.keeps.within)
 
-pub closed_cells : (closed : Bool) → closed ≡ true → (set : CorrelationSet) (ls : List Level) (count time : ℕ) (h : History) → Counts closed set ls count time h → (i : ℕ) (l : Level) → slice_get ls i ≡ Some l → CellsAre (correlation_view set) i l.cells (photons_of (correlation_view set) h)
+pub closed_cells : (closed : Bool) → closed ≡ true → (set : CorrelationSet) (ls : List Level) (count time : ℕ) (h : History) → StandsFor closed set ls count time h → (i : ℕ) (l : Level) → slice_get ls i ≡ Some l → CellsAre (correlation_view set) i l.cells (photons_of (correlation_view set) h)
 closed_cells false shut set ls count time h is i l read = absurd (false≢true shut)
 closed_cells true shut set ls count time h is i l read = (rw zero-add at (done_level (correlation_view set) 0 ls (photons_of (correlation_view set) h) is.through i l read)).cells
 
@@ -90,17 +90,17 @@ read_in ls i f y (Some l) is got = (l, is, cc)
 pub read_of : {Y : Type 0} (ls : List Level) (i : ℕ) (f : Level → Y) (y : Y) → option_map f (slice_get ls i) ≡ Some y → (l : Level) × (slice_get ls i ≡ Some l) × (f l ≡ y)
 read_of ls i f y read = read_in ls i f y (slice_get ls i) refl read
 
-pub shown_cells : (closed : Bool) → closed ≡ true → (set : CorrelationSet) (ls : List Level) (count time : ℕ) (h : History) → Counts closed set ls count time h → (i : ℕ) (cs : Cells) → option_map (λ (l : Level). l.cells) (slice_get ls i) ≡ Some cs → CellsAre (correlation_view set) i cs (photons_of (correlation_view set) h)
+pub shown_cells : (closed : Bool) → closed ≡ true → (set : CorrelationSet) (ls : List Level) (count time : ℕ) (h : History) → StandsFor closed set ls count time h → (i : ℕ) (cs : Cells) → option_map (λ (l : Level). l.cells) (slice_get ls i) ≡ Some cs → CellsAre (correlation_view set) i cs (photons_of (correlation_view set) h)
 shown_cells closed shut set ls count time h is i cs read =
     let found = read_of ls i (λ (l : Level). l.cells) cs read in
     rw (← found.2) (closed_cells closed shut set ls count time h is i found.0 found.1)
 
-pub shown_count : (closed : Bool) (set : CorrelationSet) (ls : List Level) (count time : ℕ) (h : History) → Counts closed set ls count time h → (i : ℕ) (cs : Cells) → option_map (λ (l : Level). l.cells) (slice_get ls i) ≡ Some cs → length cs.cells ≡ lag_count (correlation_view set) i
+pub shown_count : (closed : Bool) (set : CorrelationSet) (ls : List Level) (count time : ℕ) (h : History) → StandsFor closed set ls count time h → (i : ℕ) (cs : Cells) → option_map (λ (l : Level). l.cells) (slice_get ls i) ≡ Some cs → length cs.cells ≡ lag_count (correlation_view set) i
 shown_count closed set ls count time h is i cs read =
     let found = read_of ls i (λ (l : Level). l.cells) cs read in
     rw (← found.2) (level_count closed set ls count time h is i found.0 found.1)
 
-pub shown_ring : (closed : Bool) (set : CorrelationSet) (ls : List Level) (count time : ℕ) (h : History) → Counts closed set ls count time h → (i : ℕ) (r : Ring) → option_map (λ (l : Level). l.ring) (slice_get ls i) ≡ Some r → length r.entries ≤ set.lags
+pub shown_ring : (closed : Bool) (set : CorrelationSet) (ls : List Level) (count time : ℕ) (h : History) → StandsFor closed set ls count time h → (i : ℕ) (r : Ring) → option_map (λ (l : Level). l.ring) (slice_get ls i) ≡ Some r → length r.entries ≤ set.lags
 shown_ring closed set ls count time h is i r read =
     let found = read_of ls i (λ (l : Level). l.ring) r read in
     rw (← found.2) (level_ring closed set ls count time h is i found.0 found.1)

@@ -10,7 +10,7 @@ use Rattle.tally_base.specs.Tally.{History}
 use Rattle.tau_cascade.specs.declared.level.Level.{Level}
 use Rattle.tau_cascade.specs.declared.cascade.Cascade.{Cascade}
 use Rattle.tau_cascade.specs.Cascade.{Holds, set_of, spent_by}
-use Rattle.tau_cascade.specs.Counts.{Counts}
+use Rattle.tau_cascade.specs.StandsFor.{StandsFor}
 use Rattle.tau_cascade.specs.Correlation.{bin, lag_count, photons_of}
 use Rattle.tau_cascade.specs.Work.{occupied, lags_at, work_from, work}
 use Rattle.tau_cascade.specs.Levels.{Chain, Complete, CellsAre, spent}
@@ -39,7 +39,7 @@ shut_work set even level (l ∷ ls) all is =
     rw (sum_by-cons (λ (l : Level). l.cells.added) l ls) (omega (arith, one_level set level l all all [] (sym (append-nil all)) even is.0.cells, shut_work set even (suc level) ls all is.1))
 
 -- whatever events a correlation stands for, its additions are within their work
-pub spent_within : (closed : Bool) (set : CorrelationSet) (ls : List Level) (count time : ℕ) (h : History) → length ls ≡ set.levels → Counts closed set ls count time h → spent ls ≤ work (correlation_view set) h
+pub spent_within : (closed : Bool) (set : CorrelationSet) (ls : List Level) (count time : ℕ) (h : History) → length ls ≡ set.levels → StandsFor closed set ls count time h → spent ls ≤ work (correlation_view set) h
 spent_within false set ls count time h sized is =
     let view : CorrelationView = correlation_view set in
     subst (λ n. spent ls ≤ work_from view 0 n (photons_of view h)) sized (open_work view set.even_lags 0 ls (photons_of view h) (photons_of view h) [] (sym (append-nil (photons_of view h))) is.through)

@@ -9,7 +9,7 @@ use Rattle.lag_ring.specs.declared.ring.Entry.{Entry}
 use Rattle.lag_ring.specs.Cells.{Cells}
 use Rattle.lag_ring.specs.Ring.{Ring}
 use Rattle.tau_cascade.specs.declared.cascade.Cascade.{Cascade}
-use Rattle.tau_cascade.specs.Counts.{Counts}
+use Rattle.tau_cascade.specs.StandsFor.{StandsFor}
 use Rattle.tau_cascade.specs.Levels.{spent}
 
 -- what it was opened with
@@ -21,7 +21,7 @@ settings t = CorrelationSettings (correlation_view t.set)
 
 -- it stands for these events
 abbrev pub Holds : Cascade → History → Type 0
-Holds t h = Counts t.closed t.set t.levels.items t.taken t.floor h
+Holds t h = StandsFor t.closed t.set t.levels.items t.taken t.floor h
 
 -- the cells of a level, where there is one
 abbrev pub cells_at : Cascade → ℕ → Option Cells

@@ -12,7 +12,7 @@ use Rattle.tau_cascade.specs.declared.cascade.Cascade.{Cascade}
 use Rattle.tau_cascade.specs.declared.level.Level.{Level}
 use Rattle.tau_cascade.specs.Cascade.{Holds, settings}
 use Rattle.tau_cascade.specs.Correlation.{lag_count, photons_of}
-use Rattle.tau_cascade.specs.Counts.{WentThrough, entries_of}
+use Rattle.tau_cascade.specs.StandsFor.{WentThrough, entries_of}
 use Rattle.tau_cascade.specs.Levels.{Chain, Complete, RingIs, CellsAre}
 
 pub taken_is : (t : Cascade) (h : History) → Holds t h → t.taken ≡ length h

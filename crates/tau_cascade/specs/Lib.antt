@@ -2,6 +2,6 @@ pub mod Correlation
 pub mod Work
 pub mod Opens
 pub mod Levels
-pub mod Counts
+pub mod StandsFor
 pub mod Cascade
 pub mod Laws

@@ -3,7 +3,7 @@ ghost use Rattle.std.specs.Prelude.{◌≡◌, ◌+◌, ◌^◌, ◌<◌, ◌≤
 ghost use Rattle.tally_base.specs.Settings.{correlation_view};
 ghost use Rattle.tally_base.specs.Tally.{History};
 ghost use Rattle.tau_cascade.specs.Correlation.{photons_of};
-ghost use Rattle.tau_cascade.specs.Counts.{Counts, CanGive};
+ghost use Rattle.tau_cascade.specs.StandsFor.{StandsFor, CanGive};
 ghost use Rattle.tau_cascade.specs.Levels.{Chain, spent};
 
 use crate::carry::{carry, end_all};
@@ -28,7 +28,7 @@ pub struct Cascade {
     closed: bool,
     ghost sized: { vec_len levels ≡ set.levels },
     ghost few: { taken ≤ 2 ^ 40 },
-    ghost stands: { ∥ ((h : History) × Counts closed set levels.items taken floor h) ∥₁ },
+    ghost stands: { ∥ ((h : History) × StandsFor closed set levels.items taken floor h) ∥₁ },
 }
 
 impl Cascade {
@@ -150,7 +150,7 @@ impl Tally for Cascade {
     ghost use Rattle.std.specs.Prelude.{◌≡◌, ◌+◌, ◌<◌, ◌≤◌, ◌^◌, ◌++◌, ◌∷◌, [], true, false, IsTrue, sum_by, if◌then◌else◌};
     ghost use Rattle.tally_base.specs.Tally.{moves_floor};
     ghost use Rattle.tau_cascade.specs.Cascade.{Holds, settings, spent_by};
-    ghost use Rattle.tau_cascade.specs.Counts.{entries_of};
+    ghost use Rattle.tau_cascade.specs.StandsFor.{entries_of};
     ghost use Rattle.tau_cascade.specs.Laws.{taken_is, floor_is, within_bound};
 
     ghost holds = { Holds };

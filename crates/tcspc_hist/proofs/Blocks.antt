@@ -11,7 +11,7 @@ use Rattle.event_block.specs.Codes.{kind_of}
 use Rattle.event_block.specs.Columns.{rows, item, code_at, dtime_at, groups_at}
 use Rattle.event_block.specs.declared.block.Block.{Block}
 use Rattle.event_block.proofs.Rows.{more_rows}
-use Rattle.tcspc_hist.specs.Counts.{count_dtimes, dtime_passes}
+use Rattle.tcspc_hist.specs.HistogramCounts.{count_dtimes, dtime_passes}
 
 none_either : (b : Bool) → ◌≡◌ {A = ℕ} 0 (if b then 0 else 0)
 none_either true = refl

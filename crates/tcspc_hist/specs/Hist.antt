@@ -5,7 +5,7 @@ use Rattle.tally_base.specs.Settings.{PartSettings, hist_view}
 use Rattle.tally_base.specs.Settings.PartSettings.{HistSettings}
 use Rattle.tally_base.specs.Tally.{History, greatest_time}
 use Rattle.tcspc_hist.specs.declared.hist.Hist.{Hist}
-use Rattle.tcspc_hist.specs.Counts.{in_bin, past_bins}
+use Rattle.tcspc_hist.specs.HistogramCounts.{in_bin, count_over}
 
 -- what it was opened with
 abbrev pub set_of : Hist → HistSet
@@ -17,6 +17,6 @@ settings t = HistSettings (hist_view t.set)
 -- Each cell is the count over the events.
 pub record Holds (t : Hist) (h : History) : Type 0 where
   pub cells : (b : ℕ) → b < t.set.bins → slice_index t.cells.items b ≡ in_bin (hist_view t.set) b h
-  pub over : t.over ≡ past_bins (hist_view t.set) h
+  pub over : t.over ≡ count_over (hist_view t.set) h
   pub taken : t.taken ≡ length h
   pub floor : t.floor ≡ greatest_time false h

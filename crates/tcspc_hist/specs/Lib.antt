@@ -1,3 +1,3 @@
-pub mod Counts
+pub mod HistogramCounts
 pub mod Hist
 pub mod Laws

@@ -3,7 +3,7 @@ ghost use Rattle.std.specs.Prelude.{◌≡◌, ◌+◌, ◌*◌, ◌/◌, ◌^�
 ghost use Rattle.tally_base.specs.Settings.{hist_view};
 ghost use Rattle.tally_base.specs.Tally.{History};
 ghost use Rattle.event_block.specs.Columns.{gathered, events_in};
-ghost use Rattle.tcspc_hist.specs.Counts.{in_bin, past_bins};
+ghost use Rattle.tcspc_hist.specs.HistogramCounts.{in_bin, count_over};
 
 use event_block::Block;
 use std::alloc::{AllocError, Global};
@@ -70,7 +70,7 @@ impl Hist {
     /// How many photons of the group came at or past the end of the last bin.
     pub fn over(&self) -> u64
         ensures { (h : History) → Holds self.now h
-            → result ≡ past_bins (hist_view (set_of self.now)) h }
+            → result ≡ count_over (hist_view (set_of self.now)) h }
     {
         self.over
     }
@@ -102,7 +102,7 @@ fn count_block(set: &HistSet, cells: &mut [u64], over: u64, block: &Block) -> u6
     requires room { sum cells.old + over + length (gathered block.now) ≤ 2 ^ 40 }
     ensures cells { (b : ℕ) → b < set.now.bins → slice_index cells.new b
         ≡ slice_index cells.old b + in_bin (hist_view set.now) b (events_in block.now) }
-    ensures over { result ≡ over + past_bins (hist_view set.now) (events_in block.now) }
+    ensures over { result ≡ over + count_over (hist_view set.now) (events_in block.now) }
     ensures few { sum cells.new + result ≤ sum cells.old + over + length (gathered block.now) }
 {
     let group = set.group;

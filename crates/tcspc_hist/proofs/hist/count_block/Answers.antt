@@ -3,7 +3,7 @@ use Rattle.std.specs.Prelude.{nat_lt, nat_le, ◌==◌, if◌then◌else◌, sli
 use Rattle.tally_base.specs.Events.{is_in}
 use Rattle.tally_base.specs.Settings.{hist_view}
 use Rattle.event_block.specs.Columns.{item, rows, code_at, dtime_at, groups_at}
-use Rattle.tcspc_hist.specs.Counts.{in_bin, past_bins}
+use Rattle.tcspc_hist.specs.HistogramCounts.{in_bin, count_over}
 use Rattle.tcspc_hist.proofs.Blocks.{count-row, one_at_most}
 use Rattle.tcspc_hist.proofs.hist.count_block.Goals as goal
 

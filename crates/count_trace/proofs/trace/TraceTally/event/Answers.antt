@@ -2,7 +2,7 @@ use Rattle.std.proofs.Common.{rules, [], ◌∷◌, ◌++◌, ◌≡◌, ◌+◌
 use Rattle.std.proofs.lemmas.Grind.{common_steps}
 use Rattle.tally_base.specs.Settings.{trace_view}
 use Rattle.tally_base.proofs.Cells.{raised}
-use Rattle.count_trace.specs.Counts.{in_trace_bin}
+use Rattle.count_trace.specs.TraceCounts.{in_trace_bin}
 use Rattle.count_trace.proofs.trace.TraceTally.event.Goals as goal
 
 pub returns-then-self-from-clause-follows : goal.returns-then-self-from-clause-follows

@@ -6,7 +6,7 @@ use Rattle.tally_base.specs.Events.{is_photon, is_in}
 use Rattle.tally_base.specs.Settings.{image_view}
 use Rattle.marker_map.specs.Lines.{Saw}
 use Rattle.marker_map.specs.Places.{place_of}
-use Rattle.scan_image.specs.Counts.{markers, in_cell, is_at}
+use Rattle.scan_image.specs.ImageCounts.{markers, in_cell, is_at}
 use Rattle.scan_image.proofs.Cells.{raised_at}
 use Rattle.scan_image.proofs.Counts.{markers-marker, markers-photon, placed-added, placed-other}
 use Rattle.scan_image.proofs.image.ImageTally.event.Goals as goal

@@ -15,7 +15,7 @@ WentThrough false set ls came = Chain set 0 ls came
 WentThrough true set ls came = Complete set 0 ls came
 
 -- a correlation with these fields stands for the events
-pub record Counts (closed : Bool) (set : CorrelationSet) (ls : List Level) (count time : ℕ) (h : History) : Type 0 where
+pub record StandsFor (closed : Bool) (set : CorrelationSet) (ls : List Level) (count time : ℕ) (h : History) : Type 0 where
   pub taken : count ≡ length h
   pub floor : time ≡ greatest_time false h
   pub through : WentThrough closed (correlation_view set) ls (photons_of (correlation_view set) h)

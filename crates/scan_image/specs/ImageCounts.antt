@@ -40,5 +40,5 @@ abbrev pub in_cell : ImageView → ℕ → ℕ → History → ℕ
 in_cell set x y h = count_placed set (is_at x y) h
 
 -- how many photons of the group have no place
-abbrev pub out_of_image : ImageView → History → ℕ
-out_of_image set h = count_placed set is_none h
+abbrev pub count_outside : ImageView → History → ℕ
+count_outside set h = count_placed set is_none h

@@ -14,7 +14,7 @@ HasPhotons false set p came = Came set p came
 HasPhotons true set p came = PairingDone set p came
 
 -- a table with these fields stands for the events
-pub record Counts (closed : Bool) (set : CoincidenceView) (p : Pairing) (count time : ℕ) (h : History) : Type 0 where
+pub record StandsFor (closed : Bool) (set : CoincidenceView) (p : Pairing) (count time : ℕ) (h : History) : Type 0 where
   pub taken : count ≡ length h
   pub floor : time ≡ greatest_time false h
   pub photons : HasPhotons closed set p (photons_of_groups set h)

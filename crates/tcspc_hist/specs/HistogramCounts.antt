@@ -20,5 +20,5 @@ abbrev pub in_bin : HistView → ℕ → History → ℕ
 in_bin set b h = count_dtimes set (λ dtime. dtime / set.width == b) h
 
 -- how many photons of the group are past the last bin
-abbrev pub past_bins : HistView → History → ℕ
-past_bins set h = count_dtimes set (λ dtime. nat_le set.bins (dtime / set.width)) h
+abbrev pub count_over : HistView → History → ℕ
+count_over set h = count_dtimes set (λ dtime. nat_le set.bins (dtime / set.width)) h

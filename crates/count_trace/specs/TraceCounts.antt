@@ -13,9 +13,9 @@ abbrev pub in_trace_bin : TraceView → ℕ → History → ℕ
 in_trace_bin set b h = count_times set (λ time. nat_le set.origin time && ((time - set.origin) / set.width == b)) h
 
 -- how many photons of the group come before the origin
-abbrev pub before_origin : TraceView → History → ℕ
-before_origin set h = count_times set (λ time. nat_lt time set.origin) h
+abbrev pub count_before : TraceView → History → ℕ
+count_before set h = count_times set (λ time. nat_lt time set.origin) h
 
 -- how many photons of the group are past the last bin
-abbrev pub past_trace : TraceView → History → ℕ
-past_trace set h = count_times set (λ time. nat_le set.origin time && nat_le set.bins ((time - set.origin) / set.width)) h
+abbrev pub count_beyond : TraceView → History → ℕ
+count_beyond set h = count_times set (λ time. nat_le set.origin time && nat_le set.bins ((time - set.origin) / set.width)) h
