@@ -1,0 +1,353 @@
+#!/usr/bin/env python3
+"""Reads a report of 'ptu run' or 'ptu demo', with all numbers in ticks and in seconds.
+
+    from ptu_report import read_report
+    report = read_report("report.txt")          # a path, or the text itself
+    report.head["photons"]                      # the head, as numbers; global and resolution in seconds
+    decay = report.table("histogram", 1)        # by kind and number
+    decay.counts                                # an array of all cells, those of 0 too
+    decay.ticks, decay.seconds                  # where each cell begins; seconds is None where the file has none
+    decay.rest["over"]                          # what is in no cell
+    report.table("correlation", 1).normalised(n1, n2)   # a curve that is 1 without correlation
+
+From the command line it makes other files of a report, which it reads from a path or, for -, from standard input:
+
+    ptu_report.py REPORT --csv FOLDER           # a table of each kind and number, one file each
+    ptu_report.py REPORT --json OUT
+    ptu_report.py REPORT --page OUT.html        # one page with the head and a plot of every table
+
+It needs NumPy. Photons and markers as 'ptu events' prints them are read by load_events(path).
+"""
+
+import argparse
+import csv
+import json
+import math
+import os
+import struct
+import sys
+from dataclasses import dataclass, field
+
+import numpy as np
+
+KINDS = ("histogram", "trace", "startstop", "coincidence", "image", "correlation")
+SECONDS = ("global", "resolution")  # lines of the head that are floating-point numbers, bit for bit
+
+
+@dataclass
+class Table:
+    """A table of a report. What its axes are is told with each of its kinds in docs/report.md."""
+
+    kind: str
+    number: int
+    settings: dict  # by the words of its first line, as width and bins
+    counts: np.ndarray  # one dimension, but (rows, columns) of an image
+    ticks: np.ndarray  # where a cell begins; of a coincidence the middle of its differences, of a correlation its delay
+    seconds: np.ndarray | None  # the same in seconds, where the file tells how long a tick is
+    rest: dict = field(default_factory=dict)  # what is in no cell, as over
+    levels: np.ndarray | None = None  # of a correlation, the level of each cell
+    length: int | None = None  # of the measurement, from the first event to the last
+
+    def normalised(self, first_photons, second_photons):
+        """A correlation as a curve that is 1 without correlation, by the numbers of photons of its two groups.
+
+        Where the measurement is shorter than a delay there is no pair to expect, and the curve is nan.
+        """
+        if self.kind != "correlation":
+            raise ValueError(f"a {self.kind} is not normalised")
+        free = self.length - self.ticks.astype(float)
+        expected = first_photons * second_photons * 2.0**self.levels * free / float(self.length) ** 2
+        return np.where(free > 0, self.counts / np.where(free > 0, expected, 1), np.nan)
+
+
+@dataclass
+class Report:
+    head: dict
+    tables: list
+
+    def table(self, kind, number=1):
+        """The table of this kind with this number, as its first line has them."""
+        for table in self.tables:
+            if (table.kind, table.number) == (kind, number):
+                return table
+        raise KeyError(f"the report has no {kind} {number}")
+
+
+def read_report(source):
+    """The report in a file, or in a text of more than one line."""
+    if "\n" not in source:
+        with open(source, encoding="ascii") as file:
+            source = file.read()
+    lines = [line.split(" ") for line in source.splitlines()]
+    if len(lines) < 12 or lines[0][0] != "type" or lines[11][0] != "last":
+        raise ValueError("this is no report of ptu run")
+    head = {words[0]: head_value(*words) for words in lines[:12]}
+    blocks = []
+    for words in lines[12:]:
+        if words[0] in KINDS:
+            blocks.append((words, []))
+        else:
+            blocks[-1][1].append(words)
+    return Report(head, [read_table(head, first, rest) for first, rest in blocks])
+
+
+def head_value(word, value):
+    if word == "type":
+        return value
+    if value == "-":
+        return None
+    if word in SECONDS:
+        return struct.unpack(">d", bytes.fromhex(value))[0]
+    return int(value)
+
+
+def read_table(head, first, lines):
+    kind, number = first[0], int(first[1])
+    settings = {word: int(value) for word, value in zip(first[2::2], first[3::2])}
+    rest = {words[0]: int(words[1]) for words in lines if words[0].isalpha()}
+    cells = [[int(word) for word in words] for words in lines if not words[0].isalpha()]
+    tick = head["resolution"] if kind == "histogram" else head["global"]
+    table = Table(kind, number, settings, *AXES[kind](settings), None, rest)
+    table.seconds = None if tick is None else table.ticks * tick
+    if kind == "correlation":
+        table.levels = np.array([level for level, _ in lags_of(settings)])
+        table.length = None if head["first"] is None else head["last"] - head["first"]
+    for *place, count in cells:
+        table.counts[place_of(kind, settings, place)] = count
+    return table
+
+
+def place_of(kind, settings, place):
+    if kind == "image":
+        return place[1], place[0]
+    if kind == "correlation":
+        level, lag = place
+        half = settings["lags"] // 2
+        return lag - 1 if level == 0 else settings["lags"] + (level - 1) * half + lag - half - 1
+    return place[0]
+
+
+def lags_of(settings):
+    """Level and lag of each cell of a correlation, in the report's order."""
+    lags = settings["lags"]
+    for level in range(settings["levels"]):
+        for lag in range(1 if level == 0 else lags // 2 + 1, lags + 1):
+            yield level, lag
+
+
+# Cells of pairs can pass 2^63, and then are whole numbers of Python's in an array of objects.
+def whole_numbers(*shape):
+    return np.zeros(shape, dtype=object)
+
+
+def even_bins(settings):
+    bins = settings["bins"]
+    return np.zeros(bins, dtype=np.int64), settings.get("origin", 0) + settings["width"] * np.arange(bins, dtype=np.int64)
+
+
+def differences(settings):
+    reach, width = settings["reach"], settings["width"]
+    cells = 2 * reach // width + 1
+    least = width * np.arange(cells) - reach
+    most = np.minimum(least + width - 1, reach)
+    return whole_numbers(cells), (least + most) / 2
+
+
+def pixels(settings):
+    return np.zeros((settings["height"], settings["width"]), dtype=np.int64), settings["dwell"] * np.arange(settings["width"])
+
+
+def delays(settings):
+    ticks = [lag << level for level, lag in lags_of(settings)]
+    return whole_numbers(len(ticks)), np.array(ticks, dtype=np.int64)
+
+
+AXES = {
+    "histogram": even_bins,
+    "trace": even_bins,
+    "startstop": even_bins,
+    "coincidence": differences,
+    "image": pixels,
+    "correlation": delays,
+}
+
+
+EVENT = np.dtype(
+    [("record", "i8"), ("kind", "U6"), ("number", "i4"), ("time", "i8"), ("dtime", "i4"), ("late", "?")]
+)
+
+
+def load_events(path):
+    """What 'ptu events' prints, as an array of records: record, kind (photon or marker), number (the input of a
+    photon, the bits of a marker), time, dtime (-1 of a marker) and late."""
+    with open(path, encoding="ascii") as file:
+        return np.array([event(line.split()) for line in file], dtype=EVENT)
+
+
+def event(words):
+    late = words[-1] == "late"
+    record, kind, number, time, *dtime = words[: len(words) - late]
+    return int(record), kind, int(number), int(time), int(dtime[0]) if dtime else -1, late
+
+
+# ## Files for other programs
+
+
+def rows(table):
+    """The cells of a table as rows for a spreadsheet, with a row of names first."""
+    unit = ["seconds"] if table.seconds is not None else []
+    if table.kind == "image":
+        yield ["row", "column", "count"]
+        for (y, x), count in np.ndenumerate(table.counts):
+            yield [y, x, count]
+        return
+    yield ["ticks", *unit, *(["level"] if table.levels is not None else []), "count"]
+    for place, count in enumerate(table.counts):
+        beside = [] if table.seconds is None else [float(table.seconds[place])]
+        level = [] if table.levels is None else [int(table.levels[place])]
+        yield [table.ticks[place].item(), *beside, *level, int(count)]
+
+
+def write_csv(report, folder):
+    os.makedirs(folder, exist_ok=True)
+    for table in report.tables:
+        with open(os.path.join(folder, f"{table.kind}_{table.number}.csv"), "w", newline="") as out:
+            csv.writer(out).writerows(rows(table))
+
+
+def write_json(report, path):
+    tables = [
+        {
+            "kind": table.kind,
+            "number": table.number,
+            **table.settings,
+            "ticks": table.ticks.tolist(),
+            "seconds": None if table.seconds is None else table.seconds.tolist(),
+            "counts": [[int(c) for c in row] for row in table.counts] if table.kind == "image" else [int(c) for c in table.counts],
+            **table.rest,
+        }
+        for table in report.tables
+    ]
+    with open(path, "w", encoding="ascii") as out:
+        json.dump({"head": report.head, "tables": tables}, out)
+
+
+# ## A page to look at
+
+WIDE, HIGH, LEFT, BELOW = 640, 220, 64, 34  # of a plot and its margins, in pixels
+STYLE = (
+    "body{font:15px sans-serif;margin:2em auto;max-width:46em;color:#222}"
+    "td{padding:0 1em 0 0;font-variant-numeric:tabular-nums}"
+    "svg,img{display:block;background:#fafafa;border:1px solid #ddd}img{image-rendering:pixelated}"
+)
+
+
+def unit_of(seconds):
+    """A number to multiply seconds by, and the name of the unit, so that the axis has short numbers."""
+    for factor, name in ((1, "s"), (1e3, "ms"), (1e6, "\u00b5s"), (1e9, "ns"), (1e12, "ps")):
+        if seconds * factor >= 1:
+            return factor, name
+    return 1e12, "ps"
+
+
+def axis_of(table):
+    """Where the cells are on the axis of a plot, and its name."""
+    if table.seconds is None or not len(table.seconds):
+        return table.ticks.astype(float), "ticks"
+    factor, name = unit_of(float(np.abs(table.seconds).max()))
+    return table.seconds * factor, name
+
+
+def steps(least, most):
+    """Round numbers on an axis, about five."""
+    if most <= least:
+        return [least]
+    rough = (most - least) / 5
+    size = 10.0 ** math.floor(math.log10(rough))
+    step = min((size * n for n in (1, 2, 5, 10)), key=lambda n: abs(n - rough))
+    first = math.ceil(least / step)
+    return [step * n for n in range(first, math.floor(most / step) + 1)]
+
+
+def plot(xs, ys, name, logarithmic):
+    """A curve as an SVG picture. Of more points than there are pixels each pixel has its least and greatest one."""
+    if logarithmic:
+        xs = np.log10(xs)
+    least, most, top = float(xs.min()), float(xs.max()), float(ys.max()) or 1.0
+    across = lambda x: LEFT + (x - least) / ((most - least) or 1) * (WIDE - LEFT - 12)
+    up = lambda y: HIGH - BELOW - y / top * (HIGH - BELOW - 12)
+    points = " ".join(f"{across(x):.1f},{up(y):.1f}" for x, y in thinned(xs, ys))
+    parts = [f'<svg width="{WIDE}" height="{HIGH}" font-size="12">']
+    for y in steps(0, top):
+        parts.append(f'<path d="M{LEFT},{up(y):.1f}H{WIDE - 12}" stroke="#ddd"/><text x="{LEFT - 6}" y="{up(y) + 4:.1f}" text-anchor="end">{y:g}</text>')
+    ticks = range(math.ceil(least), math.floor(most) + 1) if logarithmic else steps(least, most)
+    for x in ticks:
+        said = f"1e{x}" if logarithmic else f"{x:g}"
+        parts.append(f'<text x="{across(x):.1f}" y="{HIGH - BELOW + 16}" text-anchor="middle">{said}</text>')
+    parts.append(f'<text x="{WIDE - 12}" y="{HIGH - 4}" text-anchor="end">{name}</text>')
+    parts.append(f'<polyline points="{points}" fill="none" stroke="#1660a0"/></svg>')
+    return "".join(parts)
+
+
+def thinned(xs, ys):
+    if len(xs) <= 2 * WIDE:
+        return list(zip(xs, ys))
+    points = []
+    for some in np.array_split(np.arange(len(xs)), WIDE):
+        points += [(xs[at], ys[at]) for at in sorted({some[ys[some].argmin()], some[ys[some].argmax()]})]
+    return points
+
+
+def picture(counts):
+    """An image as a PNG of 256 shades, in a data address."""
+    import base64
+    import zlib
+
+    shades = (counts * (255.0 / max(1, counts.max()))).astype(np.uint8)
+    high, wide = shades.shape
+    raw = np.hstack([np.zeros((high, 1), np.uint8), shades]).tobytes()
+    chunk = lambda name, data: struct.pack(">I", len(data)) + name + data + struct.pack(">I", zlib.crc32(name + data))
+    png = b"\x89PNG\r\n\x1a\n" + chunk(b"IHDR", struct.pack(">IIBBBBB", wide, high, 8, 0, 0, 0, 0))
+    png += chunk(b"IDAT", zlib.compress(raw, 9)) + chunk(b"IEND", b"")
+    times = max(1, 512 // max(wide, high))
+    address = "data:image/png;base64," + base64.b64encode(png).decode()
+    return f'<img width="{wide * times}" height="{high * times}" alt="image" src="{address}">'
+
+
+def drawn(table):
+    if table.kind == "image":
+        return picture(table.counts)
+    xs, name = axis_of(table)
+    if table.kind == "correlation":
+        return plot(xs, table.counts.astype(float) / 2.0**table.levels, f"delay in {name}; pairs over 2^level", True)
+    return plot(xs, table.counts.astype(float), name, False)
+
+
+def write_page(report, path):
+    head = "".join(f"<tr><td>{word}<td>{'-' if value is None else value}" for word, value in report.head.items())
+    parts = [f'<!doctype html><meta charset="utf-8"><title>ptu</title><style>{STYLE}</style><h1>A report of ptu</h1><table>{head}</table>']
+    for table in report.tables:
+        said = ", ".join(f"{word} {value}" for word, value in [*table.settings.items(), *table.rest.items()])
+        parts.append(f"<h2>{table.kind} {table.number}</h2><p>{said}</p>{drawn(table)}")
+    with open(path, "w", encoding="utf-8") as out:
+        out.write("\n".join(parts) + "\n")
+
+
+def main():
+    parser = argparse.ArgumentParser(description="Makes other files of a report of ptu run.")
+    parser.add_argument("report", help="a file, or - for standard input")
+    parser.add_argument("--csv", metavar="FOLDER", help="a file of each table")
+    parser.add_argument("--json", metavar="OUT")
+    parser.add_argument("--page", metavar="OUT.html", help="a page with the head and a plot of every table")
+    given = parser.parse_args()
+    report = read_report(sys.stdin.read() if given.report == "-" else given.report)
+    if given.csv:
+        write_csv(report, given.csv)
+    if given.json:
+        write_json(report, given.json)
+    if given.page:
+        write_page(report, given.page)
+
+
+if __name__ == "__main__":
+    main()
