@@ -3,4 +3,3 @@ pub mod Lists
 pub mod Sums
 pub mod Between
 pub mod Kept
-pub mod Places
