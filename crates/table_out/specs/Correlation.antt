@@ -1,12 +1,12 @@
 -- How a correlation is printed.
 use Rattle.std.specs.Prelude.{◌++◌, codes, decimal, [], ℕ, ◌+◌}
 use Rattle.tally_base.specs.Settings.{CorrelationView}
-use Rattle.tau_cascade.specs.Correlation.{correlation, lag_floor, lag_count}
+use Rattle.tau_cascade.specs.Correlation.{correlation, skipped_lags, lag_count}
 use Rattle.table_out.specs.Printed.{Printed, pair_line}
 
 -- a lag of a level, the first of them at place 0
 abbrev pub lag_at : CorrelationView → ℕ → ℕ → ℕ
-lag_at set level place = lag_floor set level + 1 + place
+lag_at set level place = skipped_lags set level + 1 + place
 
 unfoldable pub correlation_printed : CorrelationView → Printed
 correlation_printed set = record {

@@ -12,7 +12,7 @@ use Rattle.lag_ring.specs.Ring.{Ring}
 use Rattle.lag_ring.proofs.Lists.{all_map}
 use Rattle.lag_ring.proofs.Rising.{all_weaker}
 use Rattle.lag_ring.proofs.Sums.{pairs-append}
-use Rattle.tau_cascade.specs.Correlation.{bin, in_first, in_second, is_pair, correlation, lag_floor, lag_count}
+use Rattle.tau_cascade.specs.Correlation.{bin, in_first, in_second, is_pair, correlation, skipped_lags, lag_count}
 use Rattle.tau_cascade.specs.Work.{distinct, occupied}
 use Rattle.tau_cascade.specs.Levels.{weight_before, entries_at_lags, IsBin, RingIs, CellsAre, CanShut}
 use Rattle.tau_cascade.proofs.Distinct.{distinct-late, distinct-le-length}
@@ -43,26 +43,26 @@ module _ (set : CorrelationView) (level : ℕ) where
       ap distinct (map-append (bin level) closed xs)
       ∙ distinct-late (map (bin level) closed) (map (bin level) xs) n (all_map (λ m. m < n) (bin level) closed before) (rw (length-map xs) some) (all_map (λ m. m ≡ n) (bin level) xs here)
 
-  module _ (floor : ℕ) (is_floor : floor ≡ lag_floor set level) (r : Ring) (cells : Cells) (e : Entry) (closed xs : History) (can : CanShut set level r cells e closed xs) where
-    more : (p : ℕ) → p < set.lags - floor → correlation set level (p + floor + 1) (closed ++ xs) ≡ get_or cells.cells p 0 + weight_before (p + floor + 1) e.index r.entries * e.b
+  module _ (skipped : ℕ) (is_skipped : skipped ≡ skipped_lags set level) (r : Ring) (cells : Cells) (e : Entry) (closed xs : History) (can : CanShut set level r cells e closed xs) where
+    more : (p : ℕ) → p < set.lags - skipped → correlation set level (p + skipped + 1) (closed ++ xs) ≡ get_or cells.cells p 0 + weight_before (p + skipped + 1) e.index r.entries * e.b
     more p inside =
-        let was : get_or cells.cells p 0 ≡ correlation set level (p + floor + 1) closed = rw is_floor (can.were.pairs p (rw (← is_floor) inside)) in
-        correlation-more r closed xs (p + floor + 1) e.index (omega arith) (omega arith) can.close.was can.close.before can.close.is_bin.here ∙ rw (was, can.close.is_bin.b) refl
+        let was : get_or cells.cells p 0 ≡ correlation set level (p + skipped + 1) closed = rw is_skipped (can.were.pairs p (rw (← is_skipped) inside)) in
+        correlation-more r closed xs (p + skipped + 1) e.index (omega arith) (omega arith) can.close.was can.close.before can.close.is_bin.here ∙ rw (was, can.close.is_bin.b) refl
 
     pub ring_before : AllByRecursion (λ f. f.index < e.index) r.entries
     ring_before = can.close.was.keeps.bounded e.index can.close.before
 
-    pub may_fit : (p : ℕ) → p < set.lags - floor → get_or cells.cells p 0 + weight_before (p + floor + 1) e.index r.entries * e.b ≤ 2 ^ 80
+    pub may_fit : (p : ℕ) → p < set.lags - skipped → get_or cells.cells p 0 + weight_before (p + skipped + 1) e.index r.entries * e.b ≤ 2 ^ 80
     may_fit p inside =
         let all : length (closed ++ xs) ≤ 2 ^ 40 = rw (length-append closed xs) can.few in
         let square : length (closed ++ xs) * length (closed ++ xs) ≤ 2 ^ 40 * 2 ^ 40 = mul-le-mul all all in
-        let most = correlation-le set level (p + floor + 1) (closed ++ xs) in
+        let most = correlation-le set level (p + skipped + 1) (closed ++ xs) in
         omega (arith, more p inside, most, square)
 
-    pub few_additions : entries_at_lags floor set.lags e.index r.entries ≤ set.lags - floor
-    few_additions = few_at_lags r.entries floor set.lags e.index can.close.was.rising ring_before
+    pub few_additions : entries_at_lags skipped set.lags e.index r.entries ≤ set.lags - skipped
+    few_additions = few_at_lags r.entries skipped set.lags e.index can.close.was.rising ring_before
 
-    pub may_count : set.lags ≤ 128 → cells.added + entries_at_lags floor set.lags e.index r.entries < 2 ^ 64
+    pub may_count : set.lags ≤ 128 → cells.added + entries_at_lags skipped set.lags e.index r.entries < 2 ^ 64
     may_count lags =
         let same : length (map (bin level) closed) ≡ length closed = length-map closed (bin level) in
         let some : occupied level closed ≤ 2 ^ 40 = omega (arith, same, can.few, distinct-le-length (map (bin level) closed)) in
@@ -70,16 +70,16 @@ module _ (set : CorrelationView) (level : ℕ) where
         let product : lag_count set level * occupied level closed ≤ 128 * 2 ^ 40 = mul-le-mul most some in
         omega (arith, can.were.work, few_additions)
 
-    pub cells_shut : (new : Cells) → ((p : ℕ) → p < set.lags - floor → get_or new.cells p 0 ≡ get_or cells.cells p 0 + weight_before (p + floor + 1) e.index r.entries * e.b)
-        → length new.cells ≡ length cells.cells → new.added ≤ cells.added + entries_at_lags floor set.lags e.index r.entries → CellsAre set level new (closed ++ xs)
+    pub cells_shut : (new : Cells) → ((p : ℕ) → p < set.lags - skipped → get_or new.cells p 0 ≡ get_or cells.cells p 0 + weight_before (p + skipped + 1) e.index r.entries * e.b)
+        → length new.cells ≡ length cells.cells → new.added ≤ cells.added + entries_at_lags skipped set.lags e.index r.entries → CellsAre set level new (closed ++ xs)
     cells_shut new pairs same added =
-        let few : entries_at_lags floor set.lags e.index r.entries ≤ lag_count set level = (let fits = few_additions in omega arith) in
+        let few : entries_at_lags skipped set.lags e.index r.entries ≤ lag_count set level = (let fits = few_additions in omega arith) in
         record {
           count = same ∙ can.were.count;
-          pairs = λ p inside. rw (← is_floor) (pairs p (rw is_floor inside) ∙ sym (more p (rw is_floor inside)));
+          pairs = λ p inside. rw (← is_skipped) (pairs p (rw is_skipped inside) ∙ sym (more p (rw is_skipped inside)));
           work = work_more (lag_count set level) (occupied level closed) (occupied level (closed ++ xs)) new.added cells.added _ can.were.work (occupied-more closed xs e.index can.close.before can.close.is_bin.some can.close.is_bin.here) few added;
         }
 
     -- where no entry is in reach, nothing pairs
     pub cells_far : AllByRecursion (λ f. f.index + set.lags < e.index) r.entries → CellsAre set level cells (closed ++ xs)
-    cells_far far = cells_shut cells (λ p inside. let none : weight_before (p + floor + 1) e.index r.entries ≡ 0 = none_at_lag r.entries set.lags e.index (p + floor + 1) far (omega arith) in rw none (grind arith)) refl (omega arith)
+    cells_far far = cells_shut cells (λ p inside. let none : weight_before (p + skipped + 1) e.index r.entries ≡ 0 = none_at_lag r.entries set.lags e.index (p + skipped + 1) far (omega arith) in rw none (grind arith)) refl (omega arith)

@@ -3,7 +3,7 @@ use Rattle.std.proofs.Common.{◌≡◌, ℕ, [], ◌∷◌, refl, length}
 use Rattle.tally_base.specs.declared.event.EventKind.TheVariants.{Photon, Marker}
 use Rattle.tally_base.specs.Settings.{CorrelationView}
 use Rattle.tally_base.specs.Tally.{History}
-use Rattle.tau_cascade.specs.Correlation.{Given, correlation, lag_floor, lag_count, photons_of}
+use Rattle.tau_cascade.specs.Correlation.{Given, correlation, skipped_lags, lag_count, photons_of}
 
 abbrev pub photon : ℕ → ℕ → Given
 photon time groups = (record { place = 1; kind = Photon 1 0; time = time }, groups)
@@ -28,11 +28,11 @@ pub row-own_above : correlation own 1 2 four ≡ 2
 row-own_above = refl
 
 -- level 0 has the lags 1 and 2, the level above the lag 2 alone
-pub row-floor : lag_floor own 0 ≡ 0
-row-floor = refl
+pub row-skipped : skipped_lags own 0 ≡ 0
+row-skipped = refl
 
-pub row-floor_above : lag_floor own 1 ≡ 1
-row-floor_above = refl
+pub row-skipped_above : skipped_lags own 1 ≡ 1
+row-skipped_above = refl
 
 pub row-count_above : lag_count own 1 ≡ 1
 row-count_above = refl

@@ -13,7 +13,7 @@ use Rattle.lag_ring.specs.Cells.{Cells}
 use Rattle.lag_ring.specs.Ring.{Ring}
 use Rattle.lag_ring.proofs.Sums.{sum_by-same, sum_by-filter}
 use Rattle.tau_cascade.specs.declared.level.Level.{Level}
-use Rattle.tau_cascade.specs.Correlation.{Given, bin, in_first, in_second, is_pair, correlation, lag_floor, lag_count, photons_of}
+use Rattle.tau_cascade.specs.Correlation.{Given, bin, in_first, in_second, is_pair, correlation, skipped_lags, lag_count, photons_of}
 use Rattle.tau_cascade.specs.StandsFor.{StandsFor}
 use Rattle.tau_cascade.specs.Levels.{RingIs, CellsAre, Chain, Complete}
 
@@ -106,9 +106,9 @@ shown_ring closed set ls count time h is i r read =
     rw (← found.2) (level_ring closed set ls count time h is i found.0 found.1)
 
 -- a cell at a lag of the level
-pub cell_is : (set : CorrelationView) (level lag floor : ℕ) (cs : Cells) (h : History) → CellsAre set level cs (photons_of set h) → floor ≡ lag_floor set level → lag_floor set level < lag → lag ≤ set.lags → get_or cs.cells (lag - floor - 1) 0 ≡ correlation set level lag h
-cell_is set level lag floor cs h is same above within =
-    let p : ℕ = lag - lag_floor set level - 1 in
+pub cell_is : (set : CorrelationView) (level lag skipped : ℕ) (cs : Cells) (h : History) → CellsAre set level cs (photons_of set h) → skipped ≡ skipped_lags set level → skipped_lags set level < lag → lag ≤ set.lags → get_or cs.cells (lag - skipped - 1) 0 ≡ correlation set level lag h
+cell_is set level lag skipped cs h is same above within =
+    let p : ℕ = lag - skipped_lags set level - 1 in
     let inside : p < lag_count set level = omega arith in
-    let back : p + lag_floor set level + 1 ≡ lag = omega arith in
+    let back : p + skipped_lags set level + 1 ≡ lag = omega arith in
     rw same (is.pairs p inside ∙ rw back (correlation-photons set level lag h))

@@ -1,11 +1,11 @@
 -- One entry more in the loop over entries.
-use Rattle.std.proofs.Common.{length, ◌≡◌, ℕ, zero, suc, [], ◌∷◌, drop, refl, ◌+◌, ◌-◌, ◌*◌, ◌<◌, ◌≤◌, true, false, ◌&&◌, eqb, ltb, leb, List, get_or, take, cond, arith}
+use Rattle.std.proofs.Common.{length, sym, ap, ◌∙◌, ◌≡◌, ℕ, zero, suc, [], ◌∷◌, ◌++◌, drop, refl, ◌+◌, ◌-◌, ◌*◌, ◌<◌, ◌≤◌, true, false, ◌&&◌, eqb, ltb, leb, List, get_or, take, cond, arith}
 use Rattle.std.specs.List.{sum_by, AllByRecursion}
 use Rattle.std.proofs.Math.Nat.{mul-le-mul_right}
 use Rattle.std.proofs.lemmas.Grind.{common_steps}
 use Rattle.std.proofs.lemmas.List.{drop_more}
 use Rattle.std.proofs.lemmas.List.Elements.{All-from_recursion}
-use Rattle.std.proofs.lemmas.List.Sums.{sum_by_more, sum_by_more_le, sum_by-take-le, sum_by-take-drop}
+use Rattle.std.proofs.lemmas.List.Sums.{sum_by_more, sum_by_more_le, sum_by-append, sum_by-take-le, sum_by-take-drop}
 use Rattle.lag_ring.specs.declared.ring.Entry.{Entry}
 use Rattle.lag_ring.specs.Ring.{IsRising}
 use Rattle.lag_ring.proofs.Rising.{all_weaker}
@@ -27,55 +27,62 @@ module _ (es : List Entry) (i : ℕ) (none : Entry) (inside : i < length es) whe
   pub weight_part : (k n : ℕ) → weight_before k n (take i es) + cond (eqb (e.index + k) n) e.a 0 ≤ weight_before k n es
   weight_part k n = sum_by_more_le (λ f. cond (eqb (f.index + k) n) f.a 0) es i none inside
 
-  pub lags_more : (floor lags n : ℕ) → entries_at_lags floor lags n (take (i + 1) es) ≡ entries_at_lags floor lags n (take i es) + cond (ltb floor (n - e.index) && leb (n - e.index) lags) 1 0
-  lags_more floor lags n = sum_by_more (λ f. cond (at_lags floor lags n f) 1 0) es i none inside
+  pub lags_more : (skipped lags n : ℕ) → entries_at_lags skipped lags n (take (i + 1) es) ≡ entries_at_lags skipped lags n (take i es) + cond (ltb skipped (n - e.index) && leb (n - e.index) lags) 1 0
+  lags_more skipped lags n = sum_by_more (λ f. cond (at_lags skipped lags n f) 1 0) es i none inside
 
   pub is_before : (n : ℕ) → AllByRecursion (λ f. f.index < n) es → e.index < n
   is_before n all = All-from_recursion (λ f. f.index < n) es all i none inside
 
   -- the sum of the cell so far and the entry's pairs is within that of all entries
-  pub pairs_fit : (old cells : List ℕ) (floor lags n w most : ℕ) → AllByRecursion (λ f. f.index < n) es
-      → ((p : ℕ) → p < lags - floor → get_or cells p 0 ≡ get_or old p 0 + weight_before (p + floor + 1) n (take i es) * w)
-      → ((p : ℕ) → p < lags - floor → get_or old p 0 + weight_before (p + floor + 1) n es * w ≤ most)
-      → floor < n - e.index → n - e.index ≤ lags → get_or cells (n - e.index - floor - 1) 0 + e.a * w ≤ most
-  pairs_fit old cells floor lags n w most below so_far fits above within =
+  pub pairs_fit : (old cells : List ℕ) (skipped lags n w most : ℕ) → AllByRecursion (λ f. f.index < n) es
+      → ((p : ℕ) → p < lags - skipped → get_or cells p 0 ≡ get_or old p 0 + weight_before (p + skipped + 1) n (take i es) * w)
+      → ((p : ℕ) → p < lags - skipped → get_or old p 0 + weight_before (p + skipped + 1) n es * w ≤ most)
+      → skipped < n - e.index → n - e.index ≤ lags → get_or cells (n - e.index - skipped - 1) 0 + e.a * w ≤ most
+  pairs_fit old cells skipped lags n w most below so_far fits above within =
       let before = is_before n below in
-      let p : ℕ = n - e.index - floor - 1 in
-      let at_level : p < lags - floor = omega arith in
-      let at_n : eqb (e.index + (p + floor + 1)) n ≡ true = grind arith in
-      let part : weight_before (p + floor + 1) n (take i es) + e.a ≤ weight_before (p + floor + 1) n es = (rw at_n at (weight_part (p + floor + 1) n)) in
+      let p : ℕ = n - e.index - skipped - 1 in
+      let at_level : p < lags - skipped = omega arith in
+      let at_n : eqb (e.index + (p + skipped + 1)) n ≡ true = grind arith in
+      let part : weight_before (p + skipped + 1) n (take i es) + e.a ≤ weight_before (p + skipped + 1) n es = (rw at_n at (weight_part (p + skipped + 1) n)) in
       rw (so_far p at_level) (bounded _ _ _ e.a w most part (fits p at_level))
 
   -- the cells after the entry's pairs
-  pub cells_more : (old cells new : List ℕ) (floor lags n w : ℕ) → AllByRecursion (λ f. f.index < n) es
-      → ((p : ℕ) → p < lags - floor → get_or cells p 0 ≡ get_or old p 0 + weight_before (p + floor + 1) n (take i es) * w)
-      → ((p : ℕ) → p < lags - floor → get_or new p 0 ≡ get_or cells p 0 + cond (eqb (p + floor + 1) (n - e.index)) (e.a * w) 0)
-      → (p : ℕ) → p < lags - floor → get_or new p 0 ≡ get_or old p 0 + weight_before (p + floor + 1) n (take (i + 1) es) * w
-  cells_more old cells new floor lags n w below so_far step p at_level =
+  pub cells_more : (old cells new : List ℕ) (skipped lags n w : ℕ) → AllByRecursion (λ f. f.index < n) es
+      → ((p : ℕ) → p < lags - skipped → get_or cells p 0 ≡ get_or old p 0 + weight_before (p + skipped + 1) n (take i es) * w)
+      → ((p : ℕ) → p < lags - skipped → get_or new p 0 ≡ get_or cells p 0 + cond (eqb (p + skipped + 1) (n - e.index)) (e.a * w) 0)
+      → (p : ℕ) → p < lags - skipped → get_or new p 0 ≡ get_or old p 0 + weight_before (p + skipped + 1) n (take (i + 1) es) * w
+  cells_more old cells new skipped lags n w below so_far step p at_level =
       let before = is_before n below in
-      let same : eqb (p + floor + 1) (n - e.index) ≡ eqb (e.index + (p + floor + 1)) n = grind (arith, common_steps) in
-      rw (step p at_level, so_far p at_level, weight_more (p + floor + 1) n, same)
-      (elim (eqb (e.index + (p + floor + 1)) n) as (λ b. get_or old p 0 + weight_before (p + floor + 1) n (take i es) * w + cond b (e.a * w) 0 ≡ get_or old p 0 + (weight_before (p + floor + 1) n (take i es) + cond b e.a 0) * w) [ true ↦ omega arith | false ↦ omega arith ])
+      let same : eqb (p + skipped + 1) (n - e.index) ≡ eqb (e.index + (p + skipped + 1)) n = grind (arith, common_steps) in
+      rw (step p at_level, so_far p at_level, weight_more (p + skipped + 1) n, same)
+      (elim (eqb (e.index + (p + skipped + 1)) n) as (λ b. get_or old p 0 + weight_before (p + skipped + 1) n (take i es) * w + cond b (e.a * w) 0 ≡ get_or old p 0 + (weight_before (p + skipped + 1) n (take i es) + cond b e.a 0) * w) [ true ↦ omega arith | false ↦ omega arith ])
 
 rising_drop : (es : List Entry) (i : ℕ) → IsRising es → IsRising (drop i es)
 rising_drop es zero rising = rising
 rising_drop [] (suc i) rising = tt
 rising_drop (e ∷ es) (suc i) rising = rising_drop es i rising.1
 
--- from an entry on that stands before the index by no more than the floor, none stands at a lag
-pub rest_near : (es : List Entry) (i : ℕ) (none : Entry) → i < length es → IsRising es → (floor n : ℕ) → n - (get_or es i none).index ≤ floor → (k : ℕ) → floor < k → weight_before k n es ≡ weight_before k n (take i es)
-rest_near es i none inside rising floor n near k above =
+-- from an entry on that stands before the index by no more than the skipped, none stands at a lag
+pub rest_near : (es : List Entry) (i : ℕ) (none : Entry) → i < length es → IsRising es → (skipped n : ℕ) → n - (get_or es i none).index ≤ skipped → (k : ℕ) → skipped < k → weight_before k n es ≡ weight_before k n (take i es)
+rest_near es i none inside rising skipped n near k above =
     let e : Entry = get_or es i none in
     let split : drop i es ≡ e ∷ drop (i + 1) es = drop_more es i none inside in
     let later : IsRising (e ∷ drop (i + 1) es) = (rw split at (rising_drop es i rising)) in
-    let all : AllByRecursion (λ f. n ≤ f.index + floor) (drop i es) = rw split (omega arith, all_weaker (λ f. e.index < f.index) (λ f. n ≤ f.index + floor) (λ f up. omega arith) (drop (i + 1) es) later.0) in
-    let zeros : sum_by (λ f. cond (eqb (f.index + k) n) f.a 0) (drop i es) ≡ 0 = sum_by-zero (λ f. n ≤ f.index + floor) (λ f. cond (eqb (f.index + k) n) f.a 0) (drop i es) all (λ f close. let not : eqb (f.index + k) n ≡ false = grind arith in rw not refl) in
+    let all : AllByRecursion (λ f. n ≤ f.index + skipped) (drop i es) = rw split (omega arith, all_weaker (λ f. e.index < f.index) (λ f. n ≤ f.index + skipped) (λ f up. omega arith) (drop (i + 1) es) later.0) in
+    let zeros : sum_by (λ f. cond (eqb (f.index + k) n) f.a 0) (drop i es) ≡ 0 = sum_by-zero (λ f. n ≤ f.index + skipped) (λ f. cond (eqb (f.index + k) n) f.a 0) (drop i es) all (λ f close. let not : eqb (f.index + k) n ≡ false = grind arith in rw not refl) in
     let both = sum_by-take-drop (λ f. cond (eqb (f.index + k) n) f.a 0) es i in
     omega (arith, both, zeros)
 
-pub lags_so_far : (es : List Entry) (i floor lags n : ℕ) → entries_at_lags floor lags n (take i es) ≤ entries_at_lags floor lags n es
-lags_so_far es i floor lags n = sum_by-take-le (λ f. cond (at_lags floor lags n f) 1 0) es i
+pub lags_so_far : (es : List Entry) (i skipped lags n : ℕ) → entries_at_lags skipped lags n (take i es) ≤ entries_at_lags skipped lags n es
+lags_so_far es i skipped lags n = sum_by-take-le (λ f. cond (at_lags skipped lags n f) 1 0) es i
 
 -- where each entry stands before the index by more than the lags, none stands at one
 pub none_at_lag : (es : List Entry) (lags n k : ℕ) → AllByRecursion (λ f. f.index + lags < n) es → k ≤ lags → weight_before k n es ≡ 0
 none_at_lag es lags n k far few = sum_by-zero (λ f. f.index + lags < n) (λ f. cond (eqb (f.index + k) n) f.a 0) es far (λ f before. let not : eqb (f.index + k) n ≡ false = grind arith in rw not refl)
+
+-- entries in two lists that lie one after the other
+module _ (front back es : List Entry) (is : front ++ back ≡ es) where
+  pub weight_both : (k n w : ℕ) → weight_before k n es * w ≡ weight_before k n front * w + weight_before k n back * w
+  weight_both k n w =
+      let both : weight_before k n es ≡ weight_before k n front + weight_before k n back = ap (weight_before k n) (sym is) ∙ sum_by-append (λ f. cond (eqb (f.index + k) n) f.a 0) front back in
+      rw both (grind arith)

@@ -1,15 +1,16 @@
 -- A level's additions are at most its lags times its occupied bins.
-use Rattle.std.proofs.Common.{rules, ◌≡◌, ℕ, suc, ◌*◌, ◌%◌, ◌≤◌, Bool, true, false, List, [], ◌∷◌, ◌++◌, length, map, sym, ap, ◌∙◌, append_assoc, append-nil, subst, arith}
+use Rattle.std.proofs.Common.{rules, ◌≡◌, ℕ, zero, suc, ◌+◌, ◌*◌, ◌%◌, ◌<◌, ◌≤◌, take, slice_get, Bool, true, false, List, [], ◌∷◌, ◌++◌, length, map, sym, ap, ◌∙◌, refl, append_assoc, append-nil, subst, arith}
 use Rattle.std.proofs.Math.Nat.{mul-le-mul_left}
+use Rattle.std.specs.Option.{option_map, option_map_or}
 use Rattle.std.proofs.lemmas.Grind.{common_steps}
-use Rattle.std.proofs.lemmas.List.{map-append}
+use Rattle.std.proofs.lemmas.List.{map-append, take_all}
 use Rattle.std.proofs.lemmas.List.Sums.{sum_by-cons}
 use Rattle.tally_base.specs.declared.settings.CorrelationSet.{CorrelationSet}
 use Rattle.tally_base.specs.Settings.{CorrelationView, correlation_view}
 use Rattle.tally_base.specs.Tally.{History}
 use Rattle.tau_cascade.specs.declared.level.Level.{Level}
 use Rattle.tau_cascade.specs.declared.cascade.Cascade.{Cascade}
-use Rattle.tau_cascade.specs.Cascade.{Holds, set_of, spent_by}
+use Rattle.tau_cascade.specs.Cascade.{Holds, set_of, spent_by, cells_at, added_below}
 use Rattle.tau_cascade.specs.StandsFor.{StandsFor}
 use Rattle.tau_cascade.specs.Correlation.{bin, lag_count, photons_of}
 use Rattle.tau_cascade.specs.Work.{occupied, lags_at, work_from, work}
@@ -46,6 +47,24 @@ spent_within false set ls count time h sized is =
 spent_within true set ls count time h sized is =
     let view : CorrelationView = correlation_view set in
     subst (λ n. spent ls ≤ work_from view 0 n (photons_of view h)) sized (shut_work view set.even_lags 0 ls (photons_of view h) is.through)
+
+-- one level more
+level_more : (ls : List Level) (n : ℕ) → n < length ls → spent (take (suc n) ls) ≡ spent (take n ls) + option_map_or (λ c. c.added) (option_map (λ (l : Level). l.cells) (slice_get ls n)) 0
+level_more [] n inside = absurd (omega arith)
+level_more (l ∷ ls) zero inside = omega (arith, sum_by-cons (λ (x : Level). x.cells.added) l [])
+level_more (l ∷ ls) (suc n) inside =
+    let rest = level_more ls n (omega arith) in
+    omega (arith, rest, sum_by-cons (λ (x : Level). x.cells.added) l (take (suc n) ls), sum_by-cons (λ (x : Level). x.cells.added) l (take n ls))
+
+lent : (t : Cascade) (n : ℕ) → n ≤ length t.levels.items → spent (take n t.levels.items) ≡ added_below t n
+lent t zero inside = refl
+lent t (suc n) inside = omega (arith, level_more t.levels.items n (omega arith), lent t n (omega arith))
+
+-- what was spent is what made the cells that the levels lend
+pub all_lent : (t : Cascade) (n : ℕ) → n ≡ length t.levels.items → spent_by t ≡ added_below t n
+all_lent t n all =
+    let whole : take n t.levels.items ≡ t.levels.items = take_all n t.levels.items (omega arith) in
+    sym (ap spent whole) ∙ lent t n (omega arith)
 
 pub work_within : (t : Cascade) (h : History) → Holds t h → spent_by t ≤ work (correlation_view (set_of t)) h
 work_within t h is =

@@ -1,6 +1,6 @@
 -- What a correlation shows.
-use Rattle.std.specs.Prelude.{ℕ, Option, slice_get}
-use Rattle.std.specs.Option.{option_map}
+use Rattle.std.specs.Prelude.{ℕ, ◌+◌, zero, suc, Option, slice_get}
+use Rattle.std.specs.Option.{option_map, option_map_or}
 use Rattle.tally_base.specs.declared.settings.CorrelationSet.{CorrelationSet}
 use Rattle.tally_base.specs.Settings.{PartSettings, correlation_view}
 use Rattle.tally_base.specs.Settings.PartSettings.{CorrelationSettings}
@@ -34,6 +34,11 @@ ring_at t level = option_map (λ l. l.ring) (slice_get t.levels.items level)
 -- the open bin of a level, where there is such a level
 abbrev pub open_at : Cascade → ℕ → Option (Option Entry)
 open_at t level = option_map (λ l. l.open) (slice_get t.levels.items level)
+
+-- how many additions made the cells of so many levels, from the lowest upwards
+abbrev pub added_below : Cascade → ℕ → ℕ
+added_below t zero = 0
+added_below t (suc level) = added_below t level + option_map_or (λ c. c.added) (cells_at t level) 0
 
 -- how many additions made the cells of all levels
 abbrev pub spent_by : Cascade → ℕ

@@ -27,13 +27,13 @@ is_pair set level k x y = (in_first set x && in_second set y) && (bin level y ==
 abbrev pub correlation : CorrelationView → ℕ → ℕ → History → ℕ
 correlation set level k h = sum_by (λ x. count_by (λ y. is_pair set level k x y) h) h
 
--- the lags of a level begin above this one
-abbrev pub lag_floor : CorrelationView → ℕ → ℕ
-lag_floor set level = if level == 0 then 0 else set.lags / 2
+-- how many of the first lags a level leaves to those below it
+abbrev pub skipped_lags : CorrelationView → ℕ → ℕ
+skipped_lags set level = if level == 0 then 0 else set.lags / 2
 
 -- how many lags a level has
 abbrev pub lag_count : CorrelationView → ℕ → ℕ
-lag_count set level = set.lags - lag_floor set level
+lag_count set level = set.lags - skipped_lags set level
 
 -- the photons of either group
 abbrev pub photons_of : CorrelationView → History → History

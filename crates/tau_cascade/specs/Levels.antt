@@ -8,16 +8,16 @@ use Rattle.lag_ring.specs.Ring.{Ring, IsRising}
 use Rattle.lag_ring.specs.Cells.{Cells}
 use Rattle.lag_ring.specs.Kept.{weight_where, Weighs, Keeps}
 use Rattle.tau_cascade.specs.declared.level.Level.{Level}
-use Rattle.tau_cascade.specs.Correlation.{bin, in_first, in_second, correlation, lag_floor, lag_count}
+use Rattle.tau_cascade.specs.Correlation.{bin, in_first, in_second, correlation, skipped_lags, lag_count}
 use Rattle.tau_cascade.specs.Work.{occupied}
 
 -- the first weight of the entry that stands k before the index, or 0
 abbrev pub weight_before : ℕ → ℕ → List Entry → ℕ
 weight_before k index es = weight_where (λ e. e.a) (λ i. i + k == index) es
 
--- how many entries stand before the index by more than the floor and at most the lags
+-- how many entries stand before the index by more than the skipped lags, and at most so many lags
 abbrev pub entries_at_lags : ℕ → ℕ → ℕ → List Entry → ℕ
-entries_at_lags floor lags index es = count_by (λ e. nat_lt floor (index - e.index) && nat_le (index - e.index) lags) es
+entries_at_lags skipped lags index es = count_by (λ e. nat_lt skipped (index - e.index) && nat_le (index - e.index) lags) es
 
 -- the bin of the next level in which a bin lies
 abbrev pub halved : Entry → Entry
@@ -42,7 +42,7 @@ module _ (set : CorrelationView) (level : ℕ) where
   -- the cells count the pairs of photons in closed bins, each bin paired once with each lag at most
   pub record CellsAre (cells : Cells) (closed : History) : Type 0 where
     pub count : length cells.cells ≡ lag_count set level
-    pub pairs : (p : ℕ) → p < lag_count set level → slice_index cells.cells p ≡ correlation set level (p + lag_floor set level + 1) closed
+    pub pairs : (p : ℕ) → p < lag_count set level → slice_index cells.cells p ≡ correlation set level (p + skipped_lags set level + 1) closed
     pub work : cells.added ≤ lag_count set level * occupied level closed
 
   -- a level to which the photons of closed bins, and after them those of the open one, came

@@ -7,7 +7,7 @@ ghost use Rattle.tau_cascade.specs.StandsFor.{StandsFor, CanGive};
 ghost use Rattle.tau_cascade.specs.Levels.{Chain, spent};
 
 use crate::carry::{carry, end_all};
-use crate::level::{Level, floor_of};
+use crate::level::{Level, skipped_lags};
 use lag_ring::{Entry, PairCells};
 use std::alloc::{AllocError, Global};
 use std::sync::ledger::Ledger;
@@ -35,8 +35,8 @@ impl Cascade {
     ghost use Rattle.std.specs.Prelude.{◌≡◌, ◌-◌, ◌<◌, ◌≤◌, true, IfOk, None, Some, slice_index};
     ghost use Rattle.std.specs.Option.{ForSome, option_map};
     ghost use Rattle.tally_base.specs.Settings.PartSettings.{CorrelationSettings};
-    ghost use Rattle.tau_cascade.specs.Cascade.{Holds, cells_at, ring_at, open_at, set_of, spent_by};
-    ghost use Rattle.tau_cascade.specs.Correlation.{correlation, lag_count, lag_floor};
+    ghost use Rattle.tau_cascade.specs.Cascade.{Holds, cells_at, ring_at, open_at, set_of, spent_by, added_below};
+    ghost use Rattle.tau_cascade.specs.Correlation.{correlation, lag_count, skipped_lags};
     ghost use Rattle.tau_cascade.specs.Opens.{open_bin};
     ghost use Rattle.tau_cascade.specs.Work.{work};
 
@@ -72,10 +72,10 @@ impl Cascade {
 
     /// The least lag of a level.
     pub fn first_lag(&self, level: u32) -> u32
-        ensures first { result ≡ lag_floor (correlation_view (set_of self.now)) level + 1 }
+        ensures first { result ≡ skipped_lags (correlation_view (set_of self.now)) level + 1 }
         ensures within { result ≤ (set_of self.now).lags }
     {
-        floor_of(&self.set, level) + 1
+        skipped_lags(&self.set, level) + 1
     }
 
     /// The cells of a level, one for each of its lags from the least on. Beside them a level keeps at most
@@ -86,6 +86,8 @@ impl Cascade {
         ensures lags { length result.now.cells ≡ lag_count (correlation_view (set_of self.now)) level }
         ensures ring { ForSome (ring_at self.now level)
             (λ r. length r.entries ≤ (set_of self.now).lags) }
+        ensures spent { spent_by self.now
+            ≡ added_below self.now (set_of self.now).levels }
         ensures work { (h : History) → Holds self.now h
             → spent_by self.now ≤ work (correlation_view (set_of self.now)) h }
     {
@@ -103,20 +105,21 @@ impl Cascade {
         self.levels[level as usize].open
     }
 
-    /// How many pairs are `lag` bins apart on the level. The lag is one of the level's, and the table is
-    /// closed.
+    /// How many pairs are `lag` bins apart on the level, which is one of the level's lags. Before the table
+    /// is closed, those of bins that are open are left out.
     pub fn cell(&self, level: u32, lag: u32) -> u128
-        requires closed { ⟦<Cascade as Tally>⟧.closed self.now ≡ true }
         requires level { level < (set_of self.now).levels }
-        requires lag { (lag_floor (correlation_view (set_of self.now)) level < lag)
+        requires lag { (skipped_lags (correlation_view (set_of self.now)) level < lag)
             × (lag ≤ (set_of self.now).lags) }
-        ensures pairs { (h : History) → Holds self.now h
+        ensures pairs { ⟦<Cascade as Tally>⟧.closed self.now ≡ true
+            → (h : History) → Holds self.now h
             → result ≡ correlation (correlation_view (set_of self.now)) level lag h }
         ensures place { option_map
-            (λ c. slice_index c.cells (lag - lag_floor (correlation_view (set_of self.now)) level - 1))
+            (λ c. slice_index c.cells (lag - skipped_lags (correlation_view (set_of self.now)) level - 1))
             (cells_at self.now level) ≡ Some result }
     {
-        self.level(level).get(lag - floor_of(&self.set, level) - 1)
+        self.level(level)
+            .get(lag - skipped_lags(&self.set, level) - 1)
     }
 }
 

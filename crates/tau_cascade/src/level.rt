@@ -4,7 +4,7 @@ ghost use Rattle.std.specs.List.{AllByRecursion};
 ghost use Rattle.lag_ring.specs.Ring.{IsRising};
 ghost use Rattle.tally_base.specs.Settings.{CorrelationView, correlation_view};
 ghost use Rattle.tally_base.specs.Tally.{History};
-ghost use Rattle.tau_cascade.specs.Correlation.{lag_floor};
+ghost use Rattle.tau_cascade.specs.Correlation.{skipped_lags};
 ghost use Rattle.tau_cascade.specs.Levels.{weight_before, entries_at_lags, RingIs, CellsAre, CanClose, CanShut};
 
 use lag_ring::{Entry, LagRing, PairCells};
@@ -23,9 +23,9 @@ pub struct Level {
     pub(crate) cells: PairCells,
 }
 
-/// The lags of a level are above this.
-pub(crate) fn floor_of(set: &CorrelationSet, level: u32) -> u32
-    ensures floor { result ≡ lag_floor (correlation_view set.now) level }
+/// How many of the first lags a level leaves to those below it: its own are above them.
+pub(crate) fn skipped_lags(set: &CorrelationSet, level: u32) -> u32
+    ensures skipped { result ≡ skipped_lags (correlation_view set.now) level }
     ensures within { result < set.now.lags }
 {
     if level == 0 { 0 } else { set.lags / 2 }
@@ -36,91 +36,93 @@ pub(crate) fn floor_of(set: &CorrelationSet, level: u32) -> u32
 #[inline(always)]
 fn add_at_lag<L: Ledger>(
     cells: &mut PairCells,
-    floor: u32,
+    skipped: u32,
     lags: u32,
     lag: u64,
     earlier: u64,
     later: u64,
     steps: &mut Steps<L>,
 )
-    requires lags { (floor ≤ lags) × (length cells.old.cells ≡ lags - floor) }
-    requires sum { floor < lag → lag ≤ lags
-        → slice_index cells.old.cells (lag - floor - 1) + earlier * later ≤ 2 ^ 80 }
-    requires count { floor < lag → lag ≤ lags → cells.old.added < 2 ^ 64 - 1 }
-    ensures cells { (p : ℕ) → p < lags - floor → slice_index cells.new.cells p
-        ≡ slice_index cells.old.cells p + (if p + floor + 1 == lag then earlier * later else 0) }
+    requires lags { (skipped ≤ lags) × (length cells.old.cells ≡ lags - skipped) }
+    requires sum { skipped < lag → lag ≤ lags
+        → slice_index cells.old.cells (lag - skipped - 1) + earlier * later ≤ 2 ^ 80 }
+    requires count { skipped < lag → lag ≤ lags → cells.old.added < 2 ^ 64 - 1 }
+    ensures cells { (p : ℕ) → p < lags - skipped → slice_index cells.new.cells p
+        ≡ slice_index cells.old.cells p + (if p + skipped + 1 == lag then earlier * later else 0) }
     ensures same { length cells.new.cells ≡ length cells.old.cells }
     ensures added { cells.new.added
-        ≤ cells.old.added + (if nat_lt floor lag && nat_le lag lags then 1 else 0) }
+        ≤ cells.old.added + (if nat_lt skipped lag && nat_le lag lags then 1 else 0) }
     ensures steps { steps.new + cells.old.added ≡ steps.old + cells.new.added }
 {
-    if lag > u64::from(floor) && lag <= u64::from(lags) {
+    if lag > u64::from(skipped) && lag <= u64::from(lags) {
         let pairs = u128::from(earlier) * u128::from(later);
-        cells.add((lag - u64::from(floor) - 1) as u32, pairs, steps);
+        cells.add((lag - u64::from(skipped) - 1) as u32, pairs, steps);
     }
 }
 
 /// Pairs photons of the bin at `index`, of which `weight` are in the second group, with those of earlier
-/// entries at the lags above `floor` and up to `lags`. From the first entry on that is nearer, all are.
+/// entries at the lags above `skipped` and up to `lags`. From the first entry on that is nearer, all are.
 #[inline(always)]
 fn pair_entries<L: Ledger>(
     cells: &mut PairCells,
-    floor: u32,
+    skipped: u32,
     lags: u32,
     index: u64,
     weight: u64,
     entries: &[Entry],
     steps: &mut Steps<L>,
 )
-    requires lags { (floor ≤ lags) × (length cells.old.cells ≡ lags - floor) }
+    requires lags { (skipped ≤ lags) × (length cells.old.cells ≡ lags - skipped) }
     requires rising { IsRising entries.now }
     requires after { AllByRecursion (λ e. e.index < index) entries.now }
-    requires fits { (p : ℕ) → p < lags - floor → slice_index cells.old.cells p
-        + weight_before (p + floor + 1) index entries.now * weight ≤ 2 ^ 80 }
-    requires count { cells.old.added + entries_at_lags floor lags index entries.now < 2 ^ 64 }
-    ensures cells { (p : ℕ) → p < lags - floor → slice_index cells.new.cells p
+    requires fits { (p : ℕ) → p < lags - skipped → slice_index cells.old.cells p
+        + weight_before (p + skipped + 1) index entries.now * weight ≤ 2 ^ 80 }
+    requires count { cells.old.added + entries_at_lags skipped lags index entries.now < 2 ^ 64 }
+    ensures cells { (p : ℕ) → p < lags - skipped → slice_index cells.new.cells p
         ≡ slice_index cells.old.cells p
-        + weight_before (p + floor + 1) index entries.now * weight }
+        + weight_before (p + skipped + 1) index entries.now * weight }
     ensures same { length cells.new.cells ≡ length cells.old.cells }
     ensures added { cells.new.added
-        ≤ cells.old.added + entries_at_lags floor lags index entries.now }
+        ≤ cells.old.added + entries_at_lags skipped lags index entries.now }
     ensures steps { steps.new + cells.old.added ≡ steps.old + cells.new.added }
 {
     for e in entries {
         let lag = index - e.index;
-        if lag <= u64::from(floor) {
+        if lag <= u64::from(skipped) {
             return;
         }
-        add_at_lag(cells, floor, lags, lag, e.a, weight, steps);
+        add_at_lag(cells, skipped, lags, lag, e.a, weight, steps);
     }
 }
 
 /// Pairs photons of the bin at `index`, of which `weight` are in the second group, with the entries at the
-/// lags above `floor` and up to `lags`.
+/// lags above `skipped` and up to `lags`.
 #[inline(always)]
 fn pair<L: Ledger>(
     ring: &LagRing,
     cells: &mut PairCells,
-    floor: u32,
+    skipped: u32,
     lags: u32,
     index: u64,
     weight: u64,
     steps: &mut Steps<L>,
 )
-    requires lags { (floor ≤ lags) × (length cells.old.cells ≡ lags - floor) }
+    requires lags { (skipped ≤ lags) × (length cells.old.cells ≡ lags - skipped) }
     requires after { AllByRecursion (λ e. e.index < index) ring.now.entries }
-    requires fits { (p : ℕ) → p < lags - floor → slice_index cells.old.cells p
-        + weight_before (p + floor + 1) index ring.now.entries * weight ≤ 2 ^ 80 }
-    requires count { cells.old.added + entries_at_lags floor lags index ring.now.entries < 2 ^ 64 }
-    ensures cells { (p : ℕ) → p < lags - floor → slice_index cells.new.cells p
+    requires fits { (p : ℕ) → p < lags - skipped → slice_index cells.old.cells p
+        + weight_before (p + skipped + 1) index ring.now.entries * weight ≤ 2 ^ 80 }
+    requires count { cells.old.added + entries_at_lags skipped lags index ring.now.entries < 2 ^ 64 }
+    ensures cells { (p : ℕ) → p < lags - skipped → slice_index cells.new.cells p
         ≡ slice_index cells.old.cells p
-        + weight_before (p + floor + 1) index ring.now.entries * weight }
+        + weight_before (p + skipped + 1) index ring.now.entries * weight }
     ensures same { length cells.new.cells ≡ length cells.old.cells }
     ensures added { cells.new.added
-        ≤ cells.old.added + entries_at_lags floor lags index ring.now.entries }
+        ≤ cells.old.added + entries_at_lags skipped lags index ring.now.entries }
     ensures steps { steps.new + cells.old.added ≡ steps.old + cells.new.added }
 {
-    pair_entries(cells, floor, lags, index, weight, ring.entries(), steps);
+    let (front, back) = ring.slices();
+    pair_entries(cells, skipped, lags, index, weight, front, steps);
+    pair_entries(cells, skipped, lags, index, weight, back, steps);
 }
 
 /// Puts a closed bin into the ring, in place of those that no later photon reaches.
@@ -157,7 +159,7 @@ fn pair_bin<L: Ledger>(
         pair(
             ring,
             cells,
-            floor_of(set, level),
+            skipped_lags(set, level),
             set.lags,
             bin.index,
             bin.b,
@@ -189,7 +191,7 @@ impl Level {
         Ok(Level {
             open: None,
             ring: LagRing::open(alloc, set.lags)?,
-            cells: PairCells::open(alloc, set.lags - floor_of(set, level))?,
+            cells: PairCells::open(alloc, set.lags - skipped_lags(set, level))?,
         })
     }
 

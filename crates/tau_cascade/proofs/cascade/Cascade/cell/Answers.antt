@@ -4,8 +4,8 @@ use Rattle.tau_cascade.proofs.Shown.{shown_cells, cell_is}
 use Rattle.tau_cascade.proofs.cascade.Cascade.cell.Goals as goal
 
 pub returns-clause-pairs : goal.returns-clause-pairs
-returns-clause-pairs c = λ h is.
+returns-clause-pairs c = λ shut h is.
     let t = c.args.self.now in
     let inside : c.args.level < length t.levels.items = search rules in
-    c.get.ensures.count ∙ cell_is (correlation_view t.set) c.args.level c.args.lag c.floor_of.result c.level.result.now h
-    (shown_cells t.closed c.requires.closed t.set t.levels.items t.taken t.floor h is c.args.level c.level.result.now c.level.ensures.cells) c.floor_of.ensures.floor c.requires.lag.0 c.requires.lag.1
+    c.get.ensures.count ∙ cell_is (correlation_view t.set) c.args.level c.args.lag c.skipped_lags.result c.level.result.now h
+    (shown_cells t.closed shut t.set t.levels.items t.taken t.floor h is c.args.level c.level.result.now c.level.ensures.cells) c.skipped_lags.ensures.skipped c.requires.lag.0 c.requires.lag.1

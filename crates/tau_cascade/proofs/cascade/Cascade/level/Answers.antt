@@ -3,7 +3,7 @@ use Rattle.std.proofs.Props.{props}
 use Rattle.std.proofs.Math.Logic.{∥∥₁_elim}
 use Rattle.std.proofs.lemmas.Option.{slice_get_read}
 use Rattle.tau_cascade.proofs.Shown.{level_count, shown_ring}
-use Rattle.tau_cascade.proofs.Work.{spent_within}
+use Rattle.tau_cascade.proofs.Work.{spent_within, all_lent}
 use Rattle.tau_cascade.proofs.cascade.Cascade.level.Goals as goal
 
 pub returns-clause-lags : goal.returns-clause-lags
@@ -17,6 +17,12 @@ pub returns-clause-ring : goal.returns-clause-ring
 returns-clause-ring c = λ r read.
     let t = c.args.self.now in
     ∥∥₁_elim t.stands (hlevel props) (λ w. shown_ring t.closed t.set t.levels.items t.taken t.floor w.0 w.1 c.args.level r read)
+
+pub returns-clause-spent : goal.returns-clause-spent
+returns-clause-spent c =
+    let t = c.args.self.now in
+    let count : t.set.levels ≡ length t.levels.items = search rules in
+    all_lent t t.set.levels count
 
 pub returns-clause-work : goal.returns-clause-work
 returns-clause-work c = λ h is.
