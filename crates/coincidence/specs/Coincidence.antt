@@ -25,3 +25,7 @@ held t = length t.pairing.cells.cells + length t.pairing.ring.entries + (if is_s
 -- how many closed bins it keeps
 abbrev pub bins_kept : Coincidence → ℕ
 bins_kept t = length t.pairing.ring.entries
+
+-- how many additions made its cells
+abbrev pub spent_by : Coincidence → ℕ
+spent_by t = t.pairing.cells.added

@@ -8,29 +8,35 @@ use Rattle.lag_ring.specs.Cells.{Cells}
 use Rattle.lag_ring.specs.Ring.{Ring}
 use Rattle.lag_ring.specs.Kept.{Weighs, Keeps}
 use Rattle.coincidence.specs.declared.pairing.Bin.{Bin}
+use Rattle.coincidence.specs.declared.pairing.Direction.{Direction}
+use Rattle.coincidence.specs.declared.pairing.Direction.TheVariants.{Forward, Backward}
 use Rattle.coincidence.specs.declared.pairing.Pairing.{Pairing}
 use Rattle.coincidence.specs.Pairs.{in_first, in_second, is_in_cell, coincidences}
 
--- the pairs of the first group's photons in an earlier entry with so many of the second group at a later tick, that the cell counts
-abbrev pub first_pairs : CoincidenceView → ℕ → ℕ → ℕ → Entry → ℕ
-first_pairs set c index later earlier = if is_in_cell set c earlier.index index then earlier.a * later else 0
+-- how many photons of an earlier entry are in the group of the earlier photon
+abbrev pub earlier_weight : Direction → Entry → ℕ
+earlier_weight Forward e = e.a
+earlier_weight Backward e = e.b
 
--- the pairs of the second group's photons in an earlier entry with so many of the first group at a later tick, that the cell counts
-abbrev pub second_pairs : CoincidenceView → ℕ → ℕ → ℕ → Entry → ℕ
-second_pairs set c index later earlier = if is_in_cell set c index earlier.index then earlier.b * later else 0
+-- the difference of two ticks that are so far apart, with the reach added
+abbrev pub shifted_by : Direction → ℕ → ℕ → ℕ
+shifted_by Forward reach apart = reach + apart
+shifted_by Backward reach apart = reach - apart
+
+-- the pairs of an earlier entry's photons with so many at a later tick, that the cell counts
+abbrev pub pairs_of : Direction → CoincidenceView → ℕ → ℕ → ℕ → Entry → ℕ
+pairs_of Forward set c index later earlier = if is_in_cell set c earlier.index index then earlier.a * later else 0
+pairs_of Backward set c index later earlier = if is_in_cell set c index earlier.index then earlier.b * later else 0
 
 -- the same for all entries of a list
-abbrev pub first_pairs_with : CoincidenceView → ℕ → ℕ → ℕ → List Entry → ℕ
-first_pairs_with set c index later es = sum_by (first_pairs set c index later) es
-
-abbrev pub second_pairs_with : CoincidenceView → ℕ → ℕ → ℕ → List Entry → ℕ
-second_pairs_with set c index later es = sum_by (second_pairs set c index later) es
+abbrev pub pairs_of_all : Direction → CoincidenceView → ℕ → ℕ → ℕ → List Entry → ℕ
+pairs_of_all direction set c index later es = sum_by (pairs_of direction set c index later) es
 
 -- the pairs of a later entry's photons with those of all entries of a list, that the cell counts
 abbrev pub pairs_with : CoincidenceView → ℕ → Entry → List Entry → ℕ
 pairs_with set c later es =
-    first_pairs_with set c later.index later.b es
-    + second_pairs_with set c later.index later.a es
+    pairs_of_all Forward set c later.index later.b es
+    + pairs_of_all Backward set c later.index later.a es
 
 -- those, and the pairs inside the later one's bin
 abbrev pub bin_pairs : CoincidenceView → ℕ → Bin → List Entry → ℕ

@@ -1,5 +1,5 @@
 // A table of the pairs of photons of two groups by the difference of their times.
-ghost use Rattle.std.specs.Prelude.{◌≡◌, ◌^◌, ◌≤◌, [], ◌∷◌, ◌++◌, if◌then◌else◌, false};
+ghost use Rattle.std.specs.Prelude.{◌≡◌, ◌+◌, ◌^◌, ◌≤◌, [], ◌∷◌, ◌++◌, if◌then◌else◌, false};
 ghost use Rattle.tally_base.specs.Settings.{coincidence_view};
 ghost use Rattle.tally_base.specs.Tally.{History};
 ghost use Rattle.coincidence.specs.StandsFor.{StandsFor, CanGive};
@@ -33,7 +33,7 @@ impl Coincidence {
     ghost use Rattle.std.specs.Prelude.{◌<◌, IfOk, true};
     ghost use Rattle.tally_base.specs.Settings.{coincidence_cells};
     ghost use Rattle.tally_base.specs.Settings.PartSettings.{CoincidenceSettings};
-    ghost use Rattle.coincidence.specs.Coincidence.{Holds, set_of};
+    ghost use Rattle.coincidence.specs.Coincidence.{Holds, set_of, spent_by};
     ghost use Rattle.coincidence.specs.Pairs.{coincidences};
 
     /// A table of no events, with all the memory that it ever takes, or `AllocError` where it is wanting.
@@ -43,6 +43,7 @@ impl Coincidence {
             ⟦<Coincidence as Tally>⟧.settings t ≡ CoincidenceSettings (coincidence_view set)) }
         ensures empty { IfOk result (λ t. Holds t []) }
         ensures opened { IfOk result (λ t. ⟦<Coincidence as Tally>⟧.closed t ≡ false) }
+        ensures unspent { IfOk result (λ t. spent_by t ≡ 0) }
     {
         let pairing = Pairing::open(alloc, &set)?;
         Ok(Coincidence {
@@ -68,11 +69,12 @@ impl Coincidence {
         cells_of(&self.set)
     }
 
-    /// How many pairs cell `at` counts. The table is closed, and `at` is below the number of cells.
+    /// How many pairs cell `at` counts, which is below the number of cells. Before the table is closed,
+    /// those of the open bin are left out.
     pub fn cell(&self, at: u32) -> u128
-        requires closed { ⟦<Coincidence as Tally>⟧.closed self.now ≡ true }
         requires inside { at < coincidence_cells (coincidence_view (set_of self.now)) }
-        ensures { (h : History) → Holds self.now h
+        ensures pairs { ⟦<Coincidence as Tally>⟧.closed self.now ≡ true
+            → (h : History) → Holds self.now h
             → result ≡ coincidences (coincidence_view (set_of self.now)) at h }
     {
         self.pairing.cells.get(at)
@@ -92,6 +94,7 @@ fn give<L: Ledger>(
     ensures follows { (h : History) → CanGive (coincidence_view set.now) pairing.old e.now h
         → Came (coincidence_view set.now) pairing.new
         (photons_of_groups (coincidence_view set.now) (h ++ (e.now, groups) ∷ [])) }
+    ensures steps { steps.new + pairing.old.cells.added ≡ steps.old + pairing.new.cells.added }
 {
     if e.is_photon() {
         let first = is_in(groups, set.first);
@@ -103,7 +106,9 @@ fn give<L: Ledger>(
 }
 
 impl Tally for Coincidence {
-    ghost use Rattle.coincidence.specs.Coincidence.{Holds, settings, held};
+    ghost use Rattle.std.specs.Prelude.{◌≡◌, ◌+◌, ◌<◌, ◌≤◌, ◌^◌, ◌++◌, ◌∷◌, [], true, false, IsTrue, if◌then◌else◌};
+    ghost use Rattle.tally_base.specs.Tally.{moves_floor};
+    ghost use Rattle.coincidence.specs.Coincidence.{Holds, settings, held, spent_by};
     ghost use Rattle.coincidence.specs.CoincidenceLaws.{taken_is, floor_is, within_bound};
 
     ghost holds = { Holds };
@@ -124,13 +129,34 @@ impl Tally for Coincidence {
 
     ghost within = { within_bound };
 
-    fn event<L: Ledger>(&mut self, e: &Event, groups: u64, steps: &mut Steps<L>) {
+    fn event<L: Ledger>(&mut self, e: &Event, groups: u64, steps: &mut Steps<L>)
+        requires open { self.old.closed ≡ false }
+        requires room { self.old.taken < 2 ^ 40 }
+        requires in_time { e.now.time ≤ 2 ^ 62 + 2 ^ 28 }
+        requires in_order { IsTrue (moves_floor false e.now) → self.old.floor ≤ e.now.time }
+        ensures follows { (h : History) → Holds self.old h
+            → Holds self.new (h ++ (e.now, groups) ∷ []) }
+        ensures still_open { self.new.closed ≡ false }
+        ensures one_more { self.new.taken ≡ self.old.taken + 1 }
+        ensures moved { self.new.floor ≡ (if moves_floor false e.now
+            then e.now.time else self.old.floor) }
+        ensures same_settings { settings self.new ≡ settings self.old }
+        ensures steps { steps.new + spent_by self.old ≡ steps.old + spent_by self.new }
+    {
         self.taken += 1;
         self.floor = floor_behind(self.floor, e);
         give(&mut self.pairing, &self.set, e, groups, steps);
     }
 
-    fn close<L: Ledger>(&mut self, steps: &mut Steps<L>) {
+    fn close<L: Ledger>(&mut self, steps: &mut Steps<L>)
+        requires open { self.old.closed ≡ false }
+        ensures keeps { (h : History) → Holds self.old h → Holds self.new h }
+        ensures now_closed { self.new.closed ≡ true }
+        ensures same_taken { self.new.taken ≡ self.old.taken }
+        ensures same_floor { self.new.floor ≡ self.old.floor }
+        ensures same_settings { settings self.new ≡ settings self.old }
+        ensures steps { steps.new + spent_by self.old ≡ steps.old + spent_by self.new }
+    {
         self.pairing.end(&self.set, steps);
         self.closed = true;
     }

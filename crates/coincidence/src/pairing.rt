@@ -3,7 +3,7 @@ ghost use Rattle.std.specs.Prelude.{◌≡◌, ℕ, ◌+◌, ◌-◌, ◌*◌, �
 ghost use Rattle.std.specs.List.{AllByRecursion};
 ghost use Rattle.tally_base.specs.Settings.{coincidence_view, coincidence_cells};
 ghost use Rattle.tally_base.specs.Tally.{History};
-ghost use Rattle.coincidence.specs.Pairing.{first_pairs, first_pairs_with, second_pairs, second_pairs_with, pairs_with, bin_pairs};
+ghost use Rattle.coincidence.specs.Pairing.{pairs_of, pairs_of_all, pairs_with, bin_pairs};
 
 use lag_ring::{Entry, LagRing, PairCells};
 use std::alloc::{AllocError, Global};
@@ -51,6 +51,43 @@ impl Bin {
                 b: self.weights.b + more.weights.b,
             },
             both: self.both + more.both,
+        }
+    }
+}
+
+/// Which photon of a pair is the earlier one.
+#[derive(Clone, Copy, Debug)]
+pub enum Direction {
+    /// That of the first group: the difference is positive.
+    Forward,
+    /// That of the second group: the difference is negative.
+    Backward,
+}
+
+impl Direction {
+    ghost use Rattle.std.specs.Prelude.{◌≡◌, ◌≤◌};
+    ghost use Rattle.coincidence.specs.Pairing.{earlier_weight, shifted_by};
+
+    /// How many photons of an entry are the earlier ones of pairs.
+    #[inline(always)]
+    fn weight(self, earlier: &Entry) -> u64
+        ensures { result ≡ earlier_weight self earlier.now }
+    {
+        match self {
+            Direction::Forward => earlier.a,
+            Direction::Backward => earlier.b,
+        }
+    }
+
+    /// The difference of two ticks that are so far apart, with the reach added.
+    #[inline(always)]
+    fn shifted(self, set: CoincidenceSet, apart: u64) -> u32
+        requires { apart ≤ set.reach }
+        ensures { result ≡ shifted_by self set.reach apart }
+    {
+        match self {
+            Direction::Forward => set.reach + apart as u32,
+            Direction::Backward => set.reach - apart as u32,
         }
     }
 }
@@ -116,17 +153,19 @@ fn add_pairs<L: Ledger>(
         + (if shifted / set.width == c then earlier * later else 0) }
     ensures same { length cells.new.cells ≡ length cells.old.cells }
     ensures added { cells.new.added ≤ cells.old.added + 1 }
+    ensures steps { steps.new + cells.old.added ≡ steps.old + cells.new.added }
 {
     let pairs = u128::from(earlier) * u128::from(later);
     cells.add(cell_of(set, shifted), pairs, steps);
 }
 
-/// Pairs the photons of the first group in an earlier entry with so many of the second one at a later tick,
-/// where the two ticks are in reach of one another.
+/// Pairs the photons of an earlier entry with so many at a later tick, where the two ticks are in reach of
+/// one another.
 #[inline(always)]
-fn pair_first<L: Ledger>(
+fn pair_earlier<L: Ledger>(
     cells: &mut PairCells,
     set: CoincidenceSet,
+    direction: Direction,
     index: u64,
     later: u64,
     earlier: &Entry,
@@ -136,32 +175,34 @@ fn pair_first<L: Ledger>(
     requires after { earlier.now.index < index }
     requires fits { (c : ℕ) → c < coincidence_cells (coincidence_view set)
         → slice_index cells.old.cells c
-        + first_pairs (coincidence_view set) c index later earlier.now ≤ 2 ^ 80 }
+        + pairs_of direction (coincidence_view set) c index later earlier.now ≤ 2 ^ 80 }
     requires count { cells.old.added + 1 < 2 ^ 64 }
     ensures cells { (c : ℕ) → c < coincidence_cells (coincidence_view set)
         → slice_index cells.new.cells c ≡ slice_index cells.old.cells c
-        + first_pairs (coincidence_view set) c index later earlier.now }
+        + pairs_of direction (coincidence_view set) c index later earlier.now }
     ensures same { length cells.new.cells ≡ length cells.old.cells }
     ensures added { cells.new.added ≤ cells.old.added + 1 }
+    ensures steps { steps.new + cells.old.added ≡ steps.old + cells.new.added }
 {
     let apart = index - earlier.index;
     if is_near(set, apart) {
         add_pairs(
             cells,
             set,
-            set.reach + apart as u32,
-            earlier.a,
+            direction.shifted(set, apart),
+            direction.weight(earlier),
             later,
             steps,
         );
     }
 }
 
-/// Pairs the photons of the first group in earlier entries with so many of the second one at a later tick.
+/// Pairs the photons of earlier entries with so many at a later tick.
 #[inline(always)]
-fn pair_firsts<L: Ledger>(
+fn pair_direction<L: Ledger>(
     cells: &mut PairCells,
     set: CoincidenceSet,
+    direction: Direction,
     index: u64,
     later: u64,
     entries: &[Entry],
@@ -171,82 +212,18 @@ fn pair_firsts<L: Ledger>(
     requires after { AllByRecursion (λ e. e.index < index) entries.now }
     requires fits { (c : ℕ) → c < coincidence_cells (coincidence_view set)
         → slice_index cells.old.cells c
-        + first_pairs_with (coincidence_view set) c index later entries.now ≤ 2 ^ 80 }
+        + pairs_of_all direction (coincidence_view set) c index later entries.now ≤ 2 ^ 80 }
     requires count { cells.old.added + length entries.now < 2 ^ 64 }
     ensures cells { (c : ℕ) → c < coincidence_cells (coincidence_view set)
         → slice_index cells.new.cells c ≡ slice_index cells.old.cells c
-        + first_pairs_with (coincidence_view set) c index later entries.now }
+        + pairs_of_all direction (coincidence_view set) c index later entries.now }
     ensures same { length cells.new.cells ≡ length cells.old.cells }
     ensures added { cells.new.added ≤ cells.old.added + length entries.now }
+    ensures steps { steps.new + cells.old.added ≡ steps.old + cells.new.added }
 {
     if later > 0 {
         for earlier in entries {
-            pair_first(cells, set, index, later, earlier, steps);
-        }
-    }
-}
-
-/// Pairs the photons of the second group in an earlier entry with so many of the first one at a later tick,
-/// where the two ticks are in reach of one another.
-#[inline(always)]
-fn pair_second<L: Ledger>(
-    cells: &mut PairCells,
-    set: CoincidenceSet,
-    index: u64,
-    later: u64,
-    earlier: &Entry,
-    steps: &mut Steps<L>,
-)
-    requires sized { length cells.old.cells ≡ coincidence_cells (coincidence_view set) }
-    requires after { earlier.now.index < index }
-    requires fits { (c : ℕ) → c < coincidence_cells (coincidence_view set)
-        → slice_index cells.old.cells c
-        + second_pairs (coincidence_view set) c index later earlier.now ≤ 2 ^ 80 }
-    requires count { cells.old.added + 1 < 2 ^ 64 }
-    ensures cells { (c : ℕ) → c < coincidence_cells (coincidence_view set)
-        → slice_index cells.new.cells c ≡ slice_index cells.old.cells c
-        + second_pairs (coincidence_view set) c index later earlier.now }
-    ensures same { length cells.new.cells ≡ length cells.old.cells }
-    ensures added { cells.new.added ≤ cells.old.added + 1 }
-{
-    let apart = index - earlier.index;
-    if is_near(set, apart) {
-        add_pairs(
-            cells,
-            set,
-            set.reach - apart as u32,
-            earlier.b,
-            later,
-            steps,
-        );
-    }
-}
-
-/// Pairs the photons of the second group in earlier entries with so many of the first one at a later tick.
-#[inline(always)]
-fn pair_seconds<L: Ledger>(
-    cells: &mut PairCells,
-    set: CoincidenceSet,
-    index: u64,
-    later: u64,
-    entries: &[Entry],
-    steps: &mut Steps<L>,
-)
-    requires sized { length cells.old.cells ≡ coincidence_cells (coincidence_view set) }
-    requires after { AllByRecursion (λ e. e.index < index) entries.now }
-    requires fits { (c : ℕ) → c < coincidence_cells (coincidence_view set)
-        → slice_index cells.old.cells c
-        + second_pairs_with (coincidence_view set) c index later entries.now ≤ 2 ^ 80 }
-    requires count { cells.old.added + length entries.now < 2 ^ 64 }
-    ensures cells { (c : ℕ) → c < coincidence_cells (coincidence_view set)
-        → slice_index cells.new.cells c ≡ slice_index cells.old.cells c
-        + second_pairs_with (coincidence_view set) c index later entries.now }
-    ensures same { length cells.new.cells ≡ length cells.old.cells }
-    ensures added { cells.new.added ≤ cells.old.added + length entries.now }
-{
-    if later > 0 {
-        for earlier in entries {
-            pair_second(cells, set, index, later, earlier, steps);
+            pair_earlier(cells, set, direction, index, later, earlier, steps);
         }
     }
 }
@@ -271,9 +248,11 @@ fn pair_groups<L: Ledger>(
         + pairs_with (coincidence_view set) c later.now entries.now }
     ensures same { length cells.new.cells ≡ length cells.old.cells }
     ensures added { cells.new.added ≤ cells.old.added + 2 * length entries.now }
+    ensures steps { steps.new + cells.old.added ≡ steps.old + cells.new.added }
 {
-    pair_firsts(cells, set, later.index, later.b, entries, steps);
-    pair_seconds(cells, set, later.index, later.a, entries, steps);
+    let Entry { index, a, b } = *later;
+    pair_direction(cells, set, Direction::Forward, index, b, entries, steps);
+    pair_direction(cells, set, Direction::Backward, index, a, entries, steps);
 }
 
 /// Pairs the photons of an entry with those of earlier ones, where cells have one tick. This is
@@ -298,6 +277,7 @@ fn pair_single_ticks<L: Ledger>(
         + pairs_with (coincidence_view set) c later.now entries.now }
     ensures same { length cells.new.cells ≡ length cells.old.cells }
     ensures added { cells.new.added ≤ cells.old.added + 2 * length entries.now }
+    ensures steps { steps.new + cells.old.added ≡ steps.old + cells.new.added }
 {
     pair_groups(cells, set, later, entries, steps);
 }
@@ -321,6 +301,7 @@ fn pair_entries<L: Ledger>(
         + pairs_with (coincidence_view set.now) c later.now entries.now }
     ensures same { length cells.new.cells ≡ length cells.old.cells }
     ensures added { cells.new.added ≤ cells.old.added + 2 * length entries.now }
+    ensures steps { steps.new + cells.old.added ≡ steps.old + cells.new.added }
 {
     let set = *set;
     if set.width == 1 {
@@ -348,6 +329,7 @@ fn pair_inside<L: Ledger>(
         + bin_pairs (coincidence_view set.now) c bin.now [] }
     ensures same { length cells.new.cells ≡ length cells.old.cells }
     ensures added { cells.new.added ≤ cells.old.added + 1 }
+    ensures steps { steps.new + cells.old.added ≡ steps.old + cells.new.added }
 {
     let pairs = u128::from(bin.weights.a) * u128::from(bin.weights.b) - u128::from(bin.both);
     if pairs > 0 {
@@ -375,6 +357,7 @@ fn pair<L: Ledger>(
         + bin_pairs (coincidence_view set.now) c bin.now ring.now.entries }
     ensures same { length cells.new.cells ≡ length cells.old.cells }
     ensures added { cells.new.added ≤ cells.old.added + (2 * length ring.now.entries + 1) }
+    ensures steps { steps.new + cells.old.added ≡ steps.old + cells.new.added }
 {
     let (front, back) = ring.slices();
     pair_entries(cells, set, &bin.weights, front, steps);
@@ -390,6 +373,7 @@ impl Pairing {
     /// wanting.
     pub fn open(alloc: Global, set: &CoincidenceSet) -> Result<Pairing, AllocError>
         ensures empty { IfOk result (λ p. PairingIs (coincidence_view set.now) p [] []) }
+        ensures none { IfOk result (λ p. p.cells.added ≡ 0) }
     {
         Ok(Pairing {
             open: None,
@@ -407,6 +391,7 @@ impl Pairing {
         ensures cells { (closed xs : History) → CanShut (coincidence_view set.now) self.old bin.now closed xs
             → CellsAre (coincidence_view set.now) self.new.cells (closed ++ xs) }
         ensures open { self.new.open ≡ self.old.open }
+        ensures steps { steps.new + self.old.cells.added ≡ steps.old + self.new.cells.added }
     {
         pair(&mut self.cells, &self.ring, set, bin, steps);
         let weights = bin.weights;
@@ -421,6 +406,7 @@ impl Pairing {
         ensures follows { (closed open' xs : History)
             → CanPut (coincidence_view set.now) self.old bin closed open' xs
             → Came (coincidence_view set.now) self.new ((closed ++ open') ++ xs) }
+        ensures steps { steps.new + self.old.cells.added ≡ steps.old + self.new.cells.added }
     {
         match self.open {
             Some(open) => {
@@ -440,6 +426,7 @@ impl Pairing {
         requires stands { ∥ ((came : History) × CanEnd (coincidence_view set.now) self.old came) ∥₁ }
         ensures follows { (came : History) → CanEnd (coincidence_view set.now) self.old came
             → PairingDone (coincidence_view set.now) self.new came }
+        ensures steps { steps.new + self.old.cells.added ≡ steps.old + self.new.cells.added }
     {
         if let Some(open) = self.open {
             self.shut(set, &open, steps);

@@ -24,4 +24,5 @@ returns-then-first g c = record {
       let either : (is_in c.args.groups c.args.set.now.first || is_in c.args.groups c.args.set.now.second) ≡ true = rw (← c.is_in-first.ensures, ← c.is_in-second.ensures) (some_group c.is_in-first.result c.is_in-second.result c.then-first.either) in
       rw (photons-push (coincidence_view c.args.set.now) h (c.args.e.now, c.args.groups) photon either, can.was.2)
       (c.put.ensures.follows can.was.0 can.was.1 ((c.args.e.now, c.args.groups) ∷ []) (rw (c.of_photon.ensures, c.is_in-first.ensures, c.is_in-second.ensures) (may_put (coincidence_view c.args.set.now) c.args.pairing.now c.args.e.now c.args.groups h can photon)));
+  steps = c.put.ensures.steps;
 }

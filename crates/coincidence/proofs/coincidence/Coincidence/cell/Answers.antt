@@ -4,6 +4,8 @@ use Rattle.coincidence.proofs.Photons.{cell_is}
 use Rattle.coincidence.proofs.coincidence.Coincidence.cell.Goals as goal
 
 pub returns : goal.returns
-returns c = λ h is.
-    let t = c.args.self.now in
-    c.get.ensures.count ∙ cell_is t.closed c.requires.closed (coincidence_view t.set) t.pairing t.taken t.floor h is c.args.at c.requires.inside
+returns c = record {
+  pairs = λ shut h is.
+      let t = c.args.self.now in
+      c.get.ensures.count ∙ cell_is t.closed shut (coincidence_view t.set) t.pairing t.taken t.floor h is c.args.at c.requires.inside;
+}

@@ -14,4 +14,5 @@ returns-in-Some g c = record {
   follows = λ came can.
       let may = end_shut (coincidence_view c.args.set.now) c.args.self.now c.in-Some.open c.in-Some.is came can in
       rw can.was.2 (record { shut = refl; ring = c.shut.ensures.ring _ _ may; cells = c.shut.ensures.cells _ _ may });
+  steps = c.shut.ensures.steps;
 }

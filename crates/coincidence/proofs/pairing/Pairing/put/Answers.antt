@@ -12,6 +12,7 @@ shut-requires g c = record {
 pub returns-then-open-bin : goal.returns-then-open-bin
 returns-then-open-bin g c = record {
   follows = λ closed open' xs can. rw c.with.ensures (joins (coincidence_view c.args.set.now) c.args.self.now c.in-Some.open c.args.bin c.in-Some.is closed open' xs can c.if-open-bin.true);
+  steps = cc;
 }
 
 pub returns-else-open-bin : goal.returns-else-open-bin
@@ -20,4 +21,5 @@ returns-else-open-bin g c = record {
       let may = can_shut (coincidence_view c.args.set.now) c.args.self.now c.in-Some.open c.args.bin c.in-Some.is closed open' xs can in
       let after = moved_on (coincidence_view c.args.set.now) c.args.self.now c.in-Some.open c.args.bin c.in-Some.is closed open' xs can c.if-open-bin.false in
       (_, xs, refl, record { opened = (can.is, after); ring = c.shut.ensures.ring closed open' may; cells = c.shut.ensures.cells closed open' may });
+  steps = c.shut.ensures.steps;
 }
