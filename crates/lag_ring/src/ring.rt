@@ -110,8 +110,7 @@ impl LagRing {
         ensures alone { self.new ≡ ring (record { index = index; a = a; b = b } ∷ []) self.old.reach }
     {
         self.kept.clear();
-        self.kept.push_back(Entry { index, a, b });
-        self.newest = index;
+        self.push(index, a, b);
     }
 
     /// The entry at place `i` from the front, which is 0 for the first.

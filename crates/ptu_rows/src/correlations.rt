@@ -2,7 +2,7 @@
 use crate::reports::{Row, report_each};
 use std::test::Fail;
 
-const ROWS: [Row; 4] = [
+const ROWS: [Row; 5] = [
     // One group, whose pairs of the second level are in bins that are open at the end.
     Row {
         plan: b"[[group]]\ninputs = [1]\n[[correlation]]\nfirst = 1\nsecond = 1\nlags = 2\nlevels = 2\n",
@@ -24,6 +24,35 @@ correlation 1 lags 2 levels 2
 0 1 2
 0 2 1
 1 2 2
+",
+    },
+    // Pairs of the third level alone meet in bins that are open at the end.
+    Row {
+        plan: b"[[group]]\ninputs = [1]\n[[correlation]]\nfirst = 1\nsecond = 1\nlags = 2\nlevels = 3\n",
+        code: 0x0101_0204,
+        words: &[
+            0x0000_0000,
+            0x0000_0001,
+            0x0000_0002,
+            0x0000_0003,
+            0x0000_0008,
+        ],
+        text: b"type HydraHarp2T2
+announced -
+global -
+resolution -
+records 5
+photons 5
+markers 0
+wraps 0
+reserved 0
+late 0
+first 0
+last 8
+correlation 1 lags 2 levels 3
+0 1 3
+0 2 2
+2 2 4
 ",
     },
     // Two groups.
