@@ -108,13 +108,20 @@ fn opened(table: &Cascade, level: u32) -> Option<Weighted>
     }
 }
 
-/// The open bins of the three levels of a row, and that of the lowest level once it is closed.
+/// The open bins of three levels, from the lowest on.
+fn bins_of(table: &Cascade) -> [Option<Weighted>; 3]
+    requires three { (set_of table.now).levels ≡ 3 }
+{
+    [opened(table, 0), opened(table, 1), opened(table, 2)]
+}
+
+/// The open bins of a row's three levels, and those once it is closed.
 fn bins<L: Ledger>(
     alloc: Global,
     blank: Blank,
     set: CorrelationSet,
     events: &[Given],
-) -> Result<[Option<Weighted>; 4], Fail>
+) -> Result<[[Option<Weighted>; 3]; 2], Fail>
     requires name { blank.name ≡ L.name }
     requires parts { blank.parts ≡ L.parts }
     requires some { 0 < blank.parts }
@@ -123,11 +130,9 @@ fn bins<L: Ledger>(
 {
     let mut steps = Steps::<L>::new(blank);
     let mut table = given(alloc, set, events, &mut steps)?;
-    let lowest = opened(&table, 0);
-    let middle = opened(&table, 1);
-    let highest = opened(&table, 2);
+    let before = bins_of(&table);
     table.close(&mut steps);
-    Ok([lowest, middle, highest, opened(&table, 0)])
+    Ok([before, bins_of(&table)])
 }
 
 #[test]
@@ -141,7 +146,10 @@ fn photons_wait_in_the_open_bins(rt: HostRuntime) -> Result<(), Fail> {
     let five = [first(0), first(1), first(2), first(3), first(8)];
     assert_eq!(rt;
         bins::<Brand>(rt.alloc(), Blank::new(1), set, &five)?,
-        [Some((8, 1, 1)), Some((1, 2, 2)), Some((0, 2, 2)), None]
+        [
+            [Some((8, 1, 1)), Some((1, 2, 2)), Some((0, 2, 2))],
+            [None, None, None]
+        ]
     );
     Ok(())
 }
