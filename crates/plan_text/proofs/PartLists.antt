@@ -81,14 +81,25 @@ of_kind settings n is [] = tt
 of_kind settings n is (set ∷ sets) = (is set, of_kind settings n is sets)
 
 by_kinds : (plan : Plan) → AreByKinds 0 (part_lists plan)
-by_kinds plan =
-    (of_kind (λ set. HistSettings (hist_view set)) 0 (λ set. refl) plan.histograms.items,
-    (of_kind (λ set. TraceSettings (trace_view set)) 1 (λ set. refl) plan.traces.items,
-    (of_kind (λ set. StartStopSettings (startstop_view set)) 2 (λ set. refl) plan.startstops.items,
-    (of_kind (λ set. CoincidenceSettings (coincidence_view set)) 3 (λ set. refl) plan.coincidences.items,
-    (of_kind (λ set. ImageSettings (image_view set)) 4 (λ set. refl) plan.images.items,
-    (of_kind (λ set. CorrelationSettings (correlation_view set)) 5 (λ set. refl) plan.correlations.items,
-    tt))))))
+by_kinds plan = (
+  of_kind (λ set. HistSettings (hist_view set)) 0 (λ set. refl) plan.histograms.items,
+  (
+    of_kind (λ set. TraceSettings (trace_view set)) 1 (λ set. refl) plan.traces.items,
+    (
+      of_kind (λ set. StartStopSettings (startstop_view set)) 2 (λ set. refl) plan.startstops.items,
+      (
+        of_kind (λ set. CoincidenceSettings (coincidence_view set)) 3 (λ set. refl) plan.coincidences.items,
+        (
+          of_kind (λ set. ImageSettings (image_view set)) 4 (λ set. refl) plan.images.items,
+          (
+            of_kind (λ set. CorrelationSettings (correlation_view set)) 5 (λ set. refl) plan.correlations.items,
+            tt,
+          ),
+        ),
+      ),
+    ),
+  ),
+)
 
 pub same_tables : (one other : Plan) → HaveSameTables one other
 same_tables one other = lists_same 0 (part_lists one) (part_lists other) (by_kinds one) (by_kinds other) refl
