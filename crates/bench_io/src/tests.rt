@@ -34,12 +34,15 @@ fn reads_go_by_the_pieces(rt: HostRuntime) -> Result<(), Fail> {
     if opened.is_err() {
         return Err(Fail::from("not opened"));
     }
-    assert_eq!(rt; next_read(&mut inputs), Some(4));
-    assert_eq!(rt; next_read(&mut inputs), None);
-    assert_eq!(rt; next_read(&mut inputs), Some(2));
-    assert_eq!(rt; next_read(&mut inputs), Some(4));
-    assert_eq!(rt; next_read(&mut inputs), Some(1));
-    assert_eq!(rt; next_read(&mut inputs), Some(0));
+    let read = [
+        next_read(&mut inputs),
+        next_read(&mut inputs),
+        next_read(&mut inputs),
+        next_read(&mut inputs),
+        next_read(&mut inputs),
+        next_read(&mut inputs),
+    ];
+    assert!(rt; read == [Some(4), None, Some(2), Some(4), Some(1), Some(0)]);
     Ok(())
 }
 
@@ -47,13 +50,10 @@ fn reads_go_by_the_pieces(rt: HostRuntime) -> Result<(), Fail> {
 fn a_sink_takes_what_it_has_room_for(rt: HostRuntime) -> Result<(), Fail> {
     let alloc = rt.alloc();
     let mut sink = MemorySink::new(alloc, 7, vec![in alloc; 2u64]?)?;
-    assert!(rt; write_all(&mut sink, b"abc").is_ok());
-    assert!(rt; sink.write(b"d").is_err());
+    assert!(rt; write_all(&mut sink, b"abc").is_ok() && sink.write(b"d").is_err());
     let mut block = Block::new();
-    assert!(rt; block.put(&mut sink, b"de").is_ok());
-    assert!(rt; block.put(&mut sink, b"fgh").is_ok());
-    assert_eq!(rt; sink.bytes(), b"abc".as_slice());
-    assert!(rt; block.flush(&mut sink).is_err());
-    assert_eq!(rt; sink.bytes(), b"abcdefg".as_slice());
+    assert!(rt; block.put(&mut sink, b"de").is_ok() && block.put(&mut sink, b"fgh").is_ok());
+    assert!(rt; sink.bytes() == b"abc".as_slice());
+    assert!(rt; block.flush(&mut sink).is_err() && sink.bytes() == b"abcdefg".as_slice());
     Ok(())
 }

@@ -6,3 +6,4 @@ pub mod Rows
 pub mod Whole
 pub mod Misfits
 pub mod Called
+pub mod PartLists

@@ -5,11 +5,22 @@ use Rattle.tally_base.specs.declared.fault.Fault.{Fault}
 use Rattle.tally_base.specs.declared.fault.Fault.TheVariants.{OutOfMemory, PlanTooLong, PlanSyntax, PlanRule}
 use Rattle.toml.specs.Data.{table, Members}
 use Rattle.toml.specs.Parse.{parse_document}
-use Rattle.tally_base.specs.Settings.{group_view, hist_view, trace_view, startstop_view, coincidence_view, image_view, correlation_view}
+use Rattle.tally_base.specs.Settings.{PartSettings, group_view, hist_view, trace_view, startstop_view, coincidence_view, image_view, correlation_view}
 use Rattle.tally_base.specs.Settings.PartSettings.{HistSettings, TraceSettings, StartStopSettings, CoincidenceSettings, ImageSettings, CorrelationSettings}
 use Rattle.toml_rules.specs.Rules.{all_kept, AllHold, IsLeast}
 use Rattle.plan_text.specs.Plan.{PlanView, plan_rules, plan, IsWhole}
 use Rattle.plan_text.specs.declared.plan.Plan.{Plan}
+
+-- the settings of a plan's tables: a list for each kind, in the order of the report
+abbrev pub part_lists : Plan → List (List PartSettings)
+part_lists plan =
+    map (λ set. HistSettings (hist_view set)) plan.histograms.items
+    ∷ map (λ set. TraceSettings (trace_view set)) plan.traces.items
+    ∷ map (λ set. StartStopSettings (startstop_view set)) plan.startstops.items
+    ∷ map (λ set. CoincidenceSettings (coincidence_view set)) plan.coincidences.items
+    ∷ map (λ set. ImageSettings (image_view set)) plan.images.items
+    ∷ map (λ set. CorrelationSettings (correlation_view set)) plan.correlations.items
+    ∷ []
 
 -- what a contract sees of a plan
 abbrev pub plan_view : Plan → PlanView
@@ -18,14 +29,7 @@ plan_view plan = record {
   reserved = plan.policy.reserved;
   records = plan.policy.records;
   groups = map group_view plan.groups.items;
-  parts = flat_map (λ part. part) (
-      map (λ set. HistSettings (hist_view set)) plan.histograms.items
-      ∷ map (λ set. TraceSettings (trace_view set)) plan.traces.items
-      ∷ map (λ set. StartStopSettings (startstop_view set)) plan.startstops.items
-      ∷ map (λ set. CoincidenceSettings (coincidence_view set)) plan.coincidences.items
-      ∷ map (λ set. ImageSettings (image_view set)) plan.images.items
-      ∷ map (λ set. CorrelationSettings (correlation_view set)) plan.correlations.items
-      ∷ []);
+  parts = flat_map (λ list. list) (part_lists plan);
 }
 
 -- what a contract sees of a reading
@@ -64,3 +68,7 @@ IsCalledFor bytes PlanTooLong = 65536 < length bytes
 IsCalledFor bytes PlanSyntax = (length bytes ≤ 65536) × (document bytes ≡ None)
 IsCalledFor bytes (PlanRule n index) = (length bytes ≤ 65536) × (ms : Members) × (document bytes ≡ Some ms) × IsLeast (plan_rules (table ms)) n index
 IsCalledFor bytes _ = ⊥
+
+-- Plans of the same parts have the same tables of each kind.
+abbrev pub HaveSameTables : Plan → Plan → Type 0
+HaveSameTables one other = (plan_view one).parts ≡ (plan_view other).parts → part_lists one ≡ part_lists other

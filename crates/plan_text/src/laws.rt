@@ -4,8 +4,9 @@ ghost use Rattle.toml.specs.Data.{Members, table};
 ghost use Rattle.tally_base.specs.declared.fault.Fault.{Fault};
 ghost use Rattle.tally_base.specs.declared.fault.Fault.TheVariants.{OutOfMemory};
 ghost use Rattle.tally_base.specs.declared.header.Mode.{Mode};
+ghost use Rattle.plan_text.specs.declared.plan.Plan.{Plan};
 ghost use Rattle.plan_text.specs.Plan.{PlanView, plan};
-ghost use Rattle.plan_text.specs.Reading.{document, plan_answer, IsCalledFor, IsValid};
+ghost use Rattle.plan_text.specs.Reading.{document, plan_answer, IsCalledFor, IsValid, HaveSameTables};
 ghost use Rattle.plan_text.specs.Fits.{fits, IsMisfit};
 
 /// What bytes answer as a plan is the one fault that they call for, or the plan of a document that breaks
@@ -23,4 +24,9 @@ pub fn one_answer()
 pub fn first_misfit()
     ensures { (mode : Mode) (view : PlanView) (fault : Fault)
         → (fits mode view ≡ Err fault) ↔ IsMisfit mode view fault }
+{}
+
+/// The one list of a plan's parts tells its tables of each kind: nothing is lost in it.
+pub fn same_tables_of_each_kind()
+    ensures { (one other : Plan) → HaveSameTables one other }
 {}

@@ -1,15 +1,11 @@
 // Plans of coincidences, images and correlations.
-use crate::tests::{misfit, refusal, repeated};
+use crate::tests::{ONE_GROUP, answer_each, break_each, misfit};
 use crate::{Plan, read_plan};
-use std::process::Abort;
 use std::test::Fail;
-use tally_base::{Fault, Mode, PartKind};
-
-/// A plan of one group.
-const GROUP: &str = "group = [{ inputs = [0] }]\n";
+use tally_base::{Mode, PartKind};
 
 /// What follows a plan of one group: the rule that is named and its index.
-const BROKEN: &[(&str, u8, u16)] = &[
+const BROKEN: [(&str, u8, u16); 43] = [
     (
         "coincidence = [{ first = 1, second = 1, reach = 1 }]",
         17,
@@ -224,7 +220,7 @@ const BROKEN: &[(&str, u8, u16)] = &[
 ];
 
 /// What follows a plan of one group, at the ends of the ranges.
-const GOOD: &[&str] = &[
+const GOOD: [&str; 8] = [
     "coincidence = [{ first = 1, second = 1, reach = 1, width = 1 }]",
     "coincidence = [{ first = 1, second = 1, reach = 1048576, width = 2097152 }]",
     "image = [{ group = 1, width = 1, height = 1, dwell = 1, line = 1 }]",
@@ -245,90 +241,49 @@ image = [{ group = 2, width = 3, height = 4, dwell = 5, line = 1, frame = 2, sto
 
 #[test]
 fn tables_of_pairs_and_images(rt: HostRuntime) -> Result<(), Fail> {
-    for (text, rule, index) in BROKEN {
-        let bytes = repeated(rt.alloc(), GROUP, text, 1)?;
-        let fault = Fault::PlanRule {
-            rule: *rule,
-            index: *index,
-        };
-        assert_eq!(rt; refusal(rt.alloc(), &bytes), Some(fault), "{text}");
-    }
-    for text in GOOD {
-        let bytes = repeated(rt.alloc(), GROUP, text, 1)?;
-        assert_eq!(rt; refusal(rt.alloc(), &bytes), None, "{text}");
-    }
-    Ok(())
+    break_each(rt.alloc(), ONE_GROUP, &BROKEN)?;
+    answer_each(rt.alloc(), ONE_GROUP, &GOOD, None)
 }
 
-/// What `PAIRS` says.
-fn has_pairs(rt: &impl Abort, plan: &Plan) {
+/// Whether the tables are those of `PAIRS`.
+fn has_pairs(plan: &Plan) -> bool {
     let ([first, second], [third, fourth]) = (
         plan.coincidences.as_slice(),
         plan.correlations.as_slice(),
     ) else {
-        assert!(rt; false, "two coincidences and two correlations");
-        return;
+        return false;
     };
-    assert_eq!(rt;
-        (first.first, first.second, first.reach, first.width),
-        (2, 1, 7, 3)
-    );
-    assert_eq!(rt;
-        (second.first, second.second, second.reach, second.width),
-        (1, 1, 1, 1)
-    );
-    assert_eq!(rt;
-        (third.first, third.second, third.lags, third.levels),
-        (1, 2, 8, 5)
-    );
-    assert_eq!(rt;
-        (fourth.first, fourth.second, fourth.lags, fourth.levels),
-        (2, 2, 2, 1)
-    );
+    (first.first, first.second, first.reach, first.width) == (2, 1, 7, 3)
+        && (second.first, second.second, second.reach, second.width) == (1, 1, 1, 1)
+        && (third.first, third.second, third.lags, third.levels) == (1, 2, 8, 5)
+        && (fourth.first, fourth.second, fourth.lags, fourth.levels) == (2, 2, 2, 1)
 }
 
-/// What `IMAGES` says.
-fn has_images(rt: &impl Abort, plan: &Plan) {
+/// Whether the tables are those of `IMAGES`.
+fn has_images(plan: &Plan) -> bool {
     let [first, second] = plan.images.as_slice() else {
-        assert!(rt; false, "two images");
-        return;
+        return false;
     };
-    assert_eq!(rt;
-        (first.group, first.width, first.height, first.dwell),
-        (2, 3, 4, 5)
-    );
-    assert_eq!(rt;
-        (first.line, first.frame, first.stop),
-        (1, Some(2), Some(3))
-    );
-    assert_eq!(rt;
-        (second.group, second.width, second.height, second.dwell),
-        (1, 6, 7, 8)
-    );
-    assert_eq!(rt; (second.line, second.frame, second.stop), (4, None, None));
+    (first.group, first.width, first.height, first.dwell) == (2, 3, 4, 5)
+        && (first.line, first.frame, first.stop) == (1, Some(2), Some(3))
+        && (second.group, second.width, second.height, second.dwell) == (1, 6, 7, 8)
+        && (second.line, second.frame, second.stop) == (4, None, None)
 }
 
 #[test]
-fn plans_of_pairs(rt: HostRuntime) {
-    let Ok(plan) = read_plan(rt.alloc(), PAIRS.as_bytes()) else {
-        assert!(rt; false, "it is read");
-        return;
-    };
-    has_pairs(&rt, &plan);
-    assert_eq!(rt; plan.fits(Mode::T2), Ok(()));
-    assert_eq!(rt;
-        plan.fits(Mode::T3),
-        misfit(PartKind::Coincidence, 1, Mode::T3)
-    );
+fn plans_of_pairs(rt: HostRuntime) -> Result<(), Fail> {
+    let plan = read_plan(rt.alloc(), PAIRS.as_bytes())?;
+    assert!(rt; has_pairs(&plan));
+    plan.fits(Mode::T2)?;
+    assert!(rt; plan.fits(Mode::T3) == misfit(PartKind::Coincidence, 1, Mode::T3));
+    Ok(())
 }
 
 #[test]
-fn plans_of_images(rt: HostRuntime) {
-    let Ok(plan) = read_plan(rt.alloc(), IMAGES.as_bytes()) else {
-        assert!(rt; false, "it is read");
-        return;
-    };
-    has_images(&rt, &plan);
-    assert_eq!(rt; plan.fits(Mode::T2), misfit(PartKind::Image, 1, Mode::T2));
-    assert_eq!(rt; plan.fits(Mode::T3), Ok(()));
+fn plans_of_images(rt: HostRuntime) -> Result<(), Fail> {
+    let plan = read_plan(rt.alloc(), IMAGES.as_bytes())?;
+    assert!(rt; has_images(&plan));
+    plan.fits(Mode::T3)?;
+    assert!(rt; plan.fits(Mode::T2) == misfit(PartKind::Image, 1, Mode::T2));
+    Ok(())
 }

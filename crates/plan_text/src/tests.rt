@@ -1,12 +1,11 @@
 // Plans that are read, and plans that are refused.
 use crate::{Plan, read_plan};
 use std::alloc::{AllocError, Global};
-use std::process::Abort;
 use std::test::Fail;
 use tally_base::{Fault, Mode, OnReserved, Order, PartKind, Policy};
 
 /// Texts that are no TOML document.
-const NO_DOCUMENTS: &[&str] = &[
+const NO_DOCUMENTS: [&str; 9] = [
     "group",
     "order = drop",
     "version = 1\nversion = 1\n",
@@ -19,7 +18,7 @@ const NO_DOCUMENTS: &[&str] = &[
 ];
 
 /// Plans, the rule that is named and its index.
-const BROKEN: &[(&str, u8, u16)] = &[
+const BROKEN: [(&str, u8, u16); 78] = [
     ("histograms = 1", 1, 0),
     ("Version = 1", 1, 0),
     ("images = []", 1, 0),
@@ -141,7 +140,7 @@ const BROKEN: &[(&str, u8, u16)] = &[
 ];
 
 /// Plans that break several rules: the least of them is named, and under it the least index.
-const BROKEN_OFTEN: &[(&str, u8, u16)] = &[
+const BROKEN_OFTEN: [(&str, u8, u16); 10] = [
     ("order = 1\nversion = 2\n", 2, 0),
     ("order = 1\nversion = 2\nhistograms = 1\n", 1, 0),
     ("histogram = 1\ngroup = 1\n", 6, 1),
@@ -167,8 +166,11 @@ const BROKEN_OFTEN: &[(&str, u8, u16)] = &[
     ),
 ];
 
+/// A plan of one group, which others follow.
+pub(crate) const ONE_GROUP: &str = "group = [{ inputs = [0] }]\n";
+
 /// What follows a plan of one group: the rule that is named and its index.
-const BROKEN_TIMES: &[(&str, u8, u16)] = &[
+const BROKEN_TIMES: [(&str, u8, u16); 32] = [
     ("trace = [{ group = 1, width = 1 }]", 13, 1),
     ("trace = [{ group = 1, bins = 1 }]", 13, 1),
     ("trace = [{ width = 1, bins = 1 }]", 13, 1),
@@ -276,7 +278,7 @@ const BROKEN_TIMES: &[(&str, u8, u16)] = &[
 ];
 
 /// What follows a plan of one group, at the ends of the ranges.
-const GOOD_TIMES: &[&str] = &[
+const GOOD_TIMES: [&str; 5] = [
     "trace = [{ group = 1, width = 1, bins = 1 }]",
     "trace = [{ bins = 1048576, width = 4611686018427387904, origin = 4611686018427387904, group = 1 }]",
     "trace = [{ group = 1, origin = 0, width = 1, bins = 1 }, { group = 1, width = 1, bins = 1 }]",
@@ -285,7 +287,7 @@ const GOOD_TIMES: &[&str] = &[
 ];
 
 /// Plans without groups and tables that say nothing else than the defaults.
-const EMPTY: &[&str] = &[
+const EMPTY: [&str; 7] = [
     "",
     "# nothing\r\n",
     "version = 1\norder = 'drop'\nreserved = \"skip\"\n",
@@ -311,12 +313,146 @@ inputs = [1]\n";
 const TWO_STARTSTOPS: &str = "startstop = [{ start = 2, stop = 1, width = 3, bins = 8 }, \
 { start = 1, stop = 1, width = 4611686018427387904, bins = 1 }]\n";
 
+/// A part of a plan, how often it stands behind others, and what that is refused for.
+struct Long {
+    before: &'static str,
+    part: &'static str,
+    times: usize,
+    fault: Option<Fault>,
+}
+
+const GROUP: &str = "[[group]]\ninputs = [0]\n";
+
+const HISTOGRAM: &str = "[[histogram]]\ngroup = 1\nwidth = 1\nbins = 1\n";
+
+const TRACE: &str = "[[trace]]\ngroup = 1\nwidth = 1\nbins = 1\n";
+
+const STARTSTOP: &str = "[[startstop]]\nstart = 1\nstop = 1\nwidth = 1\nbins = 1\n";
+
+const COINCIDENCE: &str = "[[coincidence]]\nfirst = 1\nsecond = 1\nreach = 1\nwidth = 1\n";
+
+const IMAGE: &str = "[[image]]\ngroup = 1\nwidth = 1\nheight = 1\ndwell = 1\nline = 1\n";
+
+const CORRELATION: &str = "[[correlation]]\nfirst = 1\nsecond = 1\nlags = 2\nlevels = 1\n";
+
+const LONG: [Long; 17] = [
+    Long {
+        before: "",
+        part: "#",
+        times: 65536,
+        fault: None,
+    },
+    Long {
+        before: "",
+        part: "#",
+        times: 65537,
+        fault: Some(Fault::PlanTooLong),
+    },
+    Long {
+        before: "",
+        part: "\u{ff}",
+        times: 32769,
+        fault: Some(Fault::PlanTooLong),
+    },
+    Long {
+        before: "",
+        part: GROUP,
+        times: 64,
+        fault: None,
+    },
+    Long {
+        before: "",
+        part: GROUP,
+        times: 65,
+        fault: Some(Fault::PlanRule { rule: 7, index: 1 }),
+    },
+    Long {
+        before: GROUP,
+        part: HISTOGRAM,
+        times: 32,
+        fault: None,
+    },
+    Long {
+        before: GROUP,
+        part: HISTOGRAM,
+        times: 33,
+        fault: Some(Fault::PlanRule { rule: 7, index: 2 }),
+    },
+    Long {
+        before: GROUP,
+        part: TRACE,
+        times: 32,
+        fault: None,
+    },
+    Long {
+        before: GROUP,
+        part: TRACE,
+        times: 33,
+        fault: Some(Fault::PlanRule { rule: 7, index: 3 }),
+    },
+    Long {
+        before: GROUP,
+        part: STARTSTOP,
+        times: 16,
+        fault: None,
+    },
+    Long {
+        before: GROUP,
+        part: STARTSTOP,
+        times: 17,
+        fault: Some(Fault::PlanRule { rule: 7, index: 4 }),
+    },
+    Long {
+        before: GROUP,
+        part: COINCIDENCE,
+        times: 16,
+        fault: None,
+    },
+    Long {
+        before: GROUP,
+        part: COINCIDENCE,
+        times: 17,
+        fault: Some(Fault::PlanRule { rule: 7, index: 5 }),
+    },
+    Long {
+        before: GROUP,
+        part: IMAGE,
+        times: 8,
+        fault: None,
+    },
+    Long {
+        before: GROUP,
+        part: IMAGE,
+        times: 9,
+        fault: Some(Fault::PlanRule { rule: 7, index: 6 }),
+    },
+    Long {
+        before: GROUP,
+        part: CORRELATION,
+        times: 16,
+        fault: None,
+    },
+    Long {
+        before: GROUP,
+        part: CORRELATION,
+        times: 17,
+        fault: Some(Fault::PlanRule { rule: 7, index: 7 }),
+    },
+];
+
 /// What a plan is refused for.
-pub(crate) fn refusal(alloc: Global, bytes: &[u8]) -> Option<Fault> {
+fn refusal(alloc: Global, bytes: &[u8]) -> Option<Fault> {
     match read_plan(alloc, bytes) {
         Ok(_plan) => None,
         Err(fault) => Some(fault),
     }
+}
+
+/// A row whose plan is not answered as the row says, and what the plan is refused for.
+#[derive(Debug, Drop)]
+struct WrongRow {
+    row: usize,
+    refusal: Option<Fault>,
 }
 
 /// So many times the bytes, behind others.
@@ -334,219 +470,152 @@ pub(crate) fn repeated(
     Ok(bytes)
 }
 
+/// The plan of a row, behind another, is refused for this.
+fn is_refused(
+    alloc: Global,
+    row: usize,
+    before: &str,
+    text: &str,
+    fault: Option<Fault>,
+) -> Result<(), Fail> {
+    let bytes = repeated(alloc, before, text, 1)?;
+    let refusal = refusal(alloc, &bytes);
+    if refusal == fault {
+        return Ok(());
+    }
+    Err(Fail::from(WrongRow { row, refusal }))
+}
+
+/// Each row's plan, behind another, breaks its rule.
+pub(crate) fn break_each(
+    alloc: Global,
+    before: &str,
+    rows: &[(&str, u8, u16)],
+) -> Result<(), Fail> {
+    for (row, (text, rule, index)) in rows.iter().enumerate() {
+        let fault = Fault::PlanRule {
+            rule: *rule,
+            index: *index,
+        };
+        is_refused(alloc, row, before, text, Some(fault))?;
+    }
+    Ok(())
+}
+
+/// Each of the plans, behind another, is refused for this, or read.
+pub(crate) fn answer_each(
+    alloc: Global,
+    before: &str,
+    texts: &[&str],
+    fault: Option<Fault>,
+) -> Result<(), Fail> {
+    for (row, text) in texts.iter().enumerate() {
+        is_refused(alloc, row, before, text, fault)?;
+    }
+    Ok(())
+}
+
 #[test]
-fn refused_plans(rt: HostRuntime) {
-    for text in NO_DOCUMENTS {
-        assert_eq!(rt;
-            refusal(rt.alloc(), text.as_bytes()),
-            Some(Fault::PlanSyntax),
-            "{text}"
-        );
-    }
-    assert_eq!(rt; refusal(rt.alloc(), b"\xff"), Some(Fault::PlanSyntax));
-    for (text, rule, index) in BROKEN {
-        let fault = Fault::PlanRule {
-            rule: *rule,
-            index: *index,
-        };
-        assert_eq!(rt; refusal(rt.alloc(), text.as_bytes()), Some(fault), "{text}");
-    }
-    for (text, rule, index) in BROKEN_OFTEN {
-        let fault = Fault::PlanRule {
-            rule: *rule,
-            index: *index,
-        };
-        assert_eq!(rt; refusal(rt.alloc(), text.as_bytes()), Some(fault), "{text}");
-    }
+fn refused_plans(rt: HostRuntime) -> Result<(), Fail> {
+    let alloc = rt.alloc();
+    assert!(rt; refusal(alloc, b"\xff") == Some(Fault::PlanSyntax));
+    answer_each(alloc, "", &NO_DOCUMENTS, Some(Fault::PlanSyntax))?;
+    break_each(alloc, "", &BROKEN)?;
+    break_each(alloc, "", &BROKEN_OFTEN)
 }
 
 #[test]
 fn long_plans(rt: HostRuntime) -> Result<(), Fail> {
-    let group = "[[group]]\ninputs = [0]\n";
-    let histogram = "[[histogram]]\ngroup = 1\nwidth = 1\nbins = 1\n";
-    let trace = "[[trace]]\ngroup = 1\nwidth = 1\nbins = 1\n";
-    let startstop = "[[startstop]]\nstart = 1\nstop = 1\nwidth = 1\nbins = 1\n";
-    let coincidence = "[[coincidence]]\nfirst = 1\nsecond = 1\nreach = 1\nwidth = 1\n";
-    let image = "[[image]]\ngroup = 1\nwidth = 1\nheight = 1\ndwell = 1\nline = 1\n";
-    let correlation = "[[correlation]]\nfirst = 1\nsecond = 1\nlags = 2\nlevels = 1\n";
-    for (before, part, times, fault) in [
-        ("", "#", 65536, None),
-        ("", "#", 65537, Some(Fault::PlanTooLong)),
-        ("", "\u{ff}", 32769, Some(Fault::PlanTooLong)),
-        ("", group, 64, None),
-        ("", group, 65, Some(Fault::PlanRule { rule: 7, index: 1 })),
-        (group, histogram, 32, None),
-        (
-            group,
-            histogram,
-            33,
-            Some(Fault::PlanRule { rule: 7, index: 2 }),
-        ),
-        (group, trace, 32, None),
-        (
-            group,
-            trace,
-            33,
-            Some(Fault::PlanRule { rule: 7, index: 3 }),
-        ),
-        (group, startstop, 16, None),
-        (
-            group,
-            startstop,
-            17,
-            Some(Fault::PlanRule { rule: 7, index: 4 }),
-        ),
-        (group, coincidence, 16, None),
-        (
-            group,
-            coincidence,
-            17,
-            Some(Fault::PlanRule { rule: 7, index: 5 }),
-        ),
-        (group, image, 8, None),
-        (group, image, 9, Some(Fault::PlanRule { rule: 7, index: 6 })),
-        (group, correlation, 16, None),
-        (
-            group,
-            correlation,
-            17,
-            Some(Fault::PlanRule { rule: 7, index: 7 }),
-        ),
-    ] {
-        let bytes = repeated(rt.alloc(), before, part, times)?;
-        assert_eq!(rt; refusal(rt.alloc(), &bytes), fault, "{times} times {part}");
+    let alloc = rt.alloc();
+    for (row, long) in LONG.iter().enumerate() {
+        let bytes = repeated(alloc, long.before, long.part, long.times)?;
+        let refusal = refusal(alloc, &bytes);
+        if refusal != long.fault {
+            return Err(Fail::from(WrongRow { row, refusal }));
+        }
     }
     Ok(())
 }
 
 #[test]
 fn tables_of_times(rt: HostRuntime) -> Result<(), Fail> {
-    let group = "group = [{ inputs = [0] }]\n";
-    for (text, rule, index) in BROKEN_TIMES {
-        let bytes = repeated(rt.alloc(), group, text, 1)?;
-        let fault = Fault::PlanRule {
-            rule: *rule,
-            index: *index,
-        };
-        assert_eq!(rt; refusal(rt.alloc(), &bytes), Some(fault), "{text}");
-    }
-    for text in GOOD_TIMES {
-        let bytes = repeated(rt.alloc(), group, text, 1)?;
-        assert_eq!(rt; refusal(rt.alloc(), &bytes), None, "{text}");
-    }
-    Ok(())
+    break_each(rt.alloc(), ONE_GROUP, &BROKEN_TIMES)?;
+    answer_each(rt.alloc(), ONE_GROUP, &GOOD_TIMES, None)
 }
 
-/// Says that a plan is the one that is meant where nothing is said.
-fn is_default(rt: &impl Abort, alloc: Global, text: &str) {
-    let Ok(plan) = read_plan(alloc, text.as_bytes()) else {
-        assert!(rt; false, "{text}");
-        return;
-    };
+/// Whether a plan is the one that is meant where nothing is said.
+fn is_default(plan: &Plan) -> bool {
     let policy = Policy {
         order: Order::Drop,
         reserved: OnReserved::Skip,
         records: 1 << 40,
     };
-    assert_eq!(rt; plan.policy, policy, "{text}");
-    assert_eq!(rt;
-        (plan.groups.len(), plan.histograms.len()),
-        (0, 0),
-        "{text}"
-    );
-    assert_eq!(rt;
-        (plan.traces.len(), plan.startstops.len()),
-        (0, 0),
-        "{text}"
-    );
-    assert_eq!(rt;
-        (
-            plan.coincidences.len(),
-            plan.images.len(),
-            plan.correlations.len()
-        ),
-        (0, 0, 0),
-        "{text}"
-    );
-    assert_eq!(rt; plan.fits(Mode::T2), Ok(()), "{text}");
-    assert_eq!(rt; plan.fits(Mode::T3), Ok(()), "{text}");
+    plan.policy == policy
+        && plan.groups.is_empty()
+        && plan.histograms.is_empty()
+        && plan.traces.is_empty()
+        && plan.startstops.is_empty()
+        && plan.coincidences.is_empty()
+        && plan.images.is_empty()
+        && plan.correlations.is_empty()
 }
 
 #[test]
-fn plans_of_defaults(rt: HostRuntime) {
+fn plans_of_defaults(rt: HostRuntime) -> Result<(), Fail> {
     for text in EMPTY {
-        is_default(&rt, rt.alloc(), text);
+        let plan = read_plan(rt.alloc(), text.as_bytes())?;
+        plan.fits(Mode::T2)?;
+        plan.fits(Mode::T3)?;
+        assert!(rt; is_default(&plan), "{text}");
     }
+    Ok(())
 }
 
-/// What `WHOLE` says.
-fn is_whole(rt: &impl Abort, plan: &Plan) {
+/// Whether the policy and the groups are those of `WHOLE`.
+fn has_policy_and_groups(plan: &Plan) -> bool {
     let policy = Policy {
         order: Order::Stop,
         reserved: OnReserved::Stop,
         records: 1000,
     };
-    assert_eq!(rt; plan.policy, policy);
-    let ([first, second], [histogram]) = (plan.groups.as_slice(), plan.histograms.as_slice()) else {
-        assert!(rt; false, "two groups and a histogram");
-        return;
+    let [first, second] = plan.groups.as_slice() else {
+        return false;
     };
-    assert_eq!(rt; (first.inputs, first.gate), ((1 << 64) + 9, None));
-    assert_eq!(rt; (second.inputs, second.gate), (2, Some((10, 32768))));
-    assert_eq!(rt;
-        (histogram.group, histogram.width, histogram.bins),
-        (2, 4, 100)
-    );
-    has_traces(rt, plan);
-    assert!(rt; plan.startstops.is_empty());
+    plan.policy == policy
+        && first.inputs == (1 << 64) + 9
+        && first.gate == None
+        && second.inputs == 2
+        && second.gate == Some((10, 32768))
 }
 
-/// The traces of `WHOLE`.
-fn has_traces(rt: &impl Abort, plan: &Plan) {
-    let [first, second] = plan.traces.as_slice() else {
-        assert!(rt; false, "two traces");
-        return;
+/// Whether the tables are those of `WHOLE`.
+fn has_histogram_and_traces(plan: &Plan) -> bool {
+    let ([histogram], [first, second]) = (plan.histograms.as_slice(), plan.traces.as_slice()) else {
+        return false;
     };
-    assert_eq!(rt;
-        (first.group, first.origin, first.width, first.bins),
-        (1, 0, 5, 3)
-    );
-    assert_eq!(rt;
-        (second.group, second.origin, second.width, second.bins),
-        (2, 7, 2, 1)
-    );
+    (histogram.group, histogram.width, histogram.bins) == (2, 4, 100)
+        && (first.group, first.origin, first.width, first.bins) == (1, 0, 5, 3)
+        && (second.group, second.origin, second.width, second.bins) == (2, 7, 2, 1)
+        && plan.startstops.is_empty()
 }
 
 #[test]
-fn a_plan_of_each_setting(rt: HostRuntime) {
-    let Ok(plan) = read_plan(rt.alloc(), WHOLE.as_bytes()) else {
-        assert!(rt; false, "it is read");
-        return;
-    };
-    is_whole(&rt, &plan);
-    let gate = Fault::PlanMode {
-        kind: PartKind::Gate,
-        index: 2,
-        mode: Mode::T2,
-    };
-    assert_eq!(rt; plan.fits(Mode::T2), Err(gate));
-    assert_eq!(rt; plan.fits(Mode::T3), Ok(()));
+fn a_plan_of_each_setting(rt: HostRuntime) -> Result<(), Fail> {
+    let plan = read_plan(rt.alloc(), WHOLE.as_bytes())?;
+    assert!(rt; has_policy_and_groups(&plan));
+    assert!(rt; has_histogram_and_traces(&plan));
+    plan.fits(Mode::T3)?;
+    assert!(rt; plan.fits(Mode::T2) == misfit(PartKind::Gate, 2, Mode::T2));
+    Ok(())
 }
 
-/// What `TWO_STARTSTOPS` says.
-fn has_startstops(rt: &impl Abort, plan: &Plan) {
+/// Whether the tables are those of `TWO_STARTSTOPS`.
+fn has_startstops(plan: &Plan) -> bool {
     let [first, second] = plan.startstops.as_slice() else {
-        assert!(rt; false, "two start-stops");
-        return;
+        return false;
     };
-    assert_eq!(rt;
-        (first.start, first.stop, first.width, first.bins),
-        (2, 1, 3, 8)
-    );
-    assert_eq!(rt;
-        (second.start, second.stop, second.width, second.bins),
-        (1, 1, 1 << 62, 1)
-    );
+    (first.start, first.stop, first.width, first.bins) == (2, 1, 3, 8)
+        && (second.start, second.stop, second.width, second.bins) == (1, 1, 1 << 62, 1)
 }
 
 /// What a part of a plan is refused for in files of a mode.
@@ -554,28 +623,26 @@ pub(crate) fn misfit(kind: PartKind, index: u8, mode: Mode) -> Result<(), Fault>
     Err(Fault::PlanMode { kind, index, mode })
 }
 
+/// Behind these groups and tables two start-stops suit T2 so, and no file of T3.
+fn suits_in_t2(alloc: Global, before: &str, in_t2: Result<(), Fault>) -> Result<bool, Fail> {
+    let bytes = repeated(alloc, before, TWO_STARTSTOPS, 1)?;
+    let plan = read_plan(alloc, &bytes)?;
+    Ok(
+        has_startstops(&plan)
+            && plan.fits(Mode::T2) == in_t2
+            && plan.fits(Mode::T3) == misfit(PartKind::StartStop, 1, Mode::T3),
+    )
+}
+
 #[test]
 fn modes_of_startstops(rt: HostRuntime) -> Result<(), Fail> {
-    let stops = misfit(PartKind::StartStop, 1, Mode::T3);
-    for (before, in_t2) in [
-        ("group = [{ inputs = [0] }, { inputs = [1] }]\n", Ok(())),
-        (
-            "group = [{ inputs = [0] }, { inputs = [1] }]\nhistogram = [{ group = 1, width = 1, bins = 1 }]\n",
-            misfit(PartKind::Histogram, 1, Mode::T2),
-        ),
-        (
-            "group = [{ inputs = [0] }, { inputs = [1], gate = [0, 1] }]\n",
-            misfit(PartKind::Gate, 2, Mode::T2),
-        ),
-    ] {
-        let bytes = repeated(rt.alloc(), before, TWO_STARTSTOPS, 1)?;
-        let Ok(plan) = read_plan(rt.alloc(), &bytes) else {
-            assert!(rt; false, "{before}");
-            return Ok(());
-        };
-        has_startstops(&rt, &plan);
-        assert_eq!(rt; plan.fits(Mode::T2), in_t2, "{before}");
-        assert_eq!(rt; plan.fits(Mode::T3), stops, "{before}");
-    }
+    let alloc = rt.alloc();
+    let groups = "group = [{ inputs = [0] }, { inputs = [1] }]\n";
+    assert!(rt; suits_in_t2(alloc, groups, Ok(()))?);
+    let histogram =
+        "group = [{ inputs = [0] }, { inputs = [1] }]\nhistogram = [{ group = 1, width = 1, bins = 1 }]\n";
+    assert!(rt; suits_in_t2(alloc, histogram, misfit(PartKind::Histogram, 1, Mode::T2))?);
+    let gate = "group = [{ inputs = [0] }, { inputs = [1], gate = [0, 1] }]\n";
+    assert!(rt; suits_in_t2(alloc, gate, misfit(PartKind::Gate, 2, Mode::T2))?);
     Ok(())
 }

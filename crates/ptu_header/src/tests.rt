@@ -177,28 +177,30 @@ fn a_long_header_in_pieces(rt: HostRuntime) -> Result<(), Fail> {
         for piece in bytes.chunks(size) {
             behind = feed_piece(&mut reader, piece);
         }
-        assert!(rt; behind > 0, "pieces of {size}");
-        assert_eq!(rt; end(reader), Ok(header), "pieces of {size}");
+        assert!(rt; behind > 0 && end(reader) == Ok(header), "pieces of {size}");
     }
     Ok(())
 }
 
+/// What a reader answers of these pieces.
+fn answer(pieces: &[&[u8]]) -> Result<Header, Fault> {
+    let mut reader = HeaderReader::new();
+    for piece in pieces {
+        feed_piece(&mut reader, piece);
+    }
+    end(reader)
+}
+
 #[test]
 fn a_short_header_is_cut_at_each_place(rt: HostRuntime) {
-    for cut in 0..161 {
+    for cut in 0..160 {
         let (first, second) = SHORT.split_at(cut);
-        let mut reader = HeaderReader::new();
-        feed_piece(&mut reader, first);
-        feed_piece(&mut reader, second);
-        assert_eq!(rt; end(reader), Ok(SHORT_HEADER), "cut at {cut}");
-        let mut alone = HeaderReader::new();
-        feed_piece(&mut alone, first);
-        if cut < 160 {
-            assert_eq!(rt;
-                end(alone),
-                Err(Fault::TruncatedHeader { bytes: cut as u64 }),
-                "cut at {cut}"
-            );
-        }
+        let truncated = Err(Fault::TruncatedHeader { bytes: cut as u64 });
+        assert!(rt;
+            answer(&[first, second]) == Ok(SHORT_HEADER),
+            "cut at {cut}"
+        );
+        assert!(rt; answer(&[first]) == truncated, "cut at {cut}");
     }
+    assert!(rt; answer(&[&SHORT, &[]]) == Ok(SHORT_HEADER));
 }

@@ -73,8 +73,8 @@ impl Unread {
         true
     }
 
-    /// Gives as many of the held bytes as there is room for.
-    fn give(&mut self, into: &mut [u8]) -> usize
+    /// Copies as many of the held bytes as there is room for.
+    fn copy_held(&mut self, into: &mut [u8]) -> usize
         ensures room { result ≤ length into.new }
         ensures bytes { bytes_left self.old ≡ take result into.new ++ bytes_left self.new }
         ensures all { result < length into.new → self.new.next ≡ self.new.end }
@@ -93,7 +93,7 @@ impl Unread {
     {
         let mut filled = 0;
         'photons: loop {
-            filled += self.give(&mut into[filled..]);
+            filled += self.copy_held(&mut into[filled..]);
             if filled == into.len() || !self.hold_next() {
                 return filled;
             }

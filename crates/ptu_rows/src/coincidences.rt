@@ -1,6 +1,6 @@
 // What `run` reports of coincidences.
 use crate::reports::{Row, report_each};
-use std::test::Fail;
+use crate::run::Wrong;
 
 const ROWS: [Row; 4] = [
     // One group: no photon is paired with itself, and the two at 3 are paired twice.
@@ -115,6 +115,6 @@ coincidence 2 reach 5 width 2
 ];
 
 #[test]
-fn coincidences(rt: HostRuntime) -> Result<(), Fail> {
-    report_each(&rt, rt.alloc(), &ROWS)
+fn coincidences(rt: HostRuntime) -> Result<(), Wrong> {
+    report_each(rt.alloc(), &ROWS)
 }

@@ -1,6 +1,6 @@
 // What `run` reports of correlations.
 use crate::reports::{Row, report_each};
-use std::test::Fail;
+use crate::run::Wrong;
 
 const ROWS: [Row; 5] = [
     // One group, whose pairs of the second level are in bins that are open at the end.
@@ -160,6 +160,6 @@ correlation 1 lags 4 levels 3
 ];
 
 #[test]
-fn correlations(rt: HostRuntime) -> Result<(), Fail> {
-    report_each(&rt, rt.alloc(), &ROWS)
+fn correlations(rt: HostRuntime) -> Result<(), Wrong> {
+    report_each(rt.alloc(), &ROWS)
 }

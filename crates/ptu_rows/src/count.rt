@@ -1,11 +1,10 @@
 // What `count` answers.
 use crate::files::{
-    ANSI_STRING, BLOB, BOOL8, EMPTY8, INT8, bench, put_end, put_item, put_words, short, with_item,
+    ANSI_STRING, BLOB, BOOL8, EMPTY8, INT8, behind_great_wraps, bench, put_end, put_item,
+    put_words, short, with_item,
 };
-use crate::run::run_in_pieces;
+use crate::run::{Run, Wrong, leaves};
 use std::alloc::{AllocError, Global};
-use std::process::Abort;
-use std::test::Fail;
 
 const PICO_T2: [u32; 4] = [0x0000_0000, 0x5000_0000, 0xF000_0000, 0xF000_0001];
 
@@ -144,78 +143,55 @@ fn lines_of(alloc: Global, row: &Row) -> Result<Vec<u8>, AllocError> {
 }
 
 #[test]
-fn records_of_each_type(rt: HostRuntime) -> Result<(), Fail> {
+fn records_of_each_type(rt: HostRuntime) -> Result<(), Wrong> {
     let alloc = rt.alloc();
     for row in &ROWS {
         let file = short(alloc, row.code, row.words)?;
         let lines = lines_of(alloc, row)?;
-        for pieces in [&[][..], &[1], &[3], &[47, 5]] {
-            let left = run_in_pieces(alloc, "count", file.as_slice(), pieces)?;
-            assert_eq!(rt; left.status, 0);
-            assert_eq!(rt; left.out.bytes(), lines.as_slice());
-            assert_eq!(rt; left.err.bytes(), b"".as_slice());
-        }
+        leaves(alloc, "count", file.as_slice(), 0, lines.as_slice(), b"")?;
     }
     Ok(())
 }
 
 #[test]
-fn the_bench_file(rt: HostRuntime) -> Result<(), Fail> {
-    let alloc = rt.alloc();
-    let file = bench(alloc)?;
-    assert_eq!(rt; file.len(), 783);
-    for pieces in [&[][..], &[1], &[3], &[47, 5]] {
-        let left = run_in_pieces(alloc, "count", file.as_slice(), pieces)?;
-        assert_eq!(rt; left.status, 0);
-        assert_eq!(rt;
-            left.out.bytes(),
-            b"type HydraHarp2T3\nannounced 9\nrecords 9\nphotons 5\nmarkers 2\nwraps 2\nreserved 0\n".as_slice()
-        );
-    }
-    Ok(())
+fn the_bench_file(rt: HostRuntime) -> Result<(), Wrong> {
+    let file = bench(rt.alloc())?;
+    leaves(
+        rt.alloc(),
+        "count",
+        file.as_slice(),
+        0,
+        b"type HydraHarp2T3\nannounced 9\nrecords 9\nphotons 5\nmarkers 2\nwraps 2\nreserved 0\n",
+        b"",
+    )
 }
 
 #[test]
-fn many_great_wraps(rt: HostRuntime) -> Result<(), Fail> {
+fn many_great_wraps(rt: HostRuntime) -> Result<(), Wrong> {
     let alloc = rt.alloc();
-    let words = vec![in alloc; u32::MAX; 4097]?;
-    let file = short(alloc, 0x0101_0204, words.as_slice())?;
-    let left = run_in_pieces(alloc, "count", file.as_slice(), &[])?;
-    assert_eq!(rt; left.status, 0);
-    assert_eq!(rt;
-        left.out.bytes(),
-        b"type HydraHarp2T2\nannounced -\nrecords 4097\nphotons 0\nmarkers 0\nwraps 4097\nreserved 0\n".as_slice()
-    );
-    Ok(())
+    let file = behind_great_wraps(alloc, &[u32::MAX])?;
+    Run::new(&["count", "f"], b"", file.as_slice()).leaves(
+        alloc,
+        0,
+        b"type HydraHarp2T2\nannounced -\nrecords 4097\nphotons 0\nmarkers 0\nwraps 4097\nreserved 0\n",
+        b"",
+    )
 }
 
 /// The file is refused so, with nothing on standard output.
-fn is_refused(
-    rt: &impl Abort,
-    alloc: Global,
-    file: &[u8],
-    status: u8,
-    line: &[u8],
-) -> Result<(), Fail> {
-    for pieces in [&[][..], &[1], &[47, 5]] {
-        let left = run_in_pieces(alloc, "count", file, pieces)?;
-        assert_eq!(rt; left.status, status);
-        assert_eq!(rt; left.out.bytes(), b"".as_slice());
-        assert_eq!(rt; left.err.bytes(), line);
-    }
-    Ok(())
+fn is_refused(alloc: Global, file: &[u8], status: u8, line: &[u8]) -> Result<(), Wrong> {
+    leaves(alloc, "count", file, status, b"", line)
 }
 
 #[test]
-fn fronts_that_are_no_header(rt: HostRuntime) -> Result<(), Fail> {
+fn fronts_that_are_no_header(rt: HostRuntime) -> Result<(), Wrong> {
     let alloc = rt.alloc();
-    is_refused(&rt, alloc, b"", 11, b"ptu: header cut after 0 bytes\n")?;
-    is_refused(&rt, alloc, b"PQ", 11, b"ptu: header cut after 2 bytes\n")?;
-    is_refused(&rt, alloc, b"PQTTTS", 10, b"ptu: not a PTU file\n")?;
+    is_refused(alloc, b"", 11, b"ptu: header cut after 0 bytes\n")?;
+    is_refused(alloc, b"PQ", 11, b"ptu: header cut after 2 bytes\n")?;
+    is_refused(alloc, b"PQTTTS", 10, b"ptu: not a PTU file\n")?;
     let mut front = short(alloc, 0x0101_0304, &[])?;
     front.truncate(100);
     is_refused(
-        &rt,
         alloc,
         front.as_slice(),
         11,
@@ -223,7 +199,6 @@ fn fronts_that_are_no_header(rt: HostRuntime) -> Result<(), Fail> {
     )?;
     let unknown = with_item(alloc, b"A", 0x3000_0008, 0)?;
     is_refused(
-        &rt,
         alloc,
         unknown.as_slice(),
         12,
@@ -231,7 +206,6 @@ fn fronts_that_are_no_header(rt: HostRuntime) -> Result<(), Fail> {
     )?;
     let negative = with_item(alloc, b"A", ANSI_STRING, u64::MAX)?;
     is_refused(
-        &rt,
         alloc,
         negative.as_slice(),
         13,
@@ -240,16 +214,15 @@ fn fronts_that_are_no_header(rt: HostRuntime) -> Result<(), Fail> {
 }
 
 #[test]
-fn headers_without_a_record_type(rt: HostRuntime) -> Result<(), Fail> {
+fn headers_without_a_record_type(rt: HostRuntime) -> Result<(), Wrong> {
     let alloc = rt.alloc();
     let untyped = with_item(alloc, b"Header_End", EMPTY8, 0)?;
-    is_refused(&rt, alloc, untyped.as_slice(), 14, b"ptu: no record type\n")?;
+    is_refused(alloc, untyped.as_slice(), 14, b"ptu: no record type\n")?;
     let mut other = with_item(alloc, b"TTResultFormat_TTTRRecType", BOOL8, 0x0101_0304)?;
     put_end(&mut other)?;
-    is_refused(&rt, alloc, other.as_slice(), 14, b"ptu: no record type\n")?;
+    is_refused(alloc, other.as_slice(), 14, b"ptu: no record type\n")?;
     let strange = short(alloc, 0x0001_0308, &[])?;
     is_refused(
-        &rt,
         alloc,
         strange.as_slice(),
         15,
@@ -258,12 +231,11 @@ fn headers_without_a_record_type(rt: HostRuntime) -> Result<(), Fail> {
 }
 
 #[test]
-fn bytes_left_over(rt: HostRuntime) -> Result<(), Fail> {
+fn bytes_left_over(rt: HostRuntime) -> Result<(), Wrong> {
     let alloc = rt.alloc();
     let mut cut = short(alloc, 0x0101_0304, &[1])?;
     cut.extend_from_slice(&[5, 6])?;
     is_refused(
-        &rt,
         alloc,
         cut.as_slice(),
         17,
@@ -272,22 +244,17 @@ fn bytes_left_over(rt: HostRuntime) -> Result<(), Fail> {
 }
 
 #[test]
-fn a_header_of_too_many_bytes(rt: HostRuntime) -> Result<(), Fail> {
+fn a_header_of_too_many_bytes(rt: HostRuntime) -> Result<(), Wrong> {
     let alloc = rt.alloc();
     let mut file = with_item(alloc, b"A", BLOB, 1 << 24)?;
     let body = vec![in alloc; 0u8; 1 << 24]?;
     file.extend_from_slice(body.as_slice())?;
-    let left = run_in_pieces(alloc, "count", file.as_slice(), &[])?;
-    assert_eq!(rt; left.status, 16);
-    assert_eq!(rt;
-        left.err.bytes(),
-        b"ptu: header longer than 16777216 bytes\n".as_slice()
-    );
-    Ok(())
+    let line = b"ptu: header longer than 16777216 bytes\n";
+    Run::new(&["count", "f"], b"", file.as_slice()).leaves(alloc, 16, b"", line)
 }
 
 #[test]
-fn the_first_record_type_counts(rt: HostRuntime) -> Result<(), Fail> {
+fn the_first_record_type_counts(rt: HostRuntime) -> Result<(), Wrong> {
     let alloc = rt.alloc();
     let mut file = with_item(alloc, b"TTResultFormat_TTTRRecType", INT8, 0x0101_0304)?;
     put_item(
@@ -299,13 +266,12 @@ fn the_first_record_type_counts(rt: HostRuntime) -> Result<(), Fail> {
     )?;
     put_item(&mut file, b"Header_End", ANSI_STRING, 2, b"ok")?;
     put_words(&mut file, &[1])?;
-    for pieces in [&[][..], &[1], &[47, 5]] {
-        let left = run_in_pieces(alloc, "count", file.as_slice(), pieces)?;
-        assert_eq!(rt; left.status, 0);
-        assert_eq!(rt;
-            left.out.bytes(),
-            b"type HydraHarp2T3\nannounced -\nrecords 1\nphotons 1\nmarkers 0\nwraps 0\nreserved 0\n".as_slice()
-        );
-    }
-    Ok(())
+    leaves(
+        alloc,
+        "count",
+        file.as_slice(),
+        0,
+        b"type HydraHarp2T3\nannounced -\nrecords 1\nphotons 1\nmarkers 0\nwraps 0\nreserved 0\n",
+        b"",
+    )
 }

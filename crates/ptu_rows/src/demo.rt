@@ -1,12 +1,5 @@
 // What `demo` prints.
-use crate::run::{Left, run_without_files};
-use std::alloc::Global;
-use std::test::Fail;
-
-/// Runs `demo` where standard output has this room.
-fn demo(alloc: Global, seed: &str, count: &str, room: usize) -> Result<Left, Fail> {
-    run_without_files(alloc, &["demo", seed, count], room)
-}
+use crate::run::{Run, Wrong};
 
 const ONE: &[u8] = b"type HydraHarp2T2\n\
 announced -\n\
@@ -217,59 +210,80 @@ correlation 1 lags 4 levels 8\n\
 7 3 17594\n\
 7 4 17553\n";
 
+const NO_SEED_AND_COUNT: [&[&str]; 17] = [
+    &["demo"],
+    &["demo", "1"],
+    &["demo", "1", "1", "1"],
+    &["Demo", "1", "1"],
+    &["demo", "", "1"],
+    &["demo", "1", ""],
+    &["demo", "1", "-5"],
+    &["demo", "1", "10000001"],
+    &["demo", "1", "000000000000000000001"],
+    &["demo", "000000000000000000001", "1"],
+    &["demo", "18446744073709551616", "1"],
+    &["demo", "+1", "1"],
+    &["demo", "1", "1 "],
+    &["demo", " 1", "1"],
+    &["demo", "1", "1,000"],
+    &["demo", "1", "１"],
+    &["demo", "99999999999999999999", "1"],
+];
+
 #[test]
-fn words_that_are_no_seed_and_count(rt: HostRuntime) -> Result<(), Fail> {
-    let alloc = rt.alloc();
-    for words in [
-        &["demo"][..],
-        &["demo", "1"],
-        &["demo", "1", "1", "1"],
-        &["Demo", "1", "1"],
-        &["demo", "", "1"],
-        &["demo", "1", ""],
-        &["demo", "1", "-5"],
-        &["demo", "1", "10000001"],
-        &["demo", "1", "000000000000000000001"],
-        &["demo", "000000000000000000001", "1"],
-        &["demo", "18446744073709551616", "1"],
-        &["demo", "+1", "1"],
-        &["demo", "1", "1 "],
-        &["demo", " 1", "1"],
-        &["demo", "1", "1,000"],
-        &["demo", "1", "１"],
-        &["demo", "99999999999999999999", "1"],
-    ] {
-        let left = run_without_files(alloc, words, 4096)?;
-        assert_eq!(rt; left.status, 1);
-        assert_eq!(rt; left.out.bytes(), b"".as_slice());
-        assert_eq!(rt; left.err.bytes(), b"ptu: bad command line\n".as_slice());
+fn words_that_are_no_seed_and_count(rt: HostRuntime) -> Result<(), Wrong> {
+    for words in NO_SEED_AND_COUNT {
+        Run::new(words, b"", b"").leaves(rt.alloc(), 1, b"", b"ptu: bad command line\n")?;
+    }
+    Ok(())
+}
+
+/// A seed, a count, and the report.
+struct Row {
+    seed: &'static str,
+    count: &'static str,
+    report: &'static [u8],
+}
+
+const ROWS: [Row; 5] = [
+    Row {
+        seed: "0",
+        count: "1",
+        report: ONE,
+    },
+    Row {
+        seed: "00000000000000000000",
+        count: "00000000000000000001",
+        report: ONE,
+    },
+    Row {
+        seed: "18446744073709551615",
+        count: "0",
+        report: NONE,
+    },
+    Row {
+        seed: "1",
+        count: "100000",
+        report: MANY,
+    },
+    Row {
+        seed: "7",
+        count: "131298",
+        report: WRAPPED,
+    },
+];
+
+#[test]
+fn a_demo_prints_its_report(rt: HostRuntime) -> Result<(), Wrong> {
+    for row in &ROWS {
+        Run::new(&["demo", row.seed, row.count], b"", b"").leaves(rt.alloc(), 0, row.report, b"")?;
     }
     Ok(())
 }
 
 #[test]
-fn a_demo_prints_its_report(rt: HostRuntime) -> Result<(), Fail> {
-    let alloc = rt.alloc();
-    for (seed, count, report) in [
-        ("0", "1", ONE),
-        ("00000000000000000000", "00000000000000000001", ONE),
-        ("18446744073709551615", "0", NONE),
-        ("1", "100000", MANY),
-        ("7", "131298", WRAPPED),
-    ] {
-        let left = demo(alloc, seed, count, 4096)?;
-        assert_eq!(rt; left.out.bytes(), report);
-        assert_eq!(rt; left.err.bytes(), b"".as_slice());
-        assert_eq!(rt; left.status, 0);
-    }
-    Ok(())
-}
-
-#[test]
-fn a_demo_whose_writes_fail(rt: HostRuntime) -> Result<(), Fail> {
-    let left = demo(rt.alloc(), "0", "1", 10)?;
-    assert_eq!(rt; left.status, 4);
-    assert_eq!(rt; left.out.bytes(), b"type Hydra".as_slice());
-    assert_eq!(rt; left.err.bytes(), b"ptu: cannot write\n".as_slice());
-    Ok(())
+fn a_demo_whose_writes_fail(rt: HostRuntime) -> Result<(), Wrong> {
+    Run::new(&["demo", "0", "1"], b"", b"")
+        .in_room(10)
+        .leaves(rt.alloc(), 4, b"type Hydra", b"ptu: cannot write\n")
 }

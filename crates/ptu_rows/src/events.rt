@@ -1,9 +1,9 @@
 // What `events` prints.
-use crate::files::{ANSI_STRING, BOOL8, EMPTY8, bench, put_end, short, with_item};
-use crate::run::{run, run_in_pieces};
-use std::alloc::{AllocError, Global};
-use std::process::Abort;
-use std::test::Fail;
+use crate::files::{
+    ANSI_STRING, BOOL8, EMPTY8, behind_great_wraps, bench, put_end, short, with_item,
+};
+use crate::run::{Run, Wrong, leaves};
+use std::alloc::Global;
 
 pub(crate) const BENCH_EVENTS: &[u8] = b"2 marker 3 1030\n\
 3 photon 0 1030 100\n\
@@ -176,70 +176,51 @@ const ROWS: [Row; 13] = [
     },
 ];
 
-/// `events` on the file ends so.
-fn lists(
-    rt: &impl Abort,
-    alloc: Global,
-    file: &[u8],
-    status: u8,
-    text: &[u8],
-    line: &[u8],
-) -> Result<(), Fail> {
-    for pieces in [&[][..], &[1], &[3], &[47, 5]] {
-        let left = run_in_pieces(alloc, "events", file, pieces)?;
-        assert_eq!(rt; left.status, status);
-        assert_eq!(rt; left.out.bytes(), text);
-        assert_eq!(rt; left.err.bytes(), line);
-    }
-    Ok(())
-}
-
-#[test]
-fn events_of_each_type(rt: HostRuntime) -> Result<(), Fail> {
-    let alloc = rt.alloc();
-    for row in &TYPES {
+/// `events` lists this of the short file of each row.
+fn list_each(alloc: Global, rows: &[Row]) -> Result<(), Wrong> {
+    for row in rows {
         let file = short(alloc, row.code, row.words)?;
-        lists(&rt, alloc, file.as_slice(), 0, row.text, b"")?;
+        leaves(alloc, "events", file.as_slice(), 0, row.text, b"")?;
     }
     Ok(())
 }
 
 #[test]
-fn times_and_late_events(rt: HostRuntime) -> Result<(), Fail> {
-    let alloc = rt.alloc();
-    for row in &ROWS {
-        let file = short(alloc, row.code, row.words)?;
-        lists(&rt, alloc, file.as_slice(), 0, row.text, b"")?;
-    }
-    Ok(())
+fn events_of_each_type(rt: HostRuntime) -> Result<(), Wrong> {
+    list_each(rt.alloc(), &TYPES)
 }
 
 #[test]
-fn events_of_the_bench_file(rt: HostRuntime) -> Result<(), Fail> {
+fn times_and_late_events(rt: HostRuntime) -> Result<(), Wrong> {
+    list_each(rt.alloc(), &ROWS)
+}
+
+#[test]
+fn events_of_the_bench_file(rt: HostRuntime) -> Result<(), Wrong> {
     let alloc = rt.alloc();
     let file = bench(alloc)?;
-    lists(&rt, alloc, file.as_slice(), 0, BENCH_EVENTS, b"")
+    leaves(alloc, "events", file.as_slice(), 0, BENCH_EVENTS, b"")
 }
 
 const CUT_EVENTS: &[u8] = b"1 photon 0 5 0\n2 photon 0 9 0\n3 photon 0 7 0 late\n";
 
 #[test]
-fn a_record_that_is_cut(rt: HostRuntime) -> Result<(), Fail> {
+fn a_record_that_is_cut(rt: HostRuntime) -> Result<(), Wrong> {
     let alloc = rt.alloc();
     let mut file = short(alloc, 0x0101_0304, &[5, 9, 7])?;
-    file.push(1)?;
-    lists(
-        &rt,
+    file.extend_from_slice(&[1])?;
+    leaves(
         alloc,
+        "events",
         file.as_slice(),
         17,
         CUT_EVENTS,
         b"ptu: 1 bytes of a record at the end\n",
     )?;
-    file.push(0)?;
-    lists(
-        &rt,
+    file.extend_from_slice(&[0])?;
+    leaves(
         alloc,
+        "events",
         file.as_slice(),
         17,
         CUT_EVENTS,
@@ -247,22 +228,15 @@ fn a_record_that_is_cut(rt: HostRuntime) -> Result<(), Fail> {
     )
 }
 
-/// A file of 4096 wraps, each of the greatest amount, which make 2^62 - 2^37, and words behind them.
-pub(crate) fn behind_great_wraps(alloc: Global, last: &[u32]) -> Result<Vec<u8>, AllocError> {
-    let mut words = vec![in alloc; u32::MAX; 4096]?;
-    words.extend_from_slice(last)?;
-    short(alloc, 0x0101_0204, words.as_slice())
-}
-
 #[test]
-fn up_to_the_greatest_time(rt: HostRuntime) -> Result<(), Fail> {
+fn up_to_the_greatest_time(rt: HostRuntime) -> Result<(), Wrong> {
     let alloc = rt.alloc();
     let empty = behind_great_wraps(alloc, &[])?;
-    lists(&rt, alloc, empty.as_slice(), 0, b"", b"")?;
+    leaves(alloc, "events", empty.as_slice(), 0, b"", b"")?;
     let full = behind_great_wraps(alloc, &[0xFE00_1000, 0x01FF_FFFF])?;
-    lists(
-        &rt,
+    leaves(
         alloc,
+        "events",
         full.as_slice(),
         0,
         b"4098 photon 1 4611686018460942335 0\n",
@@ -271,14 +245,14 @@ fn up_to_the_greatest_time(rt: HostRuntime) -> Result<(), Fail> {
 }
 
 #[test]
-fn past_the_greatest_time(rt: HostRuntime) -> Result<(), Fail> {
+fn past_the_greatest_time(rt: HostRuntime) -> Result<(), Wrong> {
     let alloc = rt.alloc();
     let words: [&[u32]; 3] = [&[u32::MAX], &[u32::MAX, 0], &[0xFE00_1001, 0]];
     for last in words {
         let file = behind_great_wraps(alloc, last)?;
-        lists(
-            &rt,
+        leaves(
             alloc,
+            "events",
             file.as_slice(),
             21,
             b"",
@@ -286,9 +260,9 @@ fn past_the_greatest_time(rt: HostRuntime) -> Result<(), Fail> {
         )?;
     }
     let full = behind_great_wraps(alloc, &[0xFE00_1000, 0, 0xFE00_0000, 0])?;
-    lists(
-        &rt,
+    leaves(
         alloc,
+        "events",
         full.as_slice(),
         21,
         b"4098 photon 1 4611686018427387904 0\n",
@@ -297,33 +271,47 @@ fn past_the_greatest_time(rt: HostRuntime) -> Result<(), Fail> {
 }
 
 #[test]
-fn fronts_that_list_nothing(rt: HostRuntime) -> Result<(), Fail> {
+fn fronts_that_list_nothing(rt: HostRuntime) -> Result<(), Wrong> {
     let alloc = rt.alloc();
-    lists(&rt, alloc, b"", 11, b"", b"ptu: header cut after 0 bytes\n")?;
-    lists(&rt, alloc, b"PQTTTS", 10, b"", b"ptu: not a PTU file\n")?;
+    leaves(
+        alloc,
+        "events",
+        b"",
+        11,
+        b"",
+        b"ptu: header cut after 0 bytes\n",
+    )?;
+    leaves(
+        alloc,
+        "events",
+        b"PQTTTS",
+        10,
+        b"",
+        b"ptu: not a PTU file\n",
+    )?;
     let mut front = short(alloc, 0x0101_0304, &[])?;
     front.truncate(100);
-    lists(
-        &rt,
+    leaves(
         alloc,
+        "events",
         front.as_slice(),
         11,
         b"",
         b"ptu: header cut after 100 bytes\n",
     )?;
     let unknown = with_item(alloc, b"A", 0x3000_0008, 0)?;
-    lists(
-        &rt,
+    leaves(
         alloc,
+        "events",
         unknown.as_slice(),
         12,
         b"",
         b"ptu: tag 1 has type 30000008\n",
     )?;
     let negative = with_item(alloc, b"A", ANSI_STRING, u64::MAX)?;
-    lists(
-        &rt,
+    leaves(
         alloc,
+        "events",
         negative.as_slice(),
         13,
         b"",
@@ -332,12 +320,12 @@ fn fronts_that_list_nothing(rt: HostRuntime) -> Result<(), Fail> {
 }
 
 #[test]
-fn types_that_list_nothing(rt: HostRuntime) -> Result<(), Fail> {
+fn types_that_list_nothing(rt: HostRuntime) -> Result<(), Wrong> {
     let alloc = rt.alloc();
     let untyped = with_item(alloc, b"Header_End", EMPTY8, 0)?;
-    lists(
-        &rt,
+    leaves(
         alloc,
+        "events",
         untyped.as_slice(),
         14,
         b"",
@@ -345,18 +333,18 @@ fn types_that_list_nothing(rt: HostRuntime) -> Result<(), Fail> {
     )?;
     let mut other = with_item(alloc, b"TTResultFormat_TTTRRecType", BOOL8, 0x0101_0304)?;
     put_end(&mut other)?;
-    lists(
-        &rt,
+    leaves(
         alloc,
+        "events",
         other.as_slice(),
         14,
         b"",
         b"ptu: no record type\n",
     )?;
     let strange = short(alloc, 0x0001_0308, &[5])?;
-    lists(
-        &rt,
+    leaves(
         alloc,
+        "events",
         strange.as_slice(),
         15,
         b"",
@@ -426,14 +414,14 @@ const FAILING: [Failing; 10] = [
 ];
 
 #[test]
-fn events_before_a_failed_read(rt: HostRuntime) -> Result<(), Fail> {
+fn events_before_a_failed_read(rt: HostRuntime) -> Result<(), Wrong> {
     let alloc = rt.alloc();
     for row in &FAILING {
         let file = bench(alloc)?;
-        let left = run(alloc, &["events", "f"], file, row.pieces, &[row.call], 4096)?;
-        assert_eq!(rt; left.status, 3);
-        assert_eq!(rt; left.out.bytes(), row.text);
-        assert_eq!(rt; left.err.bytes(), b"ptu: cannot read the data\n".as_slice());
+        Run::new(&["events", "f"], b"", file.as_slice())
+            .in_pieces(row.pieces)
+            .failing(&[row.call])
+            .leaves(alloc, 3, row.text, b"ptu: cannot read the data\n")?;
     }
     Ok(())
 }
@@ -461,36 +449,30 @@ const ROOMS: [Room; 4] = [
 ];
 
 #[test]
-fn events_before_a_failed_write(rt: HostRuntime) -> Result<(), Fail> {
+fn events_before_a_failed_write(rt: HostRuntime) -> Result<(), Wrong> {
     let alloc = rt.alloc();
+    let file = bench(alloc)?;
     for row in &ROOMS {
-        for pieces in [&[][..], &[1], &[3], &[47, 5]] {
-            let left = run(
-                alloc,
-                &["events", "f"],
-                bench(alloc)?,
-                pieces,
-                &[],
-                row.room,
-            )?;
-            assert_eq!(rt; left.status, 4);
-            assert_eq!(rt; left.out.bytes(), row.text);
-            assert_eq!(rt; left.err.bytes(), b"ptu: cannot write\n".as_slice());
-        }
+        Run::new(&["events", "f"], b"", file.as_slice())
+            .in_room(row.room)
+            .always_leaves(alloc, 4, row.text, b"ptu: cannot write\n")?;
     }
     Ok(())
 }
 
 #[test]
-fn a_room_that_just_fits(rt: HostRuntime) -> Result<(), Fail> {
+fn a_room_that_just_fits(rt: HostRuntime) -> Result<(), Wrong> {
     let alloc = rt.alloc();
-    let whole = run(alloc, &["events", "f"], bench(alloc)?, &[], &[], 134)?;
-    assert_eq!(rt; whole.status, 0);
-    assert_eq!(rt; whole.out.bytes(), BENCH_EVENTS);
+    let file = bench(alloc)?;
+    Run::new(&["events", "f"], b"", file.as_slice())
+        .in_room(134)
+        .leaves(alloc, 0, BENCH_EVENTS, b"")?;
     let wraps = short(alloc, 0x0101_0304, &[0xFE00_0000])?;
-    let none = run(alloc, &["events", "f"], wraps, &[], &[], 0)?;
-    assert_eq!(rt; none.status, 0);
-    let refused = run(alloc, &["events", "f"], short(alloc, 1, &[])?, &[], &[], 0)?;
-    assert_eq!(rt; refused.status, 15);
-    Ok(())
+    Run::new(&["events", "f"], b"", wraps.as_slice())
+        .in_room(0)
+        .leaves(alloc, 0, b"", b"")?;
+    let strange = short(alloc, 1, &[])?;
+    Run::new(&["events", "f"], b"", strange.as_slice())
+        .in_room(0)
+        .leaves(alloc, 15, b"", b"ptu: record type 0000000000000001\n")
 }

@@ -139,3 +139,10 @@ const BENCH_WORDS: [u32; 9] = [
     0x8800_0000,
     0x0001_9002,
 ];
+
+/// A file of 4096 wraps, each of the greatest amount, which make 2^62 - 2^37, and words behind them.
+pub(crate) fn behind_great_wraps(alloc: Global, last: &[u32]) -> Result<Vec<u8>, AllocError> {
+    let mut words = vec![in alloc; u32::MAX; 4096]?;
+    words.extend_from_slice(last)?;
+    short(alloc, 0x0101_0204, words.as_slice())
+}

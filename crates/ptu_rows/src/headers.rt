@@ -1,9 +1,6 @@
 // What `header` prints.
 use crate::files::{BIT_SET64, BLOB, INT8, PREAMBLE, bench, put_end, put_item, put_tag, short};
-use crate::run::run_in_pieces;
-use std::alloc::Global;
-use std::process::Abort;
-use std::test::Fail;
+use crate::run::{Wrong, leaves};
 
 pub(crate) const BENCH_TEXT: &[u8] = b"magic 5051545454520000\n\
 version 312E302E30300000\n\
@@ -22,29 +19,11 @@ tag Bench_Blob -1 tyBinaryBlob 3 0102FF\n\
 tag Fast_Load_End -1 tyEmpty8 -\n\
 tag Header_End -1 tyEmpty8 -\n";
 
-/// `header` on the file ends so.
-fn prints(
-    rt: &impl Abort,
-    alloc: Global,
-    file: &[u8],
-    status: u8,
-    text: &[u8],
-    line: &[u8],
-) -> Result<(), Fail> {
-    for pieces in [&[][..], &[1], &[3], &[47, 5]] {
-        let left = run_in_pieces(alloc, "header", file, pieces)?;
-        assert_eq!(rt; left.status, status);
-        assert_eq!(rt; left.out.bytes(), text);
-        assert_eq!(rt; left.err.bytes(), line);
-    }
-    Ok(())
-}
-
 #[test]
-fn whole_headers(rt: HostRuntime) -> Result<(), Fail> {
+fn whole_headers(rt: HostRuntime) -> Result<(), Wrong> {
     let alloc = rt.alloc();
     let file = bench(alloc)?;
-    prints(&rt, alloc, file.as_slice(), 0, BENCH_TEXT, b"")?;
+    leaves(alloc, "header", file.as_slice(), 0, BENCH_TEXT, b"")?;
     let mut odd = PREAMBLE.as_slice().to_vec(alloc)?;
     put_tag(&mut odd, b"A B\\", 2, BIT_SET64, 0xFF)?;
     put_item(
@@ -55,9 +34,9 @@ fn whole_headers(rt: HostRuntime) -> Result<(), Fail> {
         b"",
     )?;
     put_end(&mut odd)?;
-    prints(
-        &rt,
+    leaves(
         alloc,
+        "header",
         odd.as_slice(),
         0,
         b"magic 5051545454520000\nversion 312E302E30300000\n\
@@ -69,13 +48,13 @@ tag Header_End -1 tyEmpty8 -\n",
 }
 
 #[test]
-fn headers_that_are_cut(rt: HostRuntime) -> Result<(), Fail> {
+fn headers_that_are_cut(rt: HostRuntime) -> Result<(), Wrong> {
     let alloc = rt.alloc();
     let mut front = short(alloc, 0x0101_0304, &[])?;
     front.truncate(100);
-    prints(
-        &rt,
+    leaves(
         alloc,
+        "header",
         front.as_slice(),
         11,
         b"magic 5051545454520000\nversion 312E302E30300000\n\
@@ -84,13 +63,20 @@ tag TTResultFormat_TTTRRecType -1 tyInt8 16843524\n",
     )?;
     let mut cut = PREAMBLE.as_slice().to_vec(alloc)?;
     put_item(&mut cut, b"B", BLOB, 3, &[1, 2])?;
-    prints(
-        &rt,
+    leaves(
         alloc,
+        "header",
         cut.as_slice(),
         11,
         b"magic 5051545454520000\nversion 312E302E30300000\ntag B -1 tyBinaryBlob 3 0102",
         b"ptu: header cut after 66 bytes\n",
     )?;
-    prints(&rt, alloc, b"PQTTTS", 10, b"", b"ptu: not a PTU file\n")
+    leaves(
+        alloc,
+        "header",
+        b"PQTTTS",
+        10,
+        b"",
+        b"ptu: not a PTU file\n",
+    )
 }

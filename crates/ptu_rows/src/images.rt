@@ -1,6 +1,6 @@
 // What `run` reports of images.
 use crate::reports::{Row, report_each};
-use std::test::Fail;
+use crate::run::Wrong;
 
 const ROWS: [Row; 4] = [
     // Frame and line in one record.
@@ -129,6 +129,6 @@ outside 0
 ];
 
 #[test]
-fn images(rt: HostRuntime) -> Result<(), Fail> {
-    report_each(&rt, rt.alloc(), &ROWS)
+fn images(rt: HostRuntime) -> Result<(), Wrong> {
+    report_each(rt.alloc(), &ROWS)
 }

@@ -1,28 +1,18 @@
 // What `run` is refused for.
-use crate::events::behind_great_wraps;
-use crate::files::short;
-use crate::reports::{EMPTY_REPORT, reports};
-use crate::run::run_plan_in_pieces;
+use crate::files::{behind_great_wraps, short};
+use crate::reports::EMPTY_REPORT;
+use crate::run::{Wrong, run_leaves};
 use std::alloc::{AllocError, Global};
-use std::process::Abort;
-use std::test::Fail;
 
 /// `run` with the plan on the file is refused so, with nothing on standard output.
 fn is_refused(
-    rt: &impl Abort,
     alloc: Global,
     plan: &[u8],
     file: &[u8],
     status: u8,
     line: &[u8],
-) -> Result<(), Fail> {
-    for pieces in [&[][..], &[1], &[3], &[47, 5]] {
-        let left = run_plan_in_pieces(alloc, plan, file, pieces)?;
-        assert_eq!(rt; left.status, status);
-        assert_eq!(rt; left.out.bytes(), b"".as_slice());
-        assert_eq!(rt; left.err.bytes(), line);
-    }
-    Ok(())
+) -> Result<(), Wrong> {
+    run_leaves(alloc, plan, file, status, b"", line)
 }
 
 /// A plan that breaks a rule, and the line.
@@ -171,28 +161,27 @@ const BROKEN_STARTSTOPS: [Broken; 8] = [
 ];
 
 /// Each of the plans is refused with its line.
-fn are_broken(rt: &impl Abort, alloc: Global, file: &[u8], plans: &[Broken]) -> Result<(), Fail> {
+fn are_broken(alloc: Global, file: &[u8], plans: &[Broken]) -> Result<(), Wrong> {
     for row in plans {
-        is_refused(rt, alloc, row.plan, file, 8, row.line)?;
+        is_refused(alloc, row.plan, file, 8, row.line)?;
     }
     Ok(())
 }
 
 #[test]
-fn tables_that_break_a_rule(rt: HostRuntime) -> Result<(), Fail> {
+fn tables_that_break_a_rule(rt: HostRuntime) -> Result<(), Wrong> {
     let alloc = rt.alloc();
     let file = short(alloc, 0x0101_0304, &[])?;
-    are_broken(&rt, alloc, file.as_slice(), &BROKEN_TRACES)?;
-    are_broken(&rt, alloc, file.as_slice(), &BROKEN_STARTSTOPS)
+    are_broken(alloc, file.as_slice(), &BROKEN_TRACES)?;
+    are_broken(alloc, file.as_slice(), &BROKEN_STARTSTOPS)
 }
 
 #[test]
-fn plans_that_break_a_rule(rt: HostRuntime) -> Result<(), Fail> {
+fn plans_that_break_a_rule(rt: HostRuntime) -> Result<(), Wrong> {
     let alloc = rt.alloc();
     let file = short(alloc, 0x0101_0304, &[])?;
-    are_broken(&rt, alloc, file.as_slice(), &BROKEN)?;
+    are_broken(alloc, file.as_slice(), &BROKEN)?;
     is_refused(
-        &rt,
         alloc,
         b"\xFF",
         file.as_slice(),
@@ -200,7 +189,6 @@ fn plans_that_break_a_rule(rt: HostRuntime) -> Result<(), Fail> {
         b"ptu: plan is not TOML\n",
     )?;
     is_refused(
-        &rt,
         alloc,
         b"[[group]\n",
         file.as_slice(),
@@ -224,20 +212,20 @@ fn groups(alloc: Global, count: usize) -> Result<Vec<u8>, AllocError> {
 }
 
 #[test]
-fn plans_of_too_much(rt: HostRuntime) -> Result<(), Fail> {
+fn plans_of_too_much(rt: HostRuntime) -> Result<(), Wrong> {
     let alloc = rt.alloc();
     let file = short(alloc, 0x0101_0304, &[])?;
     let longest = vec![in alloc; b'#'; 65_536]?;
-    reports(
-        &rt,
+    run_leaves(
         alloc,
         longest.as_slice(),
         file.as_slice(),
+        0,
         EMPTY_REPORT,
+        b"",
     )?;
     let longer = vec![in alloc; b'#'; 65_537]?;
     is_refused(
-        &rt,
         alloc,
         longer.as_slice(),
         file.as_slice(),
@@ -245,10 +233,16 @@ fn plans_of_too_much(rt: HostRuntime) -> Result<(), Fail> {
         b"ptu: plan longer than 65536 bytes\n",
     )?;
     let most = groups(alloc, 64)?;
-    reports(&rt, alloc, most.as_slice(), file.as_slice(), EMPTY_REPORT)?;
+    run_leaves(
+        alloc,
+        most.as_slice(),
+        file.as_slice(),
+        0,
+        EMPTY_REPORT,
+        b"",
+    )?;
     let more = groups(alloc, 65)?;
     is_refused(
-        &rt,
         alloc,
         more.as_slice(),
         file.as_slice(),
@@ -259,7 +253,7 @@ fn plans_of_too_much(rt: HostRuntime) -> Result<(), Fail> {
 
 /// So many tables without keys break a rule of tables, and one more is too many.
 #[test]
-fn plans_of_too_many_tables(rt: HostRuntime) -> Result<(), Fail> {
+fn plans_of_too_many_tables(rt: HostRuntime) -> Result<(), Wrong> {
     let alloc = rt.alloc();
     let file = short(alloc, 0x0101_0304, &[])?;
     let rows: [(&[u8], usize, &[u8], &[u8]); 5] = [
@@ -296,9 +290,9 @@ fn plans_of_too_many_tables(rt: HostRuntime) -> Result<(), Fail> {
     ];
     for (table, most, line, too_many) in rows {
         let full = repeated(alloc, table, most)?;
-        is_refused(&rt, alloc, full.as_slice(), file.as_slice(), 8, line)?;
+        is_refused(alloc, full.as_slice(), file.as_slice(), 8, line)?;
         let more = repeated(alloc, table, most + 1)?;
-        is_refused(&rt, alloc, more.as_slice(), file.as_slice(), 8, too_many)?;
+        is_refused(alloc, more.as_slice(), file.as_slice(), 8, too_many)?;
     }
     Ok(())
 }
@@ -507,29 +501,28 @@ const MISFITS: [Refused; 8] = [
 ];
 
 /// Each of the files is refused with its line.
-fn are_refused(rt: &impl Abort, alloc: Global, rows: &[Refused]) -> Result<(), Fail> {
+fn are_refused(alloc: Global, rows: &[Refused]) -> Result<(), Wrong> {
     for row in rows {
         let mut file = short(alloc, row.code, row.words)?;
         file.extend_from_slice(row.rest)?;
-        is_refused(rt, alloc, row.plan, file.as_slice(), row.status, row.line)?;
+        is_refused(alloc, row.plan, file.as_slice(), row.status, row.line)?;
     }
     Ok(())
 }
 
 #[test]
-fn files_that_do_not_suit_a_plan(rt: HostRuntime) -> Result<(), Fail> {
-    are_refused(&rt, rt.alloc(), &REFUSED)?;
-    are_refused(&rt, rt.alloc(), &MISFITS)
+fn files_that_do_not_suit_a_plan(rt: HostRuntime) -> Result<(), Wrong> {
+    are_refused(rt.alloc(), &REFUSED)?;
+    are_refused(rt.alloc(), &MISFITS)
 }
 
 #[test]
-fn fronts_that_are_not_counted(rt: HostRuntime) -> Result<(), Fail> {
+fn fronts_that_are_not_counted(rt: HostRuntime) -> Result<(), Wrong> {
     let alloc = rt.alloc();
-    is_refused(&rt, alloc, b"", b"PQTTTS", 10, b"ptu: not a PTU file\n")?;
+    is_refused(alloc, b"", b"PQTTTS", 10, b"ptu: not a PTU file\n")?;
     let mut front = short(alloc, 0x0101_0204, &[])?;
     front.truncate(100);
     is_refused(
-        &rt,
         alloc,
         HISTOGRAM,
         front.as_slice(),
@@ -539,11 +532,10 @@ fn fronts_that_are_not_counted(rt: HostRuntime) -> Result<(), Fail> {
 }
 
 #[test]
-fn a_time_that_is_too_great(rt: HostRuntime) -> Result<(), Fail> {
+fn a_time_that_is_too_great(rt: HostRuntime) -> Result<(), Wrong> {
     let alloc = rt.alloc();
     let file = behind_great_wraps(alloc, &[u32::MAX, 0])?;
     is_refused(
-        &rt,
         alloc,
         b"",
         file.as_slice(),

@@ -1,9 +1,7 @@
 // What `run` reports.
 use crate::files::{bench, short};
-use crate::run::run_plan_in_pieces;
+use crate::run::{Wrong, run_leaves};
 use std::alloc::Global;
-use std::process::Abort;
-use std::test::Fail;
 
 pub(crate) const BENCH_PLAN: &[u8] = b"[[group]]
 inputs = [0]
@@ -335,46 +333,29 @@ last 3
     },
 ];
 
-/// `run` with the plan on the file reports this.
-pub(crate) fn reports(
-    rt: &impl Abort,
-    alloc: Global,
-    plan: &[u8],
-    file: &[u8],
-    text: &[u8],
-) -> Result<(), Fail> {
-    for pieces in [&[][..], &[1], &[3], &[47, 5]] {
-        let left = run_plan_in_pieces(alloc, plan, file, pieces)?;
-        assert_eq!(rt; left.status, 0);
-        assert_eq!(rt; left.out.bytes(), text);
-        assert_eq!(rt; left.err.bytes(), b"".as_slice());
-    }
-    Ok(())
-}
-
 /// `run` with the plan of each row on its short file reports its text.
-pub(crate) fn report_each(rt: &impl Abort, alloc: Global, rows: &[Row]) -> Result<(), Fail> {
+pub(crate) fn report_each(alloc: Global, rows: &[Row]) -> Result<(), Wrong> {
     for row in rows {
         let file = short(alloc, row.code, row.words)?;
-        reports(rt, alloc, row.plan, file.as_slice(), row.text)?;
+        run_leaves(alloc, row.plan, file.as_slice(), 0, row.text, b"")?;
     }
     Ok(())
 }
 
 #[test]
-fn histograms(rt: HostRuntime) -> Result<(), Fail> {
-    report_each(&rt, rt.alloc(), &HISTOGRAMS)
+fn histograms(rt: HostRuntime) -> Result<(), Wrong> {
+    report_each(rt.alloc(), &HISTOGRAMS)
 }
 
 #[test]
-fn reports_without_parts(rt: HostRuntime) -> Result<(), Fail> {
-    report_each(&rt, rt.alloc(), &HEADS)
+fn reports_without_parts(rt: HostRuntime) -> Result<(), Wrong> {
+    report_each(rt.alloc(), &HEADS)
 }
 
 #[test]
-fn run_gives_the_report(rt: HostRuntime) -> Result<(), Fail> {
+fn run_gives_the_report(rt: HostRuntime) -> Result<(), Wrong> {
     let alloc = rt.alloc();
     let file = bench(alloc)?;
-    reports(&rt, alloc, BENCH_PLAN, file.as_slice(), BENCH_REPORT)?;
-    reports(&rt, alloc, GATED_PLAN, file.as_slice(), GATED_REPORT)
+    run_leaves(alloc, BENCH_PLAN, file.as_slice(), 0, BENCH_REPORT, b"")?;
+    run_leaves(alloc, GATED_PLAN, file.as_slice(), 0, GATED_REPORT, b"")
 }

@@ -1,6 +1,6 @@
 // What `run` reports of start-stop tables.
 use crate::reports::{Row, report_each};
-use std::test::Fail;
+use crate::run::Wrong;
 
 const ROWS: [Row; 6] = [
     // One group: the photons at 0, 4, 4 and 20.
@@ -166,6 +166,6 @@ over 1
 ];
 
 #[test]
-fn startstops(rt: HostRuntime) -> Result<(), Fail> {
-    report_each(&rt, rt.alloc(), &ROWS)
+fn startstops(rt: HostRuntime) -> Result<(), Wrong> {
+    report_each(rt.alloc(), &ROWS)
 }

@@ -1,7 +1,7 @@
 // What `run` reports of traces.
-use crate::events::behind_great_wraps;
-use crate::reports::{Row, report_each, reports};
-use std::test::Fail;
+use crate::files::behind_great_wraps;
+use crate::reports::{Row, report_each};
+use crate::run::{Wrong, run_leaves};
 
 /// Photons of channel 0 at these syncs, before, in and behind a trace.
 const SYNCS: [u32; 5] = [
@@ -152,8 +152,8 @@ beyond 1
 ];
 
 #[test]
-fn traces(rt: HostRuntime) -> Result<(), Fail> {
-    report_each(&rt, rt.alloc(), &ROWS)
+fn traces(rt: HostRuntime) -> Result<(), Wrong> {
+    report_each(rt.alloc(), &ROWS)
 }
 
 /// Traces of the greatest origins and widths, and a start-stop table of the greatest width.
@@ -211,8 +211,8 @@ over 0
 
 /// Wraps that make 2^62, and photons at this time and one tick later.
 #[test]
-fn times_behind_the_greatest_base(rt: HostRuntime) -> Result<(), Fail> {
+fn times_behind_the_greatest_base(rt: HostRuntime) -> Result<(), Wrong> {
     let alloc = rt.alloc();
     let file = behind_great_wraps(alloc, &[0xFE00_1000, 0, 1])?;
-    reports(&rt, alloc, GREAT_PLAN, file.as_slice(), GREAT_REPORT)
+    run_leaves(alloc, GREAT_PLAN, file.as_slice(), 0, GREAT_REPORT, b"")
 }

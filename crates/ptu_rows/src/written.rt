@@ -3,11 +3,11 @@ use crate::events::BENCH_EVENTS;
 use crate::files::bench;
 use crate::headers::BENCH_TEXT;
 use crate::reports::{BENCH_PLAN, BENCH_REPORT};
-use crate::run::words_of;
+use crate::run::{Left, words_of};
 use ptu_cli::{FileInputs, StreamSink, ptu_main};
 use std::alloc::Global;
-use std::fs;
 use std::test::Fail;
+use std::{fs, io};
 
 const DATA: &str = "ptu_rows_data.ptu";
 
@@ -17,23 +17,91 @@ const OUT: &str = "ptu_rows_out.txt";
 
 const ERR: &str = "ptu_rows_err.txt";
 
-/// Runs a command, with standard output and standard error in files.
-fn run_on_disk(rt: &HostRuntime, alloc: Global, words: &[&str]) -> Result<u8, Fail> {
+/// What a command leaves, with standard output and standard error in files.
+fn left_on_disk(rt: &HostRuntime, alloc: Global, words: &[&str]) -> io::Result<Left> {
     let words = words_of(alloc, words)?;
     let mut inputs = FileInputs::new(rt);
     let mut out = StreamSink::new(fs::create(rt, OUT)?);
     let mut err = StreamSink::new(fs::create(rt, ERR)?);
-    Ok(ptu_main(alloc, words.as_slice(), &mut inputs, &mut out, &mut err))
+    let status = ptu_main(alloc, words.as_slice(), &mut inputs, &mut out, &mut err);
+    Ok(Left {
+        status,
+        out: fs::read(rt, OUT)?,
+        err: fs::read(rt, ERR)?,
+    })
 }
 
-const COUNTS: &[u8] = b"type HydraHarp2T3
+/// A command line, and what it leaves.
+struct Row {
+    words: &'static [&'static str],
+    status: u8,
+    out: &'static [u8],
+    err: &'static [u8],
+}
+
+const GOOD: [Row; 4] = [
+    Row {
+        words: &["count", DATA],
+        status: 0,
+        out: b"type HydraHarp2T3
 announced 9
 records 9
 photons 5
 markers 2
 wraps 2
 reserved 0
-";
+",
+        err: b"",
+    },
+    Row {
+        words: &["header", DATA],
+        status: 0,
+        out: BENCH_TEXT,
+        err: b"",
+    },
+    Row {
+        words: &["events", DATA],
+        status: 0,
+        out: BENCH_EVENTS,
+        err: b"",
+    },
+    Row {
+        words: &["run", PLAN, DATA],
+        status: 0,
+        out: BENCH_REPORT,
+        err: b"",
+    },
+];
+
+const NO_DATA: [Row; 2] = [
+    Row {
+        words: &["count", DATA],
+        status: 2,
+        out: b"",
+        err: b"ptu: cannot open the data\n",
+    },
+    Row {
+        words: &["run", PLAN, DATA],
+        status: 2,
+        out: b"",
+        err: b"ptu: cannot open the data\n",
+    },
+];
+
+const NO_PLAN: [Row; 1] = [Row {
+    words: &["run", PLAN, DATA],
+    status: 2,
+    out: b"",
+    err: b"ptu: cannot open the plan\n",
+}];
+
+/// The command of each row leaves what it says.
+fn leave_each(rt: &HostRuntime, alloc: Global, rows: &[Row]) -> Result<(), Fail> {
+    for row in rows {
+        left_on_disk(rt, alloc, row.words)?.is(alloc, row.status, row.out, row.err)?;
+    }
+    Ok(())
+}
 
 #[test]
 fn written_files(rt: HostRuntime) -> Result<(), Fail> {
@@ -41,33 +109,11 @@ fn written_files(rt: HostRuntime) -> Result<(), Fail> {
     let contents = bench(alloc)?;
     fs::write(&rt, DATA, contents.as_slice())?;
     fs::write(&rt, PLAN, BENCH_PLAN)?;
-    let good: [(&[&str], &[u8]); 4] = [
-        (&["count", DATA], COUNTS),
-        (&["header", DATA], BENCH_TEXT),
-        (&["events", DATA], BENCH_EVENTS),
-        (&["run", PLAN, DATA], BENCH_REPORT),
-    ];
-    for (words, text) in good {
-        assert_eq!(rt; run_on_disk(&rt, alloc, words)?, 0);
-        assert_eq!(rt; fs::read(&rt, OUT)?.as_slice(), text);
-        assert_eq!(rt; fs::read(&rt, ERR)?.as_slice(), b"".as_slice());
-    }
+    leave_each(&rt, alloc, &GOOD)?;
     fs::remove_file(&rt, DATA)?;
-    let no_data: [&[&str]; 2] = [&["count", DATA], &["run", PLAN, DATA]];
-    for words in no_data {
-        assert_eq!(rt; run_on_disk(&rt, alloc, words)?, 2);
-        assert_eq!(rt; fs::read(&rt, OUT)?.as_slice(), b"".as_slice());
-        assert_eq!(rt;
-            fs::read(&rt, ERR)?.as_slice(),
-            b"ptu: cannot open the data\n".as_slice()
-        );
-    }
+    leave_each(&rt, alloc, &NO_DATA)?;
     fs::remove_file(&rt, PLAN)?;
-    assert_eq!(rt; run_on_disk(&rt, alloc, &["run", PLAN, DATA])?, 2);
-    assert_eq!(rt;
-        fs::read(&rt, ERR)?.as_slice(),
-        b"ptu: cannot open the plan\n".as_slice()
-    );
+    leave_each(&rt, alloc, &NO_PLAN)?;
     fs::remove_file(&rt, OUT)?;
     fs::remove_file(&rt, ERR)?;
     Ok(())

@@ -42,6 +42,14 @@ pub record Printed : Type 0 where
 abbrev pub first_line : Printed → ℕ → List ℕ
 first_line it number = it.word ++ codes " " ++ decimal number ++ it.settings ++ codes "\n"
 
+-- the lines of a row of its cells
+abbrev pub row_lines : Printed → ℕ → History → List ℕ
+row_lines it row h = texts_of (it.cell row) (it.columns row) h
+
+-- the lines of its cells, row by row
+abbrev pub cell_lines : Printed → History → List ℕ
+cell_lines it h = rows_of it.cell it.columns it.rows h
+
 -- its lines: the first, the cells by rows, and the rest
 abbrev pub table_lines : Printed → ℕ → History → List ℕ
-table_lines it number h = first_line it number ++ rows_of it.cell it.columns it.rows h ++ it.rest h
+table_lines it number h = first_line it number ++ cell_lines it h ++ it.rest h

@@ -3,7 +3,7 @@ ghost use Rattle.std.specs.Prelude.{◌≡◌, ◌<◌, ◌≤◌, true, length,
 ghost use Rattle.tally_base.specs.FaultCounts.{HasCause};
 ghost use Rattle.tally_base.specs.Tally.{History};
 ghost use Rattle.table_out.specs.Lines.{line};
-ghost use Rattle.table_out.specs.Printed.{cell_line, pair_line, texts_of, rows_of, first_line};
+ghost use Rattle.table_out.specs.Printed.{cell_line, pair_line, row_lines, cell_lines, first_line};
 ghost use Rattle.table_out.specs.Puts.{PutsText, CutsText};
 ghost use Rattle.table_out.specs.Report.{printed, part_text};
 
@@ -88,10 +88,10 @@ fn put_row<T: Prints, O: Sink>(
     requires closed { T.closed table.now ≡ true }
     requires row { row < (printed (T.settings table.now)).rows }
     ensures all { OnOk result (PutsText (T.holds table.now)
-        (texts_of ((printed (T.settings table.now)).cell row) ((printed (T.settings table.now)).columns row))
+        (row_lines (printed (T.settings table.now)) row)
         (O.written out.old) (O.written out.new) block.old block.new) }
     ensures short { OnErr result (CutsText (T.holds table.now)
-        (texts_of ((printed (T.settings table.now)).cell row) ((printed (T.settings table.now)).columns row))
+        (row_lines (printed (T.settings table.now)) row)
         (O.written out.old) (O.written out.new) block.old) }
     ensures cause { HasCause (O.faults out.old) (O.faults out.new) result }
 {
@@ -105,10 +105,10 @@ fn put_row<T: Prints, O: Sink>(
 fn put_rows<T: Prints, O: Sink>(table: &T, block: &mut Block, out: &mut O) -> Result<(), Failed>
     requires closed { T.closed table.now ≡ true }
     ensures all { OnOk result (PutsText (T.holds table.now)
-        (rows_of (printed (T.settings table.now)).cell (printed (T.settings table.now)).columns (printed (T.settings table.now)).rows)
+        (cell_lines (printed (T.settings table.now)))
         (O.written out.old) (O.written out.new) block.old block.new) }
     ensures short { OnErr result (CutsText (T.holds table.now)
-        (rows_of (printed (T.settings table.now)).cell (printed (T.settings table.now)).columns (printed (T.settings table.now)).rows)
+        (cell_lines (printed (T.settings table.now)))
         (O.written out.old) (O.written out.new) block.old) }
     ensures cause { HasCause (O.faults out.old) (O.faults out.new) result }
 {

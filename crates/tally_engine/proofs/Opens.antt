@@ -20,7 +20,7 @@ use Rattle.record_stream.specs.Standing.{Stands}
 use Rattle.tau_cascade.proofs.Work.{work_within}
 use Rattle.tally_engine.specs.declared.engine.Engine.{Engine}
 use Rattle.tally_engine.specs.declared.part.Part.{Part}
-use Rattle.tally_engine.specs.declared.part.Part.TheVariants.{Hist as InHist, Trace as InTrace, StartStop as InStartStop, Coincidence as InCoincidence, Image as InImage, Correlation as InCorrelation}
+use Rattle.tally_engine.specs.declared.part.Part.TheVariants.{Correlation as InCorrelation}
 use Rattle.tally_engine.specs.Engine.{held, bound}
 use Rattle.tally_engine.specs.contracts.part.PartTally.TheImpl.{ghosts}
 use Rattle.tally_engine.specs.Histories.{history}
@@ -96,9 +96,5 @@ engine_within engine = kept_within engine.parts.items _ (search (rules, arith))
 
 -- What a correlation spent on the events that it stands for is within their work.
 pub part_worked : (h : History) (p : Part) → ghosts.holds p h → IsWithinWork h p
-part_worked h (InHist t) is = tt
-part_worked h (InTrace t) is = tt
-part_worked h (InStartStop t) is = tt
-part_worked h (InCoincidence t) is = tt
-part_worked h (InImage t) is = tt
 part_worked h (InCorrelation t) is = work_within t h is
+part_worked h _ is = tt

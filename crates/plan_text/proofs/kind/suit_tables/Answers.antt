@@ -1,5 +1,4 @@
-use Rattle.std.proofs.Common.{◌≡◌, ◌∙◌, ◌<◌, ap, sym, None, Some, length, rules, arith}
-use Rattle.plan_text.specs.Fits.{misfit}
+use Rattle.std.proofs.Common.{◌∙◌, ◌<◌, sym, length, rules, arith}
 use Rattle.plan_text.proofs.Misfits.{all_fit, none_fits}
 use Rattle.plan_text.proofs.kind.suit_tables.Goals as goal
 

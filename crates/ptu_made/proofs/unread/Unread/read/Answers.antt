@@ -7,8 +7,8 @@ use Rattle.ptu_made.proofs.unread.Unread.read.Goals.{then-filled-into-via-then-f
 
 pub returns-then-filled-into-clause-bytes : goal.returns-then-filled-into-clause-bytes
 returns-then-filled-into-clause-bytes c =
-    let step = given_behind c.photons.filled c.give-filled.result (length c.photons.into - c.photons.filled) c.photons.into c.give-filled.new.into (bytes_left c.args.self.now) (bytes_left c.photons.self) (bytes_left c.give-filled.new.self)
-    c.photons.invariant.room c.give-filled.ensures.room c.photons.invariant.bytes c.give-filled.ensures.bytes in
+    let step = given_behind c.photons.filled c.copy_held-filled.result (length c.photons.into - c.photons.filled) c.photons.into c.copy_held-filled.new.into (bytes_left c.args.self.now) (bytes_left c.photons.self) (bytes_left c.copy_held-filled.new.self)
+    c.photons.invariant.room c.copy_held-filled.ensures.room c.photons.invariant.bytes c.copy_held-filled.ensures.bytes in
     elim c.then-filled-into.branch [
       | then-filled-into-via-then-filled-into w ↦ rw w.self-is step
       | then-filled-into-via-else-filled-into+then-not-hold_next w ↦ rw (w.self-is, w.hold_next.ensures.same) step
@@ -16,8 +16,8 @@ returns-then-filled-into-clause-bytes c =
 
 pub photons-preserved : goal.photons-preserved
 photons-preserved c =
-    let step = given_behind c.photons.filled c.give-filled.result (length c.photons.into - c.photons.filled) c.photons.into c.give-filled.new.into (bytes_left c.args.self.now) (bytes_left c.photons.self) (bytes_left c.give-filled.new.self)
-    c.photons.invariant.room c.give-filled.ensures.room c.photons.invariant.bytes c.give-filled.ensures.bytes in
+    let step = given_behind c.photons.filled c.copy_held-filled.result (length c.photons.into - c.photons.filled) c.photons.into c.copy_held-filled.new.into (bytes_left c.args.self.now) (bytes_left c.photons.self) (bytes_left c.copy_held-filled.new.self)
+    c.photons.invariant.room c.copy_held-filled.ensures.room c.photons.invariant.bytes c.copy_held-filled.ensures.bytes in
     record {
       room = grind (arith, common_steps);
       bytes = rw c.hold_next.ensures.same step;

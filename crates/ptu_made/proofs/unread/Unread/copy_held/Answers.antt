@@ -4,7 +4,7 @@ use Rattle.std.proofs.lemmas.List.{take_at, length-take}
 use Rattle.ptu_made.proofs.Held.{held-split}
 use Rattle.ptu_made.specs.ShortFile.{bytes_in}
 use Rattle.ptu_made.specs.Left.{words_left}
-use Rattle.ptu_made.proofs.unread.Unread.give.Goals as goal
+use Rattle.ptu_made.proofs.unread.Unread.copy_held.Goals as goal
 
 pub returns-clause-bytes : goal.returns-clause-bytes
 returns-clause-bytes c =

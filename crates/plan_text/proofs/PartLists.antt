@@ -1,0 +1,105 @@
+-- Equal parts are equal lists of each kind.
+use Rattle.std.proofs.Common.{◌≡◌, refl, sym, ap, ℕ, ◌+◌, ◌≤◌, List, [], ◌∷◌, ◌++◌, map, length, arith}
+use Rattle.std.specs.List.{AllByRecursion, flat_map}
+use Rattle.tally_base.specs.Settings.{PartSettings, hist_view, trace_view, startstop_view, coincidence_view, image_view, correlation_view}
+use Rattle.tally_base.specs.Settings.PartSettings.{HistSettings, TraceSettings, StartStopSettings, CoincidenceSettings, ImageSettings, CorrelationSettings}
+use Rattle.plan_text.specs.declared.plan.Plan.{Plan}
+use Rattle.plan_text.specs.Reading.{part_lists, HaveSameTables}
+
+-- the place of a kind in the order of the report
+abbrev kind_at : PartSettings → ℕ
+kind_at (HistSettings set) = 0
+kind_at (TraceSettings set) = 1
+kind_at (StartStopSettings set) = 2
+kind_at (CoincidenceSettings set) = 3
+kind_at (ImageSettings set) = 4
+kind_at (CorrelationSettings set) = 5
+
+-- each part is of the kind at this place
+abbrev AreAt : ℕ → List PartSettings → Type 0
+AreAt n = AllByRecursion (λ part. kind_at part ≡ n)
+
+-- each part is of the kind at this place or of a later one
+abbrev AreFrom : ℕ → List PartSettings → Type 0
+AreFrom n = AllByRecursion (λ part. n ≤ kind_at part)
+
+-- the lists are of one kind after the other, from this place on
+abbrev AreByKinds : ℕ → List (List PartSettings) → Type 0
+AreByKinds n [] = Unit {0}
+AreByKinds n (list ∷ lists) = AreAt n list × AreByKinds (n + 1) lists
+
+abbrev joined : List (List PartSettings) → List PartSettings
+joined lists = flat_map (λ list. list) lists
+
+from_earlier : (n : ℕ) (parts : List PartSettings) → AreFrom (n + 1) parts → AreFrom n parts
+from_earlier n [] are = tt
+from_earlier n (part ∷ parts) are = (omega (arith, are.0), from_earlier n parts are.1)
+
+from_first : (n : ℕ) (first rest : List PartSettings) → AreAt n first → AreFrom (n + 1) rest → AreFrom n (first ++ rest)
+from_first n [] rest at' are = from_earlier n rest are
+from_first n (part ∷ first) rest at' are = (omega (arith, at'.0), from_first n first rest at'.1 are)
+
+from_kinds : (n : ℕ) (lists : List (List PartSettings)) → AreByKinds n lists → AreFrom n (joined lists)
+from_kinds n [] are = tt
+from_kinds n (list ∷ lists) are = from_first n list (joined lists) are.0 (from_kinds (n + 1) lists are.1)
+
+-- no list of later kinds begins with a part of this kind
+not_later : (n : ℕ) (part : PartSettings) (parts rest : List PartSettings) → kind_at part ≡ n → AreFrom (n + 1) rest → rest ≡ part ∷ parts → ⊥
+not_later n part parts rest is are same =
+    let there : AreFrom (n + 1) (part ∷ parts) = (rw same at are) in
+    omega (arith, is, there.0)
+
+abbrev first_or : PartSettings → List PartSettings → PartSettings
+first_or other [] = other
+first_or other (part ∷ parts) = part
+
+abbrev rest_of : List PartSettings → List PartSettings
+rest_of [] = []
+rest_of (part ∷ parts) = parts
+
+-- the list of a kind before those of later kinds
+first_same : (n : ℕ) (xs ys us vs : List PartSettings) → AreAt n xs → AreAt n ys → AreFrom (n + 1) us → AreFrom (n + 1) vs → xs ++ us ≡ ys ++ vs → (xs ≡ ys) × (us ≡ vs)
+first_same n [] [] us vs x_at y_at u_from v_from same = (refl, same)
+first_same n [] (y ∷ ys) us vs x_at y_at u_from v_from same = absurd (not_later n y (ys ++ vs) us y_at.0 u_from same)
+first_same n (x ∷ xs) [] us vs x_at y_at u_from v_from same = absurd (not_later n x (xs ++ us) vs x_at.0 v_from (sym same))
+first_same n (x ∷ xs) (y ∷ ys) us vs x_at y_at u_from v_from same =
+    let (here, later) = first_same n xs ys us vs x_at.1 y_at.1 u_from v_from (ap rest_of same) in
+    let first : x ≡ y = ap (first_or x) same in
+    (rw (first, here) refl, later)
+
+lists_same : (n : ℕ) (one other : List (List PartSettings)) → AreByKinds n one → AreByKinds n other → length one ≡ length other → joined one ≡ joined other → one ≡ other
+lists_same n [] [] a b long same = refl
+lists_same n [] (ys ∷ other) a b long same = absurd (omega (arith, long))
+lists_same n (xs ∷ one) [] a b long same = absurd (omega (arith, long))
+lists_same n (xs ∷ one) (ys ∷ other) a b long same =
+    let (here, later) = first_same n xs ys (joined one) (joined other) a.0 b.0 (from_kinds (n + 1) one a.1) (from_kinds (n + 1) other b.1) same in
+    let rest : one ≡ other = lists_same (n + 1) one other a.1 b.1 (omega (arith, long)) later in
+    rw (here, rest) refl
+
+of_kind : {S : Type 0} (settings : S → PartSettings) (n : ℕ) → ((set : S) → kind_at (settings set) ≡ n) → (sets : List S) → AreAt n (map settings sets)
+of_kind settings n is [] = tt
+of_kind settings n is (set ∷ sets) = (is set, of_kind settings n is sets)
+
+by_kinds : (plan : Plan) → AreByKinds 0 (part_lists plan)
+by_kinds plan = (
+  of_kind (λ set. HistSettings (hist_view set)) 0 (λ set. refl) plan.histograms.items,
+  (
+    of_kind (λ set. TraceSettings (trace_view set)) 1 (λ set. refl) plan.traces.items,
+    (
+      of_kind (λ set. StartStopSettings (startstop_view set)) 2 (λ set. refl) plan.startstops.items,
+      (
+        of_kind (λ set. CoincidenceSettings (coincidence_view set)) 3 (λ set. refl) plan.coincidences.items,
+        (
+          of_kind (λ set. ImageSettings (image_view set)) 4 (λ set. refl) plan.images.items,
+          (
+            of_kind (λ set. CorrelationSettings (correlation_view set)) 5 (λ set. refl) plan.correlations.items,
+            tt,
+          ),
+        ),
+      ),
+    ),
+  ),
+)
+
+pub same_tables : (one other : Plan) → HaveSameTables one other
+same_tables one other = lists_same 0 (part_lists one) (part_lists other) (by_kinds one) (by_kinds other) refl
