@@ -71,7 +71,7 @@ impl Tally for Part {
 }
 
 impl Part {
-    ghost use Rattle.std.specs.Prelude.{◌+◌, ◌^◌, ◌≤◌, false, length};
+    ghost use Rattle.std.specs.Prelude.{◌≡◌, ◌+◌, ◌^◌, ◌≤◌, ◌++◌, false, length};
     ghost use Rattle.tally_base.specs.Settings.{is_strict};
     ghost use Rattle.tally_base.specs.Tally.{History};
     ghost use Rattle.event_block.specs.Columns.{gathered, events_in};
