@@ -1,37 +1,52 @@
 // A block of events to every table.
-ghost use Rattle.std.specs.Prelude.{◌≡◌, ℕ, ◌+◌, ◌<◌, ◌++◌, ◌∷◌, [], All, false, length, slice_index_or};
+ghost use Rattle.std.specs.Prelude.{◌≡◌, ℕ, ◌+◌, ◌^◌, ◌<◌, ◌≤◌, ◌++◌, ◌∷◌, [], All, false, length, slice_index_or, if◌then◌else◌, ◌&&◌, not};
 ghost use Rattle.tally_base.specs.declared.event.Event.{Event};
 ghost use Rattle.event_block.specs.Codes.{kind_of};
 ghost use Rattle.event_block.specs.Columns.{gathered, events_in};
 ghost use Rattle.gate_plan.specs.Groups.{groups_of, groups_in};
+ghost use Rattle.tally_base.specs.Events.{is_ordered};
+ghost use Rattle.tally_engine.specs.Ahead.{taken_with, floor_with};
 ghost use Rattle.tally_engine.specs.Give.{CanTake, Took, Moves, Closed, kept_of};
 ghost use Rattle.tally_engine.specs.Histories.{with_groups};
 
 use crate::part::Part;
+use crate::reached::Reached;
 use event_block::Block;
 use gate_plan::Gates;
 use std::sync::ledger::Ledger;
-use tally_base::{Event, Steps, Tally};
+use tally_base::{Event, Mode, Steps, Tally};
 
-/// Gives an event to a block behind its others, unless it is late. Where the block is full, its events
-/// first go to every table.
+/// Gives an event to a block behind its others, unless it is late or there is no table. Where the block
+/// is full, its events first go to every table.
 #[inline(always)]
 pub(crate) fn gather<L: Ledger>(
     gates: &Gates,
+    mode: Mode,
     event: &Event,
     late: bool,
     parts: &mut [Part],
+    reached: &mut Reached,
     block: &mut Block,
     steps: &mut Steps<L>,
 )
     requires may { All (CanTake ⟦<Part as Tally>⟧ (gathered block.old ++ kept_of late event.now)) parts.old }
+    requires room { taken_with reached.old (gathered block.old) < 2 ^ 40 }
+    requires idle { length parts.old ≡ 0 → gathered block.old ≡ [] }
     ensures moves { (k : ℕ) (d : Part) → k < length parts.old
         → Moves ⟦<Part as Tally>⟧ (groups_of gates.now) (gathered block.old)
         (gathered block.new) (kept_of late event.now) (slice_index_or parts.old k d)
         (slice_index_or parts.new k d) }
+    ensures taken { taken_with reached.new (gathered block.new)
+        ≡ taken_with reached.old (gathered block.old) + 1 }
+    ensures floor { floor_with mode reached.new (gathered block.new)
+        ≡ (if is_ordered mode event.now && not late then event.now.time
+        else floor_with mode reached.old (gathered block.old)) }
+    ensures idle { length parts.new ≡ 0 → gathered block.new ≡ [] }
 {
-    if !late && !parts.is_empty() {
-        gather_one(gates, event, parts, block, steps);
+    if late || parts.is_empty() {
+        reached.pass(mode, event, late);
+    } else {
+        gather_one(gates, mode, event, parts, reached, block, steps);
     }
 }
 
@@ -39,18 +54,26 @@ pub(crate) fn gather<L: Ledger>(
 #[inline(always)]
 fn gather_one<L: Ledger>(
     gates: &Gates,
+    mode: Mode,
     event: &Event,
     parts: &mut [Part],
+    reached: &mut Reached,
     block: &mut Block,
     steps: &mut Steps<L>,
 )
     requires may { All (CanTake ⟦<Part as Tally>⟧ (gathered block.old ++ event.now ∷ [])) parts.old }
+    requires room { taken_with reached.old (gathered block.old) < 2 ^ 40 }
     ensures moves { (k : ℕ) (d : Part) → k < length parts.old
         → Moves ⟦<Part as Tally>⟧ (groups_of gates.now) (gathered block.old)
         (gathered block.new) (event.now ∷ []) (slice_index_or parts.old k d)
         (slice_index_or parts.new k d) }
+    ensures taken { taken_with reached.new (gathered block.new)
+        ≡ taken_with reached.old (gathered block.old) + 1 }
+    ensures floor { floor_with mode reached.new (gathered block.new)
+        ≡ (if is_ordered mode event.now then event.now.time
+        else floor_with mode reached.old (gathered block.old)) }
 {
-    make_room(gates, parts, block, steps);
+    make_room(gates, mode, parts, reached, block, steps);
     block.push(event);
 }
 
@@ -58,18 +81,25 @@ fn gather_one<L: Ledger>(
 #[inline(always)]
 fn make_room<L: Ledger>(
     gates: &Gates,
+    mode: Mode,
     parts: &mut [Part],
+    reached: &mut Reached,
     block: &mut Block,
     steps: &mut Steps<L>,
 )
     requires may { All (CanTake ⟦<Part as Tally>⟧ (gathered block.old)) parts.old }
+    requires room { taken_with reached.old (gathered block.old) ≤ 2 ^ 40 }
     ensures room { length (gathered block.new) < 64 }
     ensures moves { (k : ℕ) (d : Part) → k < length parts.old
         → Moves ⟦<Part as Tally>⟧ (groups_of gates.now) (gathered block.old)
         (gathered block.new) [] (slice_index_or parts.old k d) (slice_index_or parts.new k d) }
+    ensures taken { taken_with reached.new (gathered block.new)
+        ≡ taken_with reached.old (gathered block.old) }
+    ensures floor { floor_with mode reached.new (gathered block.new)
+        ≡ floor_with mode reached.old (gathered block.old) }
 {
     if block.len() == 64 {
-        flush(gates, parts, block, steps);
+        flush(gates, mode, parts, reached, block, steps);
     }
 }
 
@@ -77,19 +107,25 @@ fn make_room<L: Ledger>(
 #[inline(never)]
 pub(crate) fn flush<L: Ledger>(
     gates: &Gates,
+    mode: Mode,
     parts: &mut [Part],
+    reached: &mut Reached,
     block: &mut Block,
     steps: &mut Steps<L>,
 )
     requires may { All (CanTake ⟦<Part as Tally>⟧ (gathered block.old)) parts.old }
+    requires room { taken_with reached.old (gathered block.old) ≤ 2 ^ 40 }
     ensures empty { gathered block.new ≡ [] }
     ensures took { (k : ℕ) (d : Part) → k < length parts.old
         → Took ⟦<Part as Tally>⟧ (gathered block.old)
         (with_groups (groups_of gates.now) (gathered block.old)) (slice_index_or parts.old k d)
         (slice_index_or parts.new k d) }
+    ensures taken { reached.new.taken ≡ taken_with reached.old (gathered block.old) }
+    ensures floor { reached.new.floor ≡ floor_with mode reached.old (gathered block.old) }
 {
     sort(gates, block);
     give_all(parts, block, steps);
+    reached.pass_block(mode, block);
     block.clear();
 }
 
