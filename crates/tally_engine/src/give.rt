@@ -2,7 +2,7 @@
 ghost use Rattle.std.specs.Prelude.{◌≡◌, ℕ, ◌+◌, ◌^◌, ◌<◌, ◌≤◌, ◌++◌, ◌∷◌, [], All, false, length, slice_index_or, if◌then◌else◌, ◌&&◌, not};
 ghost use Rattle.tally_base.specs.declared.event.Event.{Event};
 ghost use Rattle.event_block.specs.Codes.{kind_of};
-ghost use Rattle.event_block.specs.Columns.{gathered, events_in};
+ghost use Rattle.event_block.specs.Columns.{sorted, gathered, events_in, IsSorted};
 ghost use Rattle.gate_plan.specs.Groups.{groups_of, groups_in};
 ghost use Rattle.tally_base.specs.Events.{is_ordered};
 ghost use Rattle.tally_engine.specs.Ahead.{taken_with, floor_with};
@@ -32,6 +32,7 @@ pub(crate) fn gather<L: Ledger>(
     requires may { All (CanTake ⟦<Part as Tally>⟧ (gathered block.old ++ kept_of late event.now)) parts.old }
     requires room { taken_with reached.old (gathered block.old) < 2 ^ 40 }
     requires idle { length parts.old ≡ 0 → gathered block.old ≡ [] }
+    requires unsorted { sorted block.old ≡ 0 }
     ensures moves { (k : ℕ) (d : Part) → k < length parts.old
         → Moves ⟦<Part as Tally>⟧ (groups_of gates.now) (gathered block.old)
         (gathered block.new) (kept_of late event.now) (slice_index_or parts.old k d)
@@ -42,6 +43,7 @@ pub(crate) fn gather<L: Ledger>(
         ≡ (if is_ordered mode event.now && not late then event.now.time
         else floor_with mode reached.old (gathered block.old)) }
     ensures idle { length parts.new ≡ 0 → gathered block.new ≡ [] }
+    ensures unsorted { sorted block.new ≡ 0 }
 {
     if late || parts.is_empty() {
         reached.pass(mode, event, late);
@@ -63,6 +65,7 @@ fn gather_one<L: Ledger>(
 )
     requires may { All (CanTake ⟦<Part as Tally>⟧ (gathered block.old ++ event.now ∷ [])) parts.old }
     requires room { taken_with reached.old (gathered block.old) < 2 ^ 40 }
+    requires unsorted { sorted block.old ≡ 0 }
     ensures moves { (k : ℕ) (d : Part) → k < length parts.old
         → Moves ⟦<Part as Tally>⟧ (groups_of gates.now) (gathered block.old)
         (gathered block.new) (event.now ∷ []) (slice_index_or parts.old k d)
@@ -72,6 +75,7 @@ fn gather_one<L: Ledger>(
     ensures floor { floor_with mode reached.new (gathered block.new)
         ≡ (if is_ordered mode event.now then event.now.time
         else floor_with mode reached.old (gathered block.old)) }
+    ensures unsorted { sorted block.new ≡ 0 }
 {
     make_room(gates, mode, parts, reached, block, steps);
     block.push(event);
@@ -89,6 +93,7 @@ fn make_room<L: Ledger>(
 )
     requires may { All (CanTake ⟦<Part as Tally>⟧ (gathered block.old)) parts.old }
     requires room { taken_with reached.old (gathered block.old) ≤ 2 ^ 40 }
+    requires unsorted { sorted block.old ≡ 0 }
     ensures room { length (gathered block.new) < 64 }
     ensures moves { (k : ℕ) (d : Part) → k < length parts.old
         → Moves ⟦<Part as Tally>⟧ (groups_of gates.now) (gathered block.old)
@@ -97,6 +102,7 @@ fn make_room<L: Ledger>(
         ≡ taken_with reached.old (gathered block.old) }
     ensures floor { floor_with mode reached.new (gathered block.new)
         ≡ floor_with mode reached.old (gathered block.old) }
+    ensures unsorted { sorted block.new ≡ 0 }
 {
     if block.len() == 64 {
         flush(gates, mode, parts, reached, block, steps);
@@ -115,6 +121,7 @@ pub(crate) fn flush<L: Ledger>(
 )
     requires may { All (CanTake ⟦<Part as Tally>⟧ (gathered block.old)) parts.old }
     requires room { taken_with reached.old (gathered block.old) ≤ 2 ^ 40 }
+    requires unsorted { sorted block.old ≡ 0 }
     ensures empty { gathered block.new ≡ [] }
     ensures took { (k : ℕ) (d : Part) → k < length parts.old
         → Took ⟦<Part as Tally>⟧ (gathered block.old)
@@ -122,6 +129,7 @@ pub(crate) fn flush<L: Ledger>(
         (slice_index_or parts.new k d) }
     ensures taken { reached.new.taken ≡ taken_with reached.old (gathered block.old) }
     ensures floor { reached.new.floor ≡ floor_with mode reached.old (gathered block.old) }
+    ensures unsorted { sorted block.new ≡ 0 }
 {
     sort(gates, block);
     give_all(parts, block, steps);
@@ -131,9 +139,11 @@ pub(crate) fn flush<L: Ledger>(
 
 /// Finds the groups of the events of a block.
 fn sort(gates: &Gates, block: &mut Block)
+    requires { sorted block.old ≡ 0 }
     ensures same { gathered block.new ≡ gathered block.old }
     ensures sorted { events_in block.new
         ≡ with_groups (groups_of gates.now) (gathered block.old) }
+    ensures ready { IsSorted block.new }
 {
     for at in 0..block.len().min(64) {
         let groups = groups_at(gates, block.code(at), block.dtime(at));
@@ -144,7 +154,8 @@ fn sort(gates: &Gates, block: &mut Block)
 /// The groups of an event in a block.
 #[inline(always)]
 fn groups_at(gates: &Gates, code: u16, dtime: u16) -> u64
-    ensures { (e : Event) → e.kind ≡ kind_of code dtime
+    ensures marker { 256 ≤ code → result ≡ 0 }
+    ensures value { (e : Event) → e.kind ≡ kind_of code dtime
         → result ≡ groups_in (groups_of gates.now) e }
 {
     if code < 256 {
@@ -156,6 +167,7 @@ fn groups_at(gates: &Gates, code: u16, dtime: u16) -> u64
 
 /// Gives the events of a block to every table.
 fn give_all<L: Ledger>(parts: &mut [Part], block: &Block, steps: &mut Steps<L>)
+    requires sorted { IsSorted block.now }
     requires may { All (CanTake ⟦<Part as Tally>⟧ (gathered block.now)) parts.old }
     ensures took { (k : ℕ) (d : Part) → k < length parts.old
         → Took ⟦<Part as Tally>⟧ (gathered block.now) (events_in block.now)

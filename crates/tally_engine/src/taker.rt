@@ -10,7 +10,7 @@ ghost use Rattle.tally_base.specs.Faults.{fault_in};
 ghost use Rattle.tally_engine.specs.Histories.{history, with_groups};
 ghost use Rattle.tally_engine.specs.Same.{SameTables};
 ghost use Rattle.gate_plan.specs.Groups.{groups_of};
-ghost use Rattle.event_block.specs.Columns.{gathered};
+ghost use Rattle.event_block.specs.Columns.{sorted, gathered};
 ghost use Rattle.event_block.proofs.Props.{in_order-prop};
 ghost use Rattle.std.proofs.Props.{props};
 ghost use Rattle.tally_engine.specs.Ahead.{taken_with, floor_with};
@@ -40,6 +40,7 @@ struct Taker<'g, 'p, 's, L: Ledger> {
     ghost waiting: { All (Waits ⟦<Part as Tally>⟧ mode (taken_with reached (gathered block)) (floor_with mode reached (gathered block)) (gathered block)) parts.now } by { Prim.hlevel (props, in_order-prop) },
     ghost limit: { 0 < length (gathered block) → taken_with reached (gathered block) ≤ 2 ^ 40 },
     ghost idle: { length parts.now ≡ 0 → gathered block ≡ [] },
+    ghost unsorted: { sorted block ≡ 0 },
 }
 
 impl<'g, 'p, 's, L: Ledger> EventTaker for Taker<'g, 'p, 's, L> {
@@ -161,6 +162,7 @@ fn give_rest<L: Ledger>(
     steps: &mut Steps<L>,
 )
     requires open { All (λ t. ⟦<Part as Tally>⟧.closed t ≡ false) parts.old }
+    requires unsorted { sorted block.old ≡ 0 }
     requires may { 0 < length (gathered block.old)
         → All (CanTake ⟦<Part as Tally>⟧ (gathered block.old)) parts.old }
     requires room { 0 < length (gathered block.old)

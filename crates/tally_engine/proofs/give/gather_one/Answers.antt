@@ -10,7 +10,7 @@ use Rattle.tally_engine.proofs.Takes.{can_front, moves_push}
 use Rattle.tally_engine.proofs.give.gather_one.Goals as goal
 
 pub make_room-requires : goal.make_room-requires
-make_room-requires g c = record { may = λ k d within. can_front ghosts (gathered c.args.block.now) c.args.event.now _ (c.requires.may k d within); room = omega (arith, c.requires.room) }
+make_room-requires g c = record { may = λ k d within. can_front ghosts (gathered c.args.block.now) c.args.event.now _ (c.requires.may k d within); room = omega (arith, c.requires.room); unsorted = c.requires.unsorted }
 
 pub returns : goal.returns
 returns g c =
@@ -18,7 +18,8 @@ returns g c =
     let e = c.args.event.now in
     let room = c.make_room.ensures in
     record {
-      moves = λ k d within. moves_push ghosts (groups_of c.args.gates.now) (gathered c.args.block.now) es (gathered c.push.new.self) e _ _ (c.requires.may k d within) c.push.ensures (room.moves k d within);
-      taken = omega (arith, ap length c.push.ensures, length-append es (e ∷ []), room.taken);
-      floor = ap (floor_with c.args.mode c.make_room.new.reached) c.push.ensures ∙ pushed_floor c.args.mode c.make_room.new.reached es e ∙ ap (λ n. if is_ordered c.args.mode e then e.time else n) room.floor;
+      moves = λ k d within. moves_push ghosts (groups_of c.args.gates.now) (gathered c.args.block.now) es (gathered c.push.new.self) e _ _ (c.requires.may k d within) c.push.ensures.more (room.moves k d within);
+      taken = omega (arith, ap length c.push.ensures.more, length-append es (e ∷ []), room.taken);
+      floor = ap (floor_with c.args.mode c.make_room.new.reached) c.push.ensures.more ∙ pushed_floor c.args.mode c.make_room.new.reached es e ∙ ap (λ n. if is_ordered c.args.mode e then e.time else n) room.floor;
+      unsorted = c.push.ensures.unsorted ∙ room.unsorted;
     }

@@ -14,6 +14,7 @@ gather-requires g c =
       may = λ k d within. can_take ghosts t.mode (taken_with t.reached es) (floor_with t.mode t.reached es) es c.args.event.now c.args.late _ (t.waiting k d within) c.requires.room c.requires.in_time c.requires.in_order;
       room = c.requires.room;
       idle = t.idle;
+      unsorted = t.unsorted;
     }
 
 pub invariant_of-self : goal.invariant_of-self
@@ -27,6 +28,7 @@ invariant_of-self g c =
           waits_on ghosts (groups_of t.gates.now) t.mode (taken_with t.reached es) _ (floor_with t.mode t.reached es) _ es (gathered c.gather.new.block) c.args.event.now c.args.late _ _ (t.waiting k d within) (c.gather.ensures.moves k d within) c.requires.in_order c.gather.ensures.taken c.gather.ensures.floor;
       limit = λ some. omega (arith, c.requires.room, c.gather.ensures.taken);
       idle = c.gather.ensures.idle;
+      unsorted = c.gather.ensures.unsorted;
     }
 
 pub returns-clause-follows : goal.returns-clause-follows

@@ -8,7 +8,7 @@ use Rattle.event_block.proofs.Greatest.{greatest-rows}
 use Rattle.tally_base.specs.Tally.{greatest_time}
 use Rattle.tcspc_hist.specs.HistogramCounts.{in_bin, count_over}
 use Rattle.tcspc_hist.proofs.Blocks.{count-append}
-use Rattle.tcspc_hist.proofs.Slices.{whole_slice}
+use Rattle.event_block.proofs.Slices.{whole_slice}
 use Rattle.tcspc_hist.proofs.hist.Hist.events.Goals as goal
 
 pub returns-clause-follows : goal.returns-clause-follows
