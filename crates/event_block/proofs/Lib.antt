@@ -5,3 +5,4 @@ pub mod Greatest
 pub mod Back
 pub mod Slices
 pub mod Sorted
+pub mod Lower

@@ -101,7 +101,7 @@ impl Part {
             Part::Trace(t) => give_block(t, block, steps),
             Part::StartStop(t) => give_block(t, block, steps),
             Part::Coincidence(t) => give_block(t, block, steps),
-            Part::Image(t) => give_block(t, block, steps),
+            Part::Image(t) => t.events(block),
             Part::Correlation(t) => give_block(t, block, steps),
         }
     }

@@ -10,4 +10,4 @@ pub returns-in-StartStop-clause-follows : goal.returns-in-StartStop-clause-follo
 returns-in-StartStop-clause-follows g c = λ h is. c.give_block-in-StartStop.ensures.follows h (rw c.in-StartStop.is at is)
 
 pub returns-in-Image-clause-follows : goal.returns-in-Image-clause-follows
-returns-in-Image-clause-follows g c = λ h is. c.give_block-in-Image.ensures.follows h (rw c.in-Image.is at is)
+returns-in-Image-clause-follows g c = λ h is. c.events-in-Image.ensures.follows h (rw c.in-Image.is at is)
