@@ -99,7 +99,7 @@ impl Part {
         match self {
             Part::Hist(t) => t.events(block),
             Part::Trace(t) => give_block(t, block, steps),
-            Part::StartStop(t) => give_block(t, block, steps),
+            Part::StartStop(t) => t.events(block),
             Part::Coincidence(t) => give_block(t, block, steps),
             Part::Image(t) => t.events(block),
             Part::Correlation(t) => give_block(t, block, steps),
