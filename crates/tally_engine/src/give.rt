@@ -4,6 +4,7 @@ ghost use Rattle.tally_base.specs.declared.event.Event.{Event};
 ghost use Rattle.event_block.specs.Codes.{kind_of};
 ghost use Rattle.event_block.specs.Columns.{sorted, gathered, events_in, IsSorted};
 ghost use Rattle.gate_plan.specs.Groups.{groups_of, groups_in};
+ghost use Rattle.gate_plan.specs.Parting.{plain_bits, gated_bits};
 ghost use Rattle.tally_base.specs.Events.{is_ordered};
 ghost use Rattle.tally_engine.specs.Ahead.{taken_with, floor_with};
 ghost use Rattle.tally_engine.specs.Give.{CanTake, Took, Moves, Closed, kept_of};
@@ -145,23 +146,39 @@ fn sort(gates: &Gates, block: &mut Block)
         ≡ with_groups (groups_of gates.now) (gathered block.old) }
     ensures ready { IsSorted block.new }
 {
+    let gated = gates.has_gates();
     for at in 0..block.len().min(64) {
-        let groups = groups_at(gates, block.code(at), block.dtime(at));
+        let groups = groups_at(gates, gated, block.code(at), block.dtime(at));
         block.put(at, groups);
     }
 }
 
 /// The groups of an event in a block.
 #[inline(always)]
-fn groups_at(gates: &Gates, code: u16, dtime: u16) -> u64
+fn groups_at(gates: &Gates, gated: bool, code: u16, dtime: u16) -> u64
+    requires { gated ≡ false → (input dtime : ℕ) → gated_bits (groups_of gates.now) input dtime ≡ 0 }
     ensures marker { 256 ≤ code → result ≡ 0 }
     ensures value { (e : Event) → e.kind ≡ kind_of code dtime
         → result ≡ groups_in (groups_of gates.now) e }
 {
     if code < 256 {
-        gates.of_photon(code as u8, dtime)
+        photon_groups(gates, gated, code as u8, dtime)
     } else {
         0
+    }
+}
+
+/// The groups of a photon.
+#[inline(always)]
+fn photon_groups(gates: &Gates, gated: bool, input: u8, dtime: u16) -> u64
+    requires { gated ≡ false → (input dtime : ℕ) → gated_bits (groups_of gates.now) input dtime ≡ 0 }
+    ensures { result ≡ plain_bits (groups_of gates.now) input
+        + gated_bits (groups_of gates.now) input dtime }
+{
+    if gated {
+        gates.of_photon(input, dtime)
+    } else {
+        gates.of_input(input)
     }
 }
 

@@ -10,7 +10,7 @@ pub returns-then-code-lt256-clause-value : goal.returns-then-code-lt256-clause-v
 returns-then-code-lt256-clause-value c = λ e kind.
     let photon : nat_lt c.args.code 256 ≡ true = grind (arith, nat_tests, c.if-code-lt256.true) in
     let is = kind ∙ ap (λ b. if b then Photon c.args.code c.args.dtime else Marker (c.args.code % 256)) photon in
-    c.of_photon.ensures ∙ sym (of_photon (groups_of c.args.gates.now) e c.args.code c.args.dtime is)
+    c.photon_groups.ensures ∙ sym (of_photon (groups_of c.args.gates.now) e c.args.code c.args.dtime is)
 
 pub returns-else-code-lt256-clause-value : goal.returns-else-code-lt256-clause-value
 returns-else-code-lt256-clause-value c = λ e kind.
