@@ -1,5 +1,4 @@
-use Rattle.std.proofs.Common.{◌≡◌, ◌<◌, length, rules, arith}
-use Rattle.event_block.specs.Codes.{InNoGroup}
+use Rattle.std.proofs.Common.{◌<◌, length, rules, arith}
 use Rattle.event_block.proofs.Sorted.{none-put}
 use Rattle.event_block.proofs.block.Block.put.Goals as goal
 
