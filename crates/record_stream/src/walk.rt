@@ -1,9 +1,5 @@
 // The records of a stream, one behind the other.
-ghost use Rattle.std.specs.Prelude.{◌≡◌, ◌+◌, ◌*◌, ◌^◌, ◌<◌, ◌≤◌, ◌++◌, ◌∷◌, [], List, ℕ, length, OnOk, OnErr, IfErr, ◌&&◌, not, IsTrue, if◌then◌else◌};
-ghost use Rattle.tally_base.specs.FaultCounts.{HasCause};
-ghost use Rattle.tally_base.specs.Events.{is_ordered};
-ghost use Rattle.ptu_definitions.specs.Fitting.{KindFits};
-ghost use Rattle.ptu_definitions.specs.Kept.{Marked};
+ghost use Rattle.std.specs.Prelude.{◌≡◌, ◌+◌, ◌*◌, ◌^◌, ◌<◌, ◌≤◌, ◌++◌, ◌∷◌, [], List, ℕ, length, OnOk, OnErr, IfErr};
 ghost use Rattle.abs_time.specs.Placing.{mode_of as clock_mode, placed_by};
 ghost use Rattle.tally_base.specs.RecordTypes.{mode_of};
 
@@ -12,7 +8,7 @@ use crate::taker::EventTaker;
 use abs_time::{Clock, Placed};
 use ptu_definitions::Raw;
 use record_layout::RecordLayout;
-use tally_base::{Event, EventKind, Failed, Fault, Policy, RecordType};
+use tally_base::{Event, Fault, Policy, RecordType};
 
 /// How far a stream is in whole records that it refused none of.
 #[derive(Clone, Copy)]
@@ -32,7 +28,11 @@ pub struct Walk {
 }
 
 impl Walk {
+    ghost use Rattle.std.specs.Prelude.{◌&&◌, not, IsTrue, if◌then◌else◌};
     ghost use Rattle.tally_base.specs.declared.fault.Fault.TheVariants.{WriteFault};
+    ghost use Rattle.tally_base.specs.FaultCounts.{HasCause};
+    ghost use Rattle.tally_base.specs.Events.{is_ordered};
+    ghost use Rattle.ptu_definitions.specs.Kept.{Marked};
     ghost use Rattle.abs_time.specs.Placing.{IsSmall};
     ghost use Rattle.record_stream.specs.OneMore.{with_event};
     ghost use Rattle.ptu_definitions.specs.Fitting.{Fits};
@@ -129,7 +129,7 @@ impl Walk {
         ensures same_records { records_of self.new ≡ records_of self.old }
         ensures same_clock { clock_in self.new ≡ clock_in self.old }
     {
-        if take_by_kind(taker, event, late).is_err() {
+        if taker.take(event, late).is_err() {
             return Err(Fault::WriteFault);
         }
         self.given += 1;
@@ -165,30 +165,5 @@ impl Walk {
         }
         *self = at;
         Ok(())
-    }
-}
-
-/// Gives an event to a taker. Each kind has a copy of what the taker does, in which it tests no kind.
-#[inline(always)]
-fn take_by_kind<S: EventTaker>(taker: &mut S, event: &Event, late: bool) -> Result<(), Failed>
-    requires room { S.taken taker.old < 2 ^ 40 }
-    requires in_time { event.now.time ≤ 2 ^ 62 + 2 ^ 28 }
-    requires kind { KindFits (S.mode taker.old) event.now.kind }
-    requires in_order { IsTrue (is_ordered (S.mode taker.old) event.now && not late)
-        → S.floor taker.old ≤ event.now.time }
-    ensures follows { OnOk result ((start : S) (l : Marked) → S.got start taker.old l
-        → S.got start taker.new (l ++ (event.now, late) ∷ [])) }
-    ensures one_more { OnOk result (S.taken taker.new ≡ S.taken taker.old + 1) }
-    ensures same_mode { OnOk result (S.mode taker.new ≡ S.mode taker.old) }
-    ensures moved { OnOk result (S.floor taker.new ≡ (if is_ordered
-        (S.mode taker.old) event.now && not late then event.now.time else S.floor taker.old)) }
-    ensures broken { OnErr result ((start : S) (l : Marked) → S.got start taker.old l
-        → S.broke start taker.new (l ++ (event.now, late) ∷ [])) }
-    ensures cause { HasCause (S.faults taker.old) (S.faults taker.new) result }
-    ensures same { S.same taker.old taker.new }
-{
-    match event.kind {
-        EventKind::Photon { .. } => taker.take(event, late),
-        EventKind::Marker { .. } => taker.take(event, late),
     }
 }
