@@ -2,8 +2,9 @@
 use Rattle.std.proofs.Common.{◌≡◌, ℕ, ◌-◌, Bool, true, false, ◌&&◌, ◌||◌, refl}
 use Rattle.std.specs.declared.option.Option.{Option}
 use Rattle.std.specs.Prelude.{None, Some, not, if◌then◌else◌}
-use Rattle.std.specs.Option.{is_some}
-use Rattle.coincidence.specs.Ends.{since_or, ended}
+use Rattle.coincidence.specs.declared.start.Start.{Start}
+use Rattle.coincidence.specs.Starts.{start_in, since_in}
+use Rattle.coincidence.specs.Ends.{ended}
 use Rattle.coincidence.proofs.Intervals.{ends}
 
 none_either : (b : Bool) → ◌≡◌ {A = ℕ} 0 (if b then 0 else 0)
@@ -16,13 +17,22 @@ one_of_both true false = refl
 one_of_both false true = refl
 one_of_both false false = refl
 
-pub ends_as : (test : ℕ → Bool) (time : ℕ) (stops : Bool) (start : Option ℕ) → ends test time stops start ≡ (if test (time - since_or time start) then ended stops start else 0)
-ends_as test time stops None = none_either (test (time - time))
-ends_as test time stops (Some since) = one_of_both stops (test (time - since))
+pub ends_as : (test : ℕ → Bool) (time : ℕ) (stops : Bool) (start : Start) → ends test time stops (start_in start) ≡ (if test (time - since_in start) then ended stops (start_in start) else 0)
+ends_as test time stops start = by_case start.open
+  where
+    by_case : (open' : Bool) → ends test time stops (if open' then Some start.since else None) ≡ (if test (time - start.since) then ended stops (if open' then Some start.since else None) else 0)
+    by_case true = one_of_both stops (test (time - start.since))
+    by_case false = none_either (test (time - start.since))
 
 -- the start that is open behind a photon, by its truth values
-pub behind_is : (starts stops : Bool) (time : ℕ) (start : Option ℕ) → ◌≡◌ {A = Option ℕ} (if starts || (not stops && is_some start) then Some (if starts then time else since_or time start) else None) (if starts then Some time else if stops then None else start)
-behind_is true stops time start = refl
-behind_is false true time start = refl
-behind_is false false time None = refl
-behind_is false false time (Some since) = refl
+pub behind_is : (starts stops open' : Bool) (time since : ℕ) → ◌≡◌ {A = Option ℕ} (if starts || (not stops && open') then Some (if starts then time else since) else None) (if starts then Some time else if stops then None else if open' then Some since else None)
+behind_is true stops open' time since = refl
+behind_is false true open' time since = refl
+behind_is false false true time since = refl
+behind_is false false false time since = refl
+
+pub ended_is : (stops open' : Bool) (since : ℕ) → ◌≡◌ {A = ℕ} (if stops && open' then 1 else 0) (ended stops (if open' then Some since else None))
+ended_is true true since = refl
+ended_is true false since = refl
+ended_is false true since = refl
+ended_is false false since = refl

@@ -95,3 +95,13 @@ start-photon set h x starts stops start photon starts-is stops-is start-is =
     let opened = start-by_groups set h x either (of_either (is_photon x.0) (is_in x.1 set.start) (is_in x.1 set.stop) photon) in
     let kept = either-starts (is_in x.1 set.start) (is_in x.1 set.stop) (Some x.0.time) (open_start set h) in
     opened ∙ (kept ∙ grind (arith, starts-is, stops-is, start-is))
+
+not_either : (photon either : Bool) → photon ≡ false → (photon && either) ≡ false
+not_either photon either is = ap (λ b. b && either) is
+
+-- A marker ends nothing and begins nothing.
+pub count-marker : (set : StartStopView) (test : ℕ → Bool) (h : History) (x : Event × ℕ) → is_photon x.0 ≡ false → count_intervals set test (h ++ x ∷ []) ≡ count_intervals set test h
+count-marker set test h x marker = let counted = count-by_groups set test h x false (not_either (is_photon x.0) (is_in x.1 set.start || is_in x.1 set.stop) marker) in omega (arith, counted)
+
+pub start-marker : (set : StartStopView) (h : History) (x : Event × ℕ) → is_photon x.0 ≡ false → open_start set (h ++ x ∷ []) ≡ open_start set h
+start-marker set h x marker = start-by_groups set h x false (not_either (is_photon x.0) (is_in x.1 set.start || is_in x.1 set.stop) marker)

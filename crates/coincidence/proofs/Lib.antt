@@ -11,4 +11,4 @@ pub mod Puts
 pub mod Gives
 pub mod Photons
 pub mod Ends
-pub mod Slices
+pub mod Blocks

@@ -8,3 +8,5 @@ pub mod StandsFor
 pub mod Coincidence
 pub mod CoincidenceLaws
 pub mod Ends
+pub mod Starts
+pub mod Counted

@@ -6,6 +6,7 @@ use Rattle.tally_base.specs.Settings.PartSettings.{StartStopSettings}
 use Rattle.tally_base.specs.Tally.{History, greatest_time}
 use Rattle.coincidence.specs.declared.start_stop.StartStop.{StartStop}
 use Rattle.coincidence.specs.Intervals.{in_interval, count_over, open_start}
+use Rattle.coincidence.specs.Starts.{start_in}
 
 -- what it was opened with
 abbrev pub set_of : StartStop → StartStopSet
@@ -18,6 +19,6 @@ settings t = StartStopSettings (startstop_view t.set)
 pub record Holds (t : StartStop) (h : History) : Type 0 where
   pub cells : (b : ℕ) → b < t.set.bins → slice_index t.cells.items b ≡ in_interval (startstop_view t.set) b h
   pub over : t.over ≡ count_over (startstop_view t.set) h
-  pub start : t.start ≡ open_start (startstop_view t.set) h
+  pub start : start_in t.start ≡ open_start (startstop_view t.set) h
   pub taken : t.taken ≡ length h
   pub floor : t.floor ≡ greatest_time false h

@@ -2,8 +2,10 @@
 #![tactic(auto)]
 
 mod coincidence;
+mod counting;
 pub mod laws;
 mod pairing;
+mod start;
 mod start_stop;
 
 pub use coincidence::Coincidence;

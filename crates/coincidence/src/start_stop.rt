@@ -1,9 +1,11 @@
 // A table of the times from a photon of one group to the next of another.
-ghost use Rattle.std.specs.Prelude.{◌≡◌, ◌+◌, ◌/◌, ◌^◌, ◌<◌, ◌≤◌, ◌==◌, ℕ, Some, None, length, nat_le, slice_index, vec_len, sum, if◌then◌else◌};
-ghost use Rattle.coincidence.specs.Ends.{since_or, ended};
-ghost use Rattle.std.specs.Option.{ForSome};
+ghost use Rattle.std.specs.Prelude.{◌≡◌, ◌+◌, ◌≤◌, vec_len, sum};
+ghost use Rattle.coincidence.specs.Starts.{since_in};
 ghost use Rattle.tally_base.specs.Tally.{History};
 
+use crate::counting::{bin_of, count_block, put};
+use crate::start::{Start, ended, no_start, start_behind};
+use event_block::Block;
 use std::alloc::{AllocError, Global};
 use std::sync::ledger::Ledger;
 use tally_base::{Event, StartStopSet, Steps, Tally, is_in};
@@ -20,17 +22,19 @@ pub struct StartStop {
     cells: Vec<u64>,
     over: u64,
     // The time of the last photon of either group, where it is in the start group.
-    start: Option<u64>,
+    start: Start,
     taken: u64,
     floor: u64,
     closed: bool,
     ghost sized: { vec_len cells ≡ set.bins },
     ghost small: { sum cells.items + over ≤ taken },
-    ghost started: { ForSome start (λ time. time ≤ floor) },
+    ghost started: { since_in start ≤ floor },
 }
 
 impl StartStop {
-    ghost use Rattle.std.specs.Prelude.{◌≡◌, ◌<◌, IfOk, [], false};
+    ghost use Rattle.std.specs.Prelude.{◌<◌, ◌^◌, ◌++◌, length, IfOk, [], false};
+    ghost use Rattle.event_block.specs.Columns.{gathered, events_in, IsSorted};
+    ghost use Rattle.event_block.specs.Order.{floor_after, InOrder};
     ghost use Rattle.tally_base.specs.Settings.{startstop_view};
     ghost use Rattle.tally_base.specs.Settings.PartSettings.{StartStopSettings};
     ghost use Rattle.coincidence.specs.Intervals.{in_interval, count_over};
@@ -48,7 +52,7 @@ impl StartStop {
             set,
             cells: vec![in alloc; 0; set.bins as usize]?,
             over: 0,
-            start: None,
+            start: no_start(),
             taken: 0,
             floor: 0,
             closed: false,
@@ -78,80 +82,34 @@ impl StartStop {
     {
         self.over
     }
-}
 
-/// The start that is open behind a photon: its own time where it starts, and none where it only stops.
-/// It takes no branch.
-#[inline(always)]
-fn start_behind(start: Option<u64>, time: u64, starts: bool, stops: bool) -> Option<u64>
-    ensures { result ≡ (if starts then Some time else if stops then None else start) }
-{
-    let waits = start.is_some();
-    let opens = starts | (!stops & waits);
-    some_if(opens, one_of(starts, time, since(start, time)))
-}
-
-/// A time, if it is to be one.
-#[inline(always)]
-fn some_if(opens: bool, time: u64) -> Option<u64>
-    ensures { result ≡ (if opens then Some time else None) }
-{
-    if opens { Some(time) } else { None }
-}
-
-/// The first time, or else the second.
-#[inline(always)]
-fn one_of(first: bool, time: u64, other: u64) -> u64
-    ensures { result ≡ (if first then time else other) }
-{
-    if first { time } else { other }
-}
-
-/// When an interval began, or this time where none is open.
-#[inline(always)]
-fn since(start: Option<u64>, time: u64) -> u64
-    ensures { result ≡ since_or time start }
-{
-    match start {
-        Some(since) => since,
-        None => time,
+    /// Takes the events of a block, as `event` does one by one.
+    pub fn events(&mut self, block: &Block)
+        requires sorted { IsSorted block.now }
+        requires open { ⟦<StartStop as Tally>⟧.closed self.old ≡ false }
+        requires room { ⟦<StartStop as Tally>⟧.taken self.old + length (gathered block.now) ≤ 2 ^ 40 }
+        requires in_order { InOrder false (⟦<StartStop as Tally>⟧.floor self.old)
+            (gathered block.now) }
+        ensures follows { (h : History) → Holds self.old h
+            → Holds self.new (h ++ events_in block.now) }
+        ensures still_open { ⟦<StartStop as Tally>⟧.closed self.new ≡ false }
+        ensures more { ⟦<StartStop as Tally>⟧.taken self.new
+            ≡ ⟦<StartStop as Tally>⟧.taken self.old + length (gathered block.now) }
+        ensures moved { ⟦<StartStop as Tally>⟧.floor self.new
+            ≡ floor_after false (⟦<StartStop as Tally>⟧.floor self.old) (gathered block.now) }
+        ensures same_settings { ⟦<StartStop as Tally>⟧.settings self.new
+            ≡ ⟦<StartStop as Tally>⟧.settings self.old }
+    {
+        self.taken += block.len() as u64;
+        self.floor = block.floor_after(false, self.floor);
+        self.over = count_block(
+            &self.set,
+            &mut self.cells,
+            self.over,
+            &mut self.start,
+            block,
+        );
     }
-}
-
-/// How many intervals a photon ends: one where it stops and one is open.
-#[inline(always)]
-fn ended(start: Option<u64>, stops: bool) -> u64
-    ensures value { result ≡ ended stops start }
-    ensures one { result ≤ 1 }
-{
-    let open = start.is_some();
-    u64::from(stops & open)
-}
-
-/// The bin of a time. Bins of one tick need no division.
-#[inline(always)]
-fn bin_of(time: u64, width: u64) -> u64
-    requires { 0 < width }
-    ensures { result ≡ time / width }
-{
-    if width == 1 { time } else { time / width }
-}
-
-/// Adds to the cell of a bin, or answers what is to be added past the last. It takes no branch.
-#[inline(always)]
-fn put(cells: &mut [u64], bin: u64, more: u64) -> u64
-    requires some { 0 < length cells.old }
-    requires room { sum cells.old + more < 2 ^ 64 }
-    ensures cells { (b : ℕ) → b < length cells.old → slice_index cells.new b
-        ≡ slice_index cells.old b + (if bin == b then more else 0) }
-    ensures rest { result ≡ (if nat_le (length cells.old) bin then more else 0) }
-    ensures sum { sum cells.new + result ≡ sum cells.old + more }
-{
-    let inside = bin < cells.len() as u64;
-    let at = if inside { bin as usize } else { 0 };
-    let here = if inside { more } else { 0 };
-    cells[at] += here;
-    more - here
 }
 
 impl Tally for StartStop {
@@ -185,7 +143,7 @@ impl Tally for StartStop {
             let stops = is_in(groups, self.set.stop);
             self.start = start_behind(start, e.time, is_in(groups, self.set.start), stops);
             self.floor = e.time;
-            let bin = bin_of(e.time - since(start, e.time), self.set.width);
+            let bin = bin_of(e.time - start.since, self.set.width);
             self.over += put(&mut self.cells, bin, ended(start, stops));
         }
     }

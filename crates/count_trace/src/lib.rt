@@ -2,6 +2,7 @@
 #![tactic(auto)]
 
 mod bin;
+mod counting;
 mod trace;
 
 pub use trace::Trace;

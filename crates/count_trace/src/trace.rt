@@ -3,6 +3,8 @@ ghost use Rattle.std.specs.Prelude.{◌≡◌, ◌+◌, ◌*◌, ◌≤◌, vec_
 ghost use Rattle.tally_base.specs.Tally.{History};
 
 use crate::bin::Bin;
+use crate::counting::{Outside, count_block};
+use event_block::Block;
 use std::alloc::{AllocError, Global};
 use std::sync::ledger::Ledger;
 use tally_base::{Event, EventKind, Steps, Tally, TraceSet, is_in};
@@ -28,7 +30,9 @@ pub struct Trace {
 }
 
 impl Trace {
-    ghost use Rattle.std.specs.Prelude.{◌≡◌, ◌<◌, IfOk, [], false};
+    ghost use Rattle.std.specs.Prelude.{◌<◌, ◌^◌, ◌++◌, length, IfOk, [], false};
+    ghost use Rattle.event_block.specs.Columns.{gathered, events_in, IsSorted};
+    ghost use Rattle.event_block.specs.Order.{floor_after, InOrder};
     ghost use Rattle.tally_base.specs.Settings.{trace_view};
     ghost use Rattle.tally_base.specs.Settings.PartSettings.{TraceSettings};
     ghost use Rattle.count_trace.specs.TraceCounts.{in_trace_bin, count_before, count_beyond};
@@ -88,6 +92,39 @@ impl Trace {
             → result ≡ count_beyond (trace_view (set_of self.now)) h }
     {
         self.beyond
+    }
+
+    /// Takes the events of a block, as `event` does one by one.
+    pub fn events(&mut self, block: &Block)
+        requires sorted { IsSorted block.now }
+        requires open { ⟦<Trace as Tally>⟧.closed self.old ≡ false }
+        requires room { ⟦<Trace as Tally>⟧.taken self.old + length (gathered block.now) ≤ 2 ^ 40 }
+        requires in_order { InOrder false (⟦<Trace as Tally>⟧.floor self.old) (gathered block.now) }
+        ensures follows { (h : History) → Holds self.old h
+            → Holds self.new (h ++ events_in block.now) }
+        ensures still_open { ⟦<Trace as Tally>⟧.closed self.new ≡ false }
+        ensures more { ⟦<Trace as Tally>⟧.taken self.new
+            ≡ ⟦<Trace as Tally>⟧.taken self.old + length (gathered block.now) }
+        ensures moved { ⟦<Trace as Tally>⟧.floor self.new
+            ≡ floor_after false (⟦<Trace as Tally>⟧.floor self.old) (gathered block.now) }
+        ensures same_settings { ⟦<Trace as Tally>⟧.settings self.new
+            ≡ ⟦<Trace as Tally>⟧.settings self.old }
+    {
+        self.taken += block.len() as u64;
+        self.floor = block.floor_after(false, self.floor);
+        let mut outside = Outside {
+            before: self.before,
+            beyond: self.beyond,
+        };
+        count_block(
+            &self.set,
+            &mut self.cells,
+            &mut outside,
+            &mut self.kept,
+            block,
+        );
+        self.before = outside.before;
+        self.beyond = outside.beyond;
     }
 }
 

@@ -1,6 +1,6 @@
 -- The greatest time of events in order is that of the last.
-use Rattle.std.proofs.Common.{◌≡◌, ◌∙◌, ℕ, zero, suc, ◌≤◌, Bool, true, false, max, List, [], ◌∷◌, ◌++◌, ap, sym, refl, arith, append-nil, append_assoc}
-use Rattle.std.specs.Prelude.{IsTrue, fold, if◌then◌else◌}
+use Rattle.std.proofs.Common.{◌≡◌, ◌∙◌, ℕ, zero, suc, ◌≤◌, Bool, true, false, max, [], ◌∷◌, ◌++◌, ap, sym, refl, arith, append-nil, append_assoc}
+use Rattle.std.specs.Prelude.{IsTrue, if◌then◌else◌}
 use Rattle.std.proofs.lemmas.List.Sums.{fold-append}
 use Rattle.tally_base.specs.declared.event.Event.{Event}
 use Rattle.tally_base.specs.Tally.{History, moves_floor, greatest_time}

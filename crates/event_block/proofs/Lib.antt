@@ -3,3 +3,6 @@ pub mod Order
 pub mod Props
 pub mod Greatest
 pub mod Back
+pub mod Slices
+pub mod Sorted
+pub mod Lower

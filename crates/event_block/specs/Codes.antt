@@ -1,5 +1,5 @@
 -- An event's kind as two numbers.
-use Rattle.std.specs.Prelude.{ℕ, ◌+◌, ◌%◌, ◌<◌, nat_lt, if◌then◌else◌}
+use Rattle.std.specs.Prelude.{◌≡◌, ℕ, ◌+◌, ◌%◌, ◌<◌, ◌≤◌, List, nat_lt, slice_index, if◌then◌else◌}
 use Rattle.tally_base.specs.declared.event.EventKind.{EventKind}
 use Rattle.tally_base.specs.declared.event.EventKind.TheVariants.{Photon, Marker}
 
@@ -18,3 +18,7 @@ kind_of code dtime = if nat_lt code 256 then Photon code dtime else Marker (code
 abbrev pub IsByte : EventKind → Type 0
 IsByte (Photon input dtime) = input < 256
 IsByte (Marker bits) = bits < 256
+
+-- the markers among the first so many rows are in no group
+abbrev pub InNoGroup : ℕ → List ℕ → List ℕ → Type 0
+InNoGroup n codes groups = (i : ℕ) → i < n → 256 ≤ slice_index codes i → slice_index groups i ≡ 0

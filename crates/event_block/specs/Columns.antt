@@ -1,5 +1,5 @@
 -- The events of a block.
-use Rattle.std.specs.Prelude.{ℕ, zero, suc, List, [], ◌∷◌, ◌++◌, slice_index}
+use Rattle.std.specs.Prelude.{◌≡◌, ℕ, zero, suc, List, [], ◌∷◌, ◌++◌, slice_index}
 use Rattle.tally_base.specs.declared.event.Event.{Event}
 use Rattle.tally_base.specs.Tally.{History}
 use Rattle.event_block.specs.Codes.{kind_of}
@@ -26,11 +26,22 @@ code_at b i = slice_index b.codes i
 abbrev pub dtime_at : Block → ℕ → ℕ
 dtime_at b i = slice_index b.dtimes i
 
+abbrev pub time_at : Block → ℕ → ℕ
+time_at b i = slice_index b.times i
+
 abbrev pub item : Block → ℕ → Event × ℕ
 item b i = (event_at b i, groups_at b i)
 
 abbrev pub count : Block → ℕ
 count b = b.len
+
+-- how many of its events have their groups
+abbrev pub sorted : Block → ℕ
+sorted b = b.sorted
+
+-- each of its events has its groups
+abbrev pub IsSorted : Block → Type 0
+IsSorted b = b.sorted ≡ b.len
 
 -- its events
 abbrev pub gathered : Block → List Event

@@ -1,6 +1,6 @@
 // Events in columns.
 ghost use Rattle.std.specs.Prelude.{◌≡◌, ◌≤◌};
-ghost use Rattle.event_block.specs.Codes.{code_of, dtime_of, kind_of, IsByte};
+ghost use Rattle.event_block.specs.Codes.{code_of, dtime_of, kind_of, IsByte, InNoGroup};
 
 use tally_base::{Event, EventKind, is_in};
 
@@ -14,18 +14,23 @@ pub struct Block {
     codes: [u16; 64],
     dtimes: [u16; 64],
     groups: [u64; 64],
+    // How many have their groups.
+    sorted: usize,
     ghost few: { len ≤ 64 },
+    ghost some: { sorted ≤ len },
+    ghost markers: { InNoGroup sorted codes groups },
 }
 
 impl Block {
     ghost use Rattle.std.specs.Prelude.{◌≡◌, ◌+◌, ◌<◌, ◌++◌, ◌∷◌, ◌&&◌, [], length, ℕ, nat_lt, if◌then◌else◌};
     ghost use Rattle.tally_base.specs.Events.{is_in};
-    ghost use Rattle.event_block.specs.Columns.{count, event_at, groups_at, code_at, dtime_at, item, gathered};
+    ghost use Rattle.event_block.specs.Columns.{count, sorted, event_at, groups_at, code_at, dtime_at, time_at, item, gathered};
     ghost use Rattle.event_block.specs.Order.{floor_after};
 
     /// No events.
     pub fn new() -> Block
         ensures empty { gathered result ≡ [] }
+        ensures unsorted { sorted result ≡ 0 }
     {
         Block {
             len: 0,
@@ -34,6 +39,7 @@ impl Block {
             codes: [0; 64],
             dtimes: [0; 64],
             groups: [0; 64],
+            sorted: 0,
         }
     }
 
@@ -87,14 +93,34 @@ impl Block {
         self.dtimes[at]
     }
 
+    /// The time of the event at a place, from 0.
+    #[inline(always)]
+    pub fn time(&self, at: usize) -> u64
+        requires { at < count self.now }
+        ensures { result ≡ time_at self.now at }
+    {
+        self.times[at]
+    }
+
+    /// Whether the event at a place, from 0, is a photon of the group, 1 to 64. It takes no branch: a
+    /// marker is in no group.
+    #[inline(always)]
+    pub fn has_photon(&self, at: usize, group: u8) -> bool
+        requires inside { at < sorted self.now }
+        requires group { (0 < group) × (group ≤ 64) }
+        ensures { result ≡ (is_in (groups_at self.now at) group && nat_lt (code_at self.now at) 256) }
+    {
+        is_in(self.groups[at], group)
+    }
+
     /// 1 where the event at a place, from 0, is a photon of the group, 1 to 64, else 0. It takes no branch.
     #[inline(always)]
     pub fn photons_in(&self, at: usize, group: u8) -> u64
-        requires inside { at < count self.now }
+        requires inside { at < sorted self.now }
         requires group { (0 < group) × (group ≤ 64) }
         ensures { result ≡ (if is_in (groups_at self.now at) group && nat_lt (code_at self.now at) 256 then 1 else 0) }
     {
-        u64::from(is_in(self.groups[at], group) & (self.codes[at] < 256))
+        u64::from(self.has_photon(at, group))
     }
 
     /// The time of the last event that comes in order, or this one. In a strict order markers come too.
@@ -116,7 +142,8 @@ impl Block {
     #[inline(always)]
     pub fn push(&mut self, e: &Event)
         requires { length (gathered self.old) < 64 }
-        ensures { gathered self.new ≡ gathered self.old ++ e.now ∷ [] }
+        ensures more { gathered self.new ≡ gathered self.old ++ e.now ∷ [] }
+        ensures unsorted { sorted self.new ≡ sorted self.old }
     {
         let at = self.len;
         self.places[at] = e.place;
@@ -126,24 +153,30 @@ impl Block {
         self.len = at + 1;
     }
 
-    /// Puts the groups of the event at a place, from 0.
+    /// Puts the groups of the event at a place, from 0, once those before it have theirs. A marker has none.
     #[inline(always)]
     pub fn put(&mut self, at: usize, groups: u64)
-        requires { at < count self.old }
+        requires inside { at < count self.old }
+        requires next { at ≡ sorted self.old }
+        requires marker { 256 ≤ code_at self.old at → groups ≡ 0 }
         ensures same { (i : ℕ) → event_at self.new i ≡ event_at self.old i }
         ensures count { count self.new ≡ count self.old }
         ensures there { groups_at self.new at ≡ groups }
         ensures before { (i : ℕ) → i < at → groups_at self.new i ≡ groups_at self.old i }
+        ensures sorted { sorted self.new ≡ at + 1 }
     {
         self.groups[at] = groups;
+        self.sorted = at + 1;
     }
 
     /// Drops all events.
     #[inline(always)]
     pub fn clear(&mut self)
-        ensures { gathered self.new ≡ [] }
+        ensures empty { gathered self.new ≡ [] }
+        ensures unsorted { sorted self.new ≡ 0 }
     {
         self.len = 0;
+        self.sorted = 0;
     }
 }
 

@@ -52,7 +52,22 @@ impl Gates {
         ensures { result ≡ plain_bits (groups_of self.now) input
             + gated_bits (groups_of self.now) input dtime }
     {
-        self.plain[input as usize] + bits_of_gated(self.gated.as_slice(), input, dtime)
+        self.of_input(input) + bits_of_gated(self.gated.as_slice(), input, dtime)
+    }
+
+    /// Whether a group has a gate.
+    pub fn has_gates(&self) -> bool
+        ensures { result ≡ false → (input dtime : ℕ) → gated_bits (groups_of self.now) input dtime ≡ 0 }
+    {
+        !self.gated.is_empty()
+    }
+
+    /// The groups without a gate that the photons of an input are in.
+    #[inline(always)]
+    pub fn of_input(&self, input: u8) -> u64
+        ensures { result ≡ plain_bits (groups_of self.now) input }
+    {
+        self.plain[input as usize]
     }
 
     /// The groups that an event is in: bit g - 1 is set for group g. A photon is in a group where its

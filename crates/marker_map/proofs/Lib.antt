@@ -3,3 +3,4 @@ pub mod Lasts
 pub mod Steps
 pub mod Parts
 pub mod Shares
+pub mod Strips

@@ -4,3 +4,5 @@ pub mod Places
 pub mod Rows
 pub mod Lines
 pub mod Divisors
+pub mod Strips
+pub mod PlacesBy

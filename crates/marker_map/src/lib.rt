@@ -5,8 +5,10 @@ mod bits;
 mod divisor;
 pub mod laws;
 mod lines;
+mod strip;
 
 pub use lines::Lines;
+pub use strip::Strip;
 
 #[cfg(test)]
 mod tests;

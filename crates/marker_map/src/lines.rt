@@ -7,6 +7,7 @@ ghost use Rattle.marker_map.specs.Divisors.{divisor_of};
 
 use crate::bits::{has_bit, has_named_bit};
 use crate::divisor::Divisor;
+use crate::strip::Strip;
 use tally_base::ImageSet;
 
 /// A line that no stop has ended, and its row.
@@ -77,9 +78,11 @@ fn row_behind(set: &ImageSet, row: Option<u64>) -> Option<u64>
 }
 
 impl Lines {
-    ghost use Rattle.std.specs.Prelude.{List, [], ◌∷◌, ◌++◌, IfSome};
+    ghost use Rattle.std.specs.Prelude.{ℕ, List, [], ◌∷◌, ◌++◌, IfSome};
     ghost use Rattle.marker_map.specs.Marks.{Mark, mark};
     ghost use Rattle.marker_map.specs.Places.{place_of};
+    ghost use Rattle.marker_map.specs.Strips.{place_on, start_of, width_of, height_of};
+    ghost use Rattle.marker_map.specs.PlacesBy.{place_by};
     ghost use Rattle.marker_map.specs.Lines.{Saw, image_of, markers_given, latest};
 
     /// The lines of an image, before any marker.
@@ -134,12 +137,58 @@ impl Lines {
         ensures inside { IfSome result (λ place. (place.0 < (image_of self.now).width)
             × (place.1 < (image_of self.now).height)) }
     {
-        let line = self.line?;
-        let column = self.dwell.quotient(time - line.start);
-        if column < u64::from(self.set.width) && line.row < u64::from(self.set.height) {
-            Some((column as u32, line.row as u32))
-        } else {
-            None
+        self.strip().place(time)
+    }
+
+    /// Where the photons that come before the next marker are.
+    #[inline(always)]
+    pub fn strip(&self) -> Strip
+        ensures place { (ms : List Mark) → Saw self.now ms
+            → (time : ℕ) → place_on result time ≡ place_of (image_of self.now) time ms }
+        ensures begun { start_of result ≤ latest self.now }
+        ensures width { width_of result ≡ (image_of self.now).width }
+        ensures height { height_of result ≡ (image_of self.now).height }
+    {
+        match self.line {
+            Some(line) if line.row < u64::from(self.set.height) => self.strip_of(line),
+            _ => self.no_strip(),
+        }
+    }
+
+    /// A line whose row is in the image.
+    #[inline(always)]
+    fn strip_of(&self, line: Line) -> Strip
+        requires { line.row < (image_of self.now).height }
+        ensures place { (time : ℕ) → place_on result time ≡ place_by (image_of self.now) time (Some line) }
+        ensures begun { start_of result ≡ line.start }
+        ensures width { width_of result ≡ (image_of self.now).width }
+        ensures height { height_of result ≡ (image_of self.now).height }
+    {
+        Strip {
+            open: true,
+            start: line.start,
+            row: line.row as u32,
+            width: self.set.width,
+            height: self.set.height,
+            dwell: self.dwell,
+        }
+    }
+
+    /// Outside the image.
+    #[inline(always)]
+    fn no_strip(&self) -> Strip
+        ensures place { (time : ℕ) → place_on result time ≡ None }
+        ensures begun { start_of result ≡ 0 }
+        ensures width { width_of result ≡ (image_of self.now).width }
+        ensures height { height_of result ≡ (image_of self.now).height }
+    {
+        Strip {
+            open: false,
+            start: 0,
+            row: 0,
+            width: self.set.width,
+            height: self.set.height,
+            dwell: self.dwell,
         }
     }
 }

@@ -3,3 +3,4 @@ pub mod Behind
 pub mod Cells
 pub mod Counts
 pub mod Totals
+pub mod Steps

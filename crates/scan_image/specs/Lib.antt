@@ -2,3 +2,4 @@ pub mod ImageCounts
 pub mod Totals
 pub mod Image
 pub mod Laws
+pub mod Counted

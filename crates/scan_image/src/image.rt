@@ -4,6 +4,8 @@ ghost use Rattle.tally_base.specs.Settings.{image_view};
 ghost use Rattle.tally_base.specs.Tally.{History};
 ghost use Rattle.marker_map.specs.Lines.{image_of, markers_given, latest};
 
+use crate::count::{cell_of, count_block};
+use event_block::Block;
 use marker_map::Lines;
 use std::alloc::{AllocError, Global};
 use std::sync::ledger::Ledger;
@@ -31,18 +33,10 @@ pub struct Image {
     ghost begun: { latest lines ≤ floor },
 }
 
-/// Where the cell of a column and a row stands.
-fn cell_of(set: &ImageSet, x: u32, y: u32) -> usize
-    requires column { x < set.now.width }
-    requires row { y < set.now.height }
-    ensures place { result ≡ y * set.now.width + x }
-    ensures inside { result < set.now.width * set.now.height }
-{
-    (y * set.width + x) as usize
-}
-
 impl Image {
-    ghost use Rattle.std.specs.Prelude.{IfOk, [], false};
+    ghost use Rattle.std.specs.Prelude.{◌^◌, ◌++◌, length, true, IfOk, [], false};
+    ghost use Rattle.event_block.specs.Columns.{gathered, events_in, IsSorted};
+    ghost use Rattle.event_block.specs.Order.{floor_after, InOrder};
     ghost use Rattle.tally_base.specs.Settings.PartSettings.{ImageSettings};
     ghost use Rattle.scan_image.specs.ImageCounts.{in_cell, count_outside};
     ghost use Rattle.scan_image.specs.Image.{Holds, set_of};
@@ -90,6 +84,33 @@ impl Image {
             → result ≡ count_outside (image_view (set_of self.now)) h }
     {
         self.outside
+    }
+
+    /// Takes the events of a block, as `event` does one by one.
+    pub fn events(&mut self, block: &Block)
+        requires sorted { IsSorted block.now }
+        requires open { ⟦<Image as Tally>⟧.closed self.old ≡ false }
+        requires room { ⟦<Image as Tally>⟧.taken self.old + length (gathered block.now) ≤ 2 ^ 40 }
+        requires in_order { InOrder true (⟦<Image as Tally>⟧.floor self.old) (gathered block.now) }
+        ensures follows { (h : History) → Holds self.old h
+            → Holds self.new (h ++ events_in block.now) }
+        ensures still_open { ⟦<Image as Tally>⟧.closed self.new ≡ false }
+        ensures more { ⟦<Image as Tally>⟧.taken self.new
+            ≡ ⟦<Image as Tally>⟧.taken self.old + length (gathered block.now) }
+        ensures moved { ⟦<Image as Tally>⟧.floor self.new
+            ≡ floor_after true (⟦<Image as Tally>⟧.floor self.old) (gathered block.now) }
+        ensures same_settings { ⟦<Image as Tally>⟧.settings self.new
+            ≡ ⟦<Image as Tally>⟧.settings self.old }
+    {
+        self.taken += block.len() as u64;
+        self.floor = block.floor_after(true, self.floor);
+        self.outside = count_block(
+            &self.set,
+            &mut self.lines,
+            &mut self.cells,
+            self.outside,
+            block,
+        );
     }
 }
 

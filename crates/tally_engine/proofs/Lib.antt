@@ -1,4 +1,5 @@
 pub mod Takes
+pub mod Aheads
 pub mod Sorts
 pub mod Feeds
 pub mod Slices

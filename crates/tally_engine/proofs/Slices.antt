@@ -1,9 +1,6 @@
--- A whole `Vec` that was lent as a slice.
+-- Lists of one image.
 use Rattle.std.proofs.Common.{◌≡◌, ℕ, suc, ◌<◌, List, [], ◌∷◌, ◌++◌, length, get_or, take, drop, map, refl, arith}
 use Rattle.std.proofs.lemmas.Grind.{common_steps}
-
-pub whole_slice : {X : Type 0} (xs : List X) (ys : List X) (n : ℕ) → length xs ≡ length ys → n ≡ length ys → take n (xs ++ drop (length xs) ys) ≡ xs
-whole_slice xs ys n same all = grind (arith, common_steps)
 
 -- lists that agree under f at each place have one image
 pub same_map : {X Y : Type 0} (f : X → Y) (xs ys : List X) → length ys ≡ length xs → ((k : ℕ) (d : X) → k < length xs → f (get_or ys k d) ≡ f (get_or xs k d)) → map f ys ≡ map f xs

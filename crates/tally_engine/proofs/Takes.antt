@@ -119,25 +119,25 @@ module _ {T : Type 0} (g : Ghosts T) where
   few_kept es e true = omega (arith, ap length (append-nil es))
   few_kept es e false = omega (arith, length-append es (e ∷ []))
 
-  pub waits_on : (groups : List GroupView) (mode : Mode) (taken floor now : ℕ) (es es' : List Event) (e : Event) (late : Bool) (old new : T) → Waits g mode taken floor es old → Moves g groups es es' (kept_of late e) old new
-      → (IsTrue (is_ordered mode e && not late) → floor ≤ e.time) → now ≡ (if is_ordered mode e && not late then e.time else floor) → Waits g mode (taken + 1) now es' new
-  waits_on groups mode taken floor now es es' e late old new w m order moves = record {
+  pub waits_on : (groups : List GroupView) (mode : Mode) (taken next floor now : ℕ) (es es' : List Event) (e : Event) (late : Bool) (old new : T) → Waits g mode taken floor es old → Moves g groups es es' (kept_of late e) old new
+      → (IsTrue (is_ordered mode e && not late) → floor ≤ e.time) → next ≡ taken + 1 → now ≡ (if is_ordered mode e && not late then e.time else floor) → Waits g mode next now es' new
+  waits_on groups mode taken next floor now es es' e late old new w m order one moves = record {
     still_open = m.still_open;
-    few = omega (arith, w.few, m.count, few_kept es e late);
+    few = omega (arith, w.few, m.count, few_kept es e late, one);
     before = rw (m.same_settings, m.moved, moves) (waits_floor mode taken floor es e late old w order);
     suits = λ is. rw m.same_settings (w.suits is);
     in_order = rw m.same_settings m.in_order;
   }
 
-  pub gave_more : (groups groups' : List GroupView) (mode mode' : Mode) (taken taken' floor floor' now : ℕ) (es0 es es' : List Event) (first old new : List T) (l : Marked) (e : Event) (late : Bool)
+  pub gave_more : (groups groups' : List GroupView) (mode mode' : Mode) (taken taken' next floor floor' now : ℕ) (es0 es es' : List Event) (first old new : List T) (l : Marked) (e : Event) (late : Bool)
       → Gave g groups groups' mode mode' taken taken' floor floor' es0 es first old l → length new ≡ length old
       → ((k : ℕ) (d : T) → k < length old → Moves g groups' es es' (kept_of late e) (slice_index_or old k d) (slice_index_or new k d))
-      → (IsTrue (is_ordered mode' e && not late) → floor' ≤ e.time) → now ≡ (if is_ordered mode' e && not late then e.time else floor')
-      → Gave g groups groups' mode mode' taken (taken' + 1) floor now es0 es' first new (l ++ (e, late) ∷ [])
-  gave_more groups groups' mode mode' taken taken' floor floor' now es0 es es' first old new l e late gave same moves in_order is = record {
+      → (IsTrue (is_ordered mode' e && not late) → floor' ≤ e.time) → next ≡ taken' + 1 → now ≡ (if is_ordered mode' e && not late then e.time else floor')
+      → Gave g groups groups' mode mode' taken next floor now es0 es' first new (l ++ (e, late) ∷ [])
+  gave_more groups groups' mode mode' taken taken' next floor floor' now es0 es es' first old new l e late gave same moves in_order one is = record {
     same_groups = gave.same_groups;
     same_mode = gave.same_mode;
-    counted = omega (arith, gave.counted, length-append l ((e, late) ∷ []));
+    counted = omega (arith, one, gave.counted, length-append l ((e, late) ∷ []));
     moved = is ∙ moved_on (is_ordered mode' e && not late) floor floor' e.time (floor_of mode l) gave.moved in_order ∙ rw (floor_of-push mode l e late, gave.same_mode) refl;
     follows = λ h held. λ k d inside.
         let within : k < length old = omega (arith, same, inside) in

@@ -1,8 +1,10 @@
+pub mod Ahead
 pub mod Engine
 pub mod Give
 pub mod Histories
 pub mod Part
 pub mod Parts
 pub mod Plans
+pub mod Reached
 pub mod Same
 pub mod Taker

@@ -1,37 +1,55 @@
 // A block of events to every table.
-ghost use Rattle.std.specs.Prelude.{◌≡◌, ℕ, ◌+◌, ◌<◌, ◌++◌, ◌∷◌, [], All, false, length, slice_index_or};
+ghost use Rattle.std.specs.Prelude.{◌≡◌, ℕ, ◌+◌, ◌^◌, ◌<◌, ◌≤◌, ◌++◌, ◌∷◌, [], All, false, length, slice_index_or, if◌then◌else◌, ◌&&◌, not};
 ghost use Rattle.tally_base.specs.declared.event.Event.{Event};
 ghost use Rattle.event_block.specs.Codes.{kind_of};
-ghost use Rattle.event_block.specs.Columns.{gathered, events_in};
+ghost use Rattle.event_block.specs.Columns.{sorted, gathered, events_in, IsSorted};
 ghost use Rattle.gate_plan.specs.Groups.{groups_of, groups_in};
+ghost use Rattle.gate_plan.specs.Parting.{plain_bits, gated_bits};
+ghost use Rattle.tally_base.specs.Events.{is_ordered};
+ghost use Rattle.tally_engine.specs.Ahead.{taken_with, floor_with};
 ghost use Rattle.tally_engine.specs.Give.{CanTake, Took, Moves, Closed, kept_of};
 ghost use Rattle.tally_engine.specs.Histories.{with_groups};
 
 use crate::part::Part;
+use crate::reached::Reached;
 use event_block::Block;
 use gate_plan::Gates;
 use std::sync::ledger::Ledger;
-use tally_base::{Event, Steps, Tally};
+use tally_base::{Event, Mode, Steps, Tally};
 
-/// Gives an event to a block behind its others, unless it is late. Where the block is full, its events
-/// first go to every table.
+/// Gives an event to a block behind its others, unless it is late or there is no table. Where the block
+/// is full, its events first go to every table.
 #[inline(always)]
 pub(crate) fn gather<L: Ledger>(
     gates: &Gates,
+    mode: Mode,
     event: &Event,
     late: bool,
     parts: &mut [Part],
+    reached: &mut Reached,
     block: &mut Block,
     steps: &mut Steps<L>,
 )
     requires may { All (CanTake ⟦<Part as Tally>⟧ (gathered block.old ++ kept_of late event.now)) parts.old }
+    requires room { taken_with reached.old (gathered block.old) < 2 ^ 40 }
+    requires idle { length parts.old ≡ 0 → gathered block.old ≡ [] }
+    requires unsorted { sorted block.old ≡ 0 }
     ensures moves { (k : ℕ) (d : Part) → k < length parts.old
         → Moves ⟦<Part as Tally>⟧ (groups_of gates.now) (gathered block.old)
         (gathered block.new) (kept_of late event.now) (slice_index_or parts.old k d)
         (slice_index_or parts.new k d) }
+    ensures taken { taken_with reached.new (gathered block.new)
+        ≡ taken_with reached.old (gathered block.old) + 1 }
+    ensures floor { floor_with mode reached.new (gathered block.new)
+        ≡ (if is_ordered mode event.now && not late then event.now.time
+        else floor_with mode reached.old (gathered block.old)) }
+    ensures idle { length parts.new ≡ 0 → gathered block.new ≡ [] }
+    ensures unsorted { sorted block.new ≡ 0 }
 {
-    if !late && !parts.is_empty() {
-        gather_one(gates, event, parts, block, steps);
+    if late || parts.is_empty() {
+        reached.pass(mode, event, late);
+    } else {
+        gather_one(gates, mode, event, parts, reached, block, steps);
     }
 }
 
@@ -39,18 +57,28 @@ pub(crate) fn gather<L: Ledger>(
 #[inline(always)]
 fn gather_one<L: Ledger>(
     gates: &Gates,
+    mode: Mode,
     event: &Event,
     parts: &mut [Part],
+    reached: &mut Reached,
     block: &mut Block,
     steps: &mut Steps<L>,
 )
     requires may { All (CanTake ⟦<Part as Tally>⟧ (gathered block.old ++ event.now ∷ [])) parts.old }
+    requires room { taken_with reached.old (gathered block.old) < 2 ^ 40 }
+    requires unsorted { sorted block.old ≡ 0 }
     ensures moves { (k : ℕ) (d : Part) → k < length parts.old
         → Moves ⟦<Part as Tally>⟧ (groups_of gates.now) (gathered block.old)
         (gathered block.new) (event.now ∷ []) (slice_index_or parts.old k d)
         (slice_index_or parts.new k d) }
+    ensures taken { taken_with reached.new (gathered block.new)
+        ≡ taken_with reached.old (gathered block.old) + 1 }
+    ensures floor { floor_with mode reached.new (gathered block.new)
+        ≡ (if is_ordered mode event.now then event.now.time
+        else floor_with mode reached.old (gathered block.old)) }
+    ensures unsorted { sorted block.new ≡ 0 }
 {
-    make_room(gates, parts, block, steps);
+    make_room(gates, mode, parts, reached, block, steps);
     block.push(event);
 }
 
@@ -58,18 +86,27 @@ fn gather_one<L: Ledger>(
 #[inline(always)]
 fn make_room<L: Ledger>(
     gates: &Gates,
+    mode: Mode,
     parts: &mut [Part],
+    reached: &mut Reached,
     block: &mut Block,
     steps: &mut Steps<L>,
 )
     requires may { All (CanTake ⟦<Part as Tally>⟧ (gathered block.old)) parts.old }
+    requires room { taken_with reached.old (gathered block.old) ≤ 2 ^ 40 }
+    requires unsorted { sorted block.old ≡ 0 }
     ensures room { length (gathered block.new) < 64 }
     ensures moves { (k : ℕ) (d : Part) → k < length parts.old
         → Moves ⟦<Part as Tally>⟧ (groups_of gates.now) (gathered block.old)
         (gathered block.new) [] (slice_index_or parts.old k d) (slice_index_or parts.new k d) }
+    ensures taken { taken_with reached.new (gathered block.new)
+        ≡ taken_with reached.old (gathered block.old) }
+    ensures floor { floor_with mode reached.new (gathered block.new)
+        ≡ floor_with mode reached.old (gathered block.old) }
+    ensures unsorted { sorted block.new ≡ 0 }
 {
     if block.len() == 64 {
-        flush(gates, parts, block, steps);
+        flush(gates, mode, parts, reached, block, steps);
     }
 }
 
@@ -77,49 +114,77 @@ fn make_room<L: Ledger>(
 #[inline(never)]
 pub(crate) fn flush<L: Ledger>(
     gates: &Gates,
+    mode: Mode,
     parts: &mut [Part],
+    reached: &mut Reached,
     block: &mut Block,
     steps: &mut Steps<L>,
 )
     requires may { All (CanTake ⟦<Part as Tally>⟧ (gathered block.old)) parts.old }
+    requires room { taken_with reached.old (gathered block.old) ≤ 2 ^ 40 }
+    requires unsorted { sorted block.old ≡ 0 }
     ensures empty { gathered block.new ≡ [] }
     ensures took { (k : ℕ) (d : Part) → k < length parts.old
         → Took ⟦<Part as Tally>⟧ (gathered block.old)
         (with_groups (groups_of gates.now) (gathered block.old)) (slice_index_or parts.old k d)
         (slice_index_or parts.new k d) }
+    ensures taken { reached.new.taken ≡ taken_with reached.old (gathered block.old) }
+    ensures floor { reached.new.floor ≡ floor_with mode reached.old (gathered block.old) }
+    ensures unsorted { sorted block.new ≡ 0 }
 {
     sort(gates, block);
     give_all(parts, block, steps);
+    reached.pass_block(mode, block);
     block.clear();
 }
 
 /// Finds the groups of the events of a block.
 fn sort(gates: &Gates, block: &mut Block)
+    requires { sorted block.old ≡ 0 }
     ensures same { gathered block.new ≡ gathered block.old }
     ensures sorted { events_in block.new
         ≡ with_groups (groups_of gates.now) (gathered block.old) }
+    ensures ready { IsSorted block.new }
 {
+    let gated = gates.has_gates();
     for at in 0..block.len().min(64) {
-        let groups = groups_at(gates, block.code(at), block.dtime(at));
+        let groups = groups_at(gates, gated, block.code(at), block.dtime(at));
         block.put(at, groups);
     }
 }
 
 /// The groups of an event in a block.
 #[inline(always)]
-fn groups_at(gates: &Gates, code: u16, dtime: u16) -> u64
-    ensures { (e : Event) → e.kind ≡ kind_of code dtime
+fn groups_at(gates: &Gates, gated: bool, code: u16, dtime: u16) -> u64
+    requires { gated ≡ false → (input dtime : ℕ) → gated_bits (groups_of gates.now) input dtime ≡ 0 }
+    ensures marker { 256 ≤ code → result ≡ 0 }
+    ensures value { (e : Event) → e.kind ≡ kind_of code dtime
         → result ≡ groups_in (groups_of gates.now) e }
 {
     if code < 256 {
-        gates.of_photon(code as u8, dtime)
+        photon_groups(gates, gated, code as u8, dtime)
     } else {
         0
     }
 }
 
+/// The groups of a photon.
+#[inline(always)]
+fn photon_groups(gates: &Gates, gated: bool, input: u8, dtime: u16) -> u64
+    requires { gated ≡ false → (input dtime : ℕ) → gated_bits (groups_of gates.now) input dtime ≡ 0 }
+    ensures { result ≡ plain_bits (groups_of gates.now) input
+        + gated_bits (groups_of gates.now) input dtime }
+{
+    if gated {
+        gates.of_photon(input, dtime)
+    } else {
+        gates.of_input(input)
+    }
+}
+
 /// Gives the events of a block to every table.
 fn give_all<L: Ledger>(parts: &mut [Part], block: &Block, steps: &mut Steps<L>)
+    requires sorted { IsSorted block.now }
     requires may { All (CanTake ⟦<Part as Tally>⟧ (gathered block.now)) parts.old }
     ensures took { (k : ℕ) (d : Part) → k < length parts.old
         → Took ⟦<Part as Tally>⟧ (gathered block.now) (events_in block.now)

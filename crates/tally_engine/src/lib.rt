@@ -6,6 +6,7 @@ mod give;
 pub mod laws;
 mod open;
 mod part;
+mod reached;
 mod taker;
 
 pub use engine::{Engine, Results};

@@ -71,15 +71,16 @@ impl Tally for Part {
 }
 
 impl Part {
-    ghost use Rattle.std.specs.Prelude.{◌≡◌, ◌+◌, ◌++◌, ◌^◌, ◌≤◌, false, length};
+    ghost use Rattle.std.specs.Prelude.{◌≡◌, ◌+◌, ◌^◌, ◌≤◌, ◌++◌, false, length};
     ghost use Rattle.tally_base.specs.Settings.{is_strict};
     ghost use Rattle.tally_base.specs.Tally.{History};
-    ghost use Rattle.event_block.specs.Columns.{gathered, events_in};
+    ghost use Rattle.event_block.specs.Columns.{gathered, events_in, IsSorted};
     ghost use Rattle.event_block.specs.Order.{floor_after, InOrder};
 
     /// Takes the events of a block, each as `event` does. The kind of the table is tested once.
     #[inline]
     pub(crate) fn events<L: Ledger>(&mut self, block: &Block, steps: &mut Steps<L>)
+        requires sorted { IsSorted block.now }
         requires open { ⟦<Part as Tally>⟧.closed self.old ≡ false }
         requires room { ⟦<Part as Tally>⟧.taken self.old + length (gathered block.now) ≤ 2 ^ 40 }
         requires in_order { InOrder (is_strict (⟦<Part as Tally>⟧.settings self.old))
@@ -98,9 +99,9 @@ impl Part {
         match self {
             Part::Hist(t) => t.events(block),
             Part::Trace(t) => give_block(t, block, steps),
-            Part::StartStop(t) => give_block(t, block, steps),
+            Part::StartStop(t) => t.events(block),
             Part::Coincidence(t) => give_block(t, block, steps),
-            Part::Image(t) => give_block(t, block, steps),
+            Part::Image(t) => t.events(block),
             Part::Correlation(t) => give_block(t, block, steps),
         }
     }

@@ -1,8 +1,7 @@
 // The taker of a stream's events that gives them to every table.
-ghost use Rattle.std.specs.Prelude.{◌≡◌, ◌≢◌, ℕ, ◌+◌, ◌*◌, ◌^◌, ◌<◌, ◌≤◌, ◌++◌, [], List, All, length, false, None, Some, Err, OnOk, IfErr, slice_index_or, if◌then◌else◌, ◌&&◌, not};
+ghost use Rattle.std.specs.Prelude.{◌≡◌, ◌≢◌, ℕ, ◌+◌, ◌*◌, ◌^◌, ◌<◌, ◌≤◌, ◌++◌, [], List, All, length, false, None, Some, Err, OnOk, IfErr, slice_index_or};
 ghost use Rattle.tally_base.specs.declared.fault.Fault.{Fault};
 ghost use Rattle.tally_base.specs.declared.fault.Fault.TheVariants.{WriteFault};
-ghost use Rattle.tally_base.specs.Events.{is_ordered};
 ghost use Rattle.ptu_definitions.specs.Shown.{Shows};
 ghost use Rattle.ptu_definitions.specs.Streams.{record_refusal, streamed};
 ghost use Rattle.ptu_definitions.specs.Words.{words_of};
@@ -11,28 +10,21 @@ ghost use Rattle.tally_base.specs.Faults.{fault_in};
 ghost use Rattle.tally_engine.specs.Histories.{history, with_groups};
 ghost use Rattle.tally_engine.specs.Same.{SameTables};
 ghost use Rattle.gate_plan.specs.Groups.{groups_of};
-ghost use Rattle.event_block.specs.Columns.{gathered};
+ghost use Rattle.event_block.specs.Columns.{sorted, gathered};
 ghost use Rattle.event_block.proofs.Props.{in_order-prop};
 ghost use Rattle.std.proofs.Props.{props};
+ghost use Rattle.tally_engine.specs.Ahead.{taken_with, floor_with};
 ghost use Rattle.tally_engine.specs.Give.{CanTake, Took};
 ghost use Rattle.tally_engine.specs.Taker.{Standing, Waits};
 
 use crate::give::{flush, gather};
 use crate::part::Part;
+use crate::reached::Reached;
 use event_block::Block;
 use gate_plan::Gates;
 use record_stream::{EventTaker, RecordStream};
 use std::sync::ledger::Ledger;
-use tally_base::{Event, EventKind, Failed, Fault, Mode, Steps, Tally};
-
-/// How far the tables of an engine are.
-#[derive(Clone, Copy)]
-pub(crate) struct Reached {
-    /// How many events came, with the late ones, which the tables aren't given.
-    pub(crate) taken: u64,
-    /// The greatest time of the events in order that were not late.
-    pub(crate) floor: u64,
-}
+use tally_base::{Event, Failed, Fault, Mode, Steps, Tally};
 
 /// Gives each event that isn't late to every table, with its groups. It gathers up to 64 of them in a
 /// block, so that the kind of a table is tested once for many events. It lives for one piece.
@@ -42,11 +34,13 @@ struct Taker<'g, 'p, 's, L: Ledger> {
     parts: &'p mut [Part],
     steps: &'s mut Steps<L>,
     mode: Mode,
-    taken: u64,
-    floor: u64,
+    // How far the tables are, and behind that come the events of the block.
+    reached: Reached,
     block: Block,
-    ghost waiting: { All (Waits ⟦<Part as Tally>⟧ mode taken floor (gathered block)) parts.now } by { Prim.hlevel (props, in_order-prop) },
-    ghost limit: { 0 < length (gathered block) → taken ≤ 2 ^ 40 },
+    ghost waiting: { All (Waits ⟦<Part as Tally>⟧ mode (taken_with reached (gathered block)) (floor_with mode reached (gathered block)) (gathered block)) parts.now } by { Prim.hlevel (props, in_order-prop) },
+    ghost limit: { 0 < length (gathered block) → taken_with reached (gathered block) ≤ 2 ^ 40 },
+    ghost idle: { length parts.now ≡ 0 → gathered block ≡ [] },
+    ghost unsorted: { sorted block ≡ 0 },
 }
 
 impl<'g, 'p, 's, L: Ledger> EventTaker for Taker<'g, 'p, 's, L> {
@@ -54,15 +48,17 @@ impl<'g, 'p, 's, L: Ledger> EventTaker for Taker<'g, 'p, 's, L> {
     ghost use Rattle.tally_engine.specs.Taker.{Gave, gave_none};
 
     ghost got = { λ s t l. Gave ⟦<Part as Tally>⟧ (groups_of s.gates.now) (groups_of t.gates.now) s.mode
-        t.mode s.taken t.taken s.floor t.floor (gathered s.block) (gathered t.block) s.parts.now t.parts.now l };
+        t.mode (taken_with s.reached (gathered s.block)) (taken_with t.reached (gathered t.block))
+        (floor_with s.mode s.reached (gathered s.block)) (floor_with t.mode t.reached (gathered t.block))
+        (gathered s.block) (gathered t.block) s.parts.now t.parts.now l };
 
     ghost broke = { λ s t l. ⊥ };
 
     ghost mode = { λ t. t.mode };
 
-    ghost taken = { λ t. t.taken };
+    ghost taken = { λ t. taken_with t.reached (gathered t.block) };
 
-    ghost floor = { λ t. t.floor };
+    ghost floor = { λ t. floor_with t.mode t.reached (gathered t.block) };
 
     ghost faults = { λ t. 0 };
 
@@ -81,22 +77,17 @@ impl<'g, 'p, 's, L: Ledger> EventTaker for Taker<'g, 'p, 's, L> {
 
     #[inline(always)]
     fn take(&mut self, event: &Event, late: bool) -> Result<(), Failed> {
-        gather(self.gates, event, late, self.parts, &mut self.block, self.steps);
-        self.taken += 1;
-        self.floor = moved(self.mode, event, late, self.floor);
+        gather(
+            self.gates,
+            self.mode,
+            event,
+            late,
+            self.parts,
+            &mut self.reached,
+            &mut self.block,
+            self.steps,
+        );
         Ok(())
-    }
-}
-
-/// The greatest time of the events in order that were not late, with one event more.
-#[inline(always)]
-fn moved(mode: Mode, event: &Event, late: bool, floor: u64) -> u64
-    ensures { result ≡ (if is_ordered mode event.now && not late then event.now.time else floor) }
-{
-    match (mode, event.kind) {
-        (Mode::T2, EventKind::Marker { .. }) => floor,
-        _ if late => floor,
-        _ => event.time,
     }
 }
 
@@ -144,8 +135,7 @@ pub(crate) fn feed_parts<L: Ledger>(
         parts,
         steps,
         mode,
-        taken: reached.taken,
-        floor: reached.floor,
+        reached: *reached,
         block: Block::new(),
     };
     let fed = stream.feed(piece, &mut taker);
@@ -153,33 +143,39 @@ pub(crate) fn feed_parts<L: Ledger>(
         gates,
         parts,
         steps,
-        mode: _,
-        taken,
-        floor,
+        mode,
+        reached: mut now,
         mut block,
     } = taker;
-    give_rest(gates, parts, &mut block, steps);
-    *reached = Reached { taken, floor };
+    give_rest(gates, mode, parts, &mut now, &mut block, steps);
+    *reached = now;
     fed
 }
 
 /// Gives the last events of a piece to every table.
 fn give_rest<L: Ledger>(
     gates: &Gates,
+    mode: Mode,
     parts: &mut [Part],
+    reached: &mut Reached,
     block: &mut Block,
     steps: &mut Steps<L>,
 )
     requires open { All (λ t. ⟦<Part as Tally>⟧.closed t ≡ false) parts.old }
+    requires unsorted { sorted block.old ≡ 0 }
     requires may { 0 < length (gathered block.old)
         → All (CanTake ⟦<Part as Tally>⟧ (gathered block.old)) parts.old }
-    ensures kept { gathered block.old ≡ [] → parts.new ≡ parts.old }
+    requires room { 0 < length (gathered block.old)
+        → taken_with reached.old (gathered block.old) ≤ 2 ^ 40 }
+    ensures kept { gathered block.old ≡ [] → (parts.new ≡ parts.old) × (reached.new ≡ reached.old) }
     ensures took { (k : ℕ) (d : Part) → k < length parts.old
         → Took ⟦<Part as Tally>⟧ (gathered block.old)
         (with_groups (groups_of gates.now) (gathered block.old)) (slice_index_or parts.old k d)
         (slice_index_or parts.new k d) }
+    ensures taken { reached.new.taken ≡ taken_with reached.old (gathered block.old) }
+    ensures floor { reached.new.floor ≡ floor_with mode reached.old (gathered block.old) }
 {
     if block.len() > 0 {
-        flush(gates, parts, block, steps);
+        flush(gates, mode, parts, reached, block, steps);
     }
 }

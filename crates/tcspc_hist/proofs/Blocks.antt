@@ -1,13 +1,12 @@
 -- The counts over the rows of a block.
-use Rattle.std.proofs.Common.{◌≡◌, ◌∙◌, ℕ, zero, suc, ◌+◌, ◌<◌, ◌≤◌, ◌/◌, Bool, true, false, ◌&&◌, cond, eqb, List, [], ◌∷◌, ◌++◌, ap, sym, refl, arith}
-use Rattle.std.specs.Prelude.{nat_lt, nat_le, ◌==◌, if◌then◌else◌, count_by}
+use Rattle.std.proofs.Common.{◌≡◌, ◌∙◌, ℕ, ◌+◌, ◌≤◌, Bool, true, false, ◌&&◌, cond, ◌++◌, ap, refl, arith}
+use Rattle.std.specs.Prelude.{nat_lt, if◌then◌else◌}
 use Rattle.std.proofs.lemmas.List.Sums.{sum_by-append, sum_by_push}
 use Rattle.tally_base.specs.declared.event.Event.{Event}
 use Rattle.tally_base.specs.declared.event.EventKind.TheVariants.{Photon, Marker}
 use Rattle.tally_base.specs.Events.{is_in}
 use Rattle.tally_base.specs.Settings.{HistView}
 use Rattle.tally_base.specs.Tally.{History}
-use Rattle.event_block.specs.Codes.{kind_of}
 use Rattle.event_block.specs.Columns.{rows, item, code_at, dtime_at, groups_at}
 use Rattle.event_block.specs.declared.block.Block.{Block}
 use Rattle.event_block.proofs.Rows.{more_rows}

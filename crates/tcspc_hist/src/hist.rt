@@ -2,7 +2,7 @@
 ghost use Rattle.std.specs.Prelude.{◌≡◌, ◌+◌, ◌*◌, ◌/◌, ◌^◌, ◌<◌, ◌≤◌, ℕ, vec_len, sum, length, slice_index, nat_le, ◌==◌, if◌then◌else◌};
 ghost use Rattle.tally_base.specs.Settings.{hist_view};
 ghost use Rattle.tally_base.specs.Tally.{History};
-ghost use Rattle.event_block.specs.Columns.{gathered, events_in};
+ghost use Rattle.event_block.specs.Columns.{gathered, events_in, IsSorted};
 ghost use Rattle.tcspc_hist.specs.HistogramCounts.{in_bin, count_over};
 
 use event_block::Block;
@@ -77,6 +77,7 @@ impl Hist {
 
     /// Takes the events of a block, as `event` does one by one.
     pub fn events(&mut self, block: &Block)
+        requires sorted { IsSorted block.now }
         requires open { ⟦<Hist as Tally>⟧.closed self.old ≡ false }
         requires room { ⟦<Hist as Tally>⟧.taken self.old + length (gathered block.now) ≤ 2 ^ 40 }
         requires in_order { InOrder false (⟦<Hist as Tally>⟧.floor self.old) (gathered block.now) }
@@ -98,6 +99,7 @@ impl Hist {
 
 /// Counts the photons of a block, and answers how many are now past the last bin.
 fn count_block(set: &HistSet, cells: &mut [u64], over: u64, block: &Block) -> u64
+    requires sorted { IsSorted block.now }
     requires sized { length cells.old ≡ set.now.bins }
     requires room { sum cells.old + over + length (gathered block.now) ≤ 2 ^ 40 }
     ensures cells { (b : ℕ) → b < set.now.bins → slice_index cells.new b

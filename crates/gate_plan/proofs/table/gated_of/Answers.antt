@@ -9,7 +9,7 @@ pub groups-preserved : goal.groups-preserved
 groups-preserved c =
     let kept = c.groups.invariant in
     elim c.match-group.branch [
-      in-Some w ↦ record {
+      | in-Some w ↦ record {
         place = omega (arith, kept.place);
         few = kept.few;
         room = rw w.gated-is (omega (arith, ap length w.push.ensures.items, length-append c.groups.gated.items, kept.room));
@@ -17,7 +17,7 @@ groups-preserved c =
             rw (w.gated-is, w.push.ensures.items, sum_by_push (gated_bit input dtime), w.inputs_of.ensures input)
             (gated_some input dtime (gated_sum c.groups.gated.items input dtime) c.groups.place c.groups.group-index c.args.groups.now c.group-item.result w.in-Some.first w.in-Some.end _ c.groups-test.true c.group-item.is w.in-Some.is (kept.rest input dtime));
       }
-    | in_default w ↦ record {
+      | in_default w ↦ record {
         place = omega (arith, kept.place);
         few = kept.few;
         room = rw w.gated-is (omega (arith, kept.room));

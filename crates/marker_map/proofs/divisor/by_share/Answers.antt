@@ -1,4 +1,4 @@
-use Rattle.std.proofs.Common.{◌≡◌, ◌+◌, ◌/◌, ◌^◌, ◌<◌, rules, arith}
+use Rattle.std.proofs.Common.{◌≡◌, ◌+◌, ◌/◌, ◌^◌, ◌<◌, rules}
 use Rattle.marker_map.proofs.Shares.{quotient_is}
 use Rattle.marker_map.proofs.divisor.by_share.Goals as goal
 

@@ -13,6 +13,6 @@ loop-part-preserved g c =
     let inside : i < length c.loop-part.parts = search (rules, arith) in
     record {
       given = given_more (Took ghosts (gathered c.args.block.now) (events_in c.args.block.now)) c.args.parts.now c.loop-part.parts i c.events.new.self c.part-item.result inside inv.given inv.left
-        (record { follows = e.follows; still_open = e.still_open; count = e.more; moved = e.moved; same_settings = e.same_settings });
+          (record { follows = e.follows; still_open = e.still_open; count = e.more; moved = e.moved; same_settings = e.same_settings });
       left = left_more c.args.parts.now c.loop-part.parts i c.events.new.self inv.left;
     }

@@ -23,8 +23,11 @@ returns-clause-counts g c = λ bytes h.
     (counts_on groups how c.feed-fed.result (all c.args.parts.now) (all c.give_rest.new.parts) bytes c.args.piece.now _ _ _ _ _ _ _ _ _ _ h (rw fed.same_how at (fed.taken bytes h)) fed.refused (λ fault is. (fed.kept fault is).0)
     (λ none.
     let r = fed_whole _ _ _ _ _ _ _ (gave_none ghosts _ _ _ _ _ _) (λ l broke. broke) (fed.fed none bytes h) in
-    let same : length c.give_rest.new.parts ≡ length taker.parts.now = search rules in
-    (r.1.0, r.1.1, λ h held. λ k d inside.
-        let within : k < length taker.parts.now = omega (arith, same, inside) in
-        holding_all ghosts groups (gathered taker.block) _ _ _ (r.1.2.follows h (λ k d within. holding_none ghosts groups _ _ h c.new.ensures.empty (held k d within)) k d within) (rw r.1.2.same_groups at (c.give_rest.ensures.took k d within)))))
+    let same : length c.give_rest.new.parts ≡ length taker.parts.now = search rules in (
+      r.1.0,
+      r.1.1,
+      λ h held. λ k d inside.
+          let within : k < length taker.parts.now = omega (arith, same, inside) in
+          holding_all ghosts groups (gathered taker.block) _ _ _ (r.1.2.follows h (λ k d within. holding_none ghosts groups _ _ h c.new.ensures.empty (held k d within)) k d within) (rw r.1.2.same_groups at (c.give_rest.ensures.took k d within)),
+    )))
     (search rules)

@@ -1,9 +1,8 @@
-use Rattle.std.proofs.Common.{◌≡◌, ◌∙◌, ◌+◌, ◌<◌, ◌≤◌, ◌/◌, ◌&&◌, ℕ, length, sym, refl, rules, arith}
-use Rattle.std.specs.Prelude.{nat_lt, nat_le, ◌==◌, if◌then◌else◌, slice_index}
+use Rattle.std.proofs.Common.{◌≡◌, ◌<◌, ◌≤◌, ◌/◌, ◌&&◌, length, refl, rules, arith}
+use Rattle.std.specs.Prelude.{nat_lt, nat_le, ◌==◌, if◌then◌else◌}
 use Rattle.tally_base.specs.Events.{is_in}
 use Rattle.tally_base.specs.Settings.{hist_view}
-use Rattle.event_block.specs.Columns.{item, rows, code_at, dtime_at, groups_at}
-use Rattle.tcspc_hist.specs.HistogramCounts.{in_bin, count_over}
+use Rattle.event_block.specs.Columns.{code_at, dtime_at, groups_at}
 use Rattle.tcspc_hist.proofs.Blocks.{count-row, one_at_most}
 use Rattle.tcspc_hist.proofs.hist.count_block.Goals as goal
 

@@ -4,10 +4,11 @@ use Rattle.std.proofs.lemmas.Grind.{common_steps}
 use Rattle.tally_base.specs.declared.event.Event.{Event}
 use Rattle.tally_base.specs.Settings.{startstop_view}
 use Rattle.tally_base.specs.Events.{is_photon, is_in}
-use Rattle.coincidence.specs.Ends.{since_or, ended}
+use Rattle.coincidence.specs.Ends.{ended}
+use Rattle.coincidence.specs.Starts.{start_in, since_in}
 use Rattle.coincidence.specs.Intervals.{in_interval, count_intervals}
 use Rattle.coincidence.proofs.Ends.{ends_as}
-use Rattle.coincidence.proofs.Slices.{whole_slice}
+use Rattle.event_block.proofs.Slices.{whole_slice}
 use Rattle.coincidence.proofs.Intervals.{count-photon, start-photon}
 use Rattle.coincidence.proofs.start_stop.StartStopTally.event.Goals as goal
 
@@ -25,18 +26,18 @@ returns-then-is_photon-clause-follows g c = λ h is.
     let sized : length t.cells.items ≡ t.set.bins = search rules in
     let bin = c.bin_of-bin.result in
     let more = c.ended.result in
-    let is_bin : bin ≡ (time - since_or time t.start) / t.set.width = search rules in
-    let is_more : more ≡ ended stops t.start = search rules in
-    let step : (test : ℕ → Bool) → count_intervals set test (h ++ x ∷ []) ≡ count_intervals set test h + (if test (time - since_or time t.start) then ended stops t.start else 0) = λ test. rw (← ends_as test time stops t.start) (count-photon set test h x stops t.start photon refl (sym is.start)) in
+    let is_bin : bin ≡ (time - since_in t.start) / t.set.width = search rules in
+    let is_more : more ≡ ended stops (start_in t.start) = search rules in
+    let step : (test : ℕ → Bool) → count_intervals set test (h ++ x ∷ []) ≡ count_intervals set test h + (if test (time - since_in t.start) then ended stops (start_in t.start) else 0) = λ test. rw (← ends_as test time stops t.start) (count-photon set test h x stops (start_in t.start) photon refl (sym is.start)) in
     record {
       cells = λ b lt.
           let inside : b < length t.cells.items = omega (arith, sized, lt) in
-          let added : (if bin == b then more else 0) ≡ (if (time - since_or time t.start) / t.set.width == b then ended stops t.start else 0) = rw (is_bin, is_more) refl in
+          let added : (if bin == b then more else 0) ≡ (if (time - since_in t.start) / t.set.width == b then ended stops (start_in t.start) else 0) = rw (is_bin, is_more) refl in
           rw (whole_slice c.put.new.cells t.cells.items t.cells.len count all) (omega (arith, put.cells b inside, is.cells b lt, step (λ time. time / t.set.width == b), added));
       over =
-          let added : (if nat_le (length t.cells.items) bin then more else 0) ≡ (if nat_le t.set.bins ((time - since_or time t.start) / t.set.width) then ended stops t.start else 0) = rw (sized, is_bin, is_more) refl in
+          let added : (if nat_le (length t.cells.items) bin then more else 0) ≡ (if nat_le t.set.bins ((time - since_in t.start) / t.set.width) then ended stops (start_in t.start) else 0) = rw (sized, is_bin, is_more) refl in
           omega (arith, put.rest, is.over, step (λ time. nat_le t.set.bins (time / t.set.width)), added);
-      start = rw (start-photon set h x _ _ _ photon (sym c.is_in.ensures) (sym c.is_in-stops.ensures) (sym is.start)) c.start_behind-self.ensures;
+      start = rw (start-photon set h x _ _ _ photon (sym c.is_in.ensures) (sym c.is_in-stops.ensures) (sym is.start)) c.start_behind-self.ensures.value;
       taken = grind (arith, common_steps, is.taken);
       floor = grind (arith, common_steps, is.floor);
     }

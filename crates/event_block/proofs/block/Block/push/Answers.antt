@@ -1,10 +1,14 @@
 use Rattle.std.proofs.Common.{◌<◌, refl, arith, rules}
 use Rattle.event_block.specs.Columns.{row}
 use Rattle.event_block.proofs.Rows.{length-rows, rows-push}
+use Rattle.event_block.proofs.Sorted.{none-push}
 use Rattle.event_block.proofs.block.Block.push.Goals as goal
 
-pub returns : goal.returns
-returns c =
+pub returns-clause-more : goal.returns-clause-more
+returns-clause-more c =
     let b = c.args.self.now in
     let few : b.len < 64 = omega (arith, length-rows (row b.places b.times b.codes b.dtimes) b.len, c.requires) in
     rows-push b.places b.times b.codes b.dtimes b.len _ _ _ _ c.args.e.now (search (rules, arith, few)) (search (rules, arith, few)) (search (rules, arith, few)) (search (rules, arith, few)) c.code_of.ensures.byte refl refl c.code_of.ensures.value c.dtime_of.ensures
+
+pub invariant_of-self-clause-markers : goal.invariant_of-self-clause-markers
+invariant_of-self-clause-markers c = let b = c.args.self.now in none-push b.codes b.groups b.sorted b.len _ b.some b.markers

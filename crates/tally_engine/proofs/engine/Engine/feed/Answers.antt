@@ -4,7 +4,8 @@ use Rattle.std.proofs.Props.{props}
 use Rattle.ptu_definitions.specs.Words.{words_of}
 use Rattle.std.specs.Vec.{with_items}
 use Rattle.record_stream.specs.Standing.{carried_by}
-use Rattle.tally_engine.proofs.Slices.{whole_slice, same_map}
+use Rattle.event_block.proofs.Slices.{whole_slice}
+use Rattle.tally_engine.proofs.Slices.{same_map}
 use Rattle.tally_engine.proofs.Refusals.{inside_after, of_faults, no_write}
 use Rattle.tally_engine.proofs.Opens.{kept_within}
 use Rattle.tally_engine.proofs.engine.Engine.feed.Goals as goal

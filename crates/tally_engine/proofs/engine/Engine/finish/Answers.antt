@@ -1,5 +1,6 @@
 use Rattle.std.proofs.Common.{rules, ◌≡◌, refl, sym, ◌∙◌, length}
-use Rattle.tally_engine.proofs.Slices.{whole_slice, same_map}
+use Rattle.event_block.proofs.Slices.{whole_slice}
+use Rattle.tally_engine.proofs.Slices.{same_map}
 use Rattle.tally_engine.proofs.Opens.{part_worked}
 use Rattle.tally_engine.proofs.Refusals.{unrefused, not_written}
 use Rattle.tally_engine.proofs.engine.Engine.finish.Goals as goal

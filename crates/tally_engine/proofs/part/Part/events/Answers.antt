@@ -7,7 +7,7 @@ pub returns-in-Trace-clause-follows : goal.returns-in-Trace-clause-follows
 returns-in-Trace-clause-follows g c = λ h is. c.give_block.ensures.follows h (rw c.in-Trace.is at is)
 
 pub returns-in-StartStop-clause-follows : goal.returns-in-StartStop-clause-follows
-returns-in-StartStop-clause-follows g c = λ h is. c.give_block-in-StartStop.ensures.follows h (rw c.in-StartStop.is at is)
+returns-in-StartStop-clause-follows g c = λ h is. c.events-in-StartStop.ensures.follows h (rw c.in-StartStop.is at is)
 
 pub returns-in-Image-clause-follows : goal.returns-in-Image-clause-follows
-returns-in-Image-clause-follows g c = λ h is. c.give_block-in-Image.ensures.follows h (rw c.in-Image.is at is)
+returns-in-Image-clause-follows g c = λ h is. c.events-in-Image.ensures.follows h (rw c.in-Image.is at is)

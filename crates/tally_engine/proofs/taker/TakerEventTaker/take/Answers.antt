@@ -1,6 +1,7 @@
 use Rattle.std.proofs.Common.{rules, arith, ◌≡◌, ◌<◌, length}
 use Rattle.event_block.specs.Columns.{gathered}
 use Rattle.gate_plan.specs.Groups.{groups_of}
+use Rattle.tally_engine.specs.Ahead.{taken_with, floor_with}
 use Rattle.tally_engine.specs.contracts.part.PartTally.TheImpl.{ghosts}
 use Rattle.tally_engine.proofs.Takes.{can_take, waits_on, gave_more}
 use Rattle.tally_engine.proofs.taker.TakerEventTaker.take.Goals as goal
@@ -8,18 +9,27 @@ use Rattle.tally_engine.proofs.taker.TakerEventTaker.take.Goals as goal
 pub gather-requires : goal.gather-requires
 gather-requires g c =
     let t = c.args.self.now in
-    record { may = λ k d within. can_take ghosts t.mode t.taken t.floor (gathered t.block) c.args.event.now c.args.late _ (t.waiting k d within) c.requires.room c.requires.in_time c.requires.in_order }
+    let es = gathered t.block in
+    record {
+      may = λ k d within. can_take ghosts t.mode (taken_with t.reached es) (floor_with t.mode t.reached es) es c.args.event.now c.args.late _ (t.waiting k d within) c.requires.room c.requires.in_time c.requires.in_order;
+      room = c.requires.room;
+      idle = t.idle;
+      unsorted = t.unsorted;
+    }
 
 pub invariant_of-self : goal.invariant_of-self
 invariant_of-self g c =
     let t = c.args.self.now in
+    let es = gathered t.block in
     let same : length c.gather.new.parts ≡ length t.parts.now = search rules in
     record {
       waiting = λ k d inside.
           let within : k < length t.parts.now = omega (arith, same, inside) in
-          waits_on ghosts (groups_of t.gates.now) t.mode t.taken t.floor _ (gathered t.block) (gathered c.gather.new.block) c.args.event.now c.args.late _ _ (t.waiting k d within) (c.gather.ensures.moves k d within) c.requires.in_order c.moved-self.ensures;
-      limit = λ some. omega (arith, c.requires.room);
+          waits_on ghosts (groups_of t.gates.now) t.mode (taken_with t.reached es) _ (floor_with t.mode t.reached es) _ es (gathered c.gather.new.block) c.args.event.now c.args.late _ _ (t.waiting k d within) (c.gather.ensures.moves k d within) c.requires.in_order c.gather.ensures.taken c.gather.ensures.floor;
+      limit = λ some. omega (arith, c.requires.room, c.gather.ensures.taken);
+      idle = c.gather.ensures.idle;
+      unsorted = c.gather.ensures.unsorted;
     }
 
 pub returns-clause-follows : goal.returns-clause-follows
-returns-clause-follows g c = λ start l gave. gave_more ghosts _ _ _ _ _ _ _ _ _ _ _ _ _ _ _ l _ _ gave (search rules) c.gather.ensures.moves c.requires.in_order c.moved-self.ensures
+returns-clause-follows g c = λ start l gave. gave_more ghosts _ _ _ _ _ _ _ _ _ _ _ _ _ _ _ _ l _ _ gave (search rules) c.gather.ensures.moves c.requires.in_order c.gather.ensures.taken c.gather.ensures.floor

@@ -1,14 +1,13 @@
-use Rattle.std.proofs.Common.{◌≡◌, ◌∙◌, ◌+◌, ◌++◌, ◌<◌, ◌/◌, ℕ, false, length, sym, ap, rules, arith, length-append}
-use Rattle.std.specs.Prelude.{nat_le, ◌==◌, slice_index}
+use Rattle.std.proofs.Common.{◌≡◌, ◌∙◌, ◌/◌, false, length, sym, ap, rules, arith, length-append}
+use Rattle.std.specs.Prelude.{nat_le, ◌==◌}
 use Rattle.tally_base.specs.Settings.{hist_view}
-use Rattle.event_block.specs.Columns.{item, rows, gathered, events_in}
+use Rattle.event_block.specs.Columns.{item, gathered, events_in}
 use Rattle.event_block.specs.Order.{floor_after, InOrder}
 use Rattle.event_block.proofs.Rows.{length-rows}
 use Rattle.event_block.proofs.Greatest.{greatest-rows}
 use Rattle.tally_base.specs.Tally.{greatest_time}
-use Rattle.tcspc_hist.specs.HistogramCounts.{in_bin, count_over}
 use Rattle.tcspc_hist.proofs.Blocks.{count-append}
-use Rattle.tcspc_hist.proofs.Slices.{whole_slice}
+use Rattle.event_block.proofs.Slices.{whole_slice}
 use Rattle.tcspc_hist.proofs.hist.Hist.events.Goals as goal
 
 pub returns-clause-follows : goal.returns-clause-follows

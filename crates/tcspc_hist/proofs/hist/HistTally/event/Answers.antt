@@ -1,4 +1,4 @@
-use Rattle.std.proofs.Common.{rules, [], ◌∷◌, ◌++◌, ◌≡◌, ◌+◌, ◌<◌, length, ℕ, ◌/◌, arith, eqb, cond}
+use Rattle.std.proofs.Common.{rules, [], ◌∷◌, ◌++◌, ◌≡◌, ◌+◌, ◌<◌, length, ℕ, arith, eqb, cond}
 use Rattle.std.proofs.lemmas.Grind.{common_steps}
 use Rattle.tally_base.specs.Settings.{hist_view}
 use Rattle.tcspc_hist.proofs.Cells.{raised_by}

@@ -1,0 +1,53 @@
+-- One event more for the intervals.
+use Rattle.std.proofs.Common.{◌≡◌, ◌∙◌, ℕ, ◌+◌, ◌-◌, ◌/◌, ◌<◌, ◌≤◌, Bool, true, false, ◌&&◌, List, [], ◌∷◌, ◌++◌, length, ap, sym, refl, arith}
+use Rattle.std.specs.Prelude.{Option, None, Some, nat_le, ◌==◌, slice_index, if◌then◌else◌}
+use Rattle.tally_base.specs.declared.event.Event.{Event}
+use Rattle.tally_base.specs.Events.{is_photon, is_in}
+use Rattle.tally_base.specs.Settings.{StartStopView}
+use Rattle.tally_base.specs.Tally.{History}
+use Rattle.coincidence.specs.declared.start.Start.{Start}
+use Rattle.coincidence.specs.Counted.{Counted}
+use Rattle.coincidence.specs.Ends.{ended}
+use Rattle.coincidence.specs.Intervals.{count_intervals}
+use Rattle.coincidence.specs.Starts.{start_in, since_in}
+use Rattle.coincidence.proofs.Ends.{ends_as}
+use Rattle.coincidence.proofs.Intervals.{count-photon, start-photon, count-marker, start-marker}
+
+pub photon_step : (set : StartStopView) (cells cells' : List ℕ) (over over' bin more : ℕ) (start start' : Start) (h : History) (x : Event × ℕ) (starts stops : Bool) → is_photon x.0 ≡ true → is_in x.1 set.start ≡ starts → is_in x.1 set.stop ≡ stops
+    → bin ≡ (x.0.time - since_in start) / set.width → more ≡ ended stops (start_in start)
+    → ((b : ℕ) → b < set.bins → slice_index cells' b ≡ slice_index cells b + (if bin == b then more else 0))
+    → over' ≡ over + (if nat_le set.bins bin then more else 0)
+    → start_in start' ≡ (if starts then Some x.0.time else if stops then None else start_in start)
+    → Counted set set.bins cells over start h → Counted set set.bins cells' over' start' (h ++ x ∷ [])
+photon_step set cells cells' over over' bin more start start' h x starts stops photon starts-is stops-is is_bin is_more put rest behind is =
+    let step : (test : ℕ → Bool) → count_intervals set test (h ++ x ∷ []) ≡ count_intervals set test h + (if test (x.0.time - since_in start) then ended stops (start_in start) else 0) = λ test. rw (← ends_as test x.0.time stops start) (count-photon set test h x stops (start_in start) photon stops-is (sym is.open')) in
+    record {
+      each = λ b lt.
+          let added : (if bin == b then more else 0) ≡ (if (x.0.time - since_in start) / set.width == b then ended stops (start_in start) else 0) = rw (is_bin, is_more) refl in
+          omega (arith, put b lt, is.each b lt, step (λ time. time / set.width == b), added);
+      rest =
+          let added : (if nat_le set.bins bin then more else 0) ≡ (if nat_le set.bins ((x.0.time - since_in start) / set.width) then ended stops (start_in start) else 0) = rw (is_bin, is_more) refl in
+          omega (arith, rest, is.rest, step (λ time. nat_le set.bins (time / set.width)), added);
+      open' = behind ∙ sym (start-photon set h x starts stops (start_in start) photon starts-is stops-is (sym is.open'));
+    }
+
+pub marker_step : (set : StartStopView) (cells : List ℕ) (over : ℕ) (start : Start) (h : History) (x : Event × ℕ) → is_photon x.0 ≡ false → Counted set set.bins cells over start h → Counted set set.bins cells over start (h ++ x ∷ [])
+marker_step set cells over start h x marker is = record {
+  each = λ b lt. is.each b lt ∙ sym (count-marker set (λ time. time / set.width == b) h x marker);
+  rest = is.rest ∙ sym (count-marker set (λ time. nat_le set.bins (time / set.width)) h x marker);
+  open' = is.open' ∙ sym (start-marker set h x marker);
+}
+
+-- a photon that is found in a group is in it
+pub in_group : (group photon found : Bool) → photon ≡ true → found ≡ (group && photon) → group ≡ found
+in_group true photon found is was = sym (was ∙ is)
+in_group false photon found is was = sym was
+
+pub later : (moves : Bool) → moves ≡ true → (since before time floor : ℕ) (starts : Bool) → since ≡ (if starts then time else before) → before ≤ time → since ≤ (if moves then time else floor)
+later true is since before time floor true was below = omega (arith, was)
+later true is since before time floor false was below = omega (arith, was, below)
+later false is since before time floor starts was below = cc
+
+pub kept_floor : (moves : Bool) → moves ≡ false → (time floor since : ℕ) → since ≤ floor → since ≤ (if moves then time else floor)
+kept_floor true is time floor since below = cc
+kept_floor false is time floor since below = below

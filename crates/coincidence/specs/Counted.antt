@@ -1,0 +1,13 @@
+-- The intervals over events.
+use Rattle.std.specs.Prelude.{◌≡◌, ℕ, ◌<◌, List, slice_index}
+use Rattle.tally_base.specs.Settings.{StartStopView}
+use Rattle.tally_base.specs.Tally.{History}
+use Rattle.coincidence.specs.declared.start.Start.{Start}
+use Rattle.coincidence.specs.Intervals.{in_interval, count_over, open_start}
+use Rattle.coincidence.specs.Starts.{start_in}
+
+-- Each of these cells is the count over the events, and the start is the one that they leave open.
+pub record Counted (set : StartStopView) (bins : ℕ) (cells : List ℕ) (over : ℕ) (start : Start) (h : History) : Type 0 where
+  pub each : (b : ℕ) → b < bins → slice_index cells b ≡ in_interval set b h
+  pub rest : over ≡ count_over set h
+  pub open' : start_in start ≡ open_start set h

@@ -1,0 +1,65 @@
+-- The counts over the rows of a block.
+use Rattle.std.proofs.Common.{◌≡◌, ◌∙◌, ℕ, suc, ◌+◌, ◌-◌, ◌/◌, ◌<◌, ◌≤◌, Bool, true, false, ◌&&◌, cond, [], ◌∷◌, ◌++◌, ap, sym, refl, arith}
+use Rattle.std.specs.Prelude.{nat_lt, nat_le, ◌==◌, if◌then◌else◌}
+use Rattle.std.proofs.lemmas.Bool.Decides.{nat_tests}
+use Rattle.std.proofs.lemmas.List.Sums.{sum_by-append, sum_by_push}
+use Rattle.tally_base.specs.declared.event.Event.{Event}
+use Rattle.tally_base.specs.Events.{is_photon, is_in}
+use Rattle.tally_base.specs.Settings.{TraceView}
+use Rattle.tally_base.specs.Tally.{History}
+use Rattle.event_block.specs.Columns.{rows, item, event_at, code_at, time_at, groups_at}
+use Rattle.event_block.specs.declared.block.Block.{Block}
+use Rattle.event_block.proofs.Back.{moves_row}
+use Rattle.event_block.proofs.Rows.{more_rows}
+use Rattle.count_trace.specs.TraceCounts.{count_times, in_trace_bin}
+
+none_either : (b : Bool) → ◌≡◌ {A = ℕ} 0 (if b then 0 else 0)
+none_either true = refl
+none_either false = refl
+
+passes : (photon group test : Bool) → ◌≡◌ {A = ℕ} (cond (photon && (group && test)) 1 0) (if test then (if group && photon then 1 else 0) else 0)
+passes true true true = refl
+passes true true false = refl
+passes true false test = none_either test
+passes false true test = none_either test
+passes false false test = none_either test
+
+pub count-append : (set : TraceView) (test : ℕ → Bool) (h m : History) → count_times set test (h ++ m) ≡ count_times set test h + count_times set test m
+count-append set test h m = sum_by-append (λ (x : Event × ℕ). cond (is_photon x.0 && (is_in x.1 set.group && test x.0.time)) 1 0) h m
+
+-- the photon of the group in a row
+abbrev pub one_at : TraceView → Block → ℕ → ℕ
+one_at set b n = if is_in (groups_at b n) set.group && nat_lt (code_at b n) 256 then 1 else 0
+
+-- one row more
+pub count-row : (set : TraceView) (test : ℕ → Bool) (b : Block) (n : ℕ) → count_times set test (rows (item b) (n + 1)) ≡ count_times set test (rows (item b) n) + (if test (time_at b n) then one_at set b n else 0)
+count-row set test b n =
+    ap (count_times set test) (more_rows (item b) n)
+    ∙ sum_by_push (λ (x : Event × ℕ). cond (is_photon x.0 && (is_in x.1 set.group && test x.0.time)) 1 0) (rows (item b) n) (item b n)
+    ∙ ap (λ k. count_times set test (rows (item b) n) + k) (passes (is_photon (event_at b n)) (is_in (groups_at b n) set.group) (test (time_at b n)) ∙ ap (λ p. if test (time_at b n) then (if is_in (groups_at b n) set.group && p then 1 else 0) else 0) (moves_row false b n))
+
+pub bin-row : (set : TraceView) (n : ℕ) (b : Block) (at : ℕ) → in_trace_bin set n (rows (item b) (at + 1)) ≡ in_trace_bin set n (rows (item b) at) + (if nat_le set.origin (time_at b at) && ((time_at b at - set.origin) / set.width == n) then one_at set b at else 0)
+bin-row set n b at = count-row set (λ time. nat_le set.origin time && ((time - set.origin) / set.width == n)) b at
+
+pub one_at_most : (set : TraceView) (b : Block) (n : ℕ) → one_at set b n ≤ 1
+one_at_most set b n = by_case (is_in (groups_at b n) set.group && nat_lt (code_at b n) 256)
+  where
+    by_case : (t : Bool) → (if t then 1 else 0) ≤ 1
+    by_case true = omega arith
+    by_case false = omega arith
+
+early : (origin time : ℕ) → time < origin → nat_le origin time ≡ false
+early origin time lt = grind (arith, nat_tests, lt)
+
+-- before the origin no test of a bin passes
+pub early_none : (origin time more : ℕ) (test : Bool) → time < origin → (if nat_le origin time && test then more else 0) ≡ 0
+early_none origin time more test lt = ap (λ b. if b && test then more else 0) (early origin time lt)
+
+pub early_one : (origin time more : ℕ) → time < origin → (if nat_lt time origin then more else 0) ≡ more
+early_one origin time more lt = let is : nat_lt time origin ≡ true = grind (arith, nat_tests, lt) in ap (λ b. if b then more else 0) is
+
+pub late_none : (origin time more : ℕ) → origin ≤ time → (if nat_lt time origin then more else 0) ≡ 0
+late_none origin time more le = let is : nat_lt time origin ≡ false = grind (arith, nat_tests, le) in ap (λ b. if b then more else 0) is
+
+pub late_one : (origin time more : ℕ) (test : Bool) → origin ≤ time → (if nat_le origin time && test then more else 0) ≡ (if test then more else 0)
+late_one origin time more test le = let is : nat_le origin time ≡ true = grind (arith, nat_tests, le) in ap (λ b. if b && test then more else 0) is

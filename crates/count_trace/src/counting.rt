@@ -1,0 +1,78 @@
+// The photons of a block, counted by their times.
+ghost use Rattle.std.specs.Prelude.{◌≡◌, ◌+◌, ◌*◌, ◌^◌, ◌<◌, ◌≤◌, ◌==◌, ℕ, length, nat_le, slice_index, sum, if◌then◌else◌};
+ghost use Rattle.tally_base.specs.Settings.{trace_view};
+ghost use Rattle.event_block.specs.Columns.{gathered, events_in, IsSorted};
+ghost use Rattle.count_trace.specs.TraceCounts.{in_trace_bin, count_before, count_beyond};
+
+use crate::bin::Bin;
+use event_block::Block;
+use tally_base::TraceSet;
+
+/// How many photons came outside a trace.
+#[derive(Clone, Copy)]
+pub struct Outside {
+    /// Before the origin.
+    pub before: u64,
+    /// At or past the end of the last bin.
+    pub beyond: u64,
+}
+
+/// Counts the photons of a block.
+pub(crate) fn count_block(
+    set: &TraceSet,
+    cells: &mut [u64],
+    outside: &mut Outside,
+    kept: &mut Bin,
+    block: &Block,
+)
+    requires sorted { IsSorted block.now }
+    requires sized { length cells.old ≡ set.now.bins }
+    requires edge { kept.old.low ≡ set.now.origin + kept.old.index * set.now.width }
+    requires room { sum cells.old + outside.old.before + outside.old.beyond
+        + length (gathered block.now) ≤ 2 ^ 40 }
+    ensures cells { (b : ℕ) → b < set.now.bins → slice_index cells.new b
+        ≡ slice_index cells.old b + in_trace_bin (trace_view set.now) b (events_in block.now) }
+    ensures before { outside.new.before
+        ≡ outside.old.before + count_before (trace_view set.now) (events_in block.now) }
+    ensures beyond { outside.new.beyond
+        ≡ outside.old.beyond + count_beyond (trace_view set.now) (events_in block.now) }
+    ensures few { sum cells.new + outside.new.before + outside.new.beyond
+        ≤ sum cells.old + outside.old.before + outside.old.beyond
+        + length (gathered block.now) }
+    ensures edge { kept.new.low ≡ set.now.origin + kept.new.index * set.now.width }
+{
+    // Copies, so that no field is read again for each photon.
+    let own = *set;
+    let mut bin = *kept;
+    let mut rest = *outside;
+    for at in 0..block.len().min(64) {
+        // No branch on the group, which is as good as random from photon to photon.
+        let more = block.photons_in(at, own.group);
+        let time = block.time(at);
+        if time < own.origin {
+            rest.before += more;
+        } else {
+            bin = Bin::of(&own, bin, time);
+            rest.beyond += put(cells, bin.index, more);
+        }
+    }
+    *kept = bin;
+    *outside = rest;
+}
+
+/// Adds to the cell of a bin, or answers what is to be added past the last.
+#[inline(always)]
+fn put(cells: &mut [u64], bin: u64, more: u64) -> u64
+    requires { sum cells.old + more < 2 ^ 64 }
+    ensures cells { (b : ℕ) → b < length cells.old → slice_index cells.new b
+        ≡ slice_index cells.old b + (if bin == b then more else 0) }
+    ensures rest { result ≡ (if nat_le (length cells.old) bin then more else 0) }
+    ensures sum { sum cells.new + result ≡ sum cells.old + more }
+{
+    if bin < cells.len() as u64 {
+        cells[bin as usize] += more;
+        0
+    } else {
+        more
+    }
+}

@@ -1,0 +1,40 @@
+// The line of the photons that come before the next marker.
+ghost use Rattle.std.specs.Prelude.{◌≡◌, ◌<◌};
+
+use crate::divisor::Divisor;
+
+/// Where the photons that come before the next marker are: their line, where it has a row in the image.
+#[derive(Clone, Copy)]
+pub struct Strip {
+    pub(crate) open: bool,
+    // The time of the marker of the line.
+    pub(crate) start: u64,
+    pub(crate) row: u32,
+    pub(crate) width: u32,
+    pub(crate) height: u32,
+    pub(crate) dwell: Divisor,
+    pub(crate) ghost inside: { row < height },
+}
+
+impl Strip {
+    ghost use Rattle.std.specs.Prelude.{◌≤◌, IfSome};
+    ghost use Rattle.marker_map.specs.Strips.{place_on, start_of, width_of, height_of};
+
+    /// The column and the row of a photon at this time, which isn't below that of the marker of the line.
+    #[inline(always)]
+    pub fn place(&self, time: u64) -> Option<(u32, u32)>
+        requires { start_of self.now ≤ time }
+        ensures value { result ≡ place_on self.now time }
+        ensures inside { IfSome result (λ place. (place.0 < width_of self.now) × (place.1 < height_of self.now)) }
+    {
+        if !self.open {
+            return None;
+        }
+        let column = self.dwell.quotient(time - self.start);
+        if column < u64::from(self.width) {
+            Some((column as u32, self.row))
+        } else {
+            None
+        }
+    }
+}

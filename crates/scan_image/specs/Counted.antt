@@ -1,0 +1,13 @@
+-- The counts of an image over events.
+use Rattle.std.specs.Prelude.{◌≡◌, ℕ, ◌+◌, ◌*◌, ◌<◌, List, slice_index}
+use Rattle.tally_base.specs.Settings.{ImageView}
+use Rattle.tally_base.specs.Tally.{History}
+use Rattle.marker_map.specs.declared.lines.Lines.{Lines}
+use Rattle.marker_map.specs.Lines.{Saw}
+use Rattle.scan_image.specs.ImageCounts.{markers, in_cell, count_outside}
+
+-- Each of these cells is the count over the events, and the lines saw their markers.
+pub record Counted (set : ImageView) (lines : Lines) (cells : List ℕ) (outside : ℕ) (h : History) : Type 0 where
+  pub each : (x y : ℕ) → x < set.width → y < set.height → slice_index cells (y * set.width + x) ≡ in_cell set x y h
+  pub rest : outside ≡ count_outside set h
+  pub saw : Saw lines (markers h)

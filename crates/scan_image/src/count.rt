@@ -1,0 +1,85 @@
+// The photons of a block, counted by their places.
+ghost use Rattle.std.specs.Prelude.{◌≡◌, ◌+◌, ◌*◌, ◌^◌, ◌<◌, ◌≤◌, ◌++◌, ℕ, true, sum, length, slice_index, is_none, IfSome, if◌then◌else◌};
+ghost use Rattle.tally_base.specs.Settings.{image_view};
+ghost use Rattle.tally_base.specs.Tally.{History};
+ghost use Rattle.event_block.specs.Columns.{gathered, events_in, IsSorted};
+ghost use Rattle.event_block.specs.Order.{floor_after, InOrder};
+ghost use Rattle.marker_map.specs.Lines.{image_of, markers_given, latest};
+ghost use Rattle.scan_image.specs.Counted.{Counted};
+ghost use Rattle.scan_image.specs.ImageCounts.{is_at};
+
+use event_block::Block;
+use marker_map::Lines;
+use tally_base::ImageSet;
+
+/// Counts the photons of a block, and answers how many are now outside the image.
+pub(crate) fn count_block(
+    set: &ImageSet,
+    lines: &mut Lines,
+    cells: &mut [u64],
+    outside: u64,
+    block: &Block,
+) -> u64
+    requires sorted { IsSorted block.now }
+    requires sized { length cells.old ≡ set.now.width * set.now.height }
+    requires room { sum cells.old + outside + length (gathered block.now) ≤ 2 ^ 40 }
+    requires of_set { image_of lines.old ≡ image_view set.now }
+    requires few { markers_given lines.old + length (gathered block.now) ≤ 2 ^ 40 }
+    requires in_order { InOrder true (latest lines.old) (gathered block.now) }
+    ensures follows { (h : History) → Counted (image_view set.now) lines.old cells.old outside h
+        → Counted (image_view set.now) lines.new cells.new result (h ++ events_in block.now) }
+    ensures few { sum cells.new + result ≤ sum cells.old + outside + length (gathered block.now) }
+    ensures of_set { image_of lines.new ≡ image_of lines.old }
+    ensures few_markers { markers_given lines.new
+        ≤ markers_given lines.old + length (gathered block.now) }
+    ensures begun { latest lines.new ≤ floor_after true (latest lines.old) (gathered block.now) }
+{
+    // Copies, so that no field is read again for each photon.
+    let own = *set;
+    let mut strip = lines.strip();
+    let mut outside = outside;
+    for at in 0..block.len().min(64) {
+        let code = block.code(at);
+        if code < 256 {
+            // No branch on the group, which is as good as random from photon to photon.
+            let more = block.photons_in(at, own.group);
+            let place = strip.place(block.time(at));
+            outside += put(&own, cells, place, more);
+        } else {
+            lines.marker((code % 256) as u8, block.time(at));
+            strip = lines.strip();
+        }
+    }
+    outside
+}
+
+/// Adds to the cell of a place, or answers what is to be added outside the image.
+#[inline(always)]
+fn put(set: &ImageSet, cells: &mut [u64], place: Option<(u32, u32)>, more: u64) -> u64
+    requires sized { length cells.old ≡ set.now.width * set.now.height }
+    requires inside { IfSome place (λ place. (place.0 < set.now.width) × (place.1 < set.now.height)) }
+    requires room { sum cells.old + more < 2 ^ 64 }
+    ensures cells { (x y : ℕ) → x < set.now.width → y < set.now.height
+        → slice_index cells.new (y * set.now.width + x)
+        ≡ slice_index cells.old (y * set.now.width + x) + (if is_at x y place then more else 0) }
+    ensures rest { result ≡ (if is_none place then more else 0) }
+    ensures sum { sum cells.new + result ≡ sum cells.old + more }
+{
+    if let Some((column, row)) = place {
+        cells[cell_of(set, column, row)] += more;
+        0
+    } else {
+        more
+    }
+}
+
+/// Where the cell of a column and a row stands.
+#[inline(always)]
+pub(crate) fn cell_of(set: &ImageSet, x: u32, y: u32) -> usize
+    requires column { x < set.now.width }
+    requires row { y < set.now.height }
+    ensures place { result ≡ y * set.now.width + x }
+    ensures inside { result < set.now.width * set.now.height }
+{
+    (y * set.width + x) as usize
+}
