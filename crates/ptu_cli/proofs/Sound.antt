@@ -58,7 +58,7 @@ listing-sound = record {
 
 reporting-sound : (view : PlanView) → WorkIsSound (reporting view)
 reporting-sound view = record {
-  well = λ bytes h. rw (h.2, h.3, streamed-read (reading_by view h.0) h.1 h.4) refl;
+  well = λ bytes h. rw (h.2, h.3.0, streamed-read (reading_by view h.0) h.1 h.3.1) refl;
   no_usage = λ bytes. report-bytes view bytes;
 }
 

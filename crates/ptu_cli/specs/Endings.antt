@@ -17,7 +17,7 @@ use Rattle.plan_text.specs.Plan.{PlanView}
 use Rattle.plan_text.specs.Reading.{plan_answer}
 use Rattle.plan_text.specs.Fits.{fits}
 use Rattle.ptu_cli.specs.Outcomes.{Outcome, refused}
-use Rattle.ptu_cli.specs.Behaviours.{Work, Writing, AtEnd, AsItReads, Memory, ForPlan, ForTables, Behaviour, NoCommand, Alone, OnFile, ByPlan}
+use Rattle.ptu_cli.specs.Behaviours.{Work, Writing, AtEnd, AsItReads, so_far, under, Memory, ForPlan, ForTables, Behaviour, NoCommand, Alone, OnFile, ByPlan}
 
 -- ## What the files call for
 
@@ -125,28 +125,28 @@ abbrev pub plan_limit : ℕ
 plan_limit = 65536
 
 -- The bytes taken from FILE call for no end by themselves, and what the command writes of them meanwhile was written.
-pub record StopsIn (work : Work) (before after : InputState) (file : List ℕ) (old new : Option (List ℕ)) : Type 0 where
+pub record StopsIn (writing : Writing (List ℕ → List ℕ)) (work : Work) (before after : InputState) (file : List ℕ) (old new : Option (List ℕ)) : Type 0 where
   pub taken : List ℕ
   pub is_taken : IsTaken before after file taken
   pub goes_on : work.goes_on taken
-  pub text : Appends old new (work.so_far taken)
+  pub text : Appends old new (so_far writing taken)
 
 -- What a run leaves on standard output where a read failed.
 abbrev pub LeavesUnread : Behaviour → Slot → InputState → InputState → Option (List ℕ) → Option (List ℕ) → Type 0
 LeavesUnread NoCommand slot before after old new = ⊥
 LeavesUnread (Alone end) slot before after old new = ⊥
-LeavesUnread (OnFile file writing work) slot before after old new = StopsIn work before after file old new
+LeavesUnread (OnFile file writing work) slot before after old new = StopsIn writing work before after file old new
 LeavesUnread (ByPlan plan file writing memory lacks work) Plan before after old new = Keeps old new × ((taken : List ℕ) × IsTakenFrom Plan before after plan taken × (length taken ≤ plan_limit))
-LeavesUnread (ByPlan plan file writing memory lacks work) Data before after old new = (view : PlanView) × HasPlan before plan lacks view × StopsIn (work view) before after file old new
+LeavesUnread (ByPlan plan file writing memory lacks work) Data before after old new = (view : PlanView) × HasPlan before plan lacks view × StopsIn (under view writing) (work view) before after file old new
 
 -- A text was cut short. One that is written at the end is cut only where the run would have ended well.
-abbrev pub Cuts : Writing → Outcome → Option (List ℕ) → Option (List ℕ) → Type 0
+abbrev pub Cuts : {A : Type 0} → Writing A → Outcome → Option (List ℕ) → Option (List ℕ) → Type 0
 Cuts AtEnd end old new = (end.fault ≡ None) × AppendsShort old new end.text
-Cuts AsItReads end old new = AppendsShort old new end.text
+Cuts (AsItReads text) end old new = AppendsShort old new end.text
 
 abbrev pub CutsShort : Behaviour → Outcome → Option (List ℕ) → Option (List ℕ) → Type 0
 CutsShort NoCommand end old new = ⊥
-CutsShort (Alone written) end old new = Cuts AtEnd end old new
+CutsShort (Alone written) end old new = (end.fault ≡ None) × AppendsShort old new end.text
 CutsShort (OnFile file writing work) end old new = Cuts writing end old new
 CutsShort (ByPlan plan file writing memory lacks work) end old new = Cuts writing end old new
 
@@ -158,10 +158,16 @@ pub record StopsAtHeader (plan : PlanView) (taken : List ℕ) : Type 0 where
   pub suits : fits (mode_of header.record_type) plan ≡ Ok (tt {0})
   pub few : length behind < 8192
 
--- Memory is wanting behind the data's header: no more of them was taken than the read gave that gave the header's last byte.
-abbrev pub WantsTables : Memory → InputState → InputState → List ℕ → PlanView → Type 0
-WantsTables ForPlan before after file view = ⊥
-WantsTables ForTables before after file view = (taken : List ℕ) × IsTaken before after file taken × StopsAtHeader view taken
+-- Memory may be wanting behind these bytes of FILE: for tables, behind the data's header.
+abbrev pub WantsBehind : Memory → PlanView → List ℕ → Type 0
+WantsBehind ForPlan plan taken = ⊥
+WantsBehind ForTables plan taken = StopsAtHeader plan taken
+
+-- No more was taken of FILE than the read gave behind which memory may be wanting.
+pub record StopsAtTables (memory : Memory) (plan : PlanView) (before after : InputState) (file : List ℕ) : Type 0 where
+  pub taken : List ℕ
+  pub is_taken : IsTaken before after file taken
+  pub wants : WantsBehind memory plan taken
 
 -- What a run leaves where memory was refused: nothing is written, and the data were not opened, or the tables take memory and the plan suits their header.
 abbrev pub RunsOut : Behaviour → InputState → InputState → Option (List ℕ) → Option (List ℕ) → Type 0
@@ -169,7 +175,7 @@ RunsOut NoCommand before after old new = ⊥
 RunsOut (Alone end) before after old new = Keeps old new
 RunsOut (OnFile file writing work) before after old new = ⊥
 RunsOut (ByPlan plan file writing memory lacks work) before after old new =
-    Keeps old new × ((after.asked Data ≡ false) ⊎ ((view : PlanView) × HasPlan before plan lacks view × WantsTables memory before after file view))
+    Keeps old new × ((after.asked Data ≡ false) ⊎ ((view : PlanView) × HasPlan before plan lacks view × StopsAtTables memory view before after file))
 
 -- No more of a plan is taken than one byte more than a plan may have.
 abbrev pub TakesPlan : InputState → InputState → List ℕ → Type 0

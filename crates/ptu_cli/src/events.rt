@@ -6,7 +6,7 @@ ghost use Rattle.record_stream.specs.Standing.{how_of, refused_with, bytes_in, H
 ghost use Rattle.ptu_cli.specs.EventPieces.{Writes};
 ghost use Rattle.std.specs.Prelude.{◌<◌, true, IfErr};
 ghost use Rattle.tally_base.specs.declared.slot.Slot.TheVariants.{Data};
-ghost use Rattle.tally_base.specs.Faults.{HasReason};
+ghost use Rattle.tally_base.specs.Faults.{fault_in, HasReason};
 ghost use Rattle.bench_io.specs.Inputs.{OnlyReads};
 ghost use Rattle.tally_base.specs.FaultCounts.{Rose};
 ghost use Rattle.ptu_definitions.specs.Streams.{streamed};
@@ -175,7 +175,7 @@ pub(crate) fn list_rest<I: Inputs, O: Sink>(
         ⊥) }
     ensures later { O.faults out.old ≤ O.faults out.new }
     ensures few { (bytes : List ℕ) → HasStreamed stream bytes
-        → TakesFew (λ front. MayChange (streamed (how_of stream) (bytes ++ front)))
+        → TakesFew (λ front. MayChange (fault_in (streamed (how_of stream) (bytes ++ front))))
         ((I.state inputs.old).rest Data)
         ((I.state inputs.new).rest Data) }
 {

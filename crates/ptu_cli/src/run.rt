@@ -2,7 +2,7 @@
 ghost use Rattle.std.specs.Prelude.{◌≡◌, ◌⊎◌, ◌≤◌, ◌<◌, ◌^◌, ◌++◌, [], List, ℕ, length, slice_range, true, None, IfErr, IfOk};
 ghost use Rattle.std.specs.Io.KnownBytes.{Consumes};
 ghost use Rattle.tally_base.specs.declared.slot.Slot.TheVariants.{Data};
-ghost use Rattle.tally_base.specs.Faults.{is_outside};
+ghost use Rattle.tally_base.specs.Faults.{fault_in, is_outside};
 ghost use Rattle.bench_io.specs.Inputs.{OnlyReads};
 ghost use Rattle.ptu_definitions.specs.Streams.{streamed};
 ghost use Rattle.plan_text.specs.Reading.{plan_view};
@@ -43,7 +43,7 @@ fn feed_rest<I: Inputs, L: Ledger>(
         → TakesOpen (streamed (reading_of engine)) bytes ((I.state inputs.old).rest Data)
         ((I.state inputs.new).rest Data)) }
     ensures few { (bytes : List ℕ) → HasFed engine bytes
-        → TakesFew (λ front. MayChange (streamed (reading_of engine) (bytes ++ front)))
+        → TakesFew (λ front. MayChange (fault_in (streamed (reading_of engine) (bytes ++ front))))
         ((I.state inputs.old).rest Data)
         ((I.state inputs.new).rest Data) }
 {
@@ -88,8 +88,8 @@ fn feed_data<I: Inputs, L: Ledger>(
         ((I.state inputs.old).rest Data) ((I.state inputs.new).rest Data)) }
     // No piece was read, or few bytes were taken.
     ensures few { ((I.state inputs.new).rest Data ≡ (I.state inputs.old).rest Data)
-        ⊎ TakesFew (λ front. MayChange (streamed (reading_of engine)
-        (slice_range buffer.old used len ++ front)))
+        ⊎ TakesFew (λ front. MayChange (fault_in (streamed (reading_of engine)
+        (slice_range buffer.old used len ++ front))))
         ((I.state inputs.old).rest Data)
         ((I.state inputs.new).rest Data) }
 {

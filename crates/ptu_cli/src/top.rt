@@ -12,8 +12,10 @@ ghost use Rattle.ptu_cli.specs.Outcomes.{status};
 ghost use Rattle.ptu_cli.specs.Endings.{outcome, IsMeant, PlanMayBe, TellsData, Tells, TellsFault, CutsShort, Does, Reaches, LeavesUnread, RunsOut, Asks, MeansStatus, NoneRose, IsGood};
 ghost use Rattle.ptu_cli.specs.Requests.{request_in, behaviour_of};
 
-use crate::command::{count, events, header, run};
+use crate::by_plan::by_plan;
+use crate::command::{Counting, Listing, Printing, Reporting};
 use crate::demo::demo;
+use crate::on_file::on_file;
 use crate::words::{Command, read_words};
 use arrayvec::ArrayVec;
 use bench_io::{Inputs, Sink, write_all};
@@ -44,10 +46,10 @@ fn obey<I: Inputs, O: Sink>(
         return Err(Fault::Usage);
     };
     match command {
-        Command::Count { file } => count(inputs, out, file),
-        Command::Header { file } => header(inputs, out, file),
-        Command::Events { file } => events(inputs, out, file),
-        Command::Run { plan, file } => run(alloc, inputs, out, plan, file),
+        Command::Count { file } => on_file(&Counting, inputs, out, file),
+        Command::Header { file } => on_file(&Printing, inputs, out, file),
+        Command::Events { file } => on_file(&Listing, inputs, out, file),
+        Command::Run { plan, file } => by_plan(&Reporting, alloc, inputs, out, plan, file),
         Command::Demo { seed, count } => demo(alloc, out, seed, count),
     }
 }
