@@ -1,5 +1,5 @@
 -- No more is taken than one read behind bytes that call for no end by themselves.
-use Rattle.std.proofs.Common.{◌≡◌, ◌≤◌, ℕ, List, [], ◌++◌, length, take, sym, subst, arith, append-nil, append_assoc}
+use Rattle.std.proofs.Common.{◌≤◌, ℕ, List, [], ◌++◌, length, take, sym, subst, arith, append-nil, append_assoc}
 use Rattle.std.specs.declared.option.Option.{Option}
 use Rattle.std.specs.Io.KnownBytes.{Consumes}
 use Rattle.std.proofs.lemmas.List.{length-take}

@@ -1,8 +1,8 @@
 -- What a command by a plan leaves, whatever its work is.
-use Rattle.std.proofs.Common.{◌≡◌, ℕ, List, ◌++◌, false, true, None, Some, Ok, Err, refl, sym, ap, ◌∙◌, subst, inl, inr}
-use Rattle.std.specs.Prelude.{◌⊎◌, Result, IsErrAnd}
+use Rattle.std.proofs.Common.{◌≡◌, ℕ, List, false, None, Some, Ok, Err, refl, sym, ◌∙◌, subst, inl, inr}
+use Rattle.std.specs.Prelude.{Result}
 use Rattle.std.specs.declared.option.Option.{Option}
-use Rattle.std.specs.Io.KnownBytes.{Appends, Consumes}
+use Rattle.std.specs.Io.KnownBytes.{Consumes}
 use Rattle.tally_base.specs.declared.fault.Fault.{Fault}
 use Rattle.tally_base.specs.declared.slot.Slot.TheVariants.{Plan as PlanSlot, Data}
 use Rattle.tally_base.specs.Faults.{is_outside}
@@ -18,7 +18,7 @@ use Rattle.ptu_cli.specs.Outcomes.{Outcome, refused}
 use Rattle.ptu_cli.specs.PlanPieces.{IsRead, AnswersPlan, PlanReason}
 use Rattle.ptu_cli.specs.Behaviours.{Work, Writing, AtEnd, AsItReads, under, Memory, Behaviour, ByPlan}
 use Rattle.ptu_cli.specs.Works.{AnswersWork, WorkReason}
-use Rattle.ptu_cli.specs.Endings.{IsPlan, MayBe, HasPlan, TakesPlan, EndsWith, Answers, Cuts, WantsBehind, Span, HasCauses, on_file, outcome}
+use Rattle.ptu_cli.specs.Endings.{IsPlan, HasPlan, TakesPlan, Answers, Cuts, WantsBehind, Span, HasCauses, on_file, outcome}
 use Rattle.ptu_cli.proofs.WorkTold.{taken-told, file-told, stops-told, cut-told}
 
 -- a plan that was read is that of a file

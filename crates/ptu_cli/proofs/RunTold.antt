@@ -1,6 +1,6 @@
 -- How `run` ends.
-use Rattle.std.proofs.Common.{◌≡◌, ℕ, List, ap, true, inl, inr, Ok, Err}
-use Rattle.std.specs.Prelude.{◌⊎◌, Result, OnOk, OnErr, IfErr}
+use Rattle.std.proofs.Common.{◌≡◌, ℕ, List, ap, inl, inr, Ok, Err}
+use Rattle.std.specs.Prelude.{Result, OnOk, OnErr, IfErr}
 use Rattle.std.specs.declared.option.Option.{Option}
 use Rattle.std.specs.Io.KnownBytes.{Appends, Consumes}
 use Rattle.tally_base.specs.declared.slot.Slot.TheVariants.{Data}

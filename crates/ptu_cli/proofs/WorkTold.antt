@@ -1,13 +1,13 @@
 -- What the work on a file leaves where the inputs tell the file.
 use Rattle.std.proofs.Common.{◌≡◌, ℕ, List, [], ◌++◌, true, None, Some, Ok, Err, refl, sym, ap, ◌∙◌, subst, inl, inr}
-use Rattle.std.specs.Prelude.{◌⊎◌, Result, IsErrAnd, OnOk, OnErr, IfErr}
+use Rattle.std.specs.Prelude.{◌⊎◌, Result, OnOk, OnErr, IfErr}
 use Rattle.std.specs.declared.option.Option.{Option}
 use Rattle.std.specs.Io.KnownBytes.{Appends, Consumes}
 use Rattle.tally_base.specs.declared.fault.Fault.{Fault}
 use Rattle.tally_base.specs.declared.fault.Fault.TheVariants.{WriteFault}
 use Rattle.tally_base.specs.FaultCounts.{Rose}
 use Rattle.tally_base.specs.declared.slot.Slot.TheVariants.{Data}
-use Rattle.tally_base.specs.Faults.{is_outside, fault_in, HasReason}
+use Rattle.tally_base.specs.Faults.{is_outside, HasReason}
 use Rattle.tally_base.proofs.Reasons.{HasReason-follows}
 use Rattle.bench_io.specs.Inputs.{File, InputState, IsOpened, NoneFalls}
 use Rattle.bench_io.specs.Sinks.{AppendsShort}
@@ -15,7 +15,7 @@ use Rattle.bench_io.proofs.Bytes.{Appends-nil, Keeps-from_none}
 use Rattle.bench_io.proofs.Rises.{Rose-behind}
 use Rattle.ptu_definitions.specs.Shown.{Says}
 use Rattle.ptu_cli.specs.Outcomes.{Outcome, refused, written}
-use Rattle.ptu_cli.specs.Behaviours.{Work, Writing, AtEnd, so_far, Behaviour, OnFile}
+use Rattle.ptu_cli.specs.Behaviours.{Work, Writing, AtEnd, OnFile}
 use Rattle.ptu_cli.specs.Works.{EndsWork, AnswersWork, ReadsWork, CutsWork, WantsNone, WorkReason, TakesFew}
 use Rattle.ptu_cli.specs.Endings.{on_file, outcome, Answers, EndsWith, StopsIn, Cuts, Span, TakesData, HasCauses}
 

@@ -1,5 +1,5 @@
 -- What a run of the program leaves, by what its command does.
-use Rattle.std.specs.Prelude.{ℕ, ◌≡◌, ◌⊎◌, ◌≤◌, ◌<◌, List, ◌++◌, length, true, false, None, Some, Result, Ok, Err, IsErrAnd, IfErr}
+use Rattle.std.specs.Prelude.{ℕ, ◌≡◌, ◌⊎◌, ◌+◌, ◌≤◌, ◌<◌, List, ◌++◌, length, true, false, None, Some, Result, Ok, Err, IsErrAnd, IfErr}
 use Rattle.std.specs.declared.option.Option.{Option}
 use Rattle.std.specs.Io.KnownBytes.{Keeps, Appends, Consumes}
 use Rattle.tally_base.specs.declared.slot.Slot.{Slot}
@@ -14,9 +14,9 @@ use Rattle.tally_base.specs.declared.header.Header.{Header}
 use Rattle.ptu_definitions.specs.Headers.{header_answer}
 use Rattle.tally_base.specs.RecordTypes.{mode_of}
 use Rattle.plan_text.specs.Plan.{PlanView}
-use Rattle.plan_text.specs.Reading.{plan_answer}
+use Rattle.plan_text.specs.Reading.{text_limit, plan_answer}
 use Rattle.plan_text.specs.Fits.{fits}
-use Rattle.ptu_cli.specs.Outcomes.{Outcome, refused}
+use Rattle.ptu_cli.specs.Outcomes.{Outcome, refused, status}
 use Rattle.ptu_cli.specs.Behaviours.{Work, Writing, AtEnd, AsItReads, so_far, under, Memory, ForPlan, ForTables, Behaviour, NoCommand, Alone, OnFile, ByPlan}
 
 -- ## What the files call for
@@ -120,10 +120,6 @@ IsTakenFrom slot before after name taken = (bytes : List ℕ) → before.content
 abbrev pub IsTaken : InputState → InputState → List ℕ → List ℕ → Type 0
 IsTaken = IsTakenFrom Data
 
--- the most bytes of a plan
-abbrev pub plan_limit : ℕ
-plan_limit = 65536
-
 -- The bytes taken from FILE call for no end by themselves, and what the command writes of them meanwhile was written.
 pub record StopsIn (writing : Writing (List ℕ → List ℕ)) (work : Work) (before after : InputState) (file : List ℕ) (old new : Option (List ℕ)) : Type 0 where
   pub taken : List ℕ
@@ -136,7 +132,7 @@ abbrev pub LeavesUnread : Behaviour → Slot → InputState → InputState → O
 LeavesUnread NoCommand slot before after old new = ⊥
 LeavesUnread (Alone end) slot before after old new = ⊥
 LeavesUnread (OnFile file writing work) slot before after old new = StopsIn writing work before after file old new
-LeavesUnread (ByPlan plan file writing memory lacks work) Plan before after old new = Keeps old new × ((taken : List ℕ) × IsTakenFrom Plan before after plan taken × (length taken ≤ plan_limit))
+LeavesUnread (ByPlan plan file writing memory lacks work) Plan before after old new = Keeps old new × ((taken : List ℕ) × IsTakenFrom Plan before after plan taken × (length taken ≤ text_limit))
 LeavesUnread (ByPlan plan file writing memory lacks work) Data before after old new = (view : PlanView) × HasPlan before plan lacks view × StopsIn (under view writing) (work view) before after file old new
 
 -- A text was cut short. One that is written at the end is cut only where the run would have ended well.
@@ -179,7 +175,7 @@ RunsOut (ByPlan plan file writing memory lacks work) before after old new =
 
 -- No more of a plan is taken than one byte more than a plan may have.
 abbrev pub TakesPlan : InputState → InputState → List ℕ → Type 0
-TakesPlan before after plan = after.opened Plan ≡ true → (taken : List ℕ) × IsTakenFrom Plan before after plan taken × (length taken ≤ 65537)
+TakesPlan before after plan = after.opened Plan ≡ true → (taken : List ℕ) × IsTakenFrom Plan before after plan taken × (length taken ≤ text_limit + 1)
 
 -- The bytes taken from FILE are some that call for no end by themselves, and no more behind them than one read gives.
 pub record TakesData (work : Work) (before after : InputState) (file : List ℕ) : Type 0 where
@@ -203,6 +199,10 @@ abbrev pub TellsFault : Option (List ℕ) → Option (List ℕ) → ℕ → ℕ 
 TellsFault old new before now None = Keeps old new
 TellsFault old new before now (Some fault) = Appends old new (line_of fault) ⊎ (Rose before now × AppendsShort old new (line_of fault))
 
+-- The top call ended so: by the status of the fault, with the whole text on standard output, and the fault's line on standard error.
+abbrev pub EndsBy : Outcome → ℕ → Option (List ℕ) → Option (List ℕ) → Option (List ℕ) → Option (List ℕ) → ℕ → ℕ → Type 0
+EndsBy end result old new err_old err_new before now = (result ≡ status end.fault) × Appends old new end.text × TellsFault err_old err_new before now end.fault
+
 -- the states of the inputs and of standard output before a command and behind it
 pub record Span : Type 0 where
   pub before : InputState
@@ -212,12 +212,24 @@ pub record Span : Type 0 where
   pub faults_before : ℕ
   pub faults_after : ℕ
 
+-- An opening failed: the command came to the slot, the count of its openings that failed rose, and nothing was written.
+abbrev pub FailsOpening : Behaviour → Slot → InputState → InputState → Option (List ℕ) → Option (List ℕ) → Type 0
+FailsOpening does slot before after old new = Reaches does before slot × Rose (before.open_faults slot) (after.open_faults slot) × Keeps old new
+
+-- A read failed: the command came to the slot, the count of its reads that failed rose, and standard output holds what was called for so far.
+abbrev pub FailsReading : Behaviour → Slot → InputState → InputState → Option (List ℕ) → Option (List ℕ) → Type 0
+FailsReading does slot before after old new = Reaches does before slot × Rose (before.read_faults slot) (after.read_faults slot) × LeavesUnread does slot before after old new
+
+-- The text of the outcome was cut short, over any files that the inputs tell.
+abbrev pub CutsOutcome : Behaviour → InputState → Option (List ℕ) → Option (List ℕ) → Type 0
+CutsOutcome does before old new = (plan_file data_file : File) → Tells before does plan_file data_file → CutsShort does (outcome does plan_file data_file) old new
+
 -- what a command's fault from outside says: which count rose, and what was written
 unfoldable pub HasCauses : Behaviour → Span → Fault → Type 0
 HasCauses does span = HasReason
-    (λ slot. Reaches does span.before slot × Rose (span.before.open_faults slot) (span.after.open_faults slot) × Keeps span.old span.new)
-    (λ slot. Reaches does span.before slot × Rose (span.before.read_faults slot) (span.after.read_faults slot) × LeavesUnread does slot span.before span.after span.old span.new)
-    (Rose span.faults_before span.faults_after × ((plan_file data_file : File) → Tells span.before does plan_file data_file → CutsShort does (outcome does plan_file data_file) span.old span.new))
+    (λ slot. FailsOpening does slot span.before span.after span.old span.new)
+    (λ slot. FailsReading does slot span.before span.after span.old span.new)
+    (Rose span.faults_before span.faults_after × CutsOutcome does span.before span.old span.new)
     (RunsOut does span.before span.after span.old span.new)
 
 -- all that a command does

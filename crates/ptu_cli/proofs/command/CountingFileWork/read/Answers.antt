@@ -1,4 +1,3 @@
-use Rattle.std.proofs.Common.{Err}
 use Rattle.std.proofs.lemmas.Result.{err_from_is_err_and}
 use Rattle.ptu_cli.specs.Endings.{Span}
 use Rattle.ptu_cli.proofs.CountEnds.{ends-uncounted, ends-counted, uncounted-reason, unlisted-reason}

@@ -1,4 +1,3 @@
-use Rattle.std.proofs.Common.{Err}
 use Rattle.std.proofs.lemmas.Result.{err_from_is_err_and}
 use Rattle.plan_text.specs.Reading.{plan_view}
 use Rattle.ptu_cli.specs.Endings.{Span}
