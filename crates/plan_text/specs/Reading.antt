@@ -37,6 +37,10 @@ abbrev pub plan_seen : Result Plan Fault → Result PlanView Fault
 plan_seen (Ok plan) = Ok (plan_view plan)
 plan_seen (Err fault) = Err fault
 
+-- the most bytes of a plan
+abbrev pub text_limit : ℕ
+text_limit = 65536
+
 -- the table that these bytes are as a TOML document
 unfoldable pub document : List ℕ → Option Members
 document bytes = if is_utf8 bytes then parse_document bytes else None
@@ -53,20 +57,20 @@ plan_of_document (Some ms) = if_kept (all_kept (plan_rules (table ms))) (plan (t
 
 -- what reading a plan answers, where memory suffices
 unfoldable pub plan_answer : List ℕ → Result PlanView Fault
-plan_answer bytes = if nat_le (length bytes) 65536 then plan_of_document (document bytes) else Err PlanTooLong
+plan_answer bytes = if nat_le (length bytes) text_limit then plan_of_document (document bytes) else Err PlanTooLong
 
 -- ## The same without steps
 
 -- The bytes are a document that keeps each rule, and each of its tables is in the plan.
 abbrev pub IsValid : List ℕ → Type 0
-IsValid bytes = (length bytes ≤ 65536) × (ms : Members) × (document bytes ≡ Some ms) × AllHold (plan_rules (table ms)) × IsWhole (table ms)
+IsValid bytes = (length bytes ≤ text_limit) × (ms : Members) × (document bytes ≡ Some ms) × AllHold (plan_rules (table ms)) × IsWhole (table ms)
 
 -- The bytes call for the fault. Memory is wanted only for bytes that are not too long.
 abbrev pub IsCalledFor : List ℕ → Fault → Type 0
-IsCalledFor bytes OutOfMemory = length bytes ≤ 65536
-IsCalledFor bytes PlanTooLong = 65536 < length bytes
-IsCalledFor bytes PlanSyntax = (length bytes ≤ 65536) × (document bytes ≡ None)
-IsCalledFor bytes (PlanRule n index) = (length bytes ≤ 65536) × (ms : Members) × (document bytes ≡ Some ms) × IsLeast (plan_rules (table ms)) n index
+IsCalledFor bytes OutOfMemory = length bytes ≤ text_limit
+IsCalledFor bytes PlanTooLong = text_limit < length bytes
+IsCalledFor bytes PlanSyntax = (length bytes ≤ text_limit) × (document bytes ≡ None)
+IsCalledFor bytes (PlanRule n index) = (length bytes ≤ text_limit) × (ms : Members) × (document bytes ≡ Some ms) × IsLeast (plan_rules (table ms)) n index
 IsCalledFor bytes _ = ⊥
 
 -- Plans of the same parts have the same tables of each kind.

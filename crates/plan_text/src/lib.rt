@@ -14,7 +14,7 @@ mod plan;
 mod startstops;
 mod traces;
 
-pub use plan::{Plan, read_plan};
+pub use plan::{Plan, TEXT_LIMIT, read_plan};
 
 #[cfg(test)]
 mod pair_tests;

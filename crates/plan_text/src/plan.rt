@@ -44,6 +44,9 @@ pub struct Plan {
     pub correlations: ArrayVec<CorrelationSet, 16>,
 }
 
+/// The most bytes of a plan.
+pub const TEXT_LIMIT: usize = 65_536;
+
 /// Reads a plan, a TOML document of at most 65,536 bytes. It is refused, by the first that applies,
 ///
 /// - with `PlanTooLong`, where there are more bytes, which are not looked at;
@@ -58,7 +61,7 @@ pub fn read_plan(alloc: Global, bytes: &[u8]) -> Result<Plan, Fault>
     ensures records { IfOk result (λ plan. (0 < plan.policy.records) × (plan.policy.records ≤ 2 ^ 40)) }
     ensures inside { IfErr result (λ fault. fault ≢ Fault.OutOfMemory → is_outside fault ≡ false) }
 {
-    if 65536 < bytes.len() {
+    if TEXT_LIMIT < bytes.len() {
         return Err(Fault::PlanTooLong);
     }
     match read_document(alloc, bytes) {

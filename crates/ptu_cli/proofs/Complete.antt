@@ -1,6 +1,6 @@
 -- Good words and files end well, and only words that are no command end as a bad command line.
-use Rattle.std.proofs.Common.{◌≡◌, ℕ, List, true, false, None, Some, Ok, Err, refl, sym, ap, ◌∙◌, subst, arith, inl, inr}
-use Rattle.std.specs.Prelude.{◌≢◌, ◌⊎◌, Bool, Result}
+use Rattle.std.proofs.Common.{◌≡◌, ℕ, List, true, None, Some, Ok, Err, refl, sym, ap, ◌∙◌, subst, arith, inl, inr}
+use Rattle.std.specs.Prelude.{◌≢◌, ◌⊎◌, Result}
 use Rattle.std.specs.declared.option.Option.{Option}
 use Rattle.tally_base.specs.declared.slot.Slot.{Slot}
 use Rattle.tally_base.specs.declared.fault.Fault.{Fault}
@@ -10,7 +10,7 @@ use Rattle.tally_base.specs.FaultCounts.{Rose}
 use Rattle.bench_io.specs.Inputs.{File, InputState}
 use Rattle.plan_text.specs.Plan.{PlanView}
 use Rattle.plan_text.specs.Reading.{plan_answer}
-use Rattle.ptu_cli.specs.Commands.{Request, Count, Header, Events, Run, Demo}
+use Rattle.ptu_cli.specs.Commands.{Request}
 use Rattle.ptu_cli.specs.Outcomes.{Outcome, status}
 use Rattle.ptu_cli.specs.Behaviours.{Work, Behaviour, NoCommand, Alone, OnFile, ByPlan, behaviour}
 use Rattle.ptu_cli.specs.Endings.{on_file, unless, by_plan, outcome, Span, HasCauses, NoneRose, IsGood, IsGoodFor, EndsWith, Answers, Tells, RunsOut, MeansStatus}
@@ -35,21 +35,10 @@ good-does (ByPlan plan file writing memory lacks work) plan_file data_file is h 
     ap (λ (o : Outcome). o.fault) (outcome-planned plan file writing memory lacks work plan_file data_file h.0 h.1 h.2) ∙ good-work (work h.0) data_file (is h.0).0 h.3
 
 pub good-ends : (request : Option Request) (plan_file data_file : File) → IsGood (behaviour request) plan_file data_file → (outcome (behaviour request) plan_file data_file).fault ≡ None
-good-ends request plan_file data_file h = good-does (behaviour request) plan_file data_file (sound request) h
+good-ends None plan_file data_file h = absurd h
+good-ends (Some request) plan_file data_file h = good-does (behaviour (Some request)) plan_file data_file (sound request) h
 
 -- ## A bad command line
-
-abbrev is_command : Behaviour → Bool
-is_command NoCommand = false
-is_command _ = true
-
-no-command : (request : Option Request) → is_command (behaviour request) ≡ false → request ≡ None
-no-command None e = refl
-no-command (Some (Count file)) e = cc
-no-command (Some (Header file)) e = cc
-no-command (Some (Events file)) e = cc
-no-command (Some (Run plan file)) e = cc
-no-command (Some (Demo seed count)) e = cc
 
 file-words : (work : Work) (data_file : File) → WorkIsSound work → status (on_file work data_file).fault ≢ 1
 file-words work None is = λ e. omega arith
@@ -64,13 +53,13 @@ plan-words : (lacks : PlanView → Option Fault) (work : PlanView → Work) (ans
 plan-words lacks work (Err fault) data_file is h = h
 plan-words lacks work (Ok view) data_file is h = unless-words (lacks view) (on_file (work view) data_file) (is view).1 (file-words (work view) data_file (is view).0)
 
-outcome-words : (does : Behaviour) (plan_file data_file : File) → IsSound does → status (outcome does plan_file data_file).fault ≡ 1 → is_command does ≡ false
+outcome-words : (does : Behaviour) (plan_file data_file : File) → IsSound does → status (outcome does plan_file data_file).fault ≢ 1
 unfolding outcome
-outcome-words NoCommand plan_file data_file is e = refl
-outcome-words (Alone end) plan_file data_file is e = absurd (is e)
-outcome-words (OnFile file writing work) plan_file data_file is e = absurd (file-words work data_file is e)
-outcome-words (ByPlan plan file writing memory lacks work) None data_file is e = absurd (omega arith)
-outcome-words (ByPlan plan file writing memory lacks work) (Some text) data_file is e = absurd (plan-words lacks work (plan_answer text) data_file is (plan_answer-bytes text) e)
+outcome-words NoCommand plan_file data_file is = absurd is
+outcome-words (Alone end) plan_file data_file is = is
+outcome-words (OnFile file writing work) plan_file data_file is = file-words work data_file is
+outcome-words (ByPlan plan file writing memory lacks work) None data_file is = λ e. omega arith
+outcome-words (ByPlan plan file writing memory lacks work) (Some text) data_file is = plan-words lacks work (plan_answer text) data_file is (plan_answer-bytes text)
 
 outside-status : (fault : Fault) → is_outside fault ≡ true → status_of fault ≢ 1
 outside-status Usage e = cc
@@ -83,8 +72,9 @@ outside-status _ e = cc
 -- A run that ends so had words that are no command.
 pub bad-words : (request : Option Request) (fault : Fault) (plan_file data_file : File) (old new : Option (List ℕ))
     → ((is_outside fault ≡ true) ⊎ EndsWith (outcome (behaviour request) plan_file data_file) (Some fault) old new) → status_of fault ≡ 1 → request ≡ None
-bad-words request fault plan_file data_file old new (inl outside) one = absurd (outside-status fault outside one)
-bad-words request fault plan_file data_file old new (inr ends) one = no-command request (outcome-words (behaviour request) plan_file data_file (sound request) (sym (ap status ends.same) ∙ one))
+bad-words None fault plan_file data_file old new ends one = refl
+bad-words (Some request) fault plan_file data_file old new (inl outside) one = absurd (outside-status fault outside one)
+bad-words (Some request) fault plan_file data_file old new (inr ends) one = absurd (outcome-words (behaviour (Some request)) plan_file data_file (sound request) (sym (ap status ends.same) ∙ one))
 
 -- ## Nothing but memory is wanting
 

@@ -10,7 +10,7 @@ use Rattle.tally_base.specs.FaultCounts.{Rose}
 use Rattle.tally_base.specs.Faults.{is_outside, fault_in}
 use Rattle.tally_base.specs.RecordTypes.{mode_of}
 use Rattle.tally_base.proofs.Reasons.{HasReason-follows}
-use Rattle.bench_io.specs.Inputs.{File, InputState}
+use Rattle.bench_io.specs.Inputs.{InputState}
 use Rattle.bench_io.specs.Sinks.{AppendsShort}
 use Rattle.bench_io.proofs.Bytes.{Appends-nil, Keeps-from_none}
 use Rattle.ptu_definitions.specs.Headers.{header_answer}
@@ -34,7 +34,8 @@ use Rattle.ptu_made.proofs.Meanings.{all-made, words-bytes}
 use Rattle.ptu_made.proofs.MadeHeaders.{short-answer}
 use Rattle.ptu_made.proofs.MadeEvents.{few-words}
 use Rattle.ptu_made.proofs.Unrefused.{unrefused}
-use Rattle.ptu_cli.specs.Commands.{Run, Demo, photon_limit}
+use Rattle.ptu_made.specs.Generator.{photon_limit}
+use Rattle.ptu_cli.specs.Commands.{Run, Demo}
 use Rattle.ptu_cli.specs.Demo.{demo_text, demo_plan, demo_reading, demo_report}
 use Rattle.ptu_cli.specs.Reports.{file_report}
 use Rattle.ptu_cli.specs.Outcomes.{Outcome, written, report_outcome}

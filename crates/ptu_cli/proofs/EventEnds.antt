@@ -91,10 +91,10 @@ answers-end how bytes taken before after a b answer done consumes end wrote is s
 })
 
 -- the fault of a piece
-pub reason-piece : {A : Type 0} (opening : Slot → Type 0) (reading : Slot → Type 0) (how : Reading) (b c : Option (List ℕ)) (faults now : ℕ) (us vs : List ℕ) (fault : Fault) → Writes {X = Unit {0}} how b c faults now us vs (Err fault) → (WroteShort how b c faults now us vs → A) → HasReason opening reading A ⊥ fault
-reason-piece opening reading how b c faults now us vs fault writes cut =
+pub reason-piece : {A : Type 0} (opening : Slot → Type 0) (reading : Slot → Type 0) (memory : Type 0) (how : Reading) (b c : Option (List ℕ)) (faults now : ℕ) (us vs : List ℕ) (fault : Fault) → Writes {X = Unit {0}} how b c faults now us vs (Err fault) → (WroteShort how b c faults now us vs → A) → HasReason opening reading A memory fault
+reason-piece opening reading memory how b c faults now us vs fault writes cut =
     ⊎_elim
-    (λ (r : (record_refusal how vs ≡ Some fault) × Wrote how b c us vs). HasReason-inside opening reading _ ⊥ fault (record_refusal-inside how vs fault r.0))
+    (λ (r : (record_refusal how vs ≡ Some fault) × Wrote how b c us vs). HasReason-inside opening reading _ memory fault (record_refusal-inside how vs fault r.0))
     (λ (r : (fault ≡ WriteFault) × WroteShort how b c faults now us vs). rw r.0 (cut r.1))
     writes
 

@@ -1,8 +1,8 @@
 -- What is written where listing the events of a file fails.
-use Rattle.std.proofs.Common.{◌≡◌, ℕ, List, [], ◌++◌, None, length, refl, sym, ap, ◌∙◌, append_assoc, inl, inr}
+use Rattle.std.proofs.Common.{◌≡◌, ℕ, List, [], ◌++◌, None, length, refl, sym, ap, ◌∙◌, subst, append_assoc, inl, inr}
 use Rattle.std.specs.Prelude.{nat_eq}
 use Rattle.std.specs.declared.option.Option.{Option}
-use Rattle.std.specs.Io.KnownBytes.{Consumes}
+use Rattle.std.specs.Io.KnownBytes.{Appends, Consumes}
 use Rattle.std.proofs.lemmas.Bool.{cases_Bool}
 use Rattle.tally_base.specs.declared.header.Header.{Header}
 use Rattle.bench_io.specs.Sinks.{AppendsShort}
@@ -13,19 +13,19 @@ use Rattle.ptu_definitions.proofs.WordsLemmas.{words_of-append}
 use Rattle.ptu_definitions.proofs.StreamLemmas.{given-front}
 use Rattle.tally_base.specs.Faults.{fault_in}
 use Rattle.table_out.specs.EventText.{events_text}
-use Rattle.ptu_cli.specs.Outcomes.{IsCut}
+use Rattle.ptu_cli.specs.Outcomes.{Outcome, IsCut}
 use Rattle.ptu_cli.specs.EventPieces.{Wrote, WroteShort}
 use Rattle.table_out.specs.EventText.{lines_of}
 use Rattle.ptu_cli.specs.EventRuns.{ReadsLines, CutsLines}
-use Rattle.ptu_cli.specs.Behaviours.{listing_all}
+use Rattle.ptu_cli.specs.Behaviours.{AsItReads, events_so_far, listing_all}
 use Rattle.ptu_cli.specs.Works.{CutsWork, ReadsWork}
-use Rattle.ptu_cli.specs.Outcomes.{MayGoOnFrom}
+use Rattle.ptu_cli.specs.Outcomes.{MayChange}
 use Rattle.ptu_cli.specs.Outcomes.{listing, listed, events_outcome, events_behind}
 use Rattle.ptu_cli.proofs.Composed.{ShowsHeader}
 use Rattle.ptu_cli.proofs.Listing.{events_text-append}
 use Rattle.ptu_cli.proofs.EventComposed.{lines_of-none}
 
-pub streamed-open : (how : Reading) (bytes : List ℕ) → record_refusal how (words_of bytes) ≡ None → MayGoOnFrom (fault_in (streamed how bytes))
+pub streamed-open : (how : Reading) (bytes : List ℕ) → record_refusal how (words_of bytes) ≡ None → MayChange (fault_in (streamed how bytes))
 unfolding streamed
 streamed-open how bytes none = elim (cases_Bool (nat_eq (length (rest_of bytes)) 0)) [
   | inl whole ↦ rw (none, whole) tt
@@ -33,8 +33,13 @@ streamed-open how bytes none = elim (cases_Bool (nat_eq (length (rest_of bytes))
 ]
 
 -- the header was read in part
-pub reads-header : (taken : List ℕ) (before after a : Option (List ℕ)) → Consumes before after taken → IsCut taken → ReadsWork listing_all before after a a
-reads-header taken before after a consumes cut = record { taken = taken; consumes = consumes; written = rw cut (Appends-nil a); goes_on = rw cut refl }
+pub reads-header : (taken : List ℕ) (before after a : Option (List ℕ)) → Consumes before after taken → IsCut taken → ReadsWork (AsItReads events_so_far) listing_all before after a a
+reads-header taken before after a consumes cut = record {
+  taken = taken;
+  consumes = consumes;
+  written = subst (λ (end : Outcome). Appends a a end.text) (sym (ap events_behind cut)) (Appends-nil a);
+  goes_on = rw cut refl;
+}
 
 -- the lines of some bytes, and of more
 lines-front : (how : Reading) (bytes more : List ℕ) → (tail : List ℕ) × (lines_of how (words_of (bytes ++ more)) ≡ lines_of how (words_of bytes) ++ tail)
@@ -47,13 +52,13 @@ all-lines how behind bytes first text one two = sym (two ∙ ap (λ l. l ++ text
 
 -- a read failed behind the header
 pub reads-behind : (header : Header) (front behind : List ℕ) (before mid after a b c : Option (List ℕ)) → Consumes before mid front → ShowsHeader front header behind
-    → Wrote (listing header) a b (words_of []) (words_of behind) → ReadsLines (listing header) behind mid after b c → ReadsWork listing_all before after a c
+    → Wrote (listing header) a b (words_of []) (words_of behind) → ReadsLines (listing header) behind mid after b c → ReadsWork (AsItReads events_so_far) listing_all before after a c
 reads-behind header front behind before mid after a b c consumes shows wrote reads =
     let is : events_outcome (front ++ reads.taken) ≡ listed (listing header) (behind ++ reads.taken) = ap events_behind (shows reads.taken) in
     record {
       taken = front ++ reads.taken;
       consumes = Consumes-trans before mid after front reads.taken consumes reads.consumes;
-      written = rw is (Appends-same a c _ _ (all-lines (listing header) behind (behind ++ reads.taken) wrote.more reads.text wrote.adds reads.lines) (Appends-trans a b c wrote.more reads.text wrote.text reads.written));
+      written = subst (λ (end : Outcome). Appends a c end.text) (sym is) (Appends-same a c _ _ (all-lines (listing header) behind (behind ++ reads.taken) wrote.more reads.text wrote.adds reads.lines) (Appends-trans a b c wrote.more reads.text wrote.text reads.written));
       goes_on = rw is (streamed-open (listing header) (behind ++ reads.taken) reads.unrefused);
     }
 
@@ -64,7 +69,7 @@ cut-text header front behind bytes more text a c is lines cut =
 
 -- a write failed at the first piece behind the header
 pub cuts-first : (header : Header) (front behind : List ℕ) (before after a b : Option (List ℕ)) (faults now : ℕ) → Consumes before after front → ShowsHeader front header behind
-    → WroteShort (listing header) a b faults now (words_of []) (words_of behind) → CutsWork listing_all before after a b
+    → WroteShort (listing header) a b faults now (words_of []) (words_of behind) → CutsWork (AsItReads events_so_far) listing_all before after a b
 cuts-first header front behind before after a b faults now consumes shows short = record {
   taken = front;
   consumes = consumes;
@@ -73,7 +78,7 @@ cuts-first header front behind before after a b faults now consumes shows short 
 
 -- or behind it
 pub cuts-behind : (header : Header) (front behind : List ℕ) (before mid after a b c : Option (List ℕ)) → Consumes before mid front → ShowsHeader front header behind
-    → Wrote (listing header) a b (words_of []) (words_of behind) → CutsLines (listing header) behind mid after b c → CutsWork listing_all before after a c
+    → Wrote (listing header) a b (words_of []) (words_of behind) → CutsLines (listing header) behind mid after b c → CutsWork (AsItReads events_so_far) listing_all before after a c
 cuts-behind header front behind before mid after a b c consumes shows wrote cuts = record {
   taken = front ++ cuts.taken;
   consumes = Consumes-trans before mid after front cuts.taken consumes cuts.consumes;

@@ -1,12 +1,9 @@
 -- No more is taken than one read behind bytes that call for no end by themselves.
-use Rattle.std.proofs.Common.{◌≡◌, ◌≤◌, ℕ, List, [], ◌++◌, length, take, Ok, Err, sym, subst, arith, append-nil, append_assoc}
-use Rattle.std.specs.Prelude.{Result}
+use Rattle.std.proofs.Common.{◌≤◌, ℕ, List, [], ◌++◌, length, take, sym, subst, arith, append-nil, append_assoc}
 use Rattle.std.specs.declared.option.Option.{Option}
 use Rattle.std.specs.Io.KnownBytes.{Consumes}
 use Rattle.std.proofs.lemmas.List.{length-take}
-use Rattle.tally_base.specs.declared.fault.Fault.{Fault}
 use Rattle.bench_io.proofs.Bytes.{Consumes-trans}
-use Rattle.ptu_cli.specs.Outcomes.{MayChange, MayGoOnFrom, report_outcome}
 use Rattle.ptu_cli.specs.Works.{TakesFew}
 
 pub few-none : (goes_on : List ℕ → Type 0) (front : List ℕ) (before after : Option (List ℕ)) → Consumes before after front → goes_on front → TakesFew goes_on before after
@@ -38,7 +35,3 @@ few-behind p q taken before mid after took f h = record {
   goes = f h.front h.goes;
   few = h.few;
 }
-
-pub report-goes-on : (answer : Result (List ℕ) Fault) → MayChange answer → MayGoOnFrom (report_outcome answer).fault
-report-goes-on (Ok text) h = tt
-report-goes-on (Err fault) h = h

@@ -1,5 +1,5 @@
 -- How printing the header of a file ends.
-use Rattle.std.proofs.Common.{◌≡◌, ℕ, List, [], ◌++◌, None, Some, refl, sym, ap, ◌∙◌, subst, Ok, Err}
+use Rattle.std.proofs.Common.{◌≡◌, ℕ, List, [], ◌++◌, None, Some, refl, sym, ap, Ok, Err}
 use Rattle.std.specs.declared.option.Option.{Option}
 use Rattle.std.specs.Io.KnownBytes.{Appends}
 use Rattle.tally_base.specs.declared.fault.Fault.{Fault}
@@ -12,16 +12,16 @@ use Rattle.table_out.specs.HeaderText.{header_text}
 use Rattle.table_out.proofs.Final.{header_text-grows, header_text-refused, header_text-done}
 use Rattle.ptu_cli.specs.Outcomes.{header_outcome}
 use Rattle.tally_base.specs.Faults.{fault_in}
-use Rattle.ptu_cli.specs.Printing.{AppendsText, CutsText}
+use Rattle.ptu_cli.specs.Printing.{AppendsHeader, CutsHeader}
 
 outcome-at : (file text : List ℕ) (fault : Option Fault) → header_text file ≡ text → fault_in (header_answer file) ≡ fault → header_outcome file ≡ record { text = text; fault = fault }
 outcome-at file text fault t f = rw (t, f) refl
 
 -- the text so far and that of a piece
-pub text-appended : (bytes piece : List ℕ) (a b c : Option (List ℕ)) → Appends a b (header_text bytes) → AppendsText bytes piece b c → Appends a c (header_text (bytes ++ piece))
+pub text-appended : (bytes piece : List ℕ) (a b c : Option (List ℕ)) → Appends a b (header_text bytes) → AppendsHeader bytes piece b c → Appends a c (header_text (bytes ++ piece))
 text-appended bytes piece a b c p q = Appends-same a c _ _ (sym q.text) (Appends-trans a b c (header_text bytes) q.added p q.written)
 
-pub text-cut : (bytes piece more : List ℕ) (a b c : Option (List ℕ)) → Appends a b (header_text bytes) → CutsText bytes piece b c [] → AppendsShort a c (header_text ((bytes ++ piece) ++ more))
+pub text-cut : (bytes piece more : List ℕ) (a b c : Option (List ℕ)) → Appends a b (header_text bytes) → CutsHeader bytes piece b c [] → AppendsShort a c (header_text ((bytes ++ piece) ++ more))
 text-cut bytes piece more a b c p q =
     let behind = header_text-grows (bytes ++ piece) more in
     AppendsShort-same a c _ _ (sym behind.1) (AppendsShort-more a c (header_text (bytes ++ piece)) behind.0

@@ -25,5 +25,4 @@ pub mod Runs
 pub mod RunTold
 pub mod Demos
 pub mod Numbers
-pub mod Before
 pub mod Few

@@ -13,6 +13,7 @@ use Rattle.ptu_definitions.specs.Words.{words_of, rest_of}
 use Rattle.ptu_definitions.specs.Counted.{counted, record_limit}
 use Rattle.ptu_definitions.specs.Endings.{ending}
 use Rattle.ptu_definitions.specs.Headers.{header_answer}
+use Rattle.tally_base.specs.Faults.{fault_in}
 use Rattle.ptu_cli.specs.Outcomes.{IsCut}
 use Rattle.ptu_cli.specs.Outcomes.{MayChange, file_counts, with_counts}
 use Rattle.ptu_header.specs.declared.reader.HeaderReader.{HeaderReader}
@@ -38,7 +39,7 @@ unfolding header_answer ending
 IsCut-nil = refl
 
 -- bytes that are the front of a header may be followed by anything
-pub file_counts-cut : (taken : List ℕ) → IsCut taken → MayChange (file_counts taken)
+pub file_counts-cut : (taken : List ℕ) → IsCut taken → MayChange (fault_in (file_counts taken))
 file_counts-cut taken cut = rw cut refl
 
 -- bytes that are the front of a header are no whole one, so more are needed
@@ -49,7 +50,7 @@ some_used bytes piece zero header cut whole =
     cc
 
 -- records that aren't too many may be followed by others
-pub counted-open : (record_type : RecordType) (bytes : List ℕ) → length (words_of bytes) ≤ record_limit → MayChange (counted record_type bytes)
+pub counted-open : (record_type : RecordType) (bytes : List ℕ) → length (words_of bytes) ≤ record_limit → MayChange (fault_in (counted record_type bytes))
 unfolding counted
 counted-open record_type bytes few =
     let within : nat_lt record_limit (length (words_of bytes)) ≡ false = grind (arith, nat_tests) in
@@ -58,12 +59,12 @@ counted-open record_type bytes few =
       | inr cut ↦ rw (within, cut) refl
     ]
 
-with_counts-open : (header : Header) (counts : Result KindCounts Fault) → MayChange counts → MayChange (with_counts header counts)
+with_counts-open : (header : Header) (counts : Result KindCounts Fault) → MayChange (fault_in counts) → MayChange (fault_in (with_counts header counts))
 with_counts-open header (Ok counts) h = tt
 with_counts-open header (Err fault) h = h
 
 -- a header, and records behind it that aren't too many
-pub file_counts-open : (header : Header) (taken behind next : List ℕ) → ((more : List ℕ) → header_answer (taken ++ more) ≡ Ok (header, behind ++ more)) → MayChange (counted header.record_type (behind ++ next)) → MayChange (file_counts (taken ++ next))
+pub file_counts-open : (header : Header) (taken behind next : List ℕ) → ((more : List ℕ) → header_answer (taken ++ more) ≡ Ok (header, behind ++ more)) → MayChange (fault_in (counted header.record_type (behind ++ next))) → MayChange (fault_in (file_counts (taken ++ next)))
 file_counts-open header taken behind next h counts = rw (h next) (with_counts-open header (counted header.record_type (behind ++ next)) counts)
 
 -- records that were not refused aren't too many

@@ -22,7 +22,7 @@ use Rattle.table_out.proofs.Final.{header_text-grows, header_text-refused, heade
 use Rattle.table_out.proofs.StepTexts.{header_text-same, header_text-preamble, header_text-tag, header_text-body, kind_with-is}
 use Rattle.ptu_cli.specs.declared.print.HeaderPrinter.{HeaderPrinter}
 use Rattle.ptu_cli.specs.BodyPieces.{end_line}
-use Rattle.ptu_cli.specs.Printing.{Prints, PutsText, CutsText}
+use Rattle.ptu_cli.specs.Printing.{Prints, PutsHeader, CutsHeader}
 use Rattle.ptu_cli.proofs.Pieces.{whole-piece}
 use Rattle.ptu_cli.proofs.Printers.{no_items, last_item}
 
@@ -35,18 +35,18 @@ parts bytes piece left used more e =
     ap (λ l. (bytes ++ take used piece) ++ take more l) e ∙ append_assoc bytes (take used piece) (take more (drop used piece)) ∙ ap (λ l. bytes ++ l) (sym (take-add used more piece))
 
 -- more text is put
-pub PutsText-next : (bytes piece left text : List ℕ) (used more : ℕ) (a b c : Option (List ℕ)) (held now later : List ℕ) → left ≡ drop used piece → PutsText bytes (take used piece) a b held now
-    → header_text ((bytes ++ take used piece) ++ take more left) ≡ header_text (bytes ++ take used piece) ++ text → PassesOn b c (now ++ text) later → PutsText bytes (take (used + more) piece) a c held later
-PutsText-next bytes piece left text used more a b c held now later e h grown put = record {
+pub PutsHeader-next : (bytes piece left text : List ℕ) (used more : ℕ) (a b c : Option (List ℕ)) (held now later : List ℕ) → left ≡ drop used piece → PutsHeader bytes (take used piece) a b held now
+    → header_text ((bytes ++ take used piece) ++ take more left) ≡ header_text (bytes ++ take used piece) ++ text → PassesOn b c (now ++ text) later → PutsHeader bytes (take (used + more) piece) a c held later
+PutsHeader-next bytes piece left text used more a b c held now later e h grown put = record {
   added = h.added ++ text;
   text = ap header_text (sym (parts bytes piece left used more e)) ∙ grown ∙ ap (λ l. l ++ text) h.text ∙ append_assoc (header_text bytes) h.added text;
   put = rw (← append_assoc held h.added text) (PassesOn-trans a b c (held ++ h.added) now text later h.put put);
 }
 
 -- more text is cut
-pub CutsText-next : (bytes piece left text : List ℕ) (used more : ℕ) (a b c : Option (List ℕ)) (held now : List ℕ) → left ≡ drop used piece → PutsText bytes (take used piece) a b held now
-    → header_text ((bytes ++ take used piece) ++ take more left) ≡ header_text (bytes ++ take used piece) ++ text → AppendsShort b c (now ++ text) → CutsText bytes piece a c held
-CutsText-next bytes piece left text used more a b c held now e h grown cut =
+pub CutsHeader-next : (bytes piece left text : List ℕ) (used more : ℕ) (a b c : Option (List ℕ)) (held now : List ℕ) → left ≡ drop used piece → PutsHeader bytes (take used piece) a b held now
+    → header_text ((bytes ++ take used piece) ++ take more left) ≡ header_text (bytes ++ take used piece) ++ text → AppendsShort b c (now ++ text) → CutsHeader bytes piece a c held
+CutsHeader-next bytes piece left text used more a b c held now e h grown cut =
     let front = bytes ++ take (used + more) piece in
     let behind = header_text-grows front (drop (used + more) piece) in
     let whole : front ++ drop (used + more) piece ≡ bytes ++ piece = append_assoc bytes (take (used + more) piece) (drop (used + more) piece) ∙ ap (λ l. bytes ++ l) (take-append-drop (used + more) piece) in
@@ -60,9 +60,9 @@ CutsText-next bytes piece left text used more a b c held now e h grown cut =
     }
 
 -- what is left of the piece adds nothing
-pub PutsText-end : (bytes piece left : List ℕ) (used : ℕ) (a b : Option (List ℕ)) (held now : List ℕ) → left ≡ drop used piece → PutsText bytes (take used piece) a b held now
-    → header_text ((bytes ++ take used piece) ++ left) ≡ header_text (bytes ++ take used piece) → PutsText bytes piece a b held now
-PutsText-end bytes piece left used a b held now e h same = record {
+pub PutsHeader-end : (bytes piece left : List ℕ) (used : ℕ) (a b : Option (List ℕ)) (held now : List ℕ) → left ≡ drop used piece → PutsHeader bytes (take used piece) a b held now
+    → header_text ((bytes ++ take used piece) ++ left) ≡ header_text (bytes ++ take used piece) → PutsHeader bytes piece a b held now
+PutsHeader-end bytes piece left used a b held now e h same = record {
   added = h.added;
   text = ap header_text (sym (whole-piece bytes piece left used e)) ∙ same ∙ h.text;
   put = h.put;

@@ -3,7 +3,7 @@ use Rattle.std.proofs.Common.{◌≡◌, ℕ, List, Bool, true, false, None, Som
 use Rattle.std.specs.Prelude.{◌≢◌, ◌==◌, Result, length, nat_le, if◌then◌else◌}
 use Rattle.std.specs.declared.option.Option.{Option}
 use Rattle.tally_base.specs.declared.fault.Fault.{Fault}
-use Rattle.tally_base.specs.declared.fault.Fault.TheVariants.{PlanTooLong, PlanRule, PlanMode}
+use Rattle.tally_base.specs.declared.fault.Fault.TheVariants.{PlanTooLong, PlanRule}
 use Rattle.tally_base.specs.declared.header.Header.{Header}
 use Rattle.tally_base.specs.declared.header.Mode.{Mode}
 use Rattle.tally_base.specs.Faults.{status_of, fault_in}

@@ -4,11 +4,10 @@ use Rattle.std.specs.Prelude.{◌⊎◌, Result, IfErr}
 use Rattle.std.specs.declared.option.Option.{Option}
 use Rattle.std.specs.Io.KnownBytes.{Consumes, IsAtEnd}
 use Rattle.tally_base.specs.declared.fault.Fault.{Fault}
-use Rattle.tally_base.specs.declared.fault.Fault.TheVariants.{PlanMode}
 use Rattle.tally_base.specs.declared.header.Mode.{Mode}
 use Rattle.tally_base.specs.declared.slot.Slot.TheVariants.{Data}
 use Rattle.tally_base.specs.declared.header.Header.{Header}
-use Rattle.tally_base.specs.Faults.{is_outside}
+use Rattle.tally_base.specs.Faults.{is_outside, fault_in}
 use Rattle.tally_base.specs.RecordTypes.{mode_of}
 use Rattle.tally_base.proofs.Reasons.{HasReason-inside, HasReason-follows, HasReason-with}
 use Rattle.bench_io.specs.Inputs.{InputState, NoneFalls}
@@ -91,10 +90,10 @@ answers-unopened plan header taken behind left fault shows (inl misfit) = inr (�
 answers-unopened plan header taken behind left fault shows (inr want) = inl (rw want.1 refl)
 
 -- a header that is cut may go on
-pub report-cut : (plan : PlanView) (taken : List ℕ) → IsCut taken → MayChange (file_report plan taken)
+pub report-cut : (plan : PlanView) (taken : List ℕ) → IsCut taken → MayChange (fault_in (file_report plan taken))
 report-cut plan taken cut = rw cut refl
 
-report_of-open : (plan : PlanView) (header : Header) (bytes : List ℕ) (r : Result Summary Fault) → MayChange r → MayChange (report_of plan header bytes r)
+report_of-open : (plan : PlanView) (header : Header) (bytes : List ℕ) (r : Result Summary Fault) → MayChange (fault_in r) → MayChange (fault_in (report_of plan header bytes r))
 report_of-open plan header bytes (Ok summary) h = tt
 report_of-open plan header bytes (Err fault) h = h
 
@@ -139,11 +138,11 @@ pub ends-refused : (old new : Engine) (bytes : List ℕ) (left : Option (List �
 ends-refused old new bytes left fault same shown = inr (λ more known. rw same.same_reading at (shown more))
 
 -- what an engine was given that goes on may change
-pub fed-open : (old new : Engine) (bytes : List ℕ) → SameEngine old new → record_refusal (reading_of new) (words_of bytes) ≡ None → MayChange (streamed (reading_of old) bytes)
+pub fed-open : (old new : Engine) (bytes : List ℕ) → SameEngine old new → record_refusal (reading_of new) (words_of bytes) ≡ None → MayChange (fault_in (streamed (reading_of old) bytes))
 fed-open old new bytes same none = streamed-open (reading_of old) bytes (rw same.same_reading at none)
 
 -- records that may go on behind a header make a report that may
-pub report-open : (plan : PlanView) (header : Header) (taken behind next : List ℕ) → ShowsHeader taken header behind → fits (mode_of header.record_type) plan ≡ Ok tt → MayChange (streamed (reading_by plan header) (behind ++ next)) → MayChange (file_report plan (taken ++ next))
+pub report-open : (plan : PlanView) (header : Header) (taken behind next : List ℕ) → ShowsHeader taken header behind → fits (mode_of header.record_type) plan ≡ Ok tt → MayChange (fault_in (streamed (reading_by plan header) (behind ++ next))) → MayChange (fault_in (file_report plan (taken ++ next)))
 report-open plan header taken behind next shows fit goes = rw (file-behind plan header taken behind shows fit next) (report_of-open plan header (behind ++ next) (streamed (reading_by plan header) (behind ++ next)) goes)
 
 -- an engine that goes on

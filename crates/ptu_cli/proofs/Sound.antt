@@ -1,7 +1,6 @@
 -- What is shown of each command's work: good files end it well, and no end of it is that of a bad command line.
-use Rattle.std.proofs.Common.{◌≡◌, ℕ, List, length, true, false, None, Some, Ok, Err, refl, ap, arith}
+use Rattle.std.proofs.Common.{◌≡◌, ℕ, List, length, false, None, Some, Ok, refl, ap, arith}
 use Rattle.std.specs.Prelude.{◌≢◌, nat_lt}
-use Rattle.std.specs.declared.option.Option.{Option}
 use Rattle.std.proofs.lemmas.Bool.Decides.{nat_tests}
 use Rattle.tally_base.specs.declared.header.RecordType.{RecordType}
 use Rattle.tally_base.specs.Faults.{fault_in}
@@ -22,8 +21,9 @@ pub record WorkIsSound (work : Work) : Type 0 where
   pub well : (bytes : List ℕ) → work.good bytes → (work.outcome bytes).fault ≡ None
   pub no_usage : (bytes : List ℕ) → status (work.outcome bytes).fault ≢ 1
 
+-- what is shown of a command
 abbrev pub IsSound : Behaviour → Type 0
-IsSound NoCommand = Unit {0}
+IsSound NoCommand = ⊥
 IsSound (Alone end) = status end.fault ≢ 1
 IsSound (OnFile file writing work) = WorkIsSound work
 IsSound (ByPlan plan file writing memory lacks work) = (view : PlanView) → WorkIsSound (work view) × (status (lacks view) ≢ 1)
@@ -58,14 +58,13 @@ listing-sound = record {
 
 reporting-sound : (view : PlanView) → WorkIsSound (reporting view)
 reporting-sound view = record {
-  well = λ bytes h. rw (h.2, h.3, streamed-read (reading_by view h.0) h.1 h.4) refl;
+  well = λ bytes h. rw (h.2, h.3.0, streamed-read (reading_by view h.0) h.1 h.3.1) refl;
   no_usage = λ bytes. report-bytes view bytes;
 }
 
-pub sound : (request : Option Request) → IsSound (behaviour request)
-sound None = tt
-sound (Some (Count file)) = counting-sound
-sound (Some (Header file)) = printing-sound
-sound (Some (Events file)) = listing-sound
-sound (Some (Run plan file)) = λ view. (reporting-sound view, λ e. omega arith)
-sound (Some (Demo seed count)) = λ e. omega arith
+pub sound : (request : Request) → IsSound (behaviour (Some request))
+sound (Count file) = counting-sound
+sound (Header file) = printing-sound
+sound (Events file) = listing-sound
+sound (Run plan file) = λ view. (reporting-sound view, λ e. omega arith)
+sound (Demo seed count) = λ e. omega arith

@@ -3,6 +3,7 @@ use Rattle.std.specs.Prelude.{ℕ, ◌-◌, ◌^◌, ◌&&◌, Bool, nat_le, Lis
 use Rattle.std.specs.Str.{bytes_eq, all_ascii_digits}
 use Rattle.std.specs.Str.Parse.{digits_value}
 use Rattle.std.specs.declared.option.Option.{Option}
+use Rattle.ptu_made.specs.Generator.{photon_limit}
 
 -- what the words ask for
 pub data Request : Type 0 where
@@ -19,10 +20,6 @@ is_numeral word = nat_le 1 (length word) && nat_le (length word) 20 && all_ascii
 -- the number that a word writes, where it is no greater than `most`
 unfoldable pub number_in : ℕ → List ℕ → Option ℕ
 number_in most word = if is_numeral word && nat_le (digits_value 10 word) most then Some (digits_value 10 word) else None
-
--- the most photons of a made file
-abbrev pub photon_limit : ℕ
-photon_limit = 10000000
 
 abbrev pub demo_of : Option ℕ → Option ℕ → Option Request
 demo_of (Some seed) (Some count) = Some (Demo seed count)

@@ -1,8 +1,9 @@
 -- What `demo` counts, and its report.
-use Rattle.std.specs.Prelude.{ℕ, ◌^◌, List, [], ◌∷◌, None, codes}
+use Rattle.std.specs.Prelude.{ℕ, List, [], ◌∷◌, None, codes}
 use Rattle.tally_base.specs.declared.event.Order.TheVariants.{Drop}
 use Rattle.tally_base.specs.declared.event.OnReserved.TheVariants.{Skip}
 use Rattle.tally_base.specs.Settings.PartSettings.{TraceSettings, StartStopSettings, CoincidenceSettings, CorrelationSettings}
+use Rattle.ptu_definitions.specs.Counted.{record_limit}
 use Rattle.ptu_definitions.specs.Streams.{Reading, summary}
 use Rattle.plan_text.specs.Plan.{PlanView, parts_of}
 use Rattle.tally_engine.specs.Histories.{history}
@@ -20,7 +21,7 @@ abbrev pub demo_plan : PlanView
 demo_plan = record {
   order = Drop;
   reserved = Skip;
-  records = 2 ^ 40;
+  records = record_limit;
   groups = record { inputs = 2; gate = None } ∷ record { inputs = 4; gate = None } ∷ [];
   parts =
       TraceSettings (record { group = 1; origin = 0; width = 1048576; bins = 64 })

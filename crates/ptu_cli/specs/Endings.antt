@@ -1,5 +1,5 @@
 -- What a run of the program leaves, by what its command does.
-use Rattle.std.specs.Prelude.{ℕ, ◌≡◌, ◌⊎◌, ◌≤◌, ◌<◌, List, ◌++◌, length, true, false, None, Some, Result, Ok, Err, IsErrAnd, IfErr}
+use Rattle.std.specs.Prelude.{ℕ, ◌≡◌, ◌⊎◌, ◌+◌, ◌≤◌, ◌<◌, List, ◌++◌, length, true, false, None, Some, Result, Ok, Err, IsErrAnd, IfErr}
 use Rattle.std.specs.declared.option.Option.{Option}
 use Rattle.std.specs.Io.KnownBytes.{Keeps, Appends, Consumes}
 use Rattle.tally_base.specs.declared.slot.Slot.{Slot}
@@ -14,10 +14,10 @@ use Rattle.tally_base.specs.declared.header.Header.{Header}
 use Rattle.ptu_definitions.specs.Headers.{header_answer}
 use Rattle.tally_base.specs.RecordTypes.{mode_of}
 use Rattle.plan_text.specs.Plan.{PlanView}
-use Rattle.plan_text.specs.Reading.{plan_answer}
+use Rattle.plan_text.specs.Reading.{text_limit, plan_answer}
 use Rattle.plan_text.specs.Fits.{fits}
-use Rattle.ptu_cli.specs.Outcomes.{Outcome, refused}
-use Rattle.ptu_cli.specs.Behaviours.{Work, Writing, AtEnd, AsItReads, Memory, ForPlan, ForTables, Behaviour, NoCommand, Alone, OnFile, ByPlan}
+use Rattle.ptu_cli.specs.Outcomes.{Outcome, refused, status}
+use Rattle.ptu_cli.specs.Behaviours.{Work, Writing, AtEnd, AsItReads, so_far, under, Memory, ForPlan, ForTables, Behaviour, NoCommand, Alone, OnFile, ByPlan}
 
 -- ## What the files call for
 
@@ -120,33 +120,29 @@ IsTakenFrom slot before after name taken = (bytes : List ℕ) → before.content
 abbrev pub IsTaken : InputState → InputState → List ℕ → List ℕ → Type 0
 IsTaken = IsTakenFrom Data
 
--- the most bytes of a plan
-abbrev pub plan_limit : ℕ
-plan_limit = 65536
-
 -- The bytes taken from FILE call for no end by themselves, and what the command writes of them meanwhile was written.
-pub record StopsIn (work : Work) (before after : InputState) (file : List ℕ) (old new : Option (List ℕ)) : Type 0 where
+pub record StopsIn (writing : Writing (List ℕ → List ℕ)) (work : Work) (before after : InputState) (file : List ℕ) (old new : Option (List ℕ)) : Type 0 where
   pub taken : List ℕ
   pub is_taken : IsTaken before after file taken
   pub goes_on : work.goes_on taken
-  pub text : Appends old new (work.so_far taken)
+  pub text : Appends old new (so_far writing taken)
 
 -- What a run leaves on standard output where a read failed.
 abbrev pub LeavesUnread : Behaviour → Slot → InputState → InputState → Option (List ℕ) → Option (List ℕ) → Type 0
 LeavesUnread NoCommand slot before after old new = ⊥
 LeavesUnread (Alone end) slot before after old new = ⊥
-LeavesUnread (OnFile file writing work) slot before after old new = StopsIn work before after file old new
-LeavesUnread (ByPlan plan file writing memory lacks work) Plan before after old new = Keeps old new × ((taken : List ℕ) × IsTakenFrom Plan before after plan taken × (length taken ≤ plan_limit))
-LeavesUnread (ByPlan plan file writing memory lacks work) Data before after old new = (view : PlanView) × HasPlan before plan lacks view × StopsIn (work view) before after file old new
+LeavesUnread (OnFile file writing work) slot before after old new = StopsIn writing work before after file old new
+LeavesUnread (ByPlan plan file writing memory lacks work) Plan before after old new = Keeps old new × ((taken : List ℕ) × IsTakenFrom Plan before after plan taken × (length taken ≤ text_limit))
+LeavesUnread (ByPlan plan file writing memory lacks work) Data before after old new = (view : PlanView) × HasPlan before plan lacks view × StopsIn (under view writing) (work view) before after file old new
 
 -- A text was cut short. One that is written at the end is cut only where the run would have ended well.
-abbrev pub Cuts : Writing → Outcome → Option (List ℕ) → Option (List ℕ) → Type 0
+abbrev pub Cuts : {A : Type 0} → Writing A → Outcome → Option (List ℕ) → Option (List ℕ) → Type 0
 Cuts AtEnd end old new = (end.fault ≡ None) × AppendsShort old new end.text
-Cuts AsItReads end old new = AppendsShort old new end.text
+Cuts (AsItReads text) end old new = AppendsShort old new end.text
 
 abbrev pub CutsShort : Behaviour → Outcome → Option (List ℕ) → Option (List ℕ) → Type 0
 CutsShort NoCommand end old new = ⊥
-CutsShort (Alone written) end old new = Cuts AtEnd end old new
+CutsShort (Alone written) end old new = (end.fault ≡ None) × AppendsShort old new end.text
 CutsShort (OnFile file writing work) end old new = Cuts writing end old new
 CutsShort (ByPlan plan file writing memory lacks work) end old new = Cuts writing end old new
 
@@ -158,10 +154,16 @@ pub record StopsAtHeader (plan : PlanView) (taken : List ℕ) : Type 0 where
   pub suits : fits (mode_of header.record_type) plan ≡ Ok (tt {0})
   pub few : length behind < 8192
 
--- Memory is wanting behind the data's header: no more of them was taken than the read gave that gave the header's last byte.
-abbrev pub WantsTables : Memory → InputState → InputState → List ℕ → PlanView → Type 0
-WantsTables ForPlan before after file view = ⊥
-WantsTables ForTables before after file view = (taken : List ℕ) × IsTaken before after file taken × StopsAtHeader view taken
+-- Memory may be wanting behind these bytes of FILE: for tables, behind the data's header.
+abbrev pub WantsBehind : Memory → PlanView → List ℕ → Type 0
+WantsBehind ForPlan plan taken = ⊥
+WantsBehind ForTables plan taken = StopsAtHeader plan taken
+
+-- No more was taken of FILE than the read gave behind which memory may be wanting.
+pub record StopsAtTables (memory : Memory) (plan : PlanView) (before after : InputState) (file : List ℕ) : Type 0 where
+  pub taken : List ℕ
+  pub is_taken : IsTaken before after file taken
+  pub wants : WantsBehind memory plan taken
 
 -- What a run leaves where memory was refused: nothing is written, and the data were not opened, or the tables take memory and the plan suits their header.
 abbrev pub RunsOut : Behaviour → InputState → InputState → Option (List ℕ) → Option (List ℕ) → Type 0
@@ -169,11 +171,11 @@ RunsOut NoCommand before after old new = ⊥
 RunsOut (Alone end) before after old new = Keeps old new
 RunsOut (OnFile file writing work) before after old new = ⊥
 RunsOut (ByPlan plan file writing memory lacks work) before after old new =
-    Keeps old new × ((after.asked Data ≡ false) ⊎ ((view : PlanView) × HasPlan before plan lacks view × WantsTables memory before after file view))
+    Keeps old new × ((after.asked Data ≡ false) ⊎ ((view : PlanView) × HasPlan before plan lacks view × StopsAtTables memory view before after file))
 
 -- No more of a plan is taken than one byte more than a plan may have.
 abbrev pub TakesPlan : InputState → InputState → List ℕ → Type 0
-TakesPlan before after plan = after.opened Plan ≡ true → (taken : List ℕ) × IsTakenFrom Plan before after plan taken × (length taken ≤ 65537)
+TakesPlan before after plan = after.opened Plan ≡ true → (taken : List ℕ) × IsTakenFrom Plan before after plan taken × (length taken ≤ text_limit + 1)
 
 -- The bytes taken from FILE are some that call for no end by themselves, and no more behind them than one read gives.
 pub record TakesData (work : Work) (before after : InputState) (file : List ℕ) : Type 0 where
@@ -197,6 +199,10 @@ abbrev pub TellsFault : Option (List ℕ) → Option (List ℕ) → ℕ → ℕ 
 TellsFault old new before now None = Keeps old new
 TellsFault old new before now (Some fault) = Appends old new (line_of fault) ⊎ (Rose before now × AppendsShort old new (line_of fault))
 
+-- The top call ended so: by the status of the fault, with the whole text on standard output, and the fault's line on standard error.
+abbrev pub EndsBy : Outcome → ℕ → Option (List ℕ) → Option (List ℕ) → Option (List ℕ) → Option (List ℕ) → ℕ → ℕ → Type 0
+EndsBy end result old new err_old err_new before now = (result ≡ status end.fault) × Appends old new end.text × TellsFault err_old err_new before now end.fault
+
 -- the states of the inputs and of standard output before a command and behind it
 pub record Span : Type 0 where
   pub before : InputState
@@ -206,12 +212,24 @@ pub record Span : Type 0 where
   pub faults_before : ℕ
   pub faults_after : ℕ
 
+-- An opening failed: the command came to the slot, the count of its openings that failed rose, and nothing was written.
+abbrev pub FailsOpening : Behaviour → Slot → InputState → InputState → Option (List ℕ) → Option (List ℕ) → Type 0
+FailsOpening does slot before after old new = Reaches does before slot × Rose (before.open_faults slot) (after.open_faults slot) × Keeps old new
+
+-- A read failed: the command came to the slot, the count of its reads that failed rose, and standard output holds what was called for so far.
+abbrev pub FailsReading : Behaviour → Slot → InputState → InputState → Option (List ℕ) → Option (List ℕ) → Type 0
+FailsReading does slot before after old new = Reaches does before slot × Rose (before.read_faults slot) (after.read_faults slot) × LeavesUnread does slot before after old new
+
+-- The text of the outcome was cut short, over any files that the inputs tell.
+abbrev pub CutsOutcome : Behaviour → InputState → Option (List ℕ) → Option (List ℕ) → Type 0
+CutsOutcome does before old new = (plan_file data_file : File) → Tells before does plan_file data_file → CutsShort does (outcome does plan_file data_file) old new
+
 -- what a command's fault from outside says: which count rose, and what was written
 unfoldable pub HasCauses : Behaviour → Span → Fault → Type 0
 HasCauses does span = HasReason
-    (λ slot. Reaches does span.before slot × Rose (span.before.open_faults slot) (span.after.open_faults slot) × Keeps span.old span.new)
-    (λ slot. Reaches does span.before slot × Rose (span.before.read_faults slot) (span.after.read_faults slot) × LeavesUnread does slot span.before span.after span.old span.new)
-    (Rose span.faults_before span.faults_after × ((plan_file data_file : File) → Tells span.before does plan_file data_file → CutsShort does (outcome does plan_file data_file) span.old span.new))
+    (λ slot. FailsOpening does slot span.before span.after span.old span.new)
+    (λ slot. FailsReading does slot span.before span.after span.old span.new)
+    (Rose span.faults_before span.faults_after × CutsOutcome does span.before span.old span.new)
     (RunsOut does span.before span.after span.old span.new)
 
 -- all that a command does

@@ -3,13 +3,14 @@ use Rattle.std.specs.Prelude.{ℕ, ◌≡◌, ◌⊎◌, List, ◌++◌, true, N
 use Rattle.std.specs.declared.option.Option.{Option}
 use Rattle.std.specs.Io.KnownBytes.{Appends, Consumes}
 use Rattle.tally_base.specs.declared.fault.Fault.{Fault}
-use Rattle.tally_base.specs.Faults.{is_outside}
+use Rattle.tally_base.specs.declared.slot.Slot.TheVariants.{Data}
+use Rattle.tally_base.specs.FaultCounts.{Rose}
+use Rattle.tally_base.specs.Faults.{is_outside, fault_in, HasReason}
 use Rattle.bench_io.specs.Sinks.{AppendsShort}
 use Rattle.ptu_definitions.specs.Words.{words_of}
 use Rattle.ptu_definitions.specs.Streams.{Reading, record_refusal, streamed}
-use Rattle.tally_base.specs.Faults.{fault_in}
-use Rattle.tally_base.specs.Faults.{fault_in}
 use Rattle.table_out.specs.EventText.{lines_of}
+use Rattle.ptu_cli.specs.Endings.{Span}
 
 -- The text is what is written of the lines of some bytes behind those of others, and the bytes have this fault.
 pub record SaysLines (how : Reading) (before bytes text : List ℕ) (fault : Option Fault) : Type 0 where
@@ -44,3 +45,11 @@ pub record CutsLines (how : Reading) (bytes : List ℕ) (rest_before rest_after 
   pub text : List ℕ
   pub lines : lines_of how (words_of (bytes ++ taken)) ≡ lines_of how (words_of bytes) ++ text
   pub cut : AppendsShort old new text
+
+-- Why the lines behind those of some bytes were not all written.
+abbrev pub LinesReason : Reading → List ℕ → Span → Fault → Type 0
+LinesReason how bytes span = HasReason
+    (λ slot. ⊥)
+    (λ slot. (slot ≡ Data) × Rose (span.before.read_faults slot) (span.after.read_faults slot) × ReadsLines how bytes (span.before.rest Data) (span.after.rest Data) span.old span.new)
+    (Rose span.faults_before span.faults_after × CutsLines how bytes (span.before.rest Data) (span.after.rest Data) span.old span.new)
+    ⊥

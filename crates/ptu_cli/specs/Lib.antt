@@ -8,6 +8,7 @@ pub mod Outcomes
 pub mod Behaviours
 pub mod Works
 pub mod Pieces
+pub mod Grown
 pub mod HeaderPieces
 pub mod BodyPieces
 pub mod Printing
@@ -17,4 +18,3 @@ pub mod Edge
 pub mod EventRuns
 pub mod PlanPieces
 pub mod RunPieces
-pub mod Before

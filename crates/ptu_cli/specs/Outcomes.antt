@@ -57,13 +57,9 @@ ends_early (TruncatedRecord bytes) = true
 ends_early _ = false
 
 -- An end that more bytes may change.
-abbrev pub MayGoOnFrom : Option Fault → Type 0
-MayGoOnFrom None = Unit {0}
-MayGoOnFrom (Some fault) = ends_early fault ≡ true
-
--- An answer that more bytes may change.
-abbrev pub MayChange : {A : Type 0} → Result A Fault → Type 0
-MayChange answer = MayGoOnFrom (fault_in answer)
+abbrev pub MayChange : Option Fault → Type 0
+MayChange None = Unit {0}
+MayChange (Some fault) = ends_early fault ≡ true
 
 -- The bytes are the front of a header, and call for no refusal by themselves.
 abbrev pub IsCut : List ℕ → Type 0

@@ -6,8 +6,8 @@ use Rattle.tally_base.specs.Faults.{is_outside, HasReason}
 use Rattle.tally_base.specs.FaultCounts.{Rose}
 use Rattle.bench_io.specs.Inputs.{File, InputState}
 use Rattle.plan_text.specs.declared.plan.Plan.{Plan}
-use Rattle.plan_text.specs.Reading.{plan_answer, plan_seen}
-use Rattle.ptu_cli.specs.Endings.{MayBe, IsTakenFrom, plan_limit}
+use Rattle.plan_text.specs.Reading.{text_limit, plan_answer, plan_seen}
+use Rattle.ptu_cli.specs.Endings.{MayBe, IsTakenFrom}
 
 -- The file is there, and this is what its bytes answer as a plan.
 pub record IsRead (plan_file : File) (result : Result Plan Fault) : Type 0 where
@@ -23,6 +23,6 @@ AnswersPlan before name result = IsErrAnd result (λ fault. is_outside fault ≡
 abbrev pub PlanReason : InputState → InputState → List ℕ → Fault → Type 0
 PlanReason before after name = HasReason
     (λ slot. (slot ≡ PlanSlot) × Rose (before.open_faults slot) (after.open_faults slot))
-    (λ slot. (slot ≡ PlanSlot) × Rose (before.read_faults slot) (after.read_faults slot) × ((taken : List ℕ) × IsTakenFrom PlanSlot before after name taken × (length taken ≤ plan_limit)))
+    (λ slot. (slot ≡ PlanSlot) × Rose (before.read_faults slot) (after.read_faults slot) × ((taken : List ℕ) × IsTakenFrom PlanSlot before after name taken × (length taken ≤ text_limit)))
     ⊥
     (Unit {0})

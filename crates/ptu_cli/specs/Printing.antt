@@ -3,8 +3,6 @@ use Rattle.std.specs.Prelude.{ℕ, ◌≡◌, ◌+◌, List, [], ◌∷◌, ◌+
 use Rattle.std.specs.declared.option.Option.{Option}
 use Rattle.tally_base.specs.declared.header.Header.{Header}
 use Rattle.tally_base.specs.Faults.{is_outside}
-use Rattle.std.specs.Io.KnownBytes.{Appends}
-use Rattle.bench_io.specs.Sinks.{AppendsShort, PassesOn}
 use Rattle.ptu_definitions.specs.TagFields.{code_in}
 use Rattle.ptu_definitions.specs.TagList.{Item}
 use Rattle.ptu_definitions.specs.Headers.{header_answer}
@@ -14,6 +12,7 @@ use Rattle.ptu_header.specs.Reading.{HasRead, bytes_taken, is_open}
 use Rattle.table_out.specs.HeaderText.{kind_with, header_text}
 use Rattle.table_out.specs.Body.{HasPut}
 use Rattle.ptu_cli.specs.Outcomes.{IsCut}
+use Rattle.ptu_cli.specs.Grown.{PutsMore, AppendsMore, CutsMore}
 use Rattle.ptu_cli.specs.declared.print.HeaderPrinter.{HeaderPrinter}
 use Rattle.ptu_cli.specs.declared.print.Printed.{Printed}
 use Rattle.ptu_cli.specs.declared.print.Printed.TheVariants.{More, Done, Refused}
@@ -30,23 +29,15 @@ Leaves bytes piece printer More = Prints printer (bytes ++ piece) × (is_open pr
 Leaves bytes piece printer Done = (header : Header) × (behind : List ℕ) × ((more : List ℕ) → header_answer (bytes ++ piece ++ more) ≡ Ok (header, behind ++ more))
 Leaves bytes piece printer (Refused fault) = Shows header_answer (bytes ++ piece) (Err fault)
 
--- The text of the bytes before and a piece was put behind what a block holds.
-pub record PutsText (bytes piece : List ℕ) (old new : Option (List ℕ)) (held now : List ℕ) : Type 0 where
-  pub added : List ℕ
-  pub text : header_text (bytes ++ piece) ≡ header_text bytes ++ added
-  pub put : PassesOn old new (held ++ added) now
+-- What a piece behind some bytes adds to the text of the header was put behind what a block holds; was written; was cut short.
+abbrev pub PutsHeader : List ℕ → List ℕ → Option (List ℕ) → Option (List ℕ) → List ℕ → List ℕ → Type 0
+PutsHeader bytes piece = PutsMore (header_text bytes) (header_text (bytes ++ piece))
 
--- The text of the bytes before and a piece was written.
-pub record AppendsText (bytes piece : List ℕ) (old new : Option (List ℕ)) : Type 0 where
-  pub added : List ℕ
-  pub text : header_text (bytes ++ piece) ≡ header_text bytes ++ added
-  pub written : Appends old new added
+abbrev pub AppendsHeader : List ℕ → List ℕ → Option (List ℕ) → Option (List ℕ) → Type 0
+AppendsHeader bytes piece = AppendsMore (header_text bytes) (header_text (bytes ++ piece))
 
--- The text of the bytes before and a piece was cut short.
-pub record CutsText (bytes piece : List ℕ) (old new : Option (List ℕ)) (held : List ℕ) : Type 0 where
-  pub added : List ℕ
-  pub text : header_text (bytes ++ piece) ≡ header_text bytes ++ added
-  pub cut : AppendsShort old new (held ++ added)
+abbrev pub CutsHeader : List ℕ → List ℕ → Option (List ℕ) → Option (List ℕ) → List ℕ → Type 0
+CutsHeader bytes piece = CutsMore (header_text bytes) (header_text (bytes ++ piece))
 
 -- A printer that goes on has taken the whole piece.
 abbrev pub TakesAll : HeaderPrinter → HeaderPrinter → List ℕ → Printed → Type 0

@@ -3,7 +3,8 @@ use Rattle.std.specs.Prelude.{◌≤◌, List, None, Some, map, string_bytes}
 use Rattle.std.specs.declared.string.String.{String}
 use Rattle.std.specs.declared.alloc.Global.{Global}
 use Rattle.std.specs.declared.option.Option.{Option}
-use Rattle.ptu_cli.specs.Commands.{Request, Count as CountOf, Header as HeaderOf, Events as EventsOf, Run as RunOf, Demo as DemoOf, photon_limit, request_of}
+use Rattle.ptu_made.specs.Generator.{photon_limit}
+use Rattle.ptu_cli.specs.Commands.{Request, Count as CountOf, Header as HeaderOf, Events as EventsOf, Run as RunOf, Demo as DemoOf, request_of}
 use Rattle.ptu_cli.specs.Behaviours.{Behaviour, behaviour}
 use Rattle.ptu_cli.specs.declared.words.Command.{Command}
 use Rattle.ptu_cli.specs.declared.words.Command.TheVariants.{Count, Header, Events, Run, Demo}

@@ -1,15 +1,14 @@
 -- What a command's work on the bytes of FILE leaves.
 use Rattle.std.specs.Prelude.{ℕ, ◌≡◌, ◌⊎◌, ◌≤◌, List, ◌++◌, length, true, Some, Result, IsErrAnd}
 use Rattle.std.specs.declared.option.Option.{Option}
-use Rattle.std.specs.Io.KnownBytes.{Appends, Consumes}
+use Rattle.std.specs.Io.KnownBytes.{Keeps, Appends, Consumes}
 use Rattle.tally_base.specs.declared.slot.Slot.TheVariants.{Data}
 use Rattle.tally_base.specs.declared.fault.Fault.{Fault}
 use Rattle.tally_base.specs.FaultCounts.{Rose}
 use Rattle.tally_base.specs.Faults.{is_outside, fault_in, HasReason}
-use Rattle.bench_io.specs.Inputs.{InputState}
-use Rattle.bench_io.specs.Sinks.{AppendsShort}
 use Rattle.ptu_definitions.specs.Shown.{Says}
-use Rattle.ptu_cli.specs.Behaviours.{Work}
+use Rattle.ptu_cli.specs.Behaviours.{Work, Writing, so_far}
+use Rattle.ptu_cli.specs.Endings.{Cuts, Span}
 
 -- The bytes taken and those left end so, and this text was written.
 pub record EndsWork (work : Work) (rest_before rest_after old new : Option (List ℕ)) (fault : Option Fault) : Type 0 where
@@ -23,26 +22,37 @@ pub record EndsWork (work : Work) (rest_before rest_after old new : Option (List
 abbrev pub AnswersWork : Work → Option (List ℕ) → Option (List ℕ) → Option (List ℕ) → Option (List ℕ) → Result (Unit {0}) Fault → Type 0
 AnswersWork work rest_before rest_after old new result = IsErrAnd result (λ fault. is_outside fault ≡ true) ⊎ EndsWork work rest_before rest_after old new (fault_in result)
 
--- What the work writes of the bytes taken was written, and more of them may change the end.
-pub record ReadsWork (work : Work) (rest_before rest_after old new : Option (List ℕ)) : Type 0 where
+-- What is written of the bytes taken was written, and more of them may change the end.
+pub record ReadsWork (writing : Writing (List ℕ → List ℕ)) (work : Work) (rest_before rest_after old new : Option (List ℕ)) : Type 0 where
   pub taken : List ℕ
   pub consumes : Consumes rest_before rest_after taken
-  pub written : Appends old new (work.so_far taken)
+  pub written : Appends old new (so_far writing taken)
   pub goes_on : work.goes_on taken
 
 -- The text of the file was cut short.
-pub record CutsWork (work : Work) (rest_before rest_after old new : Option (List ℕ)) : Type 0 where
+pub record CutsWork (writing : Writing (List ℕ → List ℕ)) (work : Work) (rest_before rest_after old new : Option (List ℕ)) : Type 0 where
   pub taken : List ℕ
   pub consumes : Consumes rest_before rest_after taken
-  pub cut : (more : List ℕ) → rest_after ≡ Some more → AppendsShort old new (work.outcome (taken ++ more)).text
+  pub cut : (more : List ℕ) → rest_after ≡ Some more → Cuts writing (work.outcome (taken ++ more)) old new
+
+-- Nothing was written, and the bytes taken are some behind which memory may be wanting.
+pub record WantsWork (wanting : List ℕ → Type 0) (rest_before rest_after old new : Option (List ℕ)) : Type 0 where
+  pub keeps : Keeps old new
+  pub taken : List ℕ
+  pub consumes : Consumes rest_before rest_after taken
+  pub wants : wanting taken
+
+-- memory is never wanting
+abbrev pub WantsNone : List ℕ → Type 0
+WantsNone taken = ⊥
 
 -- Why the work ended by a fault from outside.
-abbrev pub WorkReason : Work → InputState → InputState → Option (List ℕ) → Option (List ℕ) → ℕ → ℕ → Fault → Type 0
-WorkReason work before after old new faults_before faults_after = HasReason
+abbrev pub WorkReason : Writing (List ℕ → List ℕ) → (List ℕ → Type 0) → Work → Span → Fault → Type 0
+WorkReason writing wanting work span = HasReason
     (λ slot. ⊥)
-    (λ slot. (slot ≡ Data) × Rose (before.read_faults slot) (after.read_faults slot) × ReadsWork work (before.rest Data) (after.rest Data) old new)
-    (Rose faults_before faults_after × CutsWork work (before.rest Data) (after.rest Data) old new)
-    ⊥
+    (λ slot. (slot ≡ Data) × Rose (span.before.read_faults slot) (span.after.read_faults slot) × ReadsWork writing work (span.before.rest Data) (span.after.rest Data) span.old span.new)
+    (Rose span.faults_before span.faults_after × CutsWork writing work (span.before.rest Data) (span.after.rest Data) span.old span.new)
+    (WantsWork wanting (span.before.rest Data) (span.after.rest Data) span.old span.new)
 
 -- The bytes taken are some that call for no end by themselves, and no more behind them than one read gives.
 pub record TakesFew (goes_on : List ℕ → Type 0) (rest_before rest_after : Option (List ℕ)) : Type 0 where

@@ -1,139 +1,88 @@
-// The commands.
-ghost use Rattle.std.specs.Prelude.{◌≡◌, true, false, Some, IfErr};
-ghost use Rattle.tally_base.specs.declared.slot.Slot.{Slot};
-ghost use Rattle.tally_base.specs.declared.slot.Slot.TheVariants.{Plan, Data};
-ghost use Rattle.ptu_cli.specs.Commands.{Count, Header, Events, Run};
-ghost use Rattle.ptu_cli.specs.Behaviours.{behaviour};
-ghost use Rattle.ptu_cli.specs.Endings.{Answers, Asks, HasCauses};
+// The commands on FILE.
+ghost use Rattle.std.specs.Prelude.{None};
+ghost use Rattle.table_out.specs.HeaderText.{header_text};
+ghost use Rattle.ptu_cli.specs.Behaviours.{AtEnd, AsItReads, ForTables, any_plan, counting, printing, events_so_far, listing_all, reporting};
 
+use crate::by_plan::PlanWork;
 use crate::counts::write_counts;
 use crate::data::{count_data, list_data, print_data};
-use crate::plan::plan_of;
+use crate::on_file::FileWork;
 use crate::run::run_data;
 use bench_io::{Inputs, Sink};
+use plan_text::Plan;
 use std::alloc::Global;
 use table_out::write_report;
-use tally_base::{Failed, Fault, Slot};
-
-const OPEN_FAULT: Fault = Fault::OpenFault { slot: Slot::Data };
+use tally_base::Fault;
 
 /// Counts the records of a file by kind.
-#[tactic(auto, unfolding(crate::specs::Endings::outcome, crate::specs::Endings::HasCauses))]
-pub(crate) fn count<I: Inputs, O: Sink>(
-    inputs: &mut I,
-    out: &mut O,
-    file: &str,
-) -> Result<(), Fault>
-    requires meant { (I.state inputs.old).meant Data file.now ≡ true }
-    requires first { (slot : Slot) → (I.state inputs.old).asked slot ≡ false }
-    ensures answer { Answers (behaviour (Some (Count file.now))) (I.state inputs.old) result
-        (O.written out.old) (O.written out.new) }
-    ensures causes { IfErr result (HasCauses (behaviour (Some (Count file.now))) (record {
-      before = I.state inputs.old;
-      after = I.state inputs.new;
-      old = O.written out.old;
-      new = O.written out.new;
-      faults_before = O.faults out.old;
-      faults_after = O.faults out.new;
-    })) }
-    ensures asks { Asks (behaviour (Some (Count file.now))) (I.state inputs.old) (I.state inputs.new) }
-{
-    match inputs.open(Slot::Data, file) {
-        Err(Failed) => return Err(OPEN_FAULT),
-        Ok(()) => {}
+#[derive(Clone, Copy, Debug)]
+pub(crate) struct Counting;
+
+impl FileWork for Counting {
+    ghost work = { counting };
+
+    ghost writing = { AtEnd };
+
+    fn read<I: Inputs, O: Sink>(&self, inputs: &mut I, out: &mut O) -> Result<(), Fault> {
+        let (header, counts) = count_data(inputs)?;
+        write_counts(&header, &counts, out)
     }
-    let (header, counts) = count_data(inputs)?;
-    write_counts(&header, &counts, out)?;
-    Ok(())
 }
 
 /// Prints the header of a file while it is read.
-#[tactic(auto, unfolding(crate::specs::Endings::outcome, crate::specs::Endings::HasCauses))]
-pub(crate) fn header<I: Inputs, O: Sink>(
-    inputs: &mut I,
-    out: &mut O,
-    file: &str,
-) -> Result<(), Fault>
-    requires meant { (I.state inputs.old).meant Data file.now ≡ true }
-    requires first { (slot : Slot) → (I.state inputs.old).asked slot ≡ false }
-    ensures answer { Answers (behaviour (Some (Header file.now))) (I.state inputs.old) result
-        (O.written out.old) (O.written out.new) }
-    ensures causes { IfErr result (HasCauses (behaviour (Some (Header file.now))) (record {
-      before = I.state inputs.old;
-      after = I.state inputs.new;
-      old = O.written out.old;
-      new = O.written out.new;
-      faults_before = O.faults out.old;
-      faults_after = O.faults out.new;
-    })) }
-    ensures asks { Asks (behaviour (Some (Header file.now))) (I.state inputs.old) (I.state inputs.new) }
-{
-    match inputs.open(Slot::Data, file) {
-        Err(Failed) => return Err(OPEN_FAULT),
-        Ok(()) => {}
+#[derive(Clone, Copy, Debug)]
+pub(crate) struct Printing;
+
+impl FileWork for Printing {
+    ghost work = { printing };
+
+    ghost writing = { AsItReads header_text };
+
+    fn read<I: Inputs, O: Sink>(&self, inputs: &mut I, out: &mut O) -> Result<(), Fault> {
+        print_data(inputs, out)
     }
-    print_data(inputs, out)
 }
 
 /// Lists the events of a file while it is read.
-#[tactic(auto, unfolding(crate::specs::Endings::outcome, crate::specs::Endings::HasCauses))]
-pub(crate) fn events<I: Inputs, O: Sink>(
-    inputs: &mut I,
-    out: &mut O,
-    file: &str,
-) -> Result<(), Fault>
-    requires meant { (I.state inputs.old).meant Data file.now ≡ true }
-    requires first { (slot : Slot) → (I.state inputs.old).asked slot ≡ false }
-    ensures answer { Answers (behaviour (Some (Events file.now))) (I.state inputs.old) result
-        (O.written out.old) (O.written out.new) }
-    ensures causes { IfErr result (HasCauses (behaviour (Some (Events file.now))) (record {
-      before = I.state inputs.old;
-      after = I.state inputs.new;
-      old = O.written out.old;
-      new = O.written out.new;
-      faults_before = O.faults out.old;
-      faults_after = O.faults out.new;
-    })) }
-    ensures asks { Asks (behaviour (Some (Events file.now))) (I.state inputs.old) (I.state inputs.new) }
-{
-    match inputs.open(Slot::Data, file) {
-        Err(Failed) => return Err(OPEN_FAULT),
-        Ok(()) => {}
+#[derive(Clone, Copy, Debug)]
+pub(crate) struct Listing;
+
+impl FileWork for Listing {
+    ghost work = { listing_all };
+
+    ghost writing = { AsItReads events_so_far };
+
+    fn read<I: Inputs, O: Sink>(&self, inputs: &mut I, out: &mut O) -> Result<(), Fault> {
+        list_data(inputs, out)
     }
-    list_data(inputs, out)
 }
 
-/// Counts what a plan asks for in a file, and writes the report. The plan is read whole before the data
-/// are opened, and nothing is written before the data are read to their end.
-#[tactic(auto, unfolding(crate::specs::Endings::outcome, crate::specs::Endings::HasCauses))]
-pub(crate) fn run<I: Inputs, O: Sink>(
-    alloc: Global,
-    inputs: &mut I,
-    out: &mut O,
-    plan_name: &str,
-    data_name: &str,
-) -> Result<(), Fault>
-    requires meant_plan { (I.state inputs.old).meant Plan plan_name.now ≡ true }
-    requires meant_data { (I.state inputs.old).meant Data data_name.now ≡ true }
-    requires first { (slot : Slot) → (I.state inputs.old).asked slot ≡ false }
-    ensures answer { Answers (behaviour (Some (Run plan_name.now data_name.now))) (I.state inputs.old) result
-        (O.written out.old) (O.written out.new) }
-    ensures causes { IfErr result (HasCauses (behaviour (Some (Run plan_name.now data_name.now))) (record {
-      before = I.state inputs.old;
-      after = I.state inputs.new;
-      old = O.written out.old;
-      new = O.written out.new;
-      faults_before = O.faults out.old;
-      faults_after = O.faults out.new;
-    })) }
-    ensures asks { Asks (behaviour (Some (Run plan_name.now data_name.now))) (I.state inputs.old)
-        (I.state inputs.new) }
-{
-    let plan = plan_of(alloc, inputs, plan_name)?;
-    match inputs.open(Slot::Data, data_name) {
-        Err(Failed) => return Err(OPEN_FAULT),
-        Ok(()) => {}
+/// Counts what a plan asks for in a file, and writes the report. Nothing is written before the data are
+/// read to their end.
+#[derive(Clone, Copy, Debug)]
+pub(crate) struct Reporting;
+
+impl PlanWork for Reporting {
+    ghost lacking = { λ it. any_plan };
+
+    ghost work = { λ it. reporting };
+
+    ghost writing = { λ it. AtEnd };
+
+    ghost memory = { ForTables };
+
+    fn lacks(&self, _plan: &Plan) -> Option<Fault> {
+        None
     }
-    let results = run_data(alloc, inputs, &plan)?;
-    write_report(&results, out)
+
+    fn read<I: Inputs, O: Sink>(
+        &self,
+        alloc: Global,
+        inputs: &mut I,
+        out: &mut O,
+        plan: &Plan,
+    ) -> Result<(), Fault> {
+        let results = run_data(alloc, inputs, plan)?;
+        write_report(&results, out)
+    }
 }

@@ -6,13 +6,14 @@ ghost use Rattle.tally_base.specs.declared.header.RecordType.{RecordType};
 ghost use Rattle.bench_io.specs.Inputs.{OnlyReads};
 ghost use Rattle.ptu_definitions.specs.Words.{words_of};
 ghost use Rattle.ptu_definitions.specs.Counted.{counted, record_limit};
+ghost use Rattle.table_out.specs.HeaderText.{header_text};
 ghost use Rattle.ptu_cli.specs.Outcomes.{file_counts, MayChange};
-ghost use Rattle.ptu_cli.specs.Behaviours.{counting, printing, listing_all};
-ghost use Rattle.ptu_cli.specs.Works.{AnswersWork, TakesFew, WorkReason};
+ghost use Rattle.ptu_cli.specs.Behaviours.{AsItReads, counting, printing, events_so_far, listing_all};
+ghost use Rattle.ptu_cli.specs.Works.{AnswersWork, TakesFew, WantsNone, WorkReason};
 ghost use Rattle.ptu_cli.specs.Pieces.{ReadReason, AnswersAs, TakesOpen};
 ghost use Rattle.ptu_cli.specs.HeaderPieces.{HeaderEnds};
 ghost use Rattle.ptu_cli.specs.Outcomes.{IsCut};
-ghost use Rattle.tally_base.specs.Faults.{is_outside};
+ghost use Rattle.tally_base.specs.Faults.{fault_in, is_outside};
 ghost use Rattle.record_layout.specs.Counting.{HasCounted};
 
 use crate::events::{list_piece, list_rest};
@@ -58,7 +59,7 @@ fn count_rest<I: Inputs>(
         ((I.state inputs.new).rest Data)) }
     ensures few { (record_type : RecordType) (bytes : List ℕ)
         → HasCounted counter record_type bytes → length (words_of bytes) ≤ record_limit
-        → TakesFew (λ front. MayChange (counted record_type (bytes ++ front)))
+        → TakesFew (λ front. MayChange (fault_in (counted record_type (bytes ++ front))))
         ((I.state inputs.old).rest Data)
         ((I.state inputs.new).rest Data) }
 {
@@ -147,8 +148,14 @@ pub(crate) fn print_data<I: Inputs, O: Sink>(inputs: &mut I, out: &mut O) -> Res
     ensures reads { OnlyReads Data (I.state inputs.old) (I.state inputs.new) }
     ensures answer { AnswersWork printing ((I.state inputs.old).rest Data) ((I.state inputs.new).rest Data)
         (O.written out.old) (O.written out.new) result }
-    ensures reason { IfErr result (WorkReason printing (I.state inputs.old) (I.state inputs.new)
-        (O.written out.old) (O.written out.new) (O.faults out.old) (O.faults out.new)) }
+    ensures reason { IfErr result (WorkReason (AsItReads header_text) WantsNone printing (record {
+      before = I.state inputs.old;
+      after = I.state inputs.new;
+      old = O.written out.old;
+      new = O.written out.new;
+      faults_before = O.faults out.old;
+      faults_after = O.faults out.new;
+    })) }
     ensures few { TakesFew IsCut ((I.state inputs.old).rest Data)
         ((I.state inputs.new).rest Data) }
     ensures later { O.faults out.old ≤ O.faults out.new }
@@ -177,8 +184,14 @@ pub(crate) fn list_data<I: Inputs, O: Sink>(inputs: &mut I, out: &mut O) -> Resu
     ensures reads { OnlyReads Data (I.state inputs.old) (I.state inputs.new) }
     ensures answer { AnswersWork listing_all ((I.state inputs.old).rest Data)
         ((I.state inputs.new).rest Data) (O.written out.old) (O.written out.new) result }
-    ensures reason { IfErr result (WorkReason listing_all (I.state inputs.old) (I.state inputs.new)
-        (O.written out.old) (O.written out.new) (O.faults out.old) (O.faults out.new)) }
+    ensures reason { IfErr result (WorkReason (AsItReads events_so_far) WantsNone listing_all (record {
+      before = I.state inputs.old;
+      after = I.state inputs.new;
+      old = O.written out.old;
+      new = O.written out.new;
+      faults_before = O.faults out.old;
+      faults_after = O.faults out.new;
+    })) }
     ensures later { O.faults out.old ≤ O.faults out.new }
     ensures few { TakesFew listing_all.goes_on ((I.state inputs.old).rest Data)
         ((I.state inputs.new).rest Data) }

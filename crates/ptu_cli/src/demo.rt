@@ -5,7 +5,8 @@ ghost use Rattle.bench_io.specs.Inputs.{InputState};
 ghost use Rattle.tally_base.specs.declared.slot.Slot.TheVariants.{Data};
 ghost use Rattle.ptu_made.specs.ShortFile.{made_file};
 ghost use Rattle.ptu_made.specs.Made.{made_state};
-ghost use Rattle.ptu_cli.specs.Commands.{Demo, photon_limit};
+ghost use Rattle.ptu_made.specs.Generator.{photon_limit};
+ghost use Rattle.ptu_cli.specs.Commands.{Demo};
 ghost use Rattle.ptu_cli.specs.Behaviours.{behaviour};
 ghost use Rattle.ptu_cli.specs.Endings.{Answers, HasCauses};
 

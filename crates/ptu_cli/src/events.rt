@@ -1,18 +1,18 @@
 // The lines of the events of a file, written while it is read.
-ghost use Rattle.std.specs.Prelude.{◌≡◌, ◌+◌, ◌*◌, ◌^◌, ◌≤◌, ◌++◌, ◌&&◌, not, [], List, ℕ, length, None, OnOk, if◌then◌else◌};
+ghost use Rattle.std.specs.Prelude.{◌≡◌, ◌+◌, ◌*◌, ◌≤◌, ◌++◌, ◌&&◌, not, [], List, ℕ, length, None, OnOk, if◌then◌else◌};
 ghost use Rattle.tally_base.specs.Events.{is_ordered};
 ghost use Rattle.ptu_definitions.specs.Words.{words_of};
 ghost use Rattle.record_stream.specs.Standing.{how_of, refused_with, bytes_in, HasStreamed};
 ghost use Rattle.ptu_cli.specs.EventPieces.{Writes};
 ghost use Rattle.std.specs.Prelude.{◌<◌, true, IfErr};
 ghost use Rattle.tally_base.specs.declared.slot.Slot.TheVariants.{Data};
-ghost use Rattle.tally_base.specs.Faults.{HasReason};
+ghost use Rattle.tally_base.specs.Faults.{fault_in};
 ghost use Rattle.bench_io.specs.Inputs.{OnlyReads};
-ghost use Rattle.tally_base.specs.FaultCounts.{Rose};
+ghost use Rattle.ptu_definitions.specs.Counted.{record_limit};
 ghost use Rattle.ptu_definitions.specs.Streams.{streamed};
 ghost use Rattle.ptu_cli.specs.Outcomes.{MayChange};
 ghost use Rattle.ptu_cli.specs.Works.{TakesFew};
-ghost use Rattle.ptu_cli.specs.EventRuns.{AnswersLines, ReadsLines, CutsLines};
+ghost use Rattle.ptu_cli.specs.EventRuns.{AnswersLines, LinesReason};
 
 use arrayvec::ArrayVec;
 use bench_io::{Block, Inputs, Sink};
@@ -103,7 +103,7 @@ fn feed_lines<'o, O: Sink>(
         (words_of bytes) (words_of (bytes ++ piece.now)) result }
     ensures going { OnOk result (refused_with stream.new ≡ None) }
     ensures counted { OnOk result (bytes_in stream.new ≡ bytes_in stream.old + length piece.now) }
-    ensures limit { bytes_in stream.new ≤ 4 * 2 ^ 40 + 3 }
+    ensures limit { bytes_in stream.new ≤ 4 * record_limit + 3 }
     ensures same_how { how_of stream.new ≡ how_of stream.old }
     ensures later { O.faults lines.old.out.now ≤ O.faults lines.new.out.now }
     ensures same { lines.new.out.ghost_name ≡ lines.old.out.ghost_name }
@@ -132,7 +132,7 @@ pub(crate) fn list_piece<O: Sink>(
         (words_of bytes) (words_of (bytes ++ piece.now)) result }
     ensures going { OnOk result (refused_with stream.new ≡ None) }
     ensures counted { OnOk result (bytes_in stream.new ≡ bytes_in stream.old + length piece.now) }
-    ensures limit { bytes_in stream.new ≤ 4 * 2 ^ 40 + 3 }
+    ensures limit { bytes_in stream.new ≤ 4 * record_limit + 3 }
     ensures same_how { how_of stream.new ≡ how_of stream.old }
     ensures later { O.faults out.old ≤ O.faults out.new }
 {
@@ -164,18 +164,17 @@ pub(crate) fn list_rest<I: Inputs, O: Sink>(
         → AnswersLines (how_of stream) bytes ((I.state inputs.old).rest Data)
         ((I.state inputs.new).rest Data) (O.written out.old) (O.written out.new) result }
     ensures reason { (bytes : List ℕ) → HasStreamed stream bytes
-        → IfErr result (HasReason (λ slot. ⊥)
-        (λ slot. (slot ≡ Data)
-        × Rose ((I.state inputs.old).read_faults slot) ((I.state inputs.new).read_faults slot)
-        × ReadsLines (how_of stream) bytes ((I.state inputs.old).rest Data)
-        ((I.state inputs.new).rest Data) (O.written out.old) (O.written out.new))
-        (Rose (O.faults out.old) (O.faults out.new)
-        × CutsLines (how_of stream) bytes ((I.state inputs.old).rest Data)
-        ((I.state inputs.new).rest Data) (O.written out.old) (O.written out.new))
-        ⊥) }
+        → IfErr result (LinesReason (how_of stream) bytes (record {
+          before = I.state inputs.old;
+          after = I.state inputs.new;
+          old = O.written out.old;
+          new = O.written out.new;
+          faults_before = O.faults out.old;
+          faults_after = O.faults out.new;
+        })) }
     ensures later { O.faults out.old ≤ O.faults out.new }
     ensures few { (bytes : List ℕ) → HasStreamed stream bytes
-        → TakesFew (λ front. MayChange (streamed (how_of stream) (bytes ++ front)))
+        → TakesFew (λ front. MayChange (fault_in (streamed (how_of stream) (bytes ++ front))))
         ((I.state inputs.old).rest Data)
         ((I.state inputs.new).rest Data) }
 {

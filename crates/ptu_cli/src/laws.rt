@@ -1,7 +1,8 @@
 // Laws of the outcomes, each as the contract of a function that does nothing.
 ghost use Rattle.std.specs.Prelude.{◌≡◌, ◌≤◌, ℕ, List, None, Some};
 ghost use Rattle.ptu_made.specs.ShortFile.{made_file};
-ghost use Rattle.ptu_cli.specs.Commands.{Run, Demo, photon_limit};
+ghost use Rattle.ptu_made.specs.Generator.{photon_limit};
+ghost use Rattle.ptu_cli.specs.Commands.{Run, Demo};
 ghost use Rattle.ptu_cli.specs.Demo.{demo_text};
 ghost use Rattle.ptu_cli.specs.Behaviours.{behaviour};
 ghost use Rattle.ptu_cli.specs.Endings.{outcome};

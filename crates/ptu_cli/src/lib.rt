@@ -1,7 +1,7 @@
 //! The top call of the program, its commands, and its edge to files and streams.
 #![tactic(auto)]
 
-pub mod as_before;
+mod by_plan;
 mod command;
 mod counts;
 mod data;
@@ -10,6 +10,7 @@ mod edge;
 mod events;
 mod header;
 pub mod laws;
+mod on_file;
 mod plan;
 mod print;
 mod run;

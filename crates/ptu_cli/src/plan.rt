@@ -1,20 +1,21 @@
 // Reads the plan of a command.
-ghost use Rattle.std.specs.Prelude.{◌≡◌, ◌≤◌, ◌<◌, ◌^◌, List, ℕ, length, take, true, false, IfErr, IfOk};
+ghost use Rattle.std.specs.Prelude.{◌≡◌, ◌≤◌, ◌<◌, List, ℕ, length, take, true, false, IfErr, IfOk};
 ghost use Rattle.std.specs.Io.KnownBytes.{Consumes, IsAtEnd};
 ghost use Rattle.tally_base.specs.declared.slot.Slot.TheVariants.{Plan as PlanSlot};
 ghost use Rattle.tally_base.specs.declared.fault.Fault.TheVariants.{ReadFault};
 ghost use Rattle.tally_base.specs.FaultCounts.{Rose};
 ghost use Rattle.bench_io.specs.Inputs.{OnlyReads, Keeps, KeepsOther};
+ghost use Rattle.ptu_definitions.specs.Counted.{record_limit};
 ghost use Rattle.ptu_cli.specs.Endings.{TakesPlan};
 ghost use Rattle.ptu_cli.specs.PlanPieces.{AnswersPlan, PlanReason};
 
 use bench_io::Inputs;
-use plan_text::{Plan, read_plan};
+use plan_text::{Plan, TEXT_LIMIT, read_plan};
 use std::alloc::Global;
 use tally_base::{Failed, Fault, Slot};
 
 /// The bytes of a plan that are read at most: one more than a plan may have.
-const TEXT_SIZE: usize = 65_537;
+const TEXT_SIZE: usize = TEXT_LIMIT + 1;
 
 const OPEN_FAULT: Fault = Fault::OpenFault { slot: Slot::Plan };
 
@@ -66,7 +67,7 @@ fn plan_in<I: Inputs>(
     ensures reason { IfErr result (PlanReason (I.state inputs.old) (I.state inputs.new) name.now) }
     ensures takes { TakesPlan (I.state inputs.old) (I.state inputs.new) name.now }
     ensures records { IfOk result (λ plan. (0 < plan.policy.records)
-        × (plan.policy.records ≤ 2 ^ 40)) }
+        × (plan.policy.records ≤ record_limit)) }
 {
     match inputs.open(Slot::Plan, name) {
         Err(Failed) => return Err(OPEN_FAULT),
@@ -86,7 +87,7 @@ pub(crate) fn plan_of<I: Inputs>(alloc: Global, inputs: &mut I, name: &str) -> R
     ensures reason { IfErr result (PlanReason (I.state inputs.old) (I.state inputs.new) name.now) }
     ensures takes { TakesPlan (I.state inputs.old) (I.state inputs.new) name.now }
     ensures records { IfOk result (λ plan. (0 < plan.policy.records)
-        × (plan.policy.records ≤ 2 ^ 40)) }
+        × (plan.policy.records ≤ record_limit)) }
 {
     let Ok(mut text) = vec![in alloc; 0u8; TEXT_SIZE] else {
         return Err(Fault::OutOfMemory);

@@ -1,9 +1,10 @@
 // Counts the records of a file by a plan.
-ghost use Rattle.std.specs.Prelude.{◌≡◌, ◌⊎◌, ◌≤◌, ◌<◌, ◌^◌, ◌++◌, [], List, ℕ, length, slice_range, true, None, IfErr, IfOk};
+ghost use Rattle.std.specs.Prelude.{◌≡◌, ◌⊎◌, ◌≤◌, ◌<◌, ◌++◌, [], List, ℕ, length, slice_range, true, None, IfErr, IfOk};
 ghost use Rattle.std.specs.Io.KnownBytes.{Consumes};
 ghost use Rattle.tally_base.specs.declared.slot.Slot.TheVariants.{Data};
-ghost use Rattle.tally_base.specs.Faults.{is_outside};
+ghost use Rattle.tally_base.specs.Faults.{fault_in, is_outside};
 ghost use Rattle.bench_io.specs.Inputs.{OnlyReads};
+ghost use Rattle.ptu_definitions.specs.Counted.{record_limit};
 ghost use Rattle.ptu_definitions.specs.Streams.{streamed};
 ghost use Rattle.plan_text.specs.Reading.{plan_view};
 ghost use Rattle.tally_engine.specs.Engine.{HasFed, reading_of, refused_by};
@@ -43,7 +44,7 @@ fn feed_rest<I: Inputs, L: Ledger>(
         → TakesOpen (streamed (reading_of engine)) bytes ((I.state inputs.old).rest Data)
         ((I.state inputs.new).rest Data)) }
     ensures few { (bytes : List ℕ) → HasFed engine bytes
-        → TakesFew (λ front. MayChange (streamed (reading_of engine) (bytes ++ front)))
+        → TakesFew (λ front. MayChange (fault_in (streamed (reading_of engine) (bytes ++ front))))
         ((I.state inputs.old).rest Data)
         ((I.state inputs.new).rest Data) }
 {
@@ -88,8 +89,8 @@ fn feed_data<I: Inputs, L: Ledger>(
         ((I.state inputs.old).rest Data) ((I.state inputs.new).rest Data)) }
     // No piece was read, or few bytes were taken.
     ensures few { ((I.state inputs.new).rest Data ≡ (I.state inputs.old).rest Data)
-        ⊎ TakesFew (λ front. MayChange (streamed (reading_of engine)
-        (slice_range buffer.old used len ++ front)))
+        ⊎ TakesFew (λ front. MayChange (fault_in (streamed (reading_of engine)
+        (slice_range buffer.old used len ++ front))))
         ((I.state inputs.old).rest Data)
         ((I.state inputs.new).rest Data) }
 {
@@ -105,7 +106,7 @@ pub(crate) fn run_data<I: Inputs>(
     plan: &Plan,
 ) -> Result<Results, Fault>
     requires opened { (I.state inputs.old).opened Data ≡ true }
-    requires records { (0 < plan.now.policy.records) × (plan.now.policy.records ≤ 2 ^ 40) }
+    requires records { (0 < plan.now.policy.records) × (plan.now.policy.records ≤ record_limit) }
     ensures reads { OnlyReads Data (I.state inputs.old) (I.state inputs.new) }
     ensures reason { IfErr result (RunReason (plan_view plan.now) (I.state inputs.old)
         (I.state inputs.new)) }

@@ -1,6 +1,6 @@
 // The top call.
 ghost use Rattle.std.specs.Prelude.{◌≡◌, ◌≢◌, ◌≤◌, ◌<◌, false, None, Some, Err, IfErr};
-ghost use Rattle.std.specs.Io.KnownBytes.{Keeps, Appends};
+ghost use Rattle.std.specs.Io.KnownBytes.{Keeps};
 ghost use Rattle.std.specs.declared.option.Option.{Option};
 ghost use Rattle.tally_base.specs.declared.slot.Slot.{Slot};
 ghost use Rattle.tally_base.specs.declared.fault.Fault.{Fault};
@@ -9,11 +9,13 @@ ghost use Rattle.tally_base.specs.declared.fault.Fault.TheVariants.{OpenFault, R
 ghost use Rattle.tally_base.specs.FaultCounts.{Rose};
 ghost use Rattle.bench_io.specs.Inputs.{File};
 ghost use Rattle.ptu_cli.specs.Outcomes.{status};
-ghost use Rattle.ptu_cli.specs.Endings.{outcome, IsMeant, PlanMayBe, TellsData, Tells, TellsFault, CutsShort, Does, Reaches, LeavesUnread, RunsOut, Asks, MeansStatus, NoneRose, IsGood};
+ghost use Rattle.ptu_cli.specs.Endings.{outcome, IsMeant, PlanMayBe, TellsData, Tells, TellsFault, EndsBy, FailsOpening, FailsReading, CutsOutcome, Does, RunsOut, Asks, MeansStatus, NoneRose, IsGood};
 ghost use Rattle.ptu_cli.specs.Requests.{request_in, behaviour_of};
 
-use crate::command::{count, events, header, run};
+use crate::by_plan::by_plan;
+use crate::command::{Counting, Listing, Printing, Reporting};
 use crate::demo::demo;
+use crate::on_file::on_file;
 use crate::words::{Command, read_words};
 use arrayvec::ArrayVec;
 use bench_io::{Inputs, Sink, write_all};
@@ -44,10 +46,10 @@ fn obey<I: Inputs, O: Sink>(
         return Err(Fault::Usage);
     };
     match command {
-        Command::Count { file } => count(inputs, out, file),
-        Command::Header { file } => header(inputs, out, file),
-        Command::Events { file } => events(inputs, out, file),
-        Command::Run { plan, file } => run(alloc, inputs, out, plan, file),
+        Command::Count { file } => on_file(&Counting, inputs, out, file),
+        Command::Header { file } => on_file(&Printing, inputs, out, file),
+        Command::Events { file } => on_file(&Listing, inputs, out, file),
+        Command::Run { plan, file } => by_plan(&Reporting, alloc, inputs, out, plan, file),
         Command::Demo { seed, count } => demo(alloc, out, seed, count),
     }
 }
@@ -65,9 +67,25 @@ pub fn tell<E: Sink>(fault: &Fault, err: &mut E)
 /// Does all that the program does, and answers its exit status: 0, or that of the one fault whose line
 /// is written to `err`. The words are those behind the program's name.
 ///
-/// The outcome of the words and their files, `outcome`, is a text and a fault or none by the definitions,
-/// after PicoQuant's unified TTTR format. Only `run` and `demo` take memory: `run` may end with 5 before
-/// the data are opened, or right behind the header. `demo` asks nothing of the inputs.
+/// What a command does is told by its shape (`behaviour`): `demo` stands alone, `count`, `header` and
+/// `events` are on FILE, and `run` is by a plan. `outcome` is the end that the contents of PLAN and FILE
+/// call for, after PicoQuant's unified TTTR format: a text, and a fault or none.
+///
+/// | Status | No command | Alone | On FILE | By a plan |
+/// |---|---|---|---|---|
+/// | 0 | never | all is written | all is written | all is written |
+/// | 1 | always | never | never | never |
+/// | 2 | never | never | FILE is not opened | PLAN is not opened, or FILE behind a plan |
+/// | 3 | never | never | a read of FILE fails | a read of PLAN fails, or one of FILE |
+/// | 4 | never | a write fails | a write fails | a write fails |
+/// | 5 | never | memory is wanting | never | memory is wanting before FILE or at its header |
+/// | 6 to 8 | never | never | never | PLAN is no plan |
+/// | 9 | never | never | never | the plan does not suit FILE |
+/// | 10 to 21 | never | never | FILE is refused | FILE is refused |
+///
+/// After 2 and 5 nothing is written. After 3 nothing is, or, where the text is written while FILE is read
+/// (`header`, `events`), what the bytes read call for. After 4 the text is cut short; one that is written
+/// at the end is written only where the run would have ended with 0.
 ///
 /// Nothing may have been asked of the inputs before, and the words FILE and PLAN of the command must be
 /// meant for the slots Data and Plan.
@@ -87,11 +105,9 @@ pub fn ptu_main<I: Inputs, O: Sink, E: Sink>(
         → (plan_file : File) × PlanMayBe (I.state inputs.old) (behaviour_of words.now) plan_file
         × ((data_file : File)
         → TellsData (I.state inputs.old) (behaviour_of words.now) plan_file data_file
-        → let end = outcome (behaviour_of words.now) plan_file data_file in
-        (result ≡ status end.fault)
-        × Appends (O.written out.old) (O.written out.new) end.text
-        × TellsFault (E.written err.old) (E.written err.new)
-        (E.faults err.old) (E.faults err.new) end.fault) }
+        → EndsBy (outcome (behaviour_of words.now) plan_file data_file) result
+        (O.written out.old) (O.written out.new) (E.written err.old) (E.written err.new)
+        (E.faults err.old) (E.faults err.new)) }
 
     // Whatever the inputs tell, the status is 0 or that of one fault, and its line is told.
     ensures told { (fault : Option Fault)
@@ -109,18 +125,15 @@ pub fn ptu_main<I: Inputs, O: Sink, E: Sink>(
     // An opening failed.
     ensures unopened { result ≡ 2
         → (slot : Slot)
-        × Reaches (behaviour_of words.now) (I.state inputs.old) slot
-        × Rose ((I.state inputs.old).open_faults slot) ((I.state inputs.new).open_faults slot)
-        × Keeps (O.written out.old) (O.written out.new)
+        × FailsOpening (behaviour_of words.now) slot (I.state inputs.old) (I.state inputs.new)
+        (O.written out.old) (O.written out.new)
         × TellsFault (E.written err.old) (E.written err.new)
         (E.faults err.old) (E.faults err.new) (Some (OpenFault slot)) }
 
     // A read failed.
     ensures unread { result ≡ 3
         → (slot : Slot)
-        × Reaches (behaviour_of words.now) (I.state inputs.old) slot
-        × Rose ((I.state inputs.old).read_faults slot) ((I.state inputs.new).read_faults slot)
-        × LeavesUnread (behaviour_of words.now) slot (I.state inputs.old) (I.state inputs.new)
+        × FailsReading (behaviour_of words.now) slot (I.state inputs.old) (I.state inputs.new)
         (O.written out.old) (O.written out.new)
         × TellsFault (E.written err.old) (E.written err.new)
         (E.faults err.old) (E.faults err.new) (Some (ReadFault slot)) }
@@ -128,10 +141,8 @@ pub fn ptu_main<I: Inputs, O: Sink, E: Sink>(
     // A write failed.
     ensures unwritten { result ≡ 4
         → Rose (O.faults out.old) (O.faults out.new)
-        × ((plan_file data_file : File)
-        → Tells (I.state inputs.old) (behaviour_of words.now) plan_file data_file
-        → CutsShort (behaviour_of words.now) (outcome (behaviour_of words.now) plan_file data_file)
-        (O.written out.old) (O.written out.new))
+        × CutsOutcome (behaviour_of words.now) (I.state inputs.old)
+        (O.written out.old) (O.written out.new)
         × TellsFault (E.written err.old) (E.written err.new)
         (E.faults err.old) (E.faults err.new) (Some WriteFault) }
 

@@ -1,8 +1,11 @@
 // The words of the command line.
 ghost use Rattle.std.specs.Prelude.{◌≡◌, ◌≤◌, ◌-◌, ◌^◌, map, string_bytes, IfSome};
 ghost use Rattle.std.specs.Str.{all_ascii_digits};
-ghost use Rattle.ptu_cli.specs.Commands.{demo_of, number_in, photon_limit, request_of};
+ghost use Rattle.ptu_made.specs.Generator.{photon_limit};
+ghost use Rattle.ptu_cli.specs.Commands.{demo_of, number_in, request_of};
 ghost use Rattle.ptu_cli.specs.Requests.{asked_for, AsksFew};
+
+use ptu_made::PHOTON_LIMIT;
 
 /// What the program is asked to do.
 #[derive(Clone, Copy, Debug)]
@@ -19,9 +22,6 @@ pub enum Command<'a> {
     /// at most 10,000,000 of them.
     Demo { seed: u64, count: u64 },
 }
-
-/// The most photons of a made file.
-const PHOTON_LIMIT: u64 = 10_000_000;
 
 /// Whether all bytes are digits.
 fn are_digits(text: &[u8]) -> bool

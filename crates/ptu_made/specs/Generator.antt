@@ -2,6 +2,10 @@
 use Rattle.std.specs.Prelude.{ℕ, zero, suc, ◌+◌, ◌*◌, ◌/◌, ◌%◌, ◌^◌, List, [], ◌∷◌, ◌++◌, sum_by, nat_lt, if◌then◌else◌}
 use Rattle.ptu_definitions.specs.Prefixes.{each}
 
+-- the most photons of a made file
+abbrev pub photon_limit : ℕ
+photon_limit = 10000000
+
 -- the state of the generator behind another
 abbrev pub next_state : ℕ → ℕ
 next_state state = (state * 6364136223846793005 + 1442695040888963407) % 2 ^ 64

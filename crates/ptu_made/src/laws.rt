@@ -9,7 +9,7 @@ ghost use Rattle.ptu_definitions.specs.Layouts.{meaning_of};
 ghost use Rattle.ptu_definitions.specs.Streams.{reading, record_refusal};
 ghost use Rattle.ptu_definitions.specs.Times.{base, events};
 ghost use Rattle.ptu_definitions.specs.Words.{words_of, rest_of};
-ghost use Rattle.ptu_made.specs.Generator.{made_words};
+ghost use Rattle.ptu_made.specs.Generator.{photon_limit, made_words};
 ghost use Rattle.ptu_made.specs.Records.{IsPhotonOrWrap, made_header, made_photons, timed};
 ghost use Rattle.ptu_made.specs.ShortFile.{bytes_in, made_file};
 
@@ -45,7 +45,7 @@ pub fn the_words_are_photons()
 /// No record is refused of at most 10,000,000 photons, where late events are dropped and the limit
 /// of records is no less than there are.
 pub fn no_record_is_refused()
-    ensures { (seed count : ℕ) (policy : Policy) → count ≤ 10000000
+    ensures { (seed count : ℕ) (policy : Policy) → count ≤ photon_limit
         → length (made_words seed count) ≤ policy.records → stops_late policy.order ≡ false
         → record_refusal (reading RecordType.HydraHarp2T2 policy) (made_words seed count) ≡ None }
 {}

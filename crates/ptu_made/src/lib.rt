@@ -9,7 +9,7 @@ mod photons;
 mod slot;
 mod unread;
 
-pub use made::Made;
+pub use made::{Made, PHOTON_LIMIT};
 
 #[cfg(test)]
 mod tests;

@@ -6,11 +6,15 @@ ghost use Rattle.tally_base.specs.FaultCounts.{HasCause};
 ghost use Rattle.bench_io.specs.Inputs.{IsOpened, Keeps, KeepsOther, OpensNone};
 ghost use Rattle.bench_io.specs.Memory.{left_of};
 ghost use Rattle.ptu_made.specs.ShortFile.{made_file};
+ghost use Rattle.ptu_made.specs.Generator.{photon_limit};
 
 use crate::slot::read_in;
 use crate::unread::Unread;
 use bench_io::Inputs;
 use tally_base::{Failed, Slot};
+
+/// The most photons of a made file.
+pub const PHOTON_LIMIT: u64 = 10_000_000;
 
 /// Inputs in which every name is that of one made file of photons. Its words are made while it is
 /// read, so that it is never held whole. No call fails.
@@ -21,7 +25,7 @@ pub struct Made {
     /// What is left to read in the slots that were opened.
     plan: Option<Unread>,
     data: Option<Unread>,
-    ghost few: { count ≤ 10000000 },
+    ghost few: { count ≤ photon_limit },
 }
 
 #[tactic(auto, unfolding(crate::specs::Made::made_state))]
@@ -31,7 +35,7 @@ impl Made {
     /// The file of `count` photons of this seed, at most 10,000,000: a header of the record type
     /// HydraHarp2T2 and the words, a photon or a wrap each. It takes no memory.
     pub fn new(seed: u64, count: u64) -> Made
-        requires { count ≤ 10000000 }
+        requires { count ≤ photon_limit }
         ensures { IsUnopened (made_file seed count) (⟦<Made as Inputs>⟧.state result) }
     {
         Made {

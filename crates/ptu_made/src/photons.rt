@@ -1,6 +1,6 @@
 // The generator of the made file: photons of two inputs, each a few ticks behind the one before.
 ghost use Rattle.std.specs.Prelude.{◌≡◌, ◌+◌, ◌*◌, ◌%◌, ◌^◌, ◌<◌, ◌≤◌, ◌++◌, [], MatchOption, OnSome};
-ghost use Rattle.ptu_made.specs.Generator.{next_state, made_words};
+ghost use Rattle.ptu_made.specs.Generator.{photon_limit, next_state, made_words};
 ghost use Rattle.ptu_made.specs.Photon.{words_of_photon};
 
 use crate::photon_words::PhotonWords;
@@ -23,7 +23,7 @@ pub(crate) struct Photons {
     /// The time of the last photon in ticks, or 0.
     time: u64,
     pub(crate) left: u64,
-    ghost in_time: { time + 512 * left ≤ 512 * 10000000 },
+    ghost in_time: { time + 512 * left ≤ 512 * photon_limit },
 }
 
 fn state_behind(state: u64) -> u64
@@ -36,7 +36,7 @@ impl Photons {
     ghost use Rattle.ptu_made.specs.Left.{words_left};
 
     pub(crate) fn new(seed: u64, count: u64) -> Photons
-        requires { count ≤ 10000000 }
+        requires { count ≤ photon_limit }
         ensures { words_left result ≡ made_words seed count }
     {
         Photons {

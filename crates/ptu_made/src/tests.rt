@@ -1,6 +1,7 @@
 // The bytes of known seeds, in pieces of all kinds.
 ghost use Rattle.std.specs.Prelude.{◌≡◌, ◌≤◌, [], true, false};
 ghost use Rattle.ptu_made.specs.Made.{made_state};
+ghost use Rattle.ptu_made.specs.Generator.{photon_limit};
 
 use super::Made;
 use bench_io::Inputs;
@@ -60,7 +61,7 @@ struct Row<'a> {
     size: usize,
     checksum: u64,
     end: &'a [u8],
-    ghost few: { count ≤ 10000000 },
+    ghost few: { count ≤ photon_limit },
 }
 
 /// The bytes are those of the row, whatever the size of the pieces.

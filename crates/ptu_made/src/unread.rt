@@ -3,6 +3,7 @@ ghost use Rattle.std.specs.Prelude.{◌≡◌, ◌+◌, ◌<◌, ◌≤◌, ◌+
 ghost use Rattle.std.specs.Int.{to_le_bytes, w32};
 ghost use Rattle.ptu_made.specs.Photon.{words_of_photon};
 ghost use Rattle.ptu_made.specs.ShortFile.{bytes_in, made_file};
+ghost use Rattle.ptu_made.specs.Generator.{photon_limit};
 
 use crate::header::{HEADER_SIZE, header_bytes};
 use crate::photon_words::PhotonWords;
@@ -23,7 +24,7 @@ impl Unread {
     ghost use Rattle.ptu_made.specs.Unread.{held_in, bytes_left};
 
     pub(crate) fn new(seed: u64, count: u64) -> Unread
-        requires { count ≤ 10000000 }
+        requires { count ≤ photon_limit }
         ensures { bytes_left result ≡ made_file seed count }
     {
         Unread {

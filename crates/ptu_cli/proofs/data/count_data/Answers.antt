@@ -3,9 +3,8 @@ use Rattle.std.proofs.lemmas.Result.{err_from_is_err_and}
 use Rattle.bench_io.proofs.Bytes.{Consumes-trans}
 use Rattle.ptu_cli.proofs.Pieces.{file_counts-cut, file_counts-open, within_limit}
 use Rattle.ptu_cli.proofs.Composed.{AnswersAs-behind, Says-shown}
-use Rattle.ptu_cli.specs.Outcomes.{IsCut, file_counts}
+use Rattle.ptu_cli.specs.Outcomes.{IsCut}
 use Rattle.ptu_cli.specs.Behaviours.{counting}
-use Rattle.ptu_cli.proofs.CountEnds.{may_go_on}
 use Rattle.ptu_cli.proofs.Few.{few-map, few-behind}
 use Rattle.ptu_cli.proofs.data.count_data.Goals as goal
 
@@ -50,21 +49,21 @@ returns-in_err-counts-clause-unread g c =
     (front.0 ++ rest.0, Consumes-trans _ _ _ front.0 rest.0 front.1 rest.1, file_counts-open header front.0 _ rest.0 front.2 rest.2))
 
 pub returns-in_err-found-clause-few : goal.returns-in_err-found-clause-few
-returns-in_err-found-clause-few g c = few-map IsCut counting.goes_on _ _ (λ l cut. may_go_on (file_counts l) (file_counts-cut l cut)) c.read_header.ensures.few
+returns-in_err-found-clause-few g c = few-map IsCut counting.goes_on _ _ (λ l cut. file_counts-cut l cut) c.read_header.ensures.few
 
 pub returns-in_err-feed-clause-few : goal.returns-in_err-feed-clause-few
-returns-in_err-feed-clause-few g c = few-map IsCut counting.goes_on _ _ (λ l cut. may_go_on (file_counts l) (file_counts-cut l cut)) c.read_header.ensures.few
+returns-in_err-feed-clause-few g c = few-map IsCut counting.goes_on _ _ (λ l cut. file_counts-cut l cut) c.read_header.ensures.few
 
 pub returns-in_err-counts-clause-few : goal.returns-in_err-counts-clause-few
 returns-in_err-counts-clause-few g c =
     let header = c.in_ok-found.found.header in
     let front = c.in_ok-found.ensures.answer in
     let limit = within_limit _ _ c.in_ok-feed.was (c.feed.ensures.limit header.record_type [] c.new-counter.ensures.start) in
-    few-behind _ counting.goes_on front.0 _ _ _ front.1 (λ l h. may_go_on (file_counts (front.0 ++ l)) (file_counts-open header front.0 _ l front.2 h)) (c.count_rest.ensures.few header.record_type _ (c.feed.ensures.taken header.record_type [] c.new-counter.ensures.start) limit)
+    few-behind _ counting.goes_on front.0 _ _ _ front.1 (λ l h. file_counts-open header front.0 _ l front.2 h) (c.count_rest.ensures.few header.record_type _ (c.feed.ensures.taken header.record_type [] c.new-counter.ensures.start) limit)
 
 pub returns-clause-few : goal.returns-clause-few
 returns-clause-few g c =
     let header = c.in_ok-found.found.header in
     let front = c.in_ok-found.ensures.answer in
     let limit = within_limit _ _ c.in_ok-feed.was (c.feed.ensures.limit header.record_type [] c.new-counter.ensures.start) in
-    few-behind _ counting.goes_on front.0 _ _ _ front.1 (λ l h. may_go_on (file_counts (front.0 ++ l)) (file_counts-open header front.0 _ l front.2 h)) (c.count_rest.ensures.few header.record_type _ (c.feed.ensures.taken header.record_type [] c.new-counter.ensures.start) limit)
+    few-behind _ counting.goes_on front.0 _ _ _ front.1 (λ l h. file_counts-open header front.0 _ l front.2 h) (c.count_rest.ensures.few header.record_type _ (c.feed.ensures.taken header.record_type [] c.new-counter.ensures.start) limit)

@@ -9,6 +9,7 @@ use Rattle.ptu_definitions.specs.Shown.{Shows}
 use Rattle.record_layout.specs.Counting.{HasCounted}
 use Rattle.ptu_definitions.proofs.ShownLemmas.{Says-at_end}
 use Rattle.ptu_cli.proofs.Pieces.{counted-open, within_limit}
+use Rattle.tally_base.specs.Faults.{fault_in}
 use Rattle.ptu_cli.specs.Outcomes.{MayChange}
 use Rattle.ptu_cli.proofs.Few.{few-none, few-piece}
 use Rattle.ptu_cli.proofs.data.count_rest.Goals as goal
@@ -68,14 +69,14 @@ returns-then-len-eq0-clause-answer g c = λ record_type bytes h.
 pub returns-in_default-clause-few : goal.returns-in_default-clause-few
 returns-in_default-clause-few g c = λ record_type bytes h few.
     let so_far = c.pieces.invariant.taken in
-    few-none (λ (l : List ℕ). MayChange (counted record_type (bytes ++ l))) so_far.0 _ _ (Consumes-kept _ _ _ so_far.0 so_far.1 c.in_default.ensures.bytes) (counted-open record_type (bytes ++ so_far.0) (so_far.3 record_type bytes h few))
+    few-none (λ (l : List ℕ). MayChange (fault_in (counted record_type (bytes ++ l)))) so_far.0 _ _ (Consumes-kept _ _ _ so_far.0 so_far.1 c.in_default.ensures.bytes) (counted-open record_type (bytes ++ so_far.0) (so_far.3 record_type bytes h few))
 
 pub returns-then-len-eq0-clause-few : goal.returns-then-len-eq0-clause-few
 returns-then-len-eq0-clause-few g c = λ record_type bytes h few.
     let so_far = c.pieces.invariant.taken in
-    few-piece (λ (l : List ℕ). MayChange (counted record_type (bytes ++ l))) so_far.0 c.in-Ok.len c.read.new.into _ _ (Consumes-trans _ _ _ so_far.0 (take c.in-Ok.len c.read.new.into) so_far.1 c.in-Ok.ensures.bytes.0) (counted-open record_type (bytes ++ so_far.0) (so_far.3 record_type bytes h few)) (omega (arith, c.requires.small, c.pieces.auto.buffer, c.read.auto.into))
+    few-piece (λ (l : List ℕ). MayChange (fault_in (counted record_type (bytes ++ l)))) so_far.0 c.in-Ok.len c.read.new.into _ _ (Consumes-trans _ _ _ so_far.0 (take c.in-Ok.len c.read.new.into) so_far.1 c.in-Ok.ensures.bytes.0) (counted-open record_type (bytes ++ so_far.0) (so_far.3 record_type bytes h few)) (omega (arith, c.requires.small, c.pieces.auto.buffer, c.read.auto.into))
 
 pub returns-in_err-feed-clause-few : goal.returns-in_err-feed-clause-few
 returns-in_err-feed-clause-few g c = λ record_type bytes h few.
     let so_far = c.pieces.invariant.taken in
-    few-piece (λ (l : List ℕ). MayChange (counted record_type (bytes ++ l))) so_far.0 c.in-Ok.len c.read.new.into _ _ (Consumes-trans _ _ _ so_far.0 (take c.in-Ok.len c.read.new.into) so_far.1 c.in-Ok.ensures.bytes.0) (counted-open record_type (bytes ++ so_far.0) (so_far.3 record_type bytes h few)) (omega (arith, c.requires.small, c.pieces.auto.buffer, c.read.auto.into))
+    few-piece (λ (l : List ℕ). MayChange (fault_in (counted record_type (bytes ++ l)))) so_far.0 c.in-Ok.len c.read.new.into _ _ (Consumes-trans _ _ _ so_far.0 (take c.in-Ok.len c.read.new.into) so_far.1 c.in-Ok.ensures.bytes.0) (counted-open record_type (bytes ++ so_far.0) (so_far.3 record_type bytes h few)) (omega (arith, c.requires.small, c.pieces.auto.buffer, c.read.auto.into))

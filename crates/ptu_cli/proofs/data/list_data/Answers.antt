@@ -36,7 +36,7 @@ pub returns-in_err-found-clause-reason : goal.returns-in_err-found-clause-reason
 returns-in_err-found-clause-reason g c =
     let p = err_from_is_err_and c.from_residual.result c.from_residual.ensures.1 in
     rw (p.1, p.2)
-    (HasReason-follows _ _ _ _ _ _ _ _ c.in_err-found.field-0.0 (λ slot h. h) (λ slot h. (h.0.0, h.0.1, reads-header h.1.0 _ _ _ h.1.1 h.1.2)) (λ h. absurd h) (λ h. h)
+    (HasReason-follows _ _ _ _ _ _ _ _ c.in_err-found.field-0.0 (λ slot h. h) (λ slot h. (h.0.0, h.0.1, reads-header h.1.0 _ _ _ h.1.1 h.1.2)) (λ h. absurd h) (λ h. absurd h)
     (HasReason-with _ _ _ _ _ c.in_err-found.field-0.0 c.in_err-found.ensures.unread c.in_err-found.ensures.reason))
 
 pub returns-in_err-list_piece-clause-reason : goal.returns-in_err-list_piece-clause-reason
@@ -46,7 +46,7 @@ returns-in_err-list_piece-clause-reason g c =
     let how = c.new-stream.ensures.how in
     let writes = rw how at (c.in_err-list_piece.ensures.writes c.new-stream.ensures.unrefused [] c.new-stream.ensures.empty) in
     rw (p.1, p.2)
-    (reason-piece _ _ _ _ _ _ _ _ _ c.in_err-list_piece.field-0.0 writes (λ short. (short.rose, cuts-first c.in_ok-found.found.header front.0 _ _ _ _ _ _ _ front.1 front.2 short)))
+    (reason-piece _ _ _ _ _ _ _ _ _ _ c.in_err-list_piece.field-0.0 writes (λ short. (short.rose, cuts-first c.in_ok-found.found.header front.0 _ _ _ _ _ _ _ front.1 front.2 short)))
 
 pub returns-clause-reason : goal.returns-clause-reason
 returns-clause-reason g c =
@@ -60,7 +60,7 @@ returns-clause-reason g c =
     HasReason-follows _ _ _ _ _ _ _ _ fault (λ slot no. no)
     (λ slot h. (h.0, Rose-behind _ _ _ (c.read_header.ensures.reads.keeps.read_faults slot) h.1, reads-behind header front.0 _ _ _ _ _ _ _ front.1 front.2 writes.1 h.2))
     (λ h. (Rose-behind _ _ _ c.list_piece.ensures.later h.0, cuts-behind header front.0 _ _ _ _ _ _ _ front.1 front.2 writes.1 h.1))
-    (λ no. no)
+    (λ no. absurd no)
     h)
     rest
 

@@ -74,7 +74,7 @@ returns-in_err-list_piece-clause-reason g c = λ bytes h.
     let p = err_from_is_err_and c.from_residual-in_err-list_piece.result c.from_residual-in_err-list_piece.ensures.1 in
     let writes = rw inv.how at (c.in_err-list_piece.ensures.writes inv.going (bytes ++ so_far.0) at.0) in
     rw (p.1, p.2)
-    (reason-piece _ _ _ _ _ _ _ _ _ _ writes
+    (reason-piece _ _ _ _ _ _ _ _ _ _ _ writes
     (λ short. (Rose-behind _ _ _ inv.later short.rose, cuts-piece _ bytes so_far.0 _ _ _ _ _ _ _ _ (Consumes-trans _ _ _ so_far.0 _ so_far.1 c.in-Ok.ensures.bytes.0) at.1 short)))
 
 pub returns-in_err-finish-clause-answer : goal.returns-in_err-finish-clause-answer

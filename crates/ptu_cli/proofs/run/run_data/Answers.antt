@@ -7,10 +7,9 @@ use Rattle.ptu_cli.proofs.Runs.{report-cut, report-open, answers-run, unheaded-r
 use Rattle.std.specs.declared.option.Option.{Option}
 use Rattle.tally_base.specs.declared.slot.Slot.TheVariants.{Data}
 use Rattle.ptu_cli.specs.Outcomes.{IsCut}
-use Rattle.ptu_cli.specs.Reports.{file_report}
 use Rattle.ptu_cli.specs.Behaviours.{reporting}
 use Rattle.ptu_cli.specs.Works.{TakesFew}
-use Rattle.ptu_cli.proofs.Few.{few-map, few-behind, report-goes-on}
+use Rattle.ptu_cli.proofs.Few.{few-map, few-behind}
 use Rattle.ptu_cli.proofs.run.run_data.Goals as goal
 
 pub returns-in_err-found-clause-reason : goal.returns-in_err-found-clause-reason
@@ -40,10 +39,10 @@ returns-clause-answer g c =
     )
 
 pub returns-in_err-found-clause-few : goal.returns-in_err-found-clause-few
-returns-in_err-found-clause-few g c = few-map IsCut (reporting (plan_view c.args.plan.now)).goes_on _ _ (λ l cut. report-goes-on (file_report (plan_view c.args.plan.now) l) (report-cut (plan_view c.args.plan.now) l cut)) c.read_header.ensures.few
+returns-in_err-found-clause-few g c = few-map IsCut (reporting (plan_view c.args.plan.now)).goes_on _ _ (λ l cut. report-cut (plan_view c.args.plan.now) l cut) c.read_header.ensures.few
 
 pub returns-in_err-engine-clause-few : goal.returns-in_err-engine-clause-few
-returns-in_err-engine-clause-few g c = few-map IsCut (reporting (plan_view c.args.plan.now)).goes_on _ _ (λ l cut. report-goes-on (file_report (plan_view c.args.plan.now) l) (report-cut (plan_view c.args.plan.now) l cut)) c.read_header.ensures.few
+returns-in_err-engine-clause-few g c = few-map IsCut (reporting (plan_view c.args.plan.now)).goes_on _ _ (λ l cut. report-cut (plan_view c.args.plan.now) l cut) c.read_header.ensures.few
 
 pub returns-clause-few : goal.returns-clause-few
 returns-clause-few g c =
@@ -51,6 +50,6 @@ returns-clause-few g c =
     let header = c.in_ok-found.found.header in
     let front = c.in_ok-found.ensures.answer in
     elim c.feed_data.ensures.few [
-      | inl same ↦ subst (λ (rest : Option (List ℕ)). TakesFew (reporting plan).goes_on ((g.I.Inputs.state c.args.inputs.now).rest Data) rest) (sym same) (few-map IsCut (reporting (plan_view c.args.plan.now)).goes_on _ _ (λ l cut. report-goes-on (file_report (plan_view c.args.plan.now) l) (report-cut (plan_view c.args.plan.now) l cut)) c.read_header.ensures.few)
-      | inr few ↦ few-behind _ (reporting plan).goes_on front.0 _ _ _ front.1 (λ l h. report-goes-on (file_report plan (front.0 ++ l)) (report-open plan header front.0 _ l front.2 c.in_ok-engine.ensures.answer (rw c.in_ok-engine.ensures.made.reads at h))) few
+      | inl same ↦ subst (λ (rest : Option (List ℕ)). TakesFew (reporting plan).goes_on ((g.I.Inputs.state c.args.inputs.now).rest Data) rest) (sym same) (few-map IsCut (reporting (plan_view c.args.plan.now)).goes_on _ _ (λ l cut. report-cut (plan_view c.args.plan.now) l cut) c.read_header.ensures.few)
+      | inr few ↦ few-behind _ (reporting plan).goes_on front.0 _ _ _ front.1 (λ l h. report-open plan header front.0 _ l front.2 c.in_ok-engine.ensures.answer (rw c.in_ok-engine.ensures.made.reads at h)) few
     ]

@@ -3,16 +3,16 @@ use Rattle.ptu_cli.proofs.Asked.{does_as}
 use Rattle.ptu_cli.proofs.top.obey.Goals as goal
 
 pub returns-in-Count-clause-does : goal.returns-in-Count-clause-does
-returns-in-Count-clause-does g c = does_as _ _ _ _ (rw c.in-Count.is at c.in-Some.ensures.request) (record { answer = c.count.ensures.answer; causes = c.count.ensures.causes; asks = c.count.ensures.asks })
+returns-in-Count-clause-does g c = does_as _ _ _ _ (rw c.in-Count.is at c.in-Some.ensures.request) c.on_file.ensures
 
 pub returns-in-Header-clause-does : goal.returns-in-Header-clause-does
-returns-in-Header-clause-does g c = does_as _ _ _ _ (rw c.in-Header.is at c.in-Some.ensures.request) (record { answer = c.header.ensures.answer; causes = c.header.ensures.causes; asks = c.header.ensures.asks })
+returns-in-Header-clause-does g c = does_as _ _ _ _ (rw c.in-Header.is at c.in-Some.ensures.request) c.on_file-in-Header.ensures
 
 pub returns-in-Events-clause-does : goal.returns-in-Events-clause-does
-returns-in-Events-clause-does g c = does_as _ _ _ _ (rw c.in-Events.is at c.in-Some.ensures.request) (record { answer = c.events.ensures.answer; causes = c.events.ensures.causes; asks = c.events.ensures.asks })
+returns-in-Events-clause-does g c = does_as _ _ _ _ (rw c.in-Events.is at c.in-Some.ensures.request) c.on_file-in-Events.ensures
 
 pub returns-in-Run-clause-does : goal.returns-in-Run-clause-does
-returns-in-Run-clause-does g c = does_as _ _ _ _ (rw c.in-Run.is at c.in-Some.ensures.request) (record { answer = c.run.ensures.answer; causes = c.run.ensures.causes; asks = c.run.ensures.asks })
+returns-in-Run-clause-does g c = does_as _ _ _ _ (rw c.in-Run.is at c.in-Some.ensures.request) c.by_plan.ensures
 
 pub returns-in-Demo-clause-does : goal.returns-in-Demo-clause-does
 returns-in-Demo-clause-does g c =

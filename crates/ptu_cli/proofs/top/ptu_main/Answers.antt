@@ -14,7 +14,7 @@ pub returns-in-Err-clause-unopened : goal.returns-in-Err-clause-unopened
 unfolding HasCauses
 returns-in-Err-clause-unopened g c = λ two.
     let h = opening-from_status _ _ _ _ c.in-Err.fault (sym c.status.ensures ∙ two) c.in-Err.ensures.does.causes in
-    (h.0, h.2.0, h.2.1, h.2.2, tells_as _ _ _ _ _ _ h.1 c.tell.ensures)
+    (h.0, h.2, tells_as _ _ _ _ _ _ h.1 c.tell.ensures)
 
 pub returns-in-Err-clause-memory : goal.returns-in-Err-clause-memory
 unfolding HasCauses
@@ -26,7 +26,7 @@ pub returns-in-Err-clause-unread : goal.returns-in-Err-clause-unread
 unfolding HasCauses
 returns-in-Err-clause-unread g c = λ three.
     let h = reading-from_status _ _ _ _ c.in-Err.fault (sym c.status.ensures ∙ three) c.in-Err.ensures.does.causes in
-    (h.0, h.2.0, h.2.1, h.2.2, tells_as _ _ _ _ _ _ h.1 c.tell.ensures)
+    (h.0, h.2, tells_as _ _ _ _ _ _ h.1 c.tell.ensures)
 
 pub returns-in-Err-clause-unwritten : goal.returns-in-Err-clause-unwritten
 unfolding HasCauses

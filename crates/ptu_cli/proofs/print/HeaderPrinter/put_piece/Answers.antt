@@ -8,7 +8,7 @@ use Rattle.ptu_cli.specs.Outcomes.{IsCut}
 use Rattle.ptu_cli.specs.Printing.{Prints}
 use Rattle.ptu_cli.specs.BodyPieces.{end_line}
 use Rattle.ptu_cli.proofs.Pieces.{whole-piece}
-use Rattle.ptu_cli.proofs.PrintSteps.{printer, parts, PutsText-next, CutsText-next, PutsText-end, text-preamble, text-tag, text-body, text-more, text-done, text-refused, Prints-preamble, Prints-tag, Prints-body, Prints-more, PassesOn-body, AppendsShort-body, AppendsShort-end}
+use Rattle.ptu_cli.proofs.PrintSteps.{printer, parts, PutsHeader-next, CutsHeader-next, PutsHeader-end, text-preamble, text-tag, text-body, text-more, text-done, text-refused, Prints-preamble, Prints-tag, Prints-body, Prints-more, PassesOn-body, AppendsShort-body, AppendsShort-end}
 use Rattle.ptu_cli.proofs.print.HeaderPrinter.put_piece.Goals as goal
 
 pub returns-in-More-clause-leaves : goal.returns-in-More-clause-leaves
@@ -28,7 +28,7 @@ returns-in-More-clause-text g c = λ bytes h.
     let front = bytes ++ take c.steps.used piece in
     let p = c.steps.invariant.prints bytes h in
     let s = c.in-More.ensures.step front p.read in
-    PutsText-end bytes piece left c.steps.used _ _ _ _ c.split_at.ensures.back (c.steps.invariant.text bytes h)
+    PutsHeader-end bytes piece left c.steps.used _ _ _ _ c.split_at.ensures.back (c.steps.invariant.text bytes h)
     (text-more front left c.feed.new.self s (omega (arith, p.taken, c.in-More.ensures.room, c.in-More.ensures.limit, length-append front left)))
 
 pub returns-in_err-put-in-Preamble-clause-short : goal.returns-in_err-put-in-Preamble-clause-short
@@ -41,7 +41,7 @@ returns-in_err-put-in-Preamble-clause-short g c =
     let front = bytes ++ take c.steps.used piece in
     let p = c.steps.invariant.prints bytes h in
     let s = c.in-Preamble.ensures.step front p.read in
-    CutsText-next bytes piece left _ c.steps.used more _ _ _ c.args.block.now c.steps.block c.split_at.ensures.back (c.steps.invariant.text bytes h)
+    CutsHeader-next bytes piece left _ c.steps.used more _ _ _ c.args.block.now c.steps.block c.split_at.ensures.back (c.steps.invariant.text bytes h)
     (text-preamble front left c.in-Preamble.magic c.in-Preamble.version more c.feed.new.self s (omega (arith, p.taken, s.0.0, c.in-Preamble.ensures.room.1, c.in-Preamble.ensures.limit, length-append front (take more left), length-take more left)))
     (rw (c.as_slice.ensures.value, c.preamble_lines.ensures) at c.in_err-put-in-Preamble.ensures.short))
 
@@ -67,7 +67,7 @@ steps-preserved-in-Preamble g c =
       text = λ bytes h.
           let front = bytes ++ take c.steps.used piece in
           let p = c.steps.invariant.prints bytes h in
-          PutsText-next bytes piece left _ c.steps.used more _ _ _ c.args.block.now c.steps.block c.put.new.self c.split_at.ensures.back (c.steps.invariant.text bytes h)
+          PutsHeader-next bytes piece left _ c.steps.used more _ _ _ c.args.block.now c.steps.block c.put.new.self c.split_at.ensures.back (c.steps.invariant.text bytes h)
           (text-preamble front left c.in-Preamble.magic c.in-Preamble.version more reader (c.in-Preamble.ensures.step front p.read) (fits front p))
           (rw (c.as_slice.ensures.value, c.preamble_lines.ensures) at c.in_ok-put-in-Preamble.ensures.all);
       taken = omega (arith, c.in-Preamble.ensures.room.1, c.steps.invariant.taken);
@@ -84,7 +84,7 @@ returns-in_err-put-in-Tag-clause-short g c =
     let front = bytes ++ take c.steps.used piece in
     let p = c.steps.invariant.prints bytes h in
     let s = c.in-Tag.ensures.step front p.read in
-    CutsText-next bytes piece left _ c.steps.used more _ _ _ c.args.block.now c.steps.block c.split_at.ensures.back (c.steps.invariant.text bytes h)
+    CutsHeader-next bytes piece left _ c.steps.used more _ _ _ c.args.block.now c.steps.block c.split_at.ensures.back (c.steps.invariant.text bytes h)
     (text-tag front left more c.feed.new.self c.in-Tag.tag c.in-Tag.kind s (omega (arith, p.taken, s.0.0, c.in-Tag.ensures.room.1, c.in-Tag.ensures.limit, length-append front (take more left), length-take more left)))
     (rw (c.as_slice-in-Tag.ensures.value, c.tag_line.ensures s.2.0 s.2.3 s.2.4) at c.in_err-put-in-Tag.ensures.short))
 
@@ -111,7 +111,7 @@ steps-preserved-in-Tag g c =
           let front = bytes ++ take c.steps.used piece in
           let p = c.steps.invariant.prints bytes h in
           let s = c.in-Tag.ensures.step front p.read in
-          PutsText-next bytes piece left _ c.steps.used more _ _ _ c.args.block.now c.steps.block c.put-in-Tag.new.self c.split_at.ensures.back (c.steps.invariant.text bytes h)
+          PutsHeader-next bytes piece left _ c.steps.used more _ _ _ c.args.block.now c.steps.block c.put-in-Tag.new.self c.split_at.ensures.back (c.steps.invariant.text bytes h)
           (text-tag front left more reader c.in-Tag.tag c.in-Tag.kind s (fits front p))
           (rw (c.as_slice-in-Tag.ensures.value, c.tag_line.ensures s.2.0 s.2.3 s.2.4) at c.in_ok-put-in-Tag.ensures.all);
       taken = omega (arith, c.in-Tag.ensures.room.1, c.steps.invariant.taken);
@@ -137,7 +137,7 @@ returns-in-Done-clause-text g c = λ bytes h.
     let left = c.split_at.result.1.now in
     let front = bytes ++ take c.steps.used piece in
     let p = c.steps.invariant.prints bytes h in
-    PutsText-end bytes piece left c.steps.used _ _ _ _ c.split_at.ensures.back (c.steps.invariant.text bytes h) (text-done front left c.in-Done.used c.in-Done.header c.feed.new.self (c.in-Done.ensures.step front p.read))
+    PutsHeader-end bytes piece left c.steps.used _ _ _ _ c.split_at.ensures.back (c.steps.invariant.text bytes h) (text-done front left c.in-Done.used c.in-Done.header c.feed.new.self (c.in-Done.ensures.step front p.read))
 
 pub returns-in-Refused-clause-leaves : goal.returns-in-Refused-clause-leaves
 returns-in-Refused-clause-leaves g c = λ bytes h more.
@@ -155,7 +155,7 @@ returns-in-Refused-clause-text g c = λ bytes h.
     let front = bytes ++ take c.steps.used piece in
     let p = c.steps.invariant.prints bytes h in
     let s = c.in-Refused.ensures.step front p.read in
-    PutsText-end bytes piece left c.steps.used _ _ _ _ c.split_at.ensures.back (c.steps.invariant.text bytes h)
+    PutsHeader-end bytes piece left c.steps.used _ _ _ _ c.split_at.ensures.back (c.steps.invariant.text bytes h)
     (text-refused front left c.in-Refused.fault c.feed.new.self s (omega (arith, p.taken, c.in-Refused.ensures.room)) c.in-Refused.ensures.limit)
 
 pub returns-in_err-put_body-in-Body-clause-short : goal.returns-in_err-put_body-in-Body-clause-short
@@ -169,7 +169,7 @@ returns-in_err-put_body-in-Body-clause-short g c =
     let p = c.steps.invariant.prints bytes h in
     let s = c.in-Body.ensures.step front p.read in
     let body = rw c.split_at-in-Body.ensures.front at (c.in_err-put_body-in-Body.ensures.short (kind_with (code_in s.2.tag)) s.2.part (p.body s.2.items s.2.tag s.2.part s.2.before_are)) in
-    CutsText-next bytes piece left (body.added ++ end_line c.in-Body.last) c.steps.used more _ _ _ c.args.block.now c.steps.block c.split_at.ensures.back (c.steps.invariant.text bytes h)
+    CutsHeader-next bytes piece left (body.added ++ end_line c.in-Body.last) c.steps.used more _ _ _ c.args.block.now c.steps.block c.split_at.ensures.back (c.steps.invariant.text bytes h)
     (text-body front left body.added more c.in-Body.last c.feed.new.self s (omega (arith, p.taken, s.0.0, c.in-Body.ensures.room.1, c.in-Body.ensures.limit, length-append front (take more left), length-take more left)) body.text)
     (AppendsShort-body _ _ c.steps.block body.added (end_line c.in-Body.last) body.cut))
 
@@ -184,7 +184,7 @@ returns-in_err-put_end-in-Body-clause-short g c =
     let p = c.steps.invariant.prints bytes h in
     let s = c.in-Body.ensures.step front p.read in
     let body = rw c.split_at-in-Body.ensures.front at (c.in_ok-put_body-in-Body.ensures.all (kind_with (code_in s.2.tag)) s.2.part (p.body s.2.items s.2.tag s.2.part s.2.before_are)) in
-    CutsText-next bytes piece left (body.added ++ end_line c.in-Body.last) c.steps.used more _ _ _ c.args.block.now c.steps.block c.split_at.ensures.back (c.steps.invariant.text bytes h)
+    CutsHeader-next bytes piece left (body.added ++ end_line c.in-Body.last) c.steps.used more _ _ _ c.args.block.now c.steps.block c.split_at.ensures.back (c.steps.invariant.text bytes h)
     (text-body front left body.added more c.in-Body.last c.feed.new.self s (omega (arith, p.taken, s.0.0, c.in-Body.ensures.room.1, c.in-Body.ensures.limit, length-append front (take more left), length-take more left)) body.text)
     (AppendsShort-end _ _ _ c.steps.block body.added (end_line c.in-Body.last) c.put_body.new.block body.put c.in_err-put_end-in-Body.ensures.short))
 
@@ -213,7 +213,7 @@ steps-preserved g c =
           let p = c.steps.invariant.prints bytes h in
           let s = c.in-Body.ensures.step front p.read in
           let body = rw c.split_at-in-Body.ensures.front at (c.in_ok-put_body-in-Body.ensures.all (kind_with (code_in s.2.tag)) s.2.part (p.body s.2.items s.2.tag s.2.part s.2.before_are)) in
-          PutsText-next bytes piece left (body.added ++ end_line c.in-Body.last) c.steps.used more _ _ _ c.args.block.now c.steps.block c.put_end.new.block c.split_at.ensures.back (c.steps.invariant.text bytes h)
+          PutsHeader-next bytes piece left (body.added ++ end_line c.in-Body.last) c.steps.used more _ _ _ c.args.block.now c.steps.block c.put_end.new.block c.split_at.ensures.back (c.steps.invariant.text bytes h)
           (text-body front left body.added more c.in-Body.last reader s (fits front p) body.text)
           (PassesOn-body _ _ _ c.steps.block body.added (end_line c.in-Body.last) c.put_body.new.block c.put_end.new.block body.put c.in_ok-put_end-in-Body.ensures.all);
       taken = omega (arith, c.in-Body.ensures.room.1, c.steps.invariant.taken);

@@ -1,6 +1,6 @@
 use Rattle.std.proofs.Common.{◌≡◌, ◌+◌, ◌-◌, ◌≤◌, ◌++◌, List, ℕ, length, take}
 use Rattle.ptu_header.specs.Reading.{bytes_taken}
-use Rattle.ptu_cli.specs.Printing.{Prints, PutsText}
+use Rattle.ptu_cli.specs.Printing.{Prints, PutsHeader}
 use Rattle.ptu_cli.proofs.print.HeaderPrinter.put_piece.Given as goal
 
 -- the text of the first `used` bytes of the piece is put
@@ -11,7 +11,7 @@ invariant-steps g l =
       fits : l.used ≤ length l.piece;
       started : (bytes : List ℕ) × Prints l.self bytes;
       prints : (bytes : List ℕ) → Prints l.fn.self bytes → Prints l.self (bytes ++ take l.used l.piece);
-      text : (bytes : List ℕ) → Prints l.fn.self bytes → PutsText bytes (take l.used l.piece) (written l.initial.out) (written l.out) l.fn.block l.block;
+      text : (bytes : List ℕ) → Prints l.fn.self bytes → PutsHeader bytes (take l.used l.piece) (written l.initial.out) (written l.out) l.fn.block l.block;
       taken : bytes_taken l.self.reader ≡ bytes_taken l.fn.self.reader + l.used;
       later : g.O.Sink.faults l.initial.out ≤ g.O.Sink.faults l.out;
     }

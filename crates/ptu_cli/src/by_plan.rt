@@ -1,0 +1,95 @@
+// A command by a plan.
+ghost use Rattle.std.specs.Prelude.{◌≡◌, ◌≤◌, ◌<◌, List, ℕ, true, false, IfErr, IfSome};
+ghost use Rattle.std.specs.declared.option.Option.{Option};
+ghost use Rattle.tally_base.specs.declared.slot.Slot.{Slot};
+ghost use Rattle.tally_base.specs.declared.slot.Slot.TheVariants.{Plan as PlanSlot, Data};
+ghost use Rattle.tally_base.specs.declared.fault.Fault.{Fault};
+ghost use Rattle.tally_base.specs.Faults.{is_outside};
+ghost use Rattle.bench_io.specs.Inputs.{OnlyReads};
+ghost use Rattle.ptu_definitions.specs.Counted.{record_limit};
+ghost use Rattle.plan_text.specs.Plan.{PlanView};
+ghost use Rattle.plan_text.specs.Reading.{plan_view};
+ghost use Rattle.ptu_cli.specs.Behaviours.{Work, Writing, under, Memory, ByPlan};
+ghost use Rattle.ptu_cli.specs.Endings.{WantsBehind, Does};
+ghost use Rattle.ptu_cli.specs.Works.{AnswersWork, TakesFew, WorkReason};
+
+use crate::plan::plan_of;
+use bench_io::{Inputs, Sink};
+use plan_text::Plan;
+use std::alloc::Global;
+use tally_base::{Failed, Fault, Slot};
+
+/// What a command by a plan does with the plan, and with the data.
+pub(crate) trait PlanWork {
+    ghost lacking: { Self → PlanView → Option Fault };
+
+    ghost work: { Self → PlanView → Work };
+
+    ghost writing: { Self → Writing (PlanView → List ℕ → List ℕ) };
+
+    ghost memory: { Memory };
+
+    /// What the plan lacks for this command. It is told before the data are opened.
+    fn lacks(&self, plan: &Plan) -> Option<Fault>
+        ensures answer { result ≡ lacking self.now (plan_view plan.now) }
+        ensures inside { IfSome result (λ fault. is_outside fault ≡ false) };
+
+    /// Reads the data as far as the command goes, and writes its text.
+    fn read<I: Inputs, O: Sink>(
+        &self,
+        alloc: Global,
+        inputs: &mut I,
+        out: &mut O,
+        plan: &Plan,
+    ) -> Result<(), Fault>
+        requires opened { (I.state inputs.old).opened Data ≡ true }
+        requires records { (0 < plan.now.policy.records)
+            × (plan.now.policy.records ≤ record_limit) }
+        ensures reads { OnlyReads Data (I.state inputs.old) (I.state inputs.new) }
+        ensures answer { AnswersWork (work self.now (plan_view plan.now))
+            ((I.state inputs.old).rest Data) ((I.state inputs.new).rest Data)
+            (O.written out.old) (O.written out.new) result }
+        ensures reason { IfErr result (WorkReason (under (plan_view plan.now) (writing self.now))
+            (WantsBehind memory (plan_view plan.now)) (work self.now (plan_view plan.now)) (record {
+              before = I.state inputs.old;
+              after = I.state inputs.new;
+              old = O.written out.old;
+              new = O.written out.new;
+              faults_before = O.faults out.old;
+              faults_after = O.faults out.new;
+            })) }
+        ensures few { TakesFew (work self.now (plan_view plan.now)).goes_on
+            ((I.state inputs.old).rest Data) ((I.state inputs.new).rest Data) };
+}
+
+/// Reads PLAN whole. Where it is a plan and lacks nothing, opens FILE, and does the command's work on it.
+pub(crate) fn by_plan<W: PlanWork, I: Inputs, O: Sink>(
+    work: &W,
+    alloc: Global,
+    inputs: &mut I,
+    out: &mut O,
+    plan_name: &str,
+    data_name: &str,
+) -> Result<(), Fault>
+    requires meant_plan { (I.state inputs.old).meant PlanSlot plan_name.now ≡ true }
+    requires meant_data { (I.state inputs.old).meant Data data_name.now ≡ true }
+    requires first { (slot : Slot) → (I.state inputs.old).asked slot ≡ false }
+    ensures { Does (ByPlan plan_name.now data_name.now (W.writing work.now) W.memory
+        (W.lacking work.now) (W.work work.now)) (record {
+          before = I.state inputs.old;
+          after = I.state inputs.new;
+          old = O.written out.old;
+          new = O.written out.new;
+          faults_before = O.faults out.old;
+          faults_after = O.faults out.new;
+        }) result }
+{
+    let plan = plan_of(alloc, inputs, plan_name)?;
+    if let Some(fault) = work.lacks(&plan) {
+        return Err(fault);
+    }
+    match inputs.open(Slot::Data, data_name) {
+        Err(Failed) => Err(Fault::OpenFault { slot: Slot::Data }),
+        Ok(()) => work.read(alloc, inputs, out, &plan),
+    }
+}
