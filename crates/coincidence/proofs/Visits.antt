@@ -1,5 +1,5 @@
 -- One entry more in the loops over a ring.
-use Rattle.std.proofs.Common.{rules, false, ◌≡◌, ℕ, ◌+◌, ◌-◌, ◌*◌, ◌/◌, ◌<◌, ◌≤◌, true, eqb, leb, cond, List, [], ◌∷◌, refl, arith}
+use Rattle.std.proofs.Common.{false, ◌≡◌, ℕ, ◌+◌, ◌-◌, ◌*◌, ◌/◌, ◌<◌, ◌≤◌, true, eqb, leb, cond, List, [], ◌∷◌, refl, arith}
 use Rattle.std.proofs.lemmas.Grind.{common_steps}
 use Rattle.std.proofs.lemmas.List.Sums.{sum_by-cons}
 use Rattle.tally_base.specs.Settings.{CoincidenceView}

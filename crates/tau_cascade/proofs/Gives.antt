@@ -1,5 +1,5 @@
 -- What an event does to the photons of the two groups.
-use Rattle.std.proofs.Common.{◌≡◌, ℕ, ◌+◌, ◌/◌, ◌^◌, ◌<◌, ◌≤◌, max, Bool, true, false, ◌&&◌, ◌||◌, cond, ◌⊎◌, List, [], ◌∷◌, ◌++◌, length, fold, refl, sym, ap, ◌∙◌, arith, length-append, append-nil, zero-add, inl, inr}
+use Rattle.std.proofs.Common.{◌≡◌, ℕ, ◌+◌, ◌^◌, ◌<◌, ◌≤◌, max, Bool, true, false, ◌&&◌, ◌||◌, cond, ◌⊎◌, List, [], ◌∷◌, ◌++◌, length, fold, refl, sym, ap, ◌∙◌, arith, length-append, append-nil, zero-add, inl, inr}
 use mir.Val.{bool_byte}
 use Rattle.std.specs.Prelude.{IsTrue}
 use Rattle.std.specs.List.{AllByRecursion}
@@ -12,7 +12,6 @@ use Rattle.tally_base.specs.declared.settings.CorrelationSet.{CorrelationSet}
 use Rattle.tally_base.specs.Events.{is_photon, is_in}
 use Rattle.tally_base.specs.Settings.{CorrelationView, correlation_view}
 use Rattle.tally_base.specs.Tally.{History, moves_floor, greatest_time}
-use Rattle.lag_ring.specs.declared.ring.Entry.{Entry}
 use Rattle.lag_ring.proofs.Lists.{all_both, all_filter, all_passed}
 use Rattle.lag_ring.proofs.Rising.{all_weaker}
 use Rattle.tau_cascade.specs.declared.level.Level.{Level}

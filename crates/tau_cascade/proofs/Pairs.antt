@@ -1,7 +1,7 @@
 -- What the pairs of a bin with the ring do to the cells of a level.
-use Rattle.std.proofs.Common.{◌≡◌, ℕ, ◌+◌, ◌-◌, ◌*◌, ◌^◌, ◌<◌, ◌≤◌, ◌&&◌, eqb, cond, ◌++◌, length, map, get_or, sym, ap, ◌∙◌, refl, arith, length-append}
+use Rattle.std.proofs.Common.{◌≡◌, ℕ, ◌+◌, ◌-◌, ◌*◌, ◌^◌, ◌<◌, ◌≤◌, eqb, ◌++◌, length, map, get_or, sym, ap, ◌∙◌, refl, arith, length-append}
 use Rattle.std.specs.List.{count_by, AllByRecursion}
-use Rattle.std.proofs.Math.Nat.{mul-le-mul, mul-le-mul_left}
+use Rattle.std.proofs.Math.Nat.{mul-le-mul}
 use Rattle.std.proofs.lemmas.List.{length-map, map-append}
 use Rattle.std.proofs.lemmas.List.Sums.{sum_by-le, count_by-le-length}
 use Rattle.tally_base.specs.Settings.{CorrelationView}
@@ -14,7 +14,7 @@ use Rattle.lag_ring.proofs.Rising.{all_weaker}
 use Rattle.lag_ring.proofs.Sums.{pairs-append}
 use Rattle.tau_cascade.specs.Correlation.{bin, in_first, in_second, is_pair, correlation, skipped_lags, lag_count}
 use Rattle.tau_cascade.specs.Work.{distinct, occupied}
-use Rattle.tau_cascade.specs.Levels.{weight_before, entries_at_lags, IsBin, RingIs, CellsAre, CanShut}
+use Rattle.tau_cascade.specs.Levels.{weight_before, entries_at_lags, RingIs, CellsAre, CanShut}
 use Rattle.tau_cascade.proofs.Distinct.{distinct-late, distinct-le-length}
 use Rattle.tau_cascade.proofs.Lags.{few_at_lags}
 use Rattle.tau_cascade.proofs.Visits.{none_at_lag}

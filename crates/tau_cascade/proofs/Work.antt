@@ -10,7 +10,7 @@ use Rattle.tally_base.specs.Settings.{CorrelationView, correlation_view}
 use Rattle.tally_base.specs.Tally.{History}
 use Rattle.tau_cascade.specs.declared.level.Level.{Level}
 use Rattle.tau_cascade.specs.declared.cascade.Cascade.{Cascade}
-use Rattle.tau_cascade.specs.Cascade.{Holds, set_of, spent_by, cells_at, added_below}
+use Rattle.tau_cascade.specs.Cascade.{Holds, set_of, spent_by, added_below}
 use Rattle.tau_cascade.specs.StandsFor.{StandsFor}
 use Rattle.tau_cascade.specs.Correlation.{bin, lag_count, photons_of}
 use Rattle.tau_cascade.specs.Work.{occupied, lags_at, work_from, work}

@@ -1,4 +1,4 @@
-use Rattle.std.proofs.Common.{rules, ℕ, ◌+◌, ◌-◌, ◌*◌, ◌/◌, ◌<◌, ◌≤◌, arith}
+use Rattle.std.proofs.Common.{rules, ℕ, ◌-◌, ◌/◌, ◌<◌, ◌≤◌, arith}
 use Rattle.tally_base.specs.Settings.{coincidence_view, coincidence_cells}
 use Rattle.coincidence.specs.Pairing.{shifted_by}
 use Rattle.coincidence.proofs.Visits.{pairs_near, pairs_far, shifted_inside, one_fits}

@@ -1,7 +1,4 @@
-use Rattle.std.proofs.Common.{rules, arith, ap, ◌≡◌, ◌∙◌}
-use Rattle.std.proofs.lemmas.Grind.{common_steps}
-use Rattle.tally_base.specs.Settings.{PartSettings}
-use Rattle.tally_base.specs.Settings.PartSettings.{CorrelationSettings}
+use Rattle.std.proofs.Common.{rules, arith, ap, ◌∙◌}
 use Rattle.tau_cascade.proofs.SettingsRead.{levels_in}
 use Rattle.tau_cascade.proofs.tests.given.Goals as goal
 
