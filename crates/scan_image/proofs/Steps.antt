@@ -1,7 +1,6 @@
 -- One event more for the counts.
 use Rattle.std.proofs.Common.{◌≡◌, ◌∙◌, ℕ, ◌+◌, ◌*◌, ◌<◌, ◌≤◌, Bool, true, false, ◌&&◌, cond, List, [], ◌∷◌, ◌++◌, ap, sym, subst, refl, arith}
 use Rattle.std.specs.Prelude.{Option, is_none, slice_index, if◌then◌else◌}
-use Rattle.std.proofs.lemmas.Grind.{common_steps}
 use Rattle.tally_base.specs.declared.event.Event.{Event}
 use Rattle.tally_base.specs.declared.event.EventKind.TheVariants.{Photon, Marker}
 use Rattle.tally_base.specs.Events.{is_photon, is_photon_kind, is_in}

@@ -98,7 +98,7 @@ impl Part {
     {
         match self {
             Part::Hist(t) => t.events(block),
-            Part::Trace(t) => give_block(t, block, steps),
+            Part::Trace(t) => t.events(block),
             Part::StartStop(t) => t.events(block),
             Part::Coincidence(t) => give_block(t, block, steps),
             Part::Image(t) => t.events(block),

@@ -1,17 +1,15 @@
-use Rattle.std.proofs.Common.{◌≡◌, ◌∙◌, ◌+◌, ◌<◌, ◌≤◌, ◌%◌, [], ◌∷◌, ◌++◌, true, false, List, cond, sym, ap, subst, refl, rules, arith, append_assoc}
+use Rattle.std.proofs.Common.{◌≡◌, ◌∙◌, ◌+◌, ◌<◌, ◌≤◌, ◌%◌, [], ◌∷◌, ◌++◌, true, false, List, cond, sym, ap, refl, rules, arith, append_assoc}
 use Rattle.std.specs.Prelude.{nat_lt, if◌then◌else◌}
 use Rattle.std.proofs.lemmas.Bool.Decides.{nat_tests}
 use Rattle.tally_base.specs.declared.event.EventKind.TheVariants.{Photon, Marker}
 use Rattle.tally_base.specs.Events.{is_in}
 use Rattle.tally_base.specs.Settings.{image_view}
-use Rattle.tally_base.specs.Tally.{History}
 use Rattle.event_block.specs.Columns.{item, event_at, rows, code_at, dtime_at, groups_at, time_at}
 use Rattle.event_block.proofs.Rows.{more_rows}
 use Rattle.event_block.proofs.Order.{floor-more, order-at}
 use Rattle.marker_map.specs.Lines.{Saw, latest}
 use Rattle.marker_map.specs.Marks.{Mark, mark}
 use Rattle.marker_map.specs.Places.{place_of}
-use Rattle.scan_image.specs.Counted.{Counted}
 use Rattle.scan_image.proofs.Steps.{photon_step, marker_step, only_group, few_more}
 use Rattle.scan_image.proofs.count.count_block.Goals as goal
 use Rattle.scan_image.proofs.count.count_block.Goals.{then-code-lt256, else-code-lt256}

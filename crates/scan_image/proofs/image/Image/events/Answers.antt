@@ -1,4 +1,4 @@
-use Rattle.std.proofs.Common.{◌≡◌, ◌∙◌, ◌+◌, ◌≤◌, ◌++◌, true, length, sum, sym, ap, rules, arith, length-append}
+use Rattle.std.proofs.Common.{◌≡◌, ◌∙◌, true, length, sym, ap, rules, arith, length-append}
 use Rattle.tally_base.specs.Settings.{image_view}
 use Rattle.tally_base.specs.Tally.{greatest_time}
 use Rattle.event_block.specs.Columns.{item, gathered, events_in}

@@ -4,7 +4,7 @@ pub returns-in-Hist-clause-follows : goal.returns-in-Hist-clause-follows
 returns-in-Hist-clause-follows g c = λ h is. c.events.ensures.follows h (rw c.in-Hist.is at is)
 
 pub returns-in-Trace-clause-follows : goal.returns-in-Trace-clause-follows
-returns-in-Trace-clause-follows g c = λ h is. c.give_block.ensures.follows h (rw c.in-Trace.is at is)
+returns-in-Trace-clause-follows g c = λ h is. c.events-in-Trace.ensures.follows h (rw c.in-Trace.is at is)
 
 pub returns-in-StartStop-clause-follows : goal.returns-in-StartStop-clause-follows
 returns-in-StartStop-clause-follows g c = λ h is. c.events-in-StartStop.ensures.follows h (rw c.in-StartStop.is at is)
