@@ -4,15 +4,12 @@ use Rattle.std.proofs.lemmas.Grind.{common_steps}
 use Rattle.std.specs.Int.{bit_at}
 use Rattle.std.proofs.lemmas.Nat.Bits.{bit_at-zero, bit_at-suc, bit_at_lowest}
 use Rattle.std.proofs.lemmas.List.{drop_more}
-use Rattle.tally_base.specs.declared.event.Event.{Event}
 use Rattle.tally_base.specs.declared.settings.Group.{Group}
 use Rattle.std.proofs.lemmas.Grind.{pow_more}
 use Rattle.std.proofs.Math.Pow.{pow_mono}
 use Rattle.tally_base.specs.Settings.{group_view}
-use Rattle.gate_plan.specs.Taking.{is_among, is_in_gate, one_if, takes, bits_of}
-use Rattle.tally_base.specs.declared.event.EventKind.TheVariants.{Photon, Marker}
+use Rattle.gate_plan.specs.Taking.{one_if, bits_of}
 use Rattle.tally_base.specs.Settings.{GroupView}
-use Rattle.gate_plan.specs.Parting.{takes_plainly, takes_gated, plain_bits, gated_bits}
 
 pub bit_of_bits : (tests : List Bool) (i : ℕ) → bit_at (bits_of tests) i ≡ one_if (get_or tests i false)
 bit_of_bits [] i = bit_at-zero i

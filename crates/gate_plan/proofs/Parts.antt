@@ -9,8 +9,7 @@ use Rattle.tally_base.specs.declared.event.EventKind.TheVariants.{Photon, Marker
 use Rattle.tally_base.specs.declared.settings.Group.{Group}
 use Rattle.tally_base.specs.Settings.{GroupView, group_view}
 use Rattle.gate_plan.specs.Taking.{is_among, is_in_gate, takes_kind, takes, one_if, bits_of}
-use Rattle.gate_plan.specs.Parting.{is_open, passes, takes_plainly, takes_gated, plain_bits, gated_bits, gated_bit}
-use Rattle.gate_plan.specs.declared.gated.Gated.{Gated}
+use Rattle.gate_plan.specs.Parting.{is_open, passes, takes_gated, plain_bits, gated_bits}
 use Rattle.gate_plan.proofs.Bits.{bits_below, bits_kept}
 
 one_of : (among : Bool) (gate : Option (ℕ × ℕ)) (dtime : ℕ) → one_if (among && is_in_gate gate dtime) ≡ one_if (among && is_open gate) + one_if (among && passes gate dtime)

@@ -5,7 +5,7 @@ use Rattle.std.specs.Int.{bit_at}
 use Rattle.tally_base.specs.declared.event.Event.{Event}
 use Rattle.tally_base.specs.declared.event.EventKind.{EventKind}
 use Rattle.tally_base.specs.declared.event.EventKind.TheVariants.{Photon, Marker}
-use Rattle.tally_base.specs.Settings.{GroupView, group_view}
+use Rattle.tally_base.specs.Settings.{GroupView}
 
 -- the input is one of these: bit n is set for input n
 abbrev pub is_among : ℕ → ℕ → Bool

@@ -1,4 +1,4 @@
-use Rattle.std.proofs.Common.{◌≡◌, ◌∙◌, ◌+◌, ◌-◌, ◌++◌, ◌<◌, ◌/◌, ◌&&◌, false, length, sym, ap, rules, arith, length-append}
+use Rattle.std.proofs.Common.{◌≡◌, ◌∙◌, ◌-◌, ◌/◌, ◌&&◌, false, length, sym, ap, rules, arith, length-append}
 use Rattle.std.specs.Prelude.{nat_lt, nat_le, ◌==◌}
 use Rattle.tally_base.specs.Settings.{trace_view}
 use Rattle.tally_base.specs.Tally.{greatest_time}

@@ -1,10 +1,8 @@
-use Rattle.std.proofs.Common.{◌≡◌, ◌-◌, ◌+◌, ◌<◌, ◌^◌, ◌∙◌, sym, arith, map, ap, get_or, length, rules}
-use Rattle.tally_base.specs.Settings.{group_view}
-use Rattle.gate_plan.specs.Taking.{takes, bits_of}
+use Rattle.std.proofs.Common.{◌-◌, ◌∙◌, sym, map}
+use Rattle.gate_plan.specs.Taking.{takes}
 use Rattle.gate_plan.specs.Groups.{groups_of}
-use Rattle.gate_plan.specs.Parting.{plain_bits, gated_bits, gated_sum}
 use Rattle.gate_plan.proofs.Bits.{bit_is}
-use Rattle.gate_plan.proofs.Parts.{of_photon, of_marker, parted_fits, gated_fits, few_groups}
+use Rattle.gate_plan.proofs.Parts.{of_photon, of_marker}
 use Rattle.gate_plan.proofs.gates.Gates.groups.Goals as goal
 
 pub returns-in-Photon-clause-number : goal.returns-in-Photon-clause-number

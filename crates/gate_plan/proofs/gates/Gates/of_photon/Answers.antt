@@ -1,6 +1,6 @@
-use Rattle.std.proofs.Common.{◌≡◌, ◌+◌, ◌<◌, ◌^◌, ◌∙◌, arith, ap, get_or, rules}
+use Rattle.std.proofs.Common.{◌≡◌, ◌∙◌, arith, ap, get_or, rules}
 use Rattle.gate_plan.specs.Groups.{groups_of}
-use Rattle.gate_plan.specs.Parting.{plain_bits, gated_bits, gated_sum}
+use Rattle.gate_plan.specs.Parting.{plain_bits, gated_sum}
 use Rattle.gate_plan.proofs.Parts.{parted_fits, gated_fits, few_groups}
 use Rattle.gate_plan.proofs.gates.Gates.of_photon.Goals as goal
 
