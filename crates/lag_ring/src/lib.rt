@@ -1,6 +1,7 @@
 //! Recent occupied bins of time with their weights in two groups, and cells that count pairs.
 #![tactic(auto)]
 
+mod buffer;
 mod cells;
 mod ring;
 

@@ -1,11 +1,12 @@
 // The recent occupied bins.
-ghost use Rattle.std.specs.Prelude.{◌≡◌, ◌+◌, ◌<◌, ◌≤◌, [], ◌∷◌, ◌++◌, IfOk, filter, length, nat_le, slice_get, Some};
+ghost use Rattle.std.specs.Prelude.{◌≡◌, ◌+◌, ◌<◌, ◌≤◌, [], ◌∷◌, ◌++◌, IfOk, filter, length, nat_le, slice_get, Some, if◌then◌else◌};
 ghost use Rattle.std.specs.List.{AllByRecursion};
-ghost use Rattle.lag_ring.specs.Ring.{IsRising, spare};
+ghost use Rattle.lag_ring.specs.Ring.{IsRising, spare, ring, kept_or};
 
-use circular_buffer::HeapCircularBuffer;
+use crate::buffer::Buffered;
 use std::alloc::{AllocError, Global};
 use std::marker::Model;
+use std::slice;
 
 /// A bin of time that has photons, with their numbers in two groups.
 #[derive(Clone, Copy, Debug)]
@@ -21,42 +22,58 @@ pub struct Entry {
 /// The last occupied bins, in the order of their rising indices. There are never more of them than its
 /// reach.
 ///
-/// Contracts see a list of entries, and the reach.
+/// Contracts see a list of entries, and the reach. A ring that began anew has its only entry beside the buffer, in
+/// which nothing is changed then.
 #[derive(Drop)]
 pub struct LagRing {
-    kept: HeapCircularBuffer<Entry>,
-    /// The index that was appended last, or 0.
-    newest: u64,
+    kept: Buffered,
+    /// The entry that was appended last.
+    last: Entry,
+    /// It is the only one, and the buffer counts for nothing.
+    alone: bool,
 }
 
 impl Model for LagRing {
-    ghost use Rattle.std.specs.Prelude.{◌<◌, ◌≤◌, ◌^◌, length};
+    ghost use Rattle.std.specs.Prelude.{◌<◌, ◌≤◌, ◌^◌};
     ghost use Rattle.std.specs.List.{AllByRecursion};
-    ghost use Rattle.lag_ring.specs.Ring.{Ring, ring, IsRising, ring_code};
+    ghost use Rattle.lag_ring.specs.Ring.{Ring, ring, kept_or, ring_code};
 
     ghost Value = { Ring };
 
     ghost coded = { ring_code };
 
-    ghost view = { λ r. ring r.kept.items r.kept.capacity };
+    ghost view = { λ r. ring (kept_or r.alone r.last r.kept.entries) r.kept.reach };
 
-    ghost invariant = { λ r. IsRising r.kept.items
-        × AllByRecursion (λ e. e.index ≤ r.newest) r.kept.items
-        × (length r.kept.items ≤ r.kept.capacity)
-        × (r.kept.capacity < 2 ^ 32) × (0 < r.kept.capacity) };
+    ghost invariant = { λ r. AllByRecursion (λ e. e.index ≤ r.last.index) (kept_or r.alone r.last r.kept.entries)
+        × (0 < r.kept.reach) × (r.kept.reach < 2 ^ 32) };
+}
+
+/// Puts the only entry of a ring that began anew into the buffer, so that another can stand behind it.
+#[inline(always)]
+fn lay_out(kept: &mut Buffered, last: &Entry, alone: bool)
+    requires some { 0 < kept.old.reach }
+    ensures entries { kept.new ≡ ring (kept_or alone last.now kept.old.entries) kept.old.reach }
+{
+    if alone {
+        kept.clear();
+        kept.push(last.index, last.a, last.b);
+    }
 }
 
 impl LagRing {
-    ghost use Rattle.lag_ring.specs.Ring.{ring};
-
     /// A ring of no entries, with room for `reach`, or `AllocError` where memory for them is wanting.
     pub fn open(alloc: Global, reach: u32) -> Result<LagRing, AllocError>
         requires some { 0 < reach }
         ensures empty { IfOk result (λ r. r ≡ ring [] reach) }
     {
         Ok(LagRing {
-            kept: HeapCircularBuffer::with_capacity(alloc, reach as usize)?,
-            newest: 0,
+            kept: Buffered::open(alloc, reach)?,
+            last: Entry {
+                index: 0,
+                a: 0,
+                b: 0,
+            },
+            alone: false,
         })
     }
 
@@ -66,7 +83,7 @@ impl LagRing {
         ensures rising { IsRising self.now.entries }
         ensures within { length self.now.entries ≤ self.now.reach }
     {
-        self.kept.len() as u32
+        if self.alone { 1 } else { self.kept.len() }
     }
 
     /// Removes the entries with an index below `before`, and no others.
@@ -75,12 +92,9 @@ impl LagRing {
         ensures kept { self.new ≡ ring (filter (λ e. nat_le before e.index) self.old.entries) self.old.reach }
         ensures rising { IsRising self.new.entries }
     {
-        while let Some(e) = self.kept.front() {
-            if e.index >= before {
-                break;
-            }
-            self.kept.pop_front();
-        }
+        lay_out(&mut self.kept, &self.last, self.alone);
+        self.alone = false;
+        self.kept.retire(before);
     }
 
     /// Appends an entry. Its index is above all that are kept, and a place is free.
@@ -92,8 +106,10 @@ impl LagRing {
             (self.old.entries ++ record { index = index; a = a; b = b } ∷ [])
             self.old.reach }
     {
-        self.kept.push_back(Entry { index, a, b });
-        self.newest = index;
+        lay_out(&mut self.kept, &self.last, self.alone);
+        self.alone = false;
+        self.kept.push(index, a, b);
+        self.last = Entry { index, a, b };
     }
 
     /// An index that no entry is above: the greatest of them, where there is one.
@@ -101,7 +117,7 @@ impl LagRing {
     pub fn newest(&self) -> u64
         ensures newest { AllByRecursion (λ e. e.index ≤ result) self.now.entries }
     {
-        self.newest
+        self.last.index
     }
 
     /// Removes all entries, and puts this one into their place.
@@ -109,8 +125,8 @@ impl LagRing {
     pub fn restart(&mut self, index: u64, a: u64, b: u64)
         ensures alone { self.new ≡ ring (record { index = index; a = a; b = b } ∷ []) self.old.reach }
     {
-        self.kept.clear();
-        self.push(index, a, b);
+        self.last = Entry { index, a, b };
+        self.alone = true;
     }
 
     /// The entry at place `i` from the front, which is 0 for the first.
@@ -118,7 +134,11 @@ impl LagRing {
         requires inside { i < length self.now.entries }
         ensures entry { slice_get self.now.entries i ≡ Some result }
     {
-        *self.kept.get(i as usize).unwrap()
+        if self.alone {
+            self.last
+        } else {
+            self.kept.visit(i)
+        }
     }
 
     /// The entries in two slices, which hold them one after the other.
@@ -127,6 +147,10 @@ impl LagRing {
         ensures entries { result.0.now ++ result.1.now ≡ self.now.entries }
         ensures rising { IsRising self.now.entries }
     {
-        self.kept.as_slices()
+        if self.alone {
+            (slice::from_ref(&self.last), &[])
+        } else {
+            self.kept.slices()
+        }
     }
 }
