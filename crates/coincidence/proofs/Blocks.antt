@@ -1,6 +1,6 @@
 -- One event more for the intervals.
-use Rattle.std.proofs.Common.{◌≡◌, ◌∙◌, ℕ, ◌+◌, ◌-◌, ◌/◌, ◌<◌, ◌≤◌, Bool, true, false, ◌&&◌, List, [], ◌∷◌, ◌++◌, length, ap, sym, refl, arith}
-use Rattle.std.specs.Prelude.{Option, None, Some, nat_le, ◌==◌, slice_index, if◌then◌else◌}
+use Rattle.std.proofs.Common.{◌≡◌, ◌∙◌, ℕ, ◌+◌, ◌-◌, ◌/◌, ◌<◌, ◌≤◌, Bool, true, false, ◌&&◌, List, [], ◌∷◌, ◌++◌, sym, refl, arith}
+use Rattle.std.specs.Prelude.{None, Some, nat_le, ◌==◌, slice_index, if◌then◌else◌}
 use Rattle.tally_base.specs.declared.event.Event.{Event}
 use Rattle.tally_base.specs.Events.{is_photon, is_in}
 use Rattle.tally_base.specs.Settings.{StartStopView}

@@ -1,5 +1,5 @@
 -- What a photon ends.
-use Rattle.std.specs.Prelude.{ℕ, Bool, Option, None, Some, if◌then◌else◌}
+use Rattle.std.specs.Prelude.{ℕ, Bool, Option, if◌then◌else◌}
 use Rattle.std.specs.Option.{option_map_or}
 
 -- one where it stops and an interval is open

@@ -1,4 +1,4 @@
-use Rattle.std.proofs.Common.{ℕ, ◌≡◌, ◌<◌, ◌≤◌, ◌+◌, ◌++◌, false, length, sum}
+use Rattle.std.proofs.Common.{◌≤◌, ◌+◌, ◌++◌, false, sum}
 use Rattle.tally_base.specs.Settings.{startstop_view}
 use Rattle.tally_base.specs.Tally.{History}
 use Rattle.event_block.specs.Columns.{item, event_at, rows}

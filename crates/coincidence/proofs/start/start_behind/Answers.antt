@@ -1,4 +1,3 @@
-use Rattle.std.proofs.Common.{◌≡◌, ◌∙◌, rules}
 use Rattle.coincidence.proofs.Ends.{behind_is}
 use Rattle.coincidence.proofs.start.start_behind.Goals as goal
 

@@ -1,4 +1,4 @@
-use Rattle.std.proofs.Common.{◌≡◌, ◌∙◌, ◌+◌, ◌≤◌, ◌++◌, false, length, sum, sym, ap, rules, arith, length-append}
+use Rattle.std.proofs.Common.{◌≡◌, ◌∙◌, false, length, sym, ap, rules, arith, length-append}
 use Rattle.tally_base.specs.Tally.{greatest_time}
 use Rattle.event_block.specs.Columns.{item, gathered, events_in}
 use Rattle.event_block.specs.Order.{floor_after, InOrder}

@@ -1,4 +1,4 @@
-use Rattle.std.proofs.Common.{rules, [], ◌∷◌, ◌++◌, ◌≡◌, ◌∙◌, ◌+◌, ◌-◌, ◌<◌, ◌/◌, length, ℕ, Bool, true, arith, sym, refl}
+use Rattle.std.proofs.Common.{rules, [], ◌∷◌, ◌++◌, ◌≡◌, ◌+◌, ◌-◌, ◌<◌, ◌/◌, length, ℕ, Bool, true, arith, sym, refl}
 use Rattle.std.specs.Prelude.{nat_le, ◌==◌, if◌then◌else◌}
 use Rattle.std.proofs.lemmas.Grind.{common_steps}
 use Rattle.tally_base.specs.declared.event.Event.{Event}
@@ -6,7 +6,7 @@ use Rattle.tally_base.specs.Settings.{startstop_view}
 use Rattle.tally_base.specs.Events.{is_photon, is_in}
 use Rattle.coincidence.specs.Ends.{ended}
 use Rattle.coincidence.specs.Starts.{start_in, since_in}
-use Rattle.coincidence.specs.Intervals.{in_interval, count_intervals}
+use Rattle.coincidence.specs.Intervals.{count_intervals}
 use Rattle.coincidence.proofs.Ends.{ends_as}
 use Rattle.event_block.proofs.Slices.{whole_slice}
 use Rattle.coincidence.proofs.Intervals.{count-photon, start-photon}
