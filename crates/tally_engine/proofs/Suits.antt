@@ -1,5 +1,5 @@
 -- The tables of a plan that suits T2 are in no strict order of time.
-use Rattle.std.proofs.Common.{◌≡◌, ◌<◌, ℕ, zero, suc, get_or, List, [], ◌∷◌, false, length, refl, None, Some, Result, Ok, Err, arith, rules}
+use Rattle.std.proofs.Common.{◌≡◌, ◌<◌, ℕ, zero, suc, get_or, List, [], ◌∷◌, false, length, refl, None, Result, Ok, Err, arith, rules}
 use Rattle.std.specs.List.{AllByRecursion}
 use Rattle.tally_base.specs.declared.fault.Fault.{Fault}
 use Rattle.tally_base.specs.declared.header.Mode.{Mode}

@@ -1,5 +1,5 @@
 -- What each table is, whatever its kind.
-use Rattle.std.specs.Prelude.{◌≡◌, ℕ, ◌≤◌, length}
+use Rattle.std.specs.Prelude.{◌≡◌, ◌≤◌, length}
 use Rattle.tally_base.specs.declared.tally.Tally.{Ghosts}
 use Rattle.tally_base.specs.Settings.{entries, is_strict}
 use Rattle.tally_base.specs.Tally.{History, greatest_time}

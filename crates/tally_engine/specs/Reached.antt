@@ -1,5 +1,5 @@
 -- How far a stream is, with the events of a block.
-use Rattle.std.specs.Prelude.{ℕ, Bool, true, false}
+use Rattle.std.specs.Prelude.{Bool, true, false}
 use Rattle.tally_base.specs.declared.header.Mode.{Mode}
 use Rattle.tally_base.specs.declared.header.Mode.TheVariants.{T2, T3}
 
