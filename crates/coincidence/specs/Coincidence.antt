@@ -1,9 +1,10 @@
 -- What a table of coincidences stands for.
-use Rattle.std.specs.Prelude.{ℕ, ◌+◌, is_some, length, if◌then◌else◌}
+use Rattle.std.specs.Prelude.{ℕ, Bool, ◌+◌, is_some, length, if◌then◌else◌}
 use Rattle.tally_base.specs.declared.settings.CoincidenceSet.{CoincidenceSet}
 use Rattle.tally_base.specs.Settings.{PartSettings, coincidence_view}
 use Rattle.tally_base.specs.Settings.PartSettings.{CoincidenceSettings}
 use Rattle.tally_base.specs.Tally.{History}
+use Rattle.lag_ring.specs.Cells.{Cells}
 use Rattle.coincidence.specs.declared.coincidence.Coincidence.{Coincidence}
 use Rattle.coincidence.specs.StandsFor.{StandsFor}
 
@@ -13,6 +14,18 @@ set_of t = t.set
 
 abbrev pub settings : Coincidence → PartSettings
 settings t = CoincidenceSettings (coincidence_view t.set)
+
+-- whether nothing more comes
+abbrev pub is_closed : Coincidence → Bool
+is_closed t = t.closed
+
+-- how many events it was given
+abbrev pub taken_by : Coincidence → ℕ
+taken_by t = t.taken
+
+-- the greatest time of the photons among them
+abbrev pub floor_by : Coincidence → ℕ
+floor_by t = t.floor
 
 -- It was given these events. Once it is closed, each cell is the count over them.
 abbrev pub Holds : Coincidence → History → Type 0
@@ -26,6 +39,10 @@ held t = length t.pairing.cells.cells + length t.pairing.ring.entries + (if is_s
 abbrev pub bins_kept : Coincidence → ℕ
 bins_kept t = length t.pairing.ring.entries
 
+-- its cells, and the additions that made them
+abbrev pub cells_in : Coincidence → Cells
+cells_in t = t.pairing.cells
+
 -- how many additions made its cells
 abbrev pub spent_by : Coincidence → ℕ
-spent_by t = t.pairing.cells.added
+spent_by t = (cells_in t).added

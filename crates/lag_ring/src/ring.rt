@@ -1,5 +1,5 @@
 // The recent occupied bins.
-ghost use Rattle.std.specs.Prelude.{◌≡◌, ◌+◌, ◌<◌, ◌≤◌, [], ◌∷◌, ◌++◌, IfOk, filter, length, nat_le, slice_get, Some, if◌then◌else◌};
+ghost use Rattle.std.specs.Prelude.{◌≡◌, ◌+◌, ◌<◌, ◌≤◌, [], ◌∷◌, ◌++◌, IfOk, filter, length, nat_le, slice_get, Some, true};
 ghost use Rattle.std.specs.List.{AllByRecursion};
 ghost use Rattle.lag_ring.specs.Ring.{IsRising, spare, ring, kept_or};
 
@@ -22,19 +22,19 @@ pub struct Entry {
 /// The last occupied bins, in the order of their rising indices. There are never more of them than its
 /// reach.
 ///
-/// Contracts see a list of entries, and the reach. A ring that began anew has its only entry beside the buffer, in
-/// which nothing is changed then.
+/// Contracts see a list of entries, and the reach. A ring that began anew has its only entry beside
+/// the buffer, which is empty until another comes.
 #[derive(Drop)]
 pub struct LagRing {
     kept: Buffered,
     /// The entry that was appended last.
     last: Entry,
-    /// It is the only one, and the buffer counts for nothing.
+    /// It is the only one, and the buffer is empty.
     alone: bool,
 }
 
 impl Model for LagRing {
-    ghost use Rattle.std.specs.Prelude.{◌<◌, ◌≤◌, ◌^◌};
+    ghost use Rattle.std.specs.Prelude.{◌≡◌, ◌<◌, ◌≤◌, ◌^◌, [], true};
     ghost use Rattle.std.specs.List.{AllByRecursion};
     ghost use Rattle.lag_ring.specs.Ring.{Ring, ring, kept_or, ring_code};
 
@@ -45,17 +45,18 @@ impl Model for LagRing {
     ghost view = { λ r. ring (kept_or r.alone r.last r.kept.entries) r.kept.reach };
 
     ghost invariant = { λ r. AllByRecursion (λ e. e.index ≤ r.last.index) (kept_or r.alone r.last r.kept.entries)
-        × (0 < r.kept.reach) × (r.kept.reach < 2 ^ 32) };
+        × (0 < r.kept.reach) × (r.kept.reach < 2 ^ 32)
+        × (r.alone ≡ true → r.kept.entries ≡ []) };
 }
 
 /// Puts the only entry of a ring that began anew into the buffer, so that another can stand behind it.
 #[inline(always)]
 fn lay_out(kept: &mut Buffered, last: &Entry, alone: bool)
     requires some { 0 < kept.old.reach }
+    requires empty { alone ≡ true → kept.old.entries ≡ [] }
     ensures entries { kept.new ≡ ring (kept_or alone last.now kept.old.entries) kept.old.reach }
 {
     if alone {
-        kept.clear();
         kept.push(last.index, last.a, last.b);
     }
 }
@@ -112,7 +113,7 @@ impl LagRing {
         self.last = Entry { index, a, b };
     }
 
-    /// An index that no entry is above: the greatest of them, where there is one.
+    /// An index that no entry is above. A greater one than need be would cost time alone.
     #[inline(always)]
     pub fn newest(&self) -> u64
         ensures newest { AllByRecursion (λ e. e.index ≤ result) self.now.entries }
@@ -125,6 +126,9 @@ impl LagRing {
     pub fn restart(&mut self, index: u64, a: u64, b: u64)
         ensures alone { self.new ≡ ring (record { index = index; a = a; b = b } ∷ []) self.old.reach }
     {
+        if !self.alone {
+            self.kept.clear();
+        }
         self.last = Entry { index, a, b };
         self.alone = true;
     }

@@ -83,6 +83,23 @@ fn the_last_entries_are_kept(rt: HostRuntime) -> Result<(), Fail> {
     Ok(())
 }
 
+#[test]
+fn a_ring_begins_anew(rt: HostRuntime) -> Result<(), Fail> {
+    let mut ring = LagRing::open(rt.alloc(), REACH)?;
+    ring.push(4, 1, 0);
+    ring.push(5, 0, 1);
+    ring.restart(9, 1, 2);
+    agrees(&rt, rt.alloc(), &ring, &[(9, 1, 2)])?;
+    assert_eq!(rt; ring.newest(), 9);
+    ring.push(10, 3, 0);
+    agrees(&rt, rt.alloc(), &ring, &[(9, 1, 2), (10, 3, 0)])?;
+    ring.restart(12, 0, 7);
+    ring.retire(12);
+    agrees(&rt, rt.alloc(), &ring, &[(12, 0, 7)])?;
+    ring.retire(13);
+    agrees(&rt, rt.alloc(), &ring, &[])
+}
+
 /// Cells to which some pairs were added.
 fn filled<L: Ledger>(alloc: Global, blank: Blank) -> Result<PairCells, Fail>
     requires name { blank.name ≡ L.name }

@@ -1,9 +1,11 @@
 -- The definitions at known events.
-use Rattle.std.proofs.Common.{◌≡◌, ℕ, [], ◌∷◌, refl, length}
+use Rattle.std.proofs.Common.{◌≡◌, ℕ, [], ◌∷◌, refl, length, Some, None}
 use Rattle.tally_base.specs.declared.event.EventKind.TheVariants.{Photon, Marker}
 use Rattle.tally_base.specs.Settings.{CorrelationView}
 use Rattle.tally_base.specs.Tally.{History}
 use Rattle.tau_cascade.specs.Correlation.{Given, correlation, skipped_lags, lag_count, photons_of}
+use Rattle.tau_cascade.specs.Opens.{open_bin}
+use Rattle.tau_cascade.specs.Work.{occupied, work}
 
 abbrev pub photon : ℕ → ℕ → Given
 photon time groups = (record { place = 1; kind = Photon 1 0; time = time }, groups)
@@ -74,3 +76,28 @@ row-mixed_first = refl
 
 pub row-photons : length (photons_of two mixed) ≡ 3
 row-photons = refl
+
+-- five photons on three levels: which bins are open, and how many additions may be made
+abbrev three : CorrelationView
+three = record { first = 1; second = 1; lags = 2; levels = 3 }
+
+abbrev five : History
+five = photon 0 1 ∷ photon 1 1 ∷ photon 2 1 ∷ photon 3 1 ∷ photon 8 1 ∷ []
+
+pub row-open : open_bin three 0 five ≡ Some (record { index = 8; a = 1; b = 1 })
+row-open = refl
+
+pub row-open_above : open_bin three 1 five ≡ Some (record { index = 1; a = 2; b = 2 })
+row-open_above = refl
+
+pub row-open_top : open_bin three 2 five ≡ Some (record { index = 0; a = 2; b = 2 })
+row-open_top = refl
+
+pub row-open_none : open_bin three 1 (photon 8 1 ∷ []) ≡ None
+row-open_none = refl
+
+pub row-occupied : occupied 1 five ≡ 3
+row-occupied = refl
+
+pub row-work : work three five ≡ 15
+row-work = refl

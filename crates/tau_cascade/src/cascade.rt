@@ -152,7 +152,7 @@ fn give<L: Ledger>(
 impl Tally for Cascade {
     ghost use Rattle.std.specs.Prelude.{◌≡◌, ◌+◌, ◌<◌, ◌≤◌, ◌^◌, ◌++◌, ◌∷◌, [], true, false, IsTrue, sum_by, if◌then◌else◌};
     ghost use Rattle.tally_base.specs.Tally.{moves_floor};
-    ghost use Rattle.tau_cascade.specs.Cascade.{Holds, settings, spent_by};
+    ghost use Rattle.tau_cascade.specs.Cascade.{Holds, set_of, settings, is_closed, taken_by, floor_by, spent_by};
     ghost use Rattle.tau_cascade.specs.StandsFor.{entries_of};
     ghost use Rattle.tau_cascade.specs.Laws.{taken_is, floor_is, within_bound};
 
@@ -175,17 +175,18 @@ impl Tally for Cascade {
     ghost within = { within_bound };
 
     fn event<L: Ledger>(&mut self, e: &Event, groups: u64, steps: &mut Steps<L>)
-        requires open { self.old.closed ≡ false }
-        requires room { self.old.taken < 2 ^ 40 }
+        requires open { is_closed self.old ≡ false }
+        requires room { taken_by self.old < 2 ^ 40 }
         requires in_time { e.now.time ≤ 2 ^ 62 + 2 ^ 28 }
-        requires in_order { IsTrue (moves_floor false e.now) → self.old.floor ≤ e.now.time }
+        requires in_order { IsTrue (moves_floor false e.now) → floor_by self.old ≤ e.now.time }
         ensures follows { (h : History) → Holds self.old h
             → Holds self.new (h ++ (e.now, groups) ∷ []) }
-        ensures still_open { self.new.closed ≡ false }
-        ensures one_more { self.new.taken ≡ self.old.taken + 1 }
-        ensures moved { self.new.floor ≡ (if moves_floor false e.now
-            then e.now.time else self.old.floor) }
+        ensures still_open { is_closed self.new ≡ false }
+        ensures one_more { taken_by self.new ≡ taken_by self.old + 1 }
+        ensures moved { floor_by self.new ≡ (if moves_floor false e.now
+            then e.now.time else floor_by self.old) }
         ensures same_settings { settings self.new ≡ settings self.old }
+        ensures same_set { set_of self.new ≡ set_of self.old }
         ensures steps { steps.new + spent_by self.old ≡ steps.old + spent_by self.new }
     {
         self.taken += 1;
@@ -194,12 +195,13 @@ impl Tally for Cascade {
     }
 
     fn close<L: Ledger>(&mut self, steps: &mut Steps<L>)
-        requires open { self.old.closed ≡ false }
+        requires open { is_closed self.old ≡ false }
         ensures keeps { (h : History) → Holds self.old h → Holds self.new h }
-        ensures now_closed { self.new.closed ≡ true }
-        ensures same_taken { self.new.taken ≡ self.old.taken }
-        ensures same_floor { self.new.floor ≡ self.old.floor }
+        ensures now_closed { is_closed self.new ≡ true }
+        ensures same_taken { taken_by self.new ≡ taken_by self.old }
+        ensures same_floor { floor_by self.new ≡ floor_by self.old }
         ensures same_settings { settings self.new ≡ settings self.old }
+        ensures same_set { set_of self.new ≡ set_of self.old }
         ensures steps { steps.new + spent_by self.old ≡ steps.old + spent_by self.new }
     {
         end_all(&mut self.levels, &self.set, 0, steps);
