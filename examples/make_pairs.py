@@ -1,0 +1,47 @@
+#!/usr/bin/env python3
+"""Makes a sample of two detectors behind a beam splitter: make_pairs.py FILE
+
+The file is of type HydraHarp2T2 with ticks of 100 ps, and has 300,000 photons of the inputs 1 and 2. They come from a
+single emitter, which cannot give two photons at once (antibunching), and which goes dark at random for some
+microseconds (blinking). On top comes a tenth of even background. The same photons come each time.
+"""
+
+import random
+import sys
+
+from made_file import t2_words, write
+
+TICK = 100e-12  # seconds
+PHOTONS = 300_000
+PUMP, DECAY = 300, 100  # ticks until the emitter is excited, and until it emits
+BRIGHT, DARK = 40_000, 40_000  # ticks that it stays so, in the mean
+GROUND = 4_000  # ticks between photons of the background
+
+
+def emitted(draws):
+    """The times at which the emitter emits."""
+    time, dark = 0.0, draws.expovariate(1 / BRIGHT)
+    while True:
+        time += draws.expovariate(1 / PUMP) + draws.expovariate(1 / DECAY)
+        if time < dark:
+            yield time
+        else:
+            time = dark + draws.expovariate(1 / DARK)
+            dark = time + draws.expovariate(1 / BRIGHT)
+
+
+def photons():
+    """The rising times of each of the two inputs."""
+    draws, background = random.Random(2003), 0.0
+    inputs = [], []
+    for count, time in enumerate(emitted(draws)):
+        while background < time:
+            inputs[draws.random() < 0.5].append(int(background))
+            background += draws.expovariate(1 / GROUND)
+        inputs[draws.random() < 0.5].append(int(time))
+        if count == PHOTONS:
+            return inputs
+
+
+if __name__ == "__main__":
+    write(sys.argv[1], "HydraHarp2T2", t2_words(*photons()), TICK)

@@ -1,0 +1,91 @@
+#!/usr/bin/env python3
+"""Draws six worked plots: plots.py FOLDER [PROGRAM]
+
+It makes the sample of two detectors, runs ptu over it and over the sample of a scan, and puts decay.png, trace.png,
+image.png, startstop.png, coincidence.png and correlation.png into FOLDER. Each plot is a function of a few lines, to
+be copied. PROGRAM is the ptu that counts, by default ./ptu of this folder's tree. It needs NumPy and Matplotlib.
+"""
+
+import os
+import subprocess
+import sys
+import tempfile
+
+import matplotlib
+
+matplotlib.use("Agg")
+import matplotlib.pyplot as plt  # noqa: E402
+import numpy as np  # noqa: E402
+
+from make_pairs import photons  # noqa: E402
+from make_pairs import TICK  # noqa: E402
+from made_file import t2_words, write  # noqa: E402
+from ptu_report import read_report  # noqa: E402
+
+HERE = os.path.dirname(os.path.abspath(__file__))
+
+
+def decay(report, axes):
+    table = report.table("histogram")
+    axes.semilogy(table.seconds * 1e9, np.maximum(table.counts, 0.5), drawstyle="steps-post")
+    axes.set(xlabel="delay after the sync (ns)", ylabel="photons")
+
+
+def trace(report, axes):
+    table = report.table("trace")
+    width = table.settings["width"] * report.head["global"]
+    axes.plot(table.seconds * 1e3, table.counts / width / 1e3, drawstyle="steps-post")
+    axes.set(xlabel="time (ms)", ylabel="rate (1000/s)")
+
+
+def image(report, axes):
+    axes.imshow(report.table("image").counts, cmap="gray", interpolation="nearest")
+    axes.set(xlabel="column", ylabel="row")
+
+
+def startstop(report, axes):
+    table = report.table("startstop")
+    axes.plot(table.seconds * 1e9, table.counts, drawstyle="steps-post")
+    axes.set(xlabel="time from a photon of input 1 to the next of input 2 (ns)", ylabel="pairs")
+
+
+def coincidence(report, axes):
+    table = report.table("coincidence")
+    first, second = (int(report.table("trace", number).counts[0]) for number in (1, 2))
+    length = report.head["last"] - report.head["first"]
+    even = first * second * table.settings["width"] / length  # pairs in a cell without correlation
+    axes.plot(table.seconds * 1e9, table.counts.astype(float) / even, drawstyle="steps-mid")
+    axes.set(xlabel="difference (ns)", ylabel="g2", ylim=(0, None))
+
+
+def correlation(report, axes):
+    table = report.table("correlation")
+    photons_of = [int(report.table("trace", number).counts[0]) for number in (1, 2)]
+    axes.semilogx(table.seconds, table.normalised(*photons_of), ".-")
+    axes.axhline(1, color="0.7")
+    axes.set(xlabel="lag (s)", ylabel="G", ylim=(0, 3))
+
+
+def report_of(program, plan, data):
+    run = subprocess.run([program, "run", os.path.join(HERE, plan), data], check=True, capture_output=True, text=True)
+    return read_report(run.stdout)
+
+
+def draw(folder, report, plots):
+    for plot in plots:
+        figure, axes = plt.subplots(figsize=(5, 3.2), layout="constrained")
+        plot(report, axes)
+        figure.savefig(os.path.join(folder, f"{plot.__name__}.png"), dpi=90, metadata={"Software": None})
+
+
+def main():
+    folder = sys.argv[1]
+    program = sys.argv[2] if len(sys.argv) > 2 else os.path.join(os.path.dirname(HERE), "ptu")
+    draw(folder, report_of(program, "scan.toml", os.path.join(HERE, "scan.ptu")), (decay, trace, image))
+    with tempfile.NamedTemporaryFile(suffix=".ptu") as data:
+        write(data.name, "HydraHarp2T2", t2_words(*photons()), TICK)
+        draw(folder, report_of(program, "pairs.toml", data.name), (startstop, coincidence, correlation))
+
+
+if __name__ == "__main__":
+    main()
