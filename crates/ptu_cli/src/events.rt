@@ -14,10 +14,9 @@ ghost use Rattle.ptu_cli.specs.Outcomes.{MayChange};
 ghost use Rattle.ptu_cli.specs.Works.{TakesFew};
 ghost use Rattle.ptu_cli.specs.EventRuns.{AnswersLines, LinesReason};
 
-use arrayvec::ArrayVec;
 use bench_io::{Block, Inputs, Sink};
 use record_stream::{EventTaker, RecordStream};
-use table_out::event_line;
+use table_out::{EVENT_LINE_SIZE, format_event};
 use tally_base::{Event, EventKind, Failed, Fault, Mode, Slot};
 
 const READ_FAULT: Fault = Fault::ReadFault { slot: Slot::Data };
@@ -63,9 +62,9 @@ impl<'o, O: Sink> EventTaker for EventLines<'o, O> {
 
     #[inline(always)]
     fn take(&mut self, event: &Event, late: bool) -> Result<(), Failed> {
-        let mut line = ArrayVec::<u8, 96>::new();
-        event_line(event, late, &mut line);
-        self.block.put(self.out, line.as_slice())?;
+        let mut line = [0; EVENT_LINE_SIZE];
+        let text = format_event(event, late, &mut line);
+        self.block.put(self.out, text)?;
         self.taken += 1;
         self.floor = moved(self.mode, event, late, self.floor);
         Ok(())

@@ -17,7 +17,7 @@ mod start_stop;
 mod trace;
 
 pub use body::BodyText;
-pub use event::event_line;
+pub use event::{EVENT_LINE_SIZE, event_line, format_event};
 pub use head::header_line;
 pub use line::{put_announced, put_count, put_line};
 pub use preamble::preamble_lines;
