@@ -8,7 +8,7 @@ use ptu_definitions::Raw;
 use record_layout::RecordLayout;
 
 /// Decodes `N` words of four bytes each, little endian, in the layout `R`: place i of `out` becomes
-/// what word i means. No words leave no places.
+/// what `R::decode` answers for word i. Where `N` is 0 there are no bytes and no places.
 pub fn decode_block<R: RecordLayout, const N: usize>(words: &[u8], out: &mut [Raw; N])
     requires { length words.now ≡ 4 * N }
     ensures { out.new ≡ map R.meaning (words_of words.now) }

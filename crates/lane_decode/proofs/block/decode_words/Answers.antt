@@ -1,4 +1,4 @@
-use Rattle.std.proofs.Common.{◌++◌, take, ap, ◌∙◌, sym, rules, arith}
+use Rattle.std.proofs.Common.{◌++◌, take, ap, ◌∙◌, rules, arith}
 use Rattle.std.proofs.lemmas.List.{take-append-drop}
 use Rattle.std.proofs.lemmas.Slice.{take-put_mid}
 use Rattle.lane_decode.proofs.BlockLemmas.{eight-more}
