@@ -25,29 +25,29 @@ fn decode_words<R: RecordLayout>(words: &[[u8; 4]], out: &mut [Raw])
     let mut rest = words;
     let mut at = 0;
     while let Some((eight, behind)) = rest.split_first_chunk::<8>() {
-        out[at..at + 8].copy_from_slice(&decode_eight::<R>(eight));
+        decode_eight::<R>(eight, &mut out[at..at + 8]);
         at += 8;
         rest = behind;
     }
     decode_plainly::<R>(rest, &mut out[at..]);
 }
 
-/// Decodes eight words in lanes.
+/// Decodes eight words in lanes. Each record is written where it stays: an array of them, copied
+/// afterwards, is written and read once more.
 #[inline(always)]
-fn decode_eight<R: RecordLayout>(words: &[[u8; 4]; 8]) -> [Raw; 8]
-    ensures { result ≡ map R.meaning (numbers words.now) }
+fn decode_eight<R: RecordLayout>(words: &[[u8; 4]; 8], out: &mut [Raw])
+    requires { length out.old ≡ 8 }
+    ensures { out.new ≡ map R.meaning (numbers words.now) }
 {
     let lanes = FieldLanes::of::<R>(words);
-    [
-        lanes.record::<R>(0),
-        lanes.record::<R>(1),
-        lanes.record::<R>(2),
-        lanes.record::<R>(3),
-        lanes.record::<R>(4),
-        lanes.record::<R>(5),
-        lanes.record::<R>(6),
-        lanes.record::<R>(7),
-    ]
+    out[0] = lanes.record::<R>(0);
+    out[1] = lanes.record::<R>(1);
+    out[2] = lanes.record::<R>(2);
+    out[3] = lanes.record::<R>(3);
+    out[4] = lanes.record::<R>(4);
+    out[5] = lanes.record::<R>(5);
+    out[6] = lanes.record::<R>(6);
+    out[7] = lanes.record::<R>(7);
 }
 
 /// Decodes words one by one.
