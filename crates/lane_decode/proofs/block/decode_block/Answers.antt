@@ -1,0 +1,9 @@
+use Rattle.std.proofs.Common.{map, ap, ◌∙◌}
+use Rattle.ptu_definitions.specs.Fours.{numbers}
+use Rattle.ptu_definitions.proofs.FoursLemmas.{numbers-chunks}
+use Rattle.lane_decode.proofs.block.decode_block.Goals as goal
+
+pub returns : goal.returns
+returns g c =
+    let words = ap numbers c.as_chunks.ensures.front ∙ numbers-chunks c.args.words.now in
+    c.decode_words.ensures ∙ ap (map g.R.RecordLayout.meaning) words
