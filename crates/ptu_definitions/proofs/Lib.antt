@@ -5,7 +5,6 @@ pub mod Sound
 pub mod Rows
 pub mod SeenLemmas
 pub mod WordsLemmas
-pub mod ShownLemmas
 pub mod RecordRows
 pub mod Nests
 pub mod SeenLaws

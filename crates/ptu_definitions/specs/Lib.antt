@@ -4,6 +4,7 @@ pub mod Endings
 pub mod Fields
 pub mod Headers
 pub mod Seen
+pub mod Begins
 pub mod Shown
 pub mod Words
 pub mod Layouts

@@ -1,11 +1,11 @@
 // Laws of the definitions, each as the contract of a function that does nothing.
-ghost use Rattle.std.specs.Prelude.{◌≡◌, ◌≢◌, ◌↔◌, ◌⊎◌, ◌++◌, ◌∷◌, [], ◌<◌, ◌≤◌, ◌^◌, ℕ, List, Result, length, take, get_or, true, false, Some};
+ghost use Rattle.std.specs.Prelude.{◌≡◌, ◌≢◌, ◌↔◌, ◌⊎◌, ◌++◌, ◌∷◌, [], ◌<◌, ◌≤◌, ◌^◌, ℕ, List, Result, length, take, get_or};
 ghost use Rattle.tally_base.specs.declared.fault.Fault.TheVariants as Fault;
 ghost use Rattle.tally_base.specs.declared.fault.Fault.{Fault};
 ghost use Rattle.tally_base.specs.declared.header.Header.{Header};
-ghost use Rattle.ptu_definitions.specs.Headers.{HasAnswer, head_of, header_answer};
-ghost use Rattle.ptu_definitions.specs.TagFields.{code_in, is_known, is_negative, body_size};
-ghost use Rattle.ptu_definitions.specs.TagList.{Item, IsFront, IsHeader, GoesOn};
+ghost use Rattle.ptu_definitions.specs.Headers.{HasAnswer, header_answer};
+ghost use Rattle.ptu_definitions.specs.TagList.{Item, IsFront, IsHeader};
+ghost use Rattle.ptu_definitions.specs.Begins.{Front, BeginsWith, Nest, IsBegun, ShowsItems, ShowsNoMore};
 ghost use Rattle.ptu_definitions.specs.Seen.{seen, seen_preamble, begun, IsLongestFront, HasLongestFront, HasNoFront};
 ghost use Rattle.ptu_definitions.specs.Shown.{Shows};
 ghost use Rattle.ptu_definitions.specs.Endings.{Ending, EndsAs, HasHeader};
@@ -29,21 +29,16 @@ pub fn one_ending()
 
 /// Two fronts of the same bytes have one preamble, and one of them goes on as the other.
 pub fn fronts_nest()
-    ensures { (bytes start other_start : List ℕ) (items other_items : List Item)
-        (front other rest other_rest : List ℕ)
-        → IsFront start items front → IsFront other_start other_items other
-        → bytes ≡ front ++ rest → bytes ≡ other ++ other_rest
-        → (start ≡ other_start)
-        × (GoesOn items front other_items other ⊎ GoesOn other_items other items front) }
+    ensures { (file : List ℕ) (one other : Front)
+        → BeginsWith file one → BeginsWith file other → Nest one other }
 {}
 
 /// A header ends the list: each front of the same bytes has its preamble and its first items.
 pub fn a_header_ends()
-    ensures { (bytes start other_start : List ℕ) (inner items : List Item) (last : Item)
-        (header front rest other_rest : List ℕ)
-        → IsHeader start inner last header → IsFront other_start items front
-        → bytes ≡ header ++ rest → bytes ≡ front ++ other_rest
-        → (other_start ≡ start) × ((more : List Item) × (inner ≡ items ++ more)) }
+    ensures { (file : List ℕ) (items : List Item) (front : Front)
+        (header : HasHeader file items) → BeginsWith file front
+        → (front.start ≡ header.start)
+        × ((more : List Item) × (header.inner ≡ front.items ++ more)) }
 {}
 
 /// What bytes show: behind whole items the front of a tag shows nothing, and a tag shows as much of
@@ -51,10 +46,9 @@ pub fn a_header_ends()
 pub fn seen_items()
     ensures tag { (start : List ℕ) (items : List Item) (front part : List ℕ)
         → IsFront start items front → length part < 48 → seen (front ++ part) ≡ items }
-    ensures body { (start : List ℕ) (items : List Item) (front tag part : List ℕ)
-        → IsFront start items front → length tag ≡ 48
-        → is_known (code_in tag) ≡ true → is_negative tag ≡ false → length part ≤ body_size tag
-        → seen (front ++ (tag ++ part)) ≡ items ++ record { tag = tag; body = part } ∷ [] }
+    ensures body { (start : List ℕ) (items : List Item) (front : List ℕ) (item : Item)
+        → IsFront start items front → IsBegun item
+        → seen (front ++ (item.tag ++ item.body)) ≡ items ++ item ∷ [] }
     ensures start { (bytes : List ℕ) → length bytes < 16 → (seen_preamble bytes ≡ None)
         × (seen bytes ≡ []) }
 {}
@@ -64,11 +58,10 @@ pub fn seen_items()
 pub fn seen_longest()
     ensures front { (bytes start : List ℕ) (items : List Item) (front rest : List ℕ)
         → IsLongestFront bytes start items front rest
-        → (seen_preamble bytes ≡ Some start) × (seen bytes ≡ items ++ begun rest) }
+        → ShowsItems bytes start (items ++ begun rest) }
     ensures header { (start : List ℕ) (inner : List Item) (last : Item) (header rest : List ℕ)
         → IsHeader start inner last header
-        → (seen_preamble (header ++ rest) ≡ Some start)
-        × (seen (header ++ rest) ≡ inner ++ last ∷ []) }
+        → ShowsItems (header ++ rest) start (inner ++ last ∷ []) }
     ensures none { (bytes : List ℕ) → HasNoFront bytes → (seen_preamble bytes ≡ None)
         × (seen bytes ≡ []) }
 {}
@@ -84,12 +77,9 @@ pub fn some_longest()
 pub fn seen_answered()
     ensures answered { (bytes more : List ℕ) → length bytes ≤ 2 ^ 24
         → ((count : ℕ) → header_answer bytes ≢ Err (Fault.TruncatedHeader count))
-        → (seen_preamble (head_of (bytes ++ more)) ≡ seen_preamble bytes)
-        × (seen (head_of (bytes ++ more)) ≡ seen bytes) }
+        → ShowsNoMore bytes more }
     ensures refused { (bytes more : List ℕ) (fault : Fault) → length bytes ≤ 2 ^ 24
-        → Shows header_answer bytes (Err fault)
-        → (seen_preamble (head_of (bytes ++ more)) ≡ seen_preamble bytes)
-        × (seen (head_of (bytes ++ more)) ≡ seen bytes) }
+        → Shows header_answer bytes (Err fault) → ShowsNoMore bytes more }
 {}
 
 /// No bytes show that a header is cut, since more may come behind them.

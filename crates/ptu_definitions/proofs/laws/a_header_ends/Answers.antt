@@ -2,4 +2,4 @@ use Rattle.ptu_definitions.proofs.Nests.{header-ends}
 use Rattle.ptu_definitions.proofs.laws.a_header_ends.Goals as goal
 
 pub returns : goal.returns
-returns c = header-ends
+returns c = λ file items front h o. header-ends file h.start front.start h.inner front.items h.last h.header front.bytes h.rest o.rest h.is_header o.is_front h.bytes_are o.parts
