@@ -34,7 +34,7 @@ pub struct Clock {
 }
 
 impl Clock {
-    ghost use Rattle.abs_time.specs.Placing.{mode_of, placed_by, greatest_by, HasPlaced, base_of, against, place_answer, IsSmall, Moves};
+    ghost use Rattle.abs_time.specs.Placing.{IsClock, mode_of, placed_by, greatest_by, HasPlaced, base_of, against, place_answer, IsSmall, Moves};
     ghost use Rattle.ptu_definitions.specs.Fitting.{Fits};
     ghost use Rattle.ptu_definitions.specs.Kept.{ordered_time};
 
@@ -58,6 +58,49 @@ impl Clock {
             → result ≡ length records }
     {
         self.placed
+    }
+
+    /// What its times count.
+    #[inline(always)]
+    pub fn mode(&self) -> Mode
+        ensures { result ≡ mode_of self.now }
+    {
+        self.mode
+    }
+
+    /// The sum of all wraps, at most 2^62.
+    #[inline(always)]
+    pub fn base(&self) -> u64
+        ensures value { result ≡ base_of self.now }
+        ensures few { result ≤ 2 ^ 62 }
+    {
+        self.base
+    }
+
+    /// The greatest time of the events in order that it placed, or 0 where there is none.
+    #[inline(always)]
+    pub fn greatest(&self) -> u64
+        ensures { result ≡ greatest_by self.now }
+    {
+        self.greatest
+    }
+
+    /// Goes on behind records that were placed by the same rules without it, since a block of them needs no
+    /// test for each. By now so many are placed; their wraps add up to `base`, at most 2^62, and `greatest` is
+    /// the greatest time of the events in order.
+    #[inline(always)]
+    pub fn go_on(&mut self, placed: u64, base: u64, greatest: u64)
+        requires { base ≤ 2 ^ 62 }
+        ensures placed { (records : List Raw)
+            → IsClock (mode_of self.old) placed base greatest records → HasPlaced self.new records }
+        ensures count { placed_by self.new ≡ placed }
+        ensures base { base_of self.new ≡ base }
+        ensures greatest { greatest_by self.new ≡ greatest }
+        ensures same_mode { mode_of self.new ≡ mode_of self.old }
+    {
+        self.placed = placed;
+        self.base = base;
+        self.greatest = greatest;
     }
 
     /// Places the next record, whose number is one more than the number of records placed, at most 2^40.

@@ -41,3 +41,17 @@ order-at strict floor f (suc n) i lt all =
     (λ (is : i ≡ n). rw is (order-last strict floor (rows f n) (f n) all))
     (λ (below : i < n). order-at strict floor f n i below (order-front strict floor (rows f n) (f n) all))
     (last_or i n lt)
+
+pub floor-append : (strict : Bool) (floor : ℕ) (xs ys : List Event) → floor_after strict floor (xs ++ ys) ≡ floor_after strict (floor_after strict floor xs) ys
+floor-append strict floor [] ys = refl
+floor-append strict floor (x ∷ xs) ys = floor-append strict (if moves_floor strict x then x.time else floor) xs ys
+
+pub order-append : (strict : Bool) (floor : ℕ) (xs ys : List Event) → InOrder strict floor xs → InOrder strict (floor_after strict floor xs) ys → InOrder strict floor (xs ++ ys)
+order-append strict floor [] ys first second = second
+order-append strict floor (x ∷ xs) ys first second = (first.0, first.1, order-append strict (if moves_floor strict x then x.time else floor) xs ys first.2 second)
+
+pub order-parts : (strict : Bool) (floor : ℕ) (xs ys : List Event) → InOrder strict floor (xs ++ ys) → InOrder strict floor xs × InOrder strict (floor_after strict floor xs) ys
+order-parts strict floor [] ys all = (tt, all)
+order-parts strict floor (x ∷ xs) ys all =
+    let rest = order-parts strict (if moves_floor strict x then x.time else floor) xs ys all.2 in
+    ((all.0, all.1, rest.0), rest.1)

@@ -1,5 +1,5 @@
 -- One row more.
-use Rattle.std.proofs.Common.{◌≡◌, ◌∙◌, ℕ, zero, suc, ◌+◌, ◌%◌, ◌<◌, List, [], ◌∷◌, ◌++◌, length, get_or, set, refl, arith, length-append}
+use Rattle.std.proofs.Common.{◌≡◌, ◌∙◌, ℕ, zero, suc, ◌+◌, ◌-◌, ◌%◌, ◌<◌, ◌≤◌, List, [], ◌∷◌, ◌++◌, length, get_or, set, ap, refl, arith, length-append, append_assoc, append-nil, ◌⊎◌, ⊎_elim}
 use Rattle.std.proofs.lemmas.Grind.{common_steps}
 use Rattle.std.proofs.lemmas.List.{get_or-set_same}
 use Rattle.std.proofs.lemmas.Bool.Decides.{nat_tests}
@@ -40,3 +40,45 @@ rows-push places times codes dtimes n place time code dtime e in1 in2 in3 in4 by
     let old : rows f n ≡ rows (row places times codes dtimes) n = same-rows f (row places times codes dtimes) n (λ i lt. rw (other places n i place lt, other times n i time lt, other codes n i code lt, other dtimes n i dtime lt) refl) in
     let new : f n ≡ e = rw (here places n place in1, here times n time in2, here codes n code in3, here dtimes n dtime in4, p, t, c, d, kind-again e.kind byte) refl in
     one ∙ rw (old, new) refl
+
+-- the rows before one that is written
+pub rows-before : (places times codes dtimes : List ℕ) (n place time code dtime : ℕ)
+    → rows (row (set places n place) (set times n time) (set codes n code) (set dtimes n dtime)) n ≡ rows (row places times codes dtimes) n
+rows-before places times codes dtimes n place time code dtime =
+    same-rows (row (set places n place) (set times n time) (set codes n code) (set dtimes n dtime)) (row places times codes dtimes) n (λ i lt. rw (other places n i place lt, other times n i time lt, other codes n i code lt, other dtimes n i dtime lt) refl)
+
+-- with the row that is written
+pub rows-written : (places times codes dtimes : List ℕ) (n place time code dtime : ℕ)
+    → n < length places → n < length times → n < length codes → n < length dtimes
+    → rows (row (set places n place) (set times n time) (set codes n code) (set dtimes n dtime)) (n + 1)
+    ≡ rows (row places times codes dtimes) n ++ record { place = place; kind = kind_of code dtime; time = time } ∷ []
+rows-written places times codes dtimes n place time code dtime in1 in2 in3 in4 =
+    let f = row (set places n place) (set times n time) (set codes n code) (set dtimes n dtime) in
+    let old = rows-before places times codes dtimes n place time code dtime in
+    let new : f n ≡ record { place = place; kind = kind_of code dtime; time = time } = rw (here places n place in1, here times n time in2, here codes n code in3, here dtimes n dtime in4) refl in
+    more_rows f n ∙ rw (old, new) refl
+
+-- the rows up to one, and those behind it
+pub rows-split : {A : Type 0} (f : ℕ → A) (i n : ℕ) → i ≤ n → (back : List A) × (rows f n ≡ rows f i ++ back)
+rows-split f i zero few = let e : i ≡ zero = omega (arith, few) in ([], rw e refl)
+rows-split f i (suc n) few =
+    ⊎_elim
+    (λ (is : i ≡ suc n). ([], rw (is, append-nil) refl))
+    (λ (less : i ≤ n).
+    let rest = rows-split f i n less in
+    (rest.0 ++ f n ∷ [], rw rest.1 (append_assoc (rows f i) rest.0 (f n ∷ []))))
+    (all_or i n few)
+  where
+    all_or : (i n : ℕ) → i ≤ suc n → (i ≡ suc n) ⊎ (i ≤ n)
+    all_or i n few = grind (arith, few)
+
+-- the first row
+pub rows-first : {A : Type 0} (f : ℕ → A) (n : ℕ) → 0 < n → (rest : List A) × (rows f n ≡ f 0 ∷ rest)
+rows-first f n some =
+    let one : 1 ≤ n = omega (arith, some) in
+    let split = rows-split f 1 n one in
+    (split.0, split.1)
+
+-- the last row
+pub rows-last : {A : Type 0} (f : ℕ → A) (n : ℕ) → 0 < n → rows f n ≡ rows f (n - 1) ++ f (n - 1) ∷ []
+rows-last f n some = let one : n ≡ (n - 1) + 1 = omega (arith, some) in ap (rows f) one ∙ more_rows f (n - 1)

@@ -43,6 +43,14 @@ sorted b = b.sorted
 abbrev pub IsSorted : Block → Type 0
 IsSorted b = b.sorted ≡ b.len
 
+-- the event of a place, a code, a dtime and a time
+abbrev pub event_by : ℕ → ℕ → ℕ → ℕ → Event
+event_by place code dtime time = record { place = place; kind = kind_of code dtime; time = time }
+
+-- the first so many rows, also those behind its end
+abbrev pub written : Block → ℕ → List Event
+written b n = rows (event_at b) n
+
 -- its events
 abbrev pub gathered : Block → List Event
 gathered b = rows (event_at b) b.len

@@ -24,7 +24,7 @@ pub struct Block {
 impl Block {
     ghost use Rattle.std.specs.Prelude.{◌≡◌, ◌+◌, ◌<◌, ◌++◌, ◌∷◌, ◌&&◌, [], length, ℕ, nat_lt, if◌then◌else◌};
     ghost use Rattle.tally_base.specs.Events.{is_in};
-    ghost use Rattle.event_block.specs.Columns.{count, sorted, event_at, groups_at, code_at, dtime_at, time_at, item, gathered};
+    ghost use Rattle.event_block.specs.Columns.{count, sorted, event_at, groups_at, code_at, dtime_at, time_at, item, gathered, event_by, written};
     ghost use Rattle.event_block.specs.Order.{floor_after};
 
     /// No events.
@@ -136,6 +136,35 @@ impl Block {
             }
         }
         floor
+    }
+
+    /// Writes an event to a place, from 0, at or behind the end. Those behind the end are no events of the
+    /// block before `keep` takes them in.
+    #[inline(always)]
+    pub fn write(&mut self, at: usize, place: u64, code: u16, dtime: u16, time: u64)
+        requires behind { count self.old ≤ at }
+        requires room { at < 64 }
+        ensures same { written self.new at ≡ written self.old at }
+        ensures more { written self.new (at + 1)
+            ≡ written self.old at ++ event_by place code dtime time ∷ [] }
+        ensures count { count self.new ≡ count self.old }
+        ensures unsorted { sorted self.new ≡ sorted self.old }
+    {
+        self.places[at] = place;
+        self.times[at] = time;
+        self.codes[at] = code;
+        self.dtimes[at] = dtime;
+    }
+
+    /// Takes in what was written up to this place.
+    #[inline(always)]
+    pub fn keep(&mut self, len: usize)
+        requires behind { count self.old ≤ len }
+        requires room { len ≤ 64 }
+        ensures kept { gathered self.new ≡ written self.old len }
+        ensures unsorted { sorted self.new ≡ sorted self.old }
+    {
+        self.len = len;
     }
 
     /// Puts an event behind the others. There are fewer than 64. Its groups are to be put.

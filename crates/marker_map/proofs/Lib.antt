@@ -3,4 +3,5 @@ pub mod Lasts
 pub mod Steps
 pub mod Parts
 pub mod Shares
+pub mod Starts
 pub mod Strips

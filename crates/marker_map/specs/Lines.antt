@@ -1,8 +1,10 @@
 -- What the lines of a scan stand for.
-use Rattle.std.specs.Prelude.{◌≡◌, ℕ, List, length}
+use Rattle.std.specs.Prelude.{◌≡◌, ◌≤◌, ℕ, List, length, Option}
+use Rattle.std.specs.Option.{option_map_or}
 use Rattle.tally_base.specs.Settings.{ImageView, image_view}
 use Rattle.marker_map.specs.Marks.{Mark, greatest_time}
 use Rattle.marker_map.specs.Rows.{open_line, next_row}
+use Rattle.marker_map.specs.declared.lines.Line.{Line}
 use Rattle.marker_map.specs.declared.lines.Lines.{Lines}
 
 -- the image that they are of
@@ -13,13 +15,17 @@ image_of lines = image_view lines.set
 abbrev pub markers_given : Lines → ℕ
 markers_given lines = lines.given
 
--- the greatest time of a marker, or 0 where none came
-abbrev pub latest : Lines → ℕ
-latest lines = lines.latest
+-- when a line began, or 0 for none
+abbrev pub start_or_none : Option Line → ℕ
+start_or_none line = option_map_or (λ line. line.start) line 0
+
+-- when the line began that no stop has ended, or 0 where there is none
+abbrev pub line_start : Lines → ℕ
+line_start lines = start_or_none lines.line
 
 -- These markers came, in this order.
 pub record Saw (lines : Lines) (ms : List Mark) : Type 0 where
   pub line : lines.line ≡ open_line (image_of lines) ms
   pub next : lines.next_row ≡ next_row (image_of lines) ms
   pub given : markers_given lines ≡ length ms
-  pub latest : latest lines ≡ greatest_time ms
+  pub begun : line_start lines ≤ greatest_time ms

@@ -34,9 +34,7 @@ pub struct Lines {
     // The row of the next line. None before the first frame.
     next_row: Option<u64>,
     given: u64,
-    latest: u64,
     ghost divides: { divisor_of dwell ≡ set.dwell },
-    ghost begun: { ForSome line (λ line. line.start ≤ latest) },
     ghost counted: { ForSome next_row (λ row. row ≤ given) },
 }
 
@@ -78,18 +76,18 @@ fn row_behind(set: &ImageSet, row: Option<u64>) -> Option<u64>
 }
 
 impl Lines {
-    ghost use Rattle.std.specs.Prelude.{ℕ, List, [], ◌∷◌, ◌++◌, IfSome};
+    ghost use Rattle.std.specs.Prelude.{ℕ, List, [], ◌∷◌, ◌++◌, IfSome, max};
     ghost use Rattle.marker_map.specs.Marks.{Mark, mark};
     ghost use Rattle.marker_map.specs.Places.{place_of};
     ghost use Rattle.marker_map.specs.Strips.{place_on, start_of, width_of, height_of};
     ghost use Rattle.marker_map.specs.PlacesBy.{place_by};
-    ghost use Rattle.marker_map.specs.Lines.{Saw, image_of, markers_given, latest};
+    ghost use Rattle.marker_map.specs.Lines.{Saw, image_of, markers_given, line_start};
 
     /// The lines of an image, before any marker.
     pub fn new(set: &ImageSet) -> Lines
         ensures image { image_of result ≡ image_view set.now }
         ensures given { markers_given result ≡ 0 }
-        ensures latest { latest result ≡ 0 }
+        ensures none { line_start result ≡ 0 }
         ensures empty { Saw result [] }
     {
         Lines {
@@ -98,25 +96,21 @@ impl Lines {
             line: None,
             next_row: if set.frame.is_none() { Some(0) } else { None },
             given: 0,
-            latest: 0,
         }
     }
 
-    /// Takes a marker: its bits and its time, which isn't below that of an earlier marker. Fewer than 2^40
-    /// markers came before it.
+    /// Takes a marker: its bits and its time. Fewer than 2^40 markers came before it.
     pub fn marker(&mut self, bits: u8, time: u64)
-        requires few { markers_given self.old < 2 ^ 40 }
-        requires in_order { latest self.old ≤ time }
+        requires { markers_given self.old < 2 ^ 40 }
         ensures follows { (ms : List Mark) → Saw self.old ms
             → Saw self.new (ms ++ mark bits time ∷ []) }
         ensures one_more { markers_given self.new ≡ markers_given self.old + 1 }
-        ensures moved { latest self.new ≡ time }
+        ensures begun { line_start self.new ≤ max (line_start self.old) time }
         ensures same_image { image_of self.new ≡ image_of self.old }
     {
         let stops = has_named_bit(bits, self.set.stop);
         let row = row_here(self.next_row, has_named_bit(bits, self.set.frame));
         self.given += 1;
-        self.latest = time;
         if has_bit(bits, self.set.line) {
             self.line = begun_at(time, row);
             self.next_row = row_behind(&self.set, row);
@@ -126,12 +120,12 @@ impl Lines {
         }
     }
 
-    /// The column and the row of a photon at this time, which isn't below that of an earlier marker. None
+    /// The column and the row of a photon at this time, which isn't below that of the line's marker. None
     /// where the photon is outside the image: it has no line, its line has no row, or the column or the
     /// row is past the last of the image.
     #[inline(always)]
     pub fn place(&self, time: u64) -> Option<(u32, u32)>
-        requires in_order { latest self.now ≤ time }
+        requires in_order { line_start self.now ≤ time }
         ensures place { (ms : List Mark) → Saw self.now ms
             → result ≡ place_of (image_of self.now) time ms }
         ensures inside { IfSome result (λ place. (place.0 < (image_of self.now).width)
@@ -145,7 +139,7 @@ impl Lines {
     pub fn strip(&self) -> Strip
         ensures place { (ms : List Mark) → Saw self.now ms
             → (time : ℕ) → place_on result time ≡ place_of (image_of self.now) time ms }
-        ensures begun { start_of result ≤ latest self.now }
+        ensures begun { start_of result ≤ line_start self.now }
         ensures width { width_of result ≡ (image_of self.now).width }
         ensures height { height_of result ≡ (image_of self.now).height }
     {

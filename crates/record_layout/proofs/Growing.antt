@@ -1,6 +1,6 @@
 -- A counter's bytes grow.
-use Rattle.std.proofs.Common.{◌≡◌, ◌+◌, ◌-◌, ◌*◌, ◌/◌, ◌^◌, ◌<◌, ◌≤◌, ℕ, List, [], ◌++◌, length, map, Ok, Err, refl, sym, ap, ◌∙◌, append-nil, arith, length-append}
-use Rattle.std.specs.Simd.{first_chunks}
+use Rattle.std.proofs.Common.{◌≡◌, ◌+◌, ◌-◌, ◌*◌, ◌^◌, ◌<◌, ◌≤◌, ℕ, List, [], ◌++◌, length, map, Ok, Err, refl, sym, ap, ◌∙◌, arith, length-append}
+use Rattle.std.specs.Int.{from_le_bytes, w32}
 use Rattle.std.specs.Prelude.{false, nat_lt, nat_eq}
 use Rattle.std.proofs.lemmas.List.{length-map, map-append}
 use Rattle.std.proofs.lemmas.Bool.Decides.{nat_tests}
@@ -13,8 +13,7 @@ use Rattle.ptu_definitions.specs.Layouts.{meaning_of}
 use Rattle.ptu_definitions.specs.Kinds.{counts_of}
 use Rattle.ptu_definitions.specs.Counted.{counted, records_of, record_limit}
 use Rattle.ptu_definitions.specs.Shown.{Shows}
-use Rattle.ptu_definitions.proofs.WordsLemmas.{words_of-append, rest_of-append, length-words_of, length-rest_of, length-words_of-append, words_of-few, rest_of-few}
-use Rattle.ptu_definitions.proofs.FoursLemmas.{numbers-chunks}
+use Rattle.ptu_definitions.proofs.WordsLemmas.{words_of-append, rest_of-append, length-words_of, length-rest_of, length-words_of-append}
 use Rattle.record_layout.specs.Sums.{sum_of}
 use Rattle.record_layout.specs.Counting.{AreCounts}
 use Rattle.record_layout.proofs.KindLemmas.{counts_of-append}
@@ -57,19 +56,6 @@ module _ (record_type : RecordType) (carried : List ℕ) (counts : KindCounts) (
     few = words-fit piece fits;
   }
 
-  -- a piece that completes no word
-  pub AreCounts-few : (piece : List ℕ) → length (carried ++ piece) < 4 → AreCounts record_type (carried ++ piece) counts (bytes ++ piece)
-  unfolding records_of
-  AreCounts-few piece few =
-      let same : words_of (bytes ++ piece) ≡ words_of bytes =
-      words_of-append bytes piece ∙ ap (λ l. words_of bytes ++ words_of (l ++ piece)) (sym h.rest)
-      ∙ ap (λ l. words_of bytes ++ l) (words_of-few (carried ++ piece) few) ∙ append-nil (words_of bytes) in
-      record {
-        rest = sym (rest_of-append bytes piece ∙ ap (λ l. rest_of (l ++ piece)) (sym h.rest) ∙ rest_of-few (carried ++ piece) few);
-        kinds = rw same h.kinds;
-        few = rw same h.few;
-      }
-
   pub counted-whole : length carried ≡ 0 → Ok counts ≡ counted record_type bytes
   unfolding counted
   counted-whole none =
@@ -89,10 +75,13 @@ pub AreCounts-none : (record_type : RecordType) → AreCounts record_type [] (re
 unfolding records_of
 AreCounts-none record_type = record { rest = refl; kinds = refl; few = omega arith }
 
--- the counts of the fours of some bytes are those of their words
-pub counts_of-chunks : (record_type : RecordType) (bytes : List ℕ) (fours : List (List ℕ)) (counts : KindCounts) → fours ≡ first_chunks 4 (length bytes / 4) bytes
-    → counts ≡ counts_of (map (meaning_of record_type) (numbers fours)) → counts ≡ counts_of (map (meaning_of record_type) (words_of bytes))
-counts_of-chunks record_type bytes fours counts are counted = counted ∙ ap (λ l. counts_of (map (meaning_of record_type) l)) (ap numbers are ∙ numbers-chunks bytes)
+-- the counts of two lists of words, one behind the other
+pub counts_of-both : (record_type : RecordType) (first others : List (List ℕ)) (words : List ℕ) (counts more : KindCounts) → counts ≡ counts_of (map (meaning_of record_type) (numbers first)) → more ≡ counts_of (map (meaning_of record_type) (numbers others))
+    → numbers (first ++ others) ≡ words → sum_of counts more ≡ counts_of (map (meaning_of record_type) words)
+counts_of-both record_type first others words counts more of_first of_others are =
+    let meaning = meaning_of record_type in
+    rw (of_first, of_others, ← are, map-append (from_le_bytes w32) first others, map-append meaning (numbers first) (numbers others))
+    (sym (counts_of-append (map meaning (numbers first)) (map meaning (numbers others))))
 
 -- too many words stay too many
 pub words-more : (bytes more : List ℕ) → record_limit < length (words_of bytes) → record_limit < length (words_of (bytes ++ more))

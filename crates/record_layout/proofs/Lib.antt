@@ -1,4 +1,6 @@
+pub mod BegunLemmas
 mod FieldLemmas
 mod KindLemmas
+mod RowLemmas
 mod Growing
 mod Rows

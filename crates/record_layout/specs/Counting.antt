@@ -5,6 +5,7 @@ use Rattle.ptu_definitions.specs.declared.records.KindCounts.{KindCounts}
 use Rattle.ptu_definitions.specs.Words.{words_of, rest_of}
 use Rattle.ptu_definitions.specs.Kinds.{counts_of}
 use Rattle.ptu_definitions.specs.Counted.{records_of, record_limit}
+use Rattle.record_layout.specs.Begun.{begun_in}
 use Rattle.record_layout.specs.declared.counter.Counter.{Counter}
 
 -- the counts of the whole words of these bytes, and what is left over
@@ -21,16 +22,12 @@ Counts record_type carried counts false bytes = AreCounts record_type carried co
 -- The counter was made for this record type, and was given these bytes.
 pub record HasCounted (counter : Counter) (record_type : RecordType) (bytes : List ℕ) : Type 0 where
   pub same_type : counter.record_type ≡ record_type
-  pub counts : Counts record_type counter.carried.items counter.counts counter.refused bytes
+  pub counts : Counts record_type (begun_in counter.carried) counter.counts counter.refused bytes
 
 -- whether a piece was refused
 abbrev pub was_refused : Counter → Bool
 was_refused counter = counter.refused
 
--- the bytes of a record that began
-abbrev pub carried_by : Counter → List ℕ
-carried_by counter = counter.carried.items
-
 -- how many more bytes the counter takes at most
 abbrev pub room : Counter → ℕ
-room counter = 4 * (record_limit - counter.counts.records) + 3 - length counter.carried.items
+room counter = 4 * (record_limit - counter.counts.records) + 3 - length (begun_in counter.carried)

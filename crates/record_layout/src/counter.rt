@@ -1,14 +1,13 @@
 // Counts the records of bytes that come in pieces.
 ghost use Rattle.std.specs.Prelude.{◌≡◌, ◌+◌, ◌<◌, ◌≤◌, ◌++◌, ◌↔◌, ◌^◌, [], List, ℕ, length, true, false, IsErr, IfErr, Err, OnOk, OnErr};
-ghost use Rattle.arrayvec.specs.ArrayVec.{array_vec_len};
 ghost use Rattle.tally_base.specs.declared.header.RecordType.{RecordType};
 ghost use Rattle.record_layout.specs.Sums.{IsSplit};
 
+use crate::begun::BegunWord;
 use crate::by_type::kinds;
 use crate::kinds::sum;
-use arrayvec::ArrayVec;
 use ptu_definitions::KindCounts;
-use tally_base::{Fault, RecordType, put_text};
+use tally_base::{Fault, RecordType};
 
 /// The most records of a file.
 const MAX_RECORDS: u64 = 1 << 40;
@@ -20,10 +19,9 @@ const LIMIT: Fault = Fault::RecordLimit { limit: MAX_RECORDS };
 #[derive(Drop)]
 pub struct Counter {
     record_type: RecordType,
-    carried: ArrayVec<u8, 4>,
+    carried: BegunWord,
     counts: KindCounts,
     refused: bool,
-    ghost short: { array_vec_len carried < 4 },
     ghost few: { counts.records ≤ 2 ^ 40 },
     ghost split: { IsSplit counts },
 }
@@ -33,7 +31,7 @@ impl Counter {
     ghost use Rattle.ptu_definitions.specs.Counted.{counted, record_limit};
     ghost use Rattle.ptu_definitions.specs.Shown.{Shows};
     ghost use Rattle.tally_base.specs.Faults.{is_outside};
-    ghost use Rattle.record_layout.specs.Counting.{HasCounted, was_refused, room, carried_by};
+    ghost use Rattle.record_layout.specs.Counting.{HasCounted, was_refused, room};
 
     /// A counter that was given no bytes.
     pub fn new(record_type: RecordType) -> Counter
@@ -42,7 +40,7 @@ impl Counter {
     {
         Counter {
             record_type,
-            carried: ArrayVec::new(),
+            carried: BegunWord::new(),
             counts: KindCounts {
                 records: 0,
                 photons: 0,
@@ -94,53 +92,10 @@ impl Counter {
             → HasCounted self.new record_type (bytes ++ piece.now) }
         ensures room { room self.new + length piece.now ≡ room self.old }
     {
-        let carried = self.carried.len();
-        if carried == 0 {
-            self.take_words(piece);
-            return;
-        }
-        let missing = 4 - carried;
-        if piece.len() < missing {
-            put_text(&mut self.carried, piece);
-            return;
-        }
-        let (first, rest) = piece.split_at(missing);
-        self.complete(first);
-        self.take_words(rest);
-    }
-
-    /// Counts the word that is carried, with the bytes that complete it.
-    fn complete(&mut self, first: &[u8])
-        requires going { was_refused self.old ≡ false }
-        requires four { length (carried_by self.old ++ first.now) ≡ 4 }
-        requires fits { length first.now ≤ room self.old }
-        ensures going { was_refused self.new ≡ false }
-        ensures taken { (record_type : RecordType) (bytes : List ℕ)
-            → HasCounted self.old record_type bytes
-            → HasCounted self.new record_type (bytes ++ first.now) }
-        ensures none { carried_by self.new ≡ [] }
-        ensures room { room self.new + length first.now ≡ room self.old }
-    {
-        put_text(&mut self.carried, first);
-        let (words, _) = self.carried.as_slice().as_chunks::<4>();
-        self.counts = sum(&self.counts, &kinds(self.record_type, words));
-        self.carried.clear();
-    }
-
-    /// Counts the words of a piece that begins with a whole one, and carries what is left over.
-    fn take_words(&mut self, piece: &[u8])
-        requires going { was_refused self.old ≡ false }
-        requires none { carried_by self.old ≡ [] }
-        requires fits { length piece.now ≤ room self.old }
-        ensures going { was_refused self.new ≡ false }
-        ensures taken { (record_type : RecordType) (bytes : List ℕ)
-            → HasCounted self.old record_type bytes
-            → HasCounted self.new record_type (bytes ++ piece.now) }
-        ensures room { room self.new + length piece.now ≡ room self.old }
-    {
-        let (words, rest) = piece.as_chunks::<4>();
-        self.counts = sum(&self.counts, &kinds(self.record_type, words));
-        put_text(&mut self.carried, rest);
+        let (first, words) = self.carried.take(piece);
+        let of_first = kinds(self.record_type, first.as_slice());
+        let of_words = kinds(self.record_type, words);
+        self.counts = sum(&self.counts, &sum(&of_first, &of_words));
     }
 
     /// The counts of all bytes. Refuses bytes that end within a record (`TruncatedRecord`), and answers

@@ -4,10 +4,12 @@ ghost use Rattle.std.proofs.Common.{rules};
 ghost use Rattle.tally_base.specs.declared.header.Mode.TheVariants.{T2};
 ghost use Rattle.ptu_definitions.specs.Layouts.{hydra_t2, hydra_t2_wrap, wraps_in};
 ghost use Rattle.record_layout.specs.Joins.{joined_hydra_t2};
+ghost use Rattle.record_layout.specs.Rowed.{hydra_t2_code, hydra_t2_amount};
 ghost use Rattle.record_layout.specs.JoinLaws.{hydra_t2-is_join};
 
 use crate::fields::Fields;
 use crate::layout::RecordLayout;
+use crate::row::Row;
 use ptu_definitions::Raw;
 use tally_base::Mode;
 
@@ -79,6 +81,42 @@ impl<const OLD: bool> RecordLayout for HydraT2<OLD> {
         }
         Raw::Reserved
     }
+
+    #[inline(always)]
+    fn split(fields: &Fields) -> Row {
+        Row {
+            code: code_of(fields.top),
+            time: fields.time,
+            dtime: 0,
+            amount: amount_of::<OLD>(fields.top, fields.time),
+        }
+    }
+}
+
+/// The code of a record, by the top seven bits of its word. Each choice stands alone, so that the
+/// compiler makes no branch of it.
+#[inline(always)]
+fn code_of(top: u8) -> u16
+    ensures { result ≡ hydra_t2_code top }
+{
+    let top = u16::from(top);
+    let marker = if top < 80 { 192 + top } else { 513 };
+    let special = if top == 127 { 512 } else { marker };
+    let other = if top == 64 { 0 } else { special };
+    if top < 64 { top + 1 } else { other }
+}
+
+/// How much a record adds to the times behind it.
+#[inline(always)]
+fn amount_of<const OLD: bool>(top: u8, time: u32) -> u64
+    ensures { result ≡ hydra_t2_amount OLD top time }
+{
+    let unit = if OLD {
+        33_552_000
+    } else {
+        33_554_432 * wraps_in(time)
+    };
+    if top == 127 { unit } else { 0 }
 }
 
 /// What a wrap record says, by its time field.

@@ -4,11 +4,13 @@ ghost use Rattle.std.proofs.Common.{rules};
 ghost use Rattle.tally_base.specs.declared.header.Mode.TheVariants.{T3};
 ghost use Rattle.ptu_definitions.specs.Layouts.{hydra_t3, hydra_t3_wrap};
 ghost use Rattle.record_layout.specs.Joins.{joined_hydra_t3};
+ghost use Rattle.record_layout.specs.Rowed.{hydra_t3_code, hydra_t3_amount};
 ghost use Rattle.record_layout.specs.JoinLaws.{hydra_t3-is_join};
 
 use crate::fields::Fields;
 use crate::hydra_t2::wraps_in;
 use crate::layout::RecordLayout;
+use crate::row::Row;
 use ptu_definitions::Raw;
 use tally_base::Mode;
 
@@ -73,6 +75,38 @@ impl<const OLD: bool> RecordLayout for HydraT3<OLD> {
         }
         Raw::Reserved
     }
+
+    #[inline(always)]
+    fn split(fields: &Fields) -> Row {
+        Row {
+            code: code_of(fields.top),
+            time: fields.time,
+            dtime: fields.dtime,
+            amount: amount_of::<OLD>(fields.top, fields.time),
+        }
+    }
+}
+
+/// The code of a record, by the top seven bits of its word. Each choice stands alone, so that the
+/// compiler makes no branch of it.
+#[inline(always)]
+fn code_of(top: u8) -> u16
+    ensures { result ≡ hydra_t3_code top }
+{
+    let top = u16::from(top);
+    let marker = if top < 80 { 192 + top } else { 513 };
+    let special = if top == 127 { 512 } else { marker };
+    let other = if top == 64 { 513 } else { special };
+    if top < 64 { top } else { other }
+}
+
+/// How much a record adds to the times behind it.
+#[inline(always)]
+fn amount_of<const OLD: bool>(top: u8, time: u32) -> u64
+    ensures { result ≡ hydra_t3_amount OLD top time }
+{
+    let unit = if OLD { 1024 } else { 1024 * wraps_in(time) };
+    if top == 127 { unit } else { 0 }
 }
 
 /// What a wrap record says, by its time field.

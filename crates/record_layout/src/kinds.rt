@@ -10,8 +10,9 @@ use ptu_definitions::{KindCounts, Raw};
 /// How many words are counted at once, in counters of 32 bits.
 const BLOCK: usize = 1 << 30;
 
-/// How many of the words are of each kind.
-pub(crate) fn kinds_of<R: RecordLayout>(words: &[[u8; 4]]) -> KindCounts
+/// How many of the words are of each kind in the layout `R`.
+#[inline]
+pub fn kinds_of<R: RecordLayout>(words: &[[u8; 4]]) -> KindCounts
     ensures value { result ≡ counts_of (map R.meaning (numbers words.now)) }
     ensures records { result.records ≡ length words.now }
     ensures split { IsSplit result }

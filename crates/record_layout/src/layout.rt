@@ -3,9 +3,12 @@ ghost use Rattle.std.specs.Prelude.{◌≡◌, ◌^◌, ◌<◌, ◌≤◌, ℕ}
 ghost use Rattle.tally_base.specs.declared.header.Mode.{Mode};
 ghost use Rattle.ptu_definitions.specs.declared.records.Raw.{Raw};
 ghost use Rattle.record_layout.specs.declared.fields.Fields.{Fields};
+ghost use Rattle.ptu_definitions.specs.Times.{amount};
 ghost use Rattle.record_layout.specs.Parts.{fields_in};
+ghost use Rattle.record_layout.specs.Rowed.{raw_of};
 
 use crate::fields::Fields;
+use crate::row::Row;
 use ptu_definitions::Raw;
 use tally_base::Mode;
 
@@ -46,6 +49,11 @@ pub trait RecordLayout {
     fn join(fields: &Fields) -> Raw
         ensures { result ≡ joined fields.now };
 
+    /// The parts of the record that fields say, also of ones that no word has. It is to take no branch.
+    fn split(fields: &Fields) -> Row
+        ensures record { raw_of result ≡ joined fields.now }
+        ensures amount { result.amount ≡ amount (joined fields.now) };
+
     ghost top_shift_low: { 25 ≤ TOP_SHIFT };
 
     ghost top_shift_high: { TOP_SHIFT ≤ 31 };
@@ -64,6 +72,15 @@ pub trait RecordLayout {
         ensures { result ≡ meaning word }
     {
         Self::join(&fields_of::<Self>(word))
+    }
+
+    /// The parts of the record that a word is, for loops that take no branch on its kind.
+    #[inline(always)]
+    final fn row(word: u32) -> Row
+        ensures record { raw_of result ≡ meaning word }
+        ensures amount { result.amount ≡ amount (meaning word) }
+    {
+        Self::split(&fields_of::<Self>(word))
     }
 }
 

@@ -1,7 +1,9 @@
 //! Records of 32 bits: what each means, and how many there are of each kind.
 #![tactic(auto)]
 
+mod begun;
 mod by_type;
+mod columns;
 mod counter;
 mod fields;
 mod hydra_t2;
@@ -9,15 +11,20 @@ mod hydra_t3;
 mod kinds;
 mod layout;
 mod pico;
+mod row;
 
+pub use begun::BegunWord;
 pub use by_type::decode;
+pub use columns::Columns;
 pub use counter::Counter;
 pub use fields::Fields;
 pub use hydra_t2::HydraT2;
 pub use hydra_t3::HydraT3;
+pub use kinds::kinds_of;
 pub use layout::RecordLayout;
 pub use pico::{PicoT2, PicoT3};
 pub use ptu_definitions::{KindCounts, Raw};
+pub use row::Row;
 
 #[cfg(test)]
 mod tests;

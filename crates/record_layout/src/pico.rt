@@ -1,12 +1,15 @@
 // The layouts of PicoHarp.
+ghost use Rattle.std.specs.Prelude.{◌≡◌};
 ghost use Rattle.std.proofs.Common.{rules};
 ghost use Rattle.tally_base.specs.declared.header.Mode.TheVariants.{T2, T3};
 ghost use Rattle.ptu_definitions.specs.Layouts.{pico_t2, pico_t3};
 ghost use Rattle.record_layout.specs.Joins.{joined_pico_t2, joined_pico_t3};
+ghost use Rattle.record_layout.specs.Rowed.{pico_code, pico_amount};
 ghost use Rattle.record_layout.specs.JoinLaws.{pico_t2-is_join, pico_t3-is_join};
 
 use crate::fields::Fields;
 use crate::layout::RecordLayout;
+use crate::row::Row;
 use ptu_definitions::Raw;
 use tally_base::Mode;
 
@@ -67,6 +70,17 @@ impl RecordLayout for PicoT2 {
             _ => Raw::Reserved,
         }
     }
+
+    #[inline(always)]
+    fn split(fields: &Fields) -> Row {
+        let marker = (fields.time & 15) as u8;
+        Row {
+            code: code_of(fields.top, marker),
+            time: fields.time,
+            dtime: 0,
+            amount: amount_of(210_698_240, fields.top, marker),
+        }
+    }
 }
 
 /// T3 records of PicoHarp.
@@ -124,4 +138,42 @@ impl RecordLayout for PicoT3 {
             _ => Raw::Reserved,
         }
     }
+
+    #[inline(always)]
+    fn split(fields: &Fields) -> Row {
+        let marker = (fields.dtime & 15) as u8;
+        Row {
+            code: code_of(fields.top, marker),
+            time: fields.time,
+            dtime: fields.dtime,
+            amount: amount_of(65_536, fields.top, marker),
+        }
+    }
+}
+
+/// The code of a record, by its channel and the marker bits that channel 15 has.
+#[inline(always)]
+fn code_of(channel: u8, marker: u8) -> u16
+    ensures { result ≡ pico_code channel marker }
+{
+    let special = if marker == 0 {
+        512
+    } else {
+        256 + u16::from(marker)
+    };
+    let plain = if channel <= 4 {
+        u16::from(channel)
+    } else {
+        513
+    };
+    if channel == 15 { special } else { plain }
+}
+
+/// How much a record adds to the times behind it, where a wrap adds a unit.
+#[inline(always)]
+fn amount_of(unit: u64, channel: u8, marker: u8) -> u64
+    ensures { result ≡ pico_amount unit channel marker }
+{
+    let special = if marker == 0 { unit } else { 0 };
+    if channel == 15 { special } else { 0 }
 }

@@ -1,7 +1,6 @@
 -- What ends a stream.
-use Rattle.std.proofs.Common.{◌≡◌, ◌≢◌, ℕ, List, [], ◌++◌, false, None, Some, Ok, Err, OnOk, length, refl, ap, ◌∙◌, sym, ⊎_elim, arith}
+use Rattle.std.proofs.Common.{◌≡◌, ◌≢◌, ℕ, List, [], ◌++◌, false, None, Some, Ok, Err, length, refl, ap, ◌∙◌, sym, ⊎_elim, arith}
 use Rattle.std.specs.Prelude.{nat_eq}
-use Rattle.std.specs.declared.result.Result.{Result}
 use Rattle.std.proofs.lemmas.Bool.Decides.{nat_tests}
 use Rattle.ptu_definitions.specs.declared.records.Summary.{Summary}
 use Rattle.tally_base.specs.declared.fault.Fault.{Fault}
@@ -19,10 +18,6 @@ use Rattle.abs_time.specs.Placing.{mode_of as clock_mode, greatest_by}
 use Rattle.record_stream.specs.Feeding.{IsAt, GaveOn, BrokeOn, Fed}
 use Rattle.record_stream.specs.Standing.{Stands}
 use Rattle.record_stream.proofs.Fours.{refused-bytes}
-
-pub on_both : {X E A B C : Type 0} (r : Result X E) → OnOk r A → OnOk r B → (A → B → C) → OnOk r C
-on_both (Ok x) a b f = f a b
-on_both (Err e) a b f = tt
 
 pub unrefused : (how : Reading) (words : List ℕ) → refusals how words ≡ [] → record_refusal how words ≡ None
 unrefused how words clear = rw clear refl

@@ -1,14 +1,17 @@
 -- What a taker is given by words that come behind others.
-use Rattle.std.specs.Prelude.{ℕ, ◌≡◌, ◌<◌, ◌≤◌, List, [], ◌++◌, length, map, None, Some, Result, Ok, Err, ◌⊎◌}
+use Rattle.std.specs.Prelude.{ℕ, Bool, ◌&&◌, not, IsTrue, ◌≡◌, ◌<◌, ◌≤◌, List, [], ◌++◌, length, map, None, Some, Result, Ok, Err, ◌⊎◌}
 use Rattle.ptu_definitions.specs.declared.records.Summary.{Summary}
 use Rattle.tally_base.specs.declared.fault.Fault.{Fault}
 use Rattle.tally_base.specs.declared.fault.Fault.TheVariants.{WriteFault}
 use Rattle.tally_base.specs.declared.header.Mode.{Mode}
+use Rattle.tally_base.specs.declared.event.Event.{Event}
+use Rattle.tally_base.specs.Events.{is_ordered}
 use Rattle.tally_base.specs.FaultCounts.{Rose}
 use Rattle.ptu_definitions.specs.Kept.{Marked}
 use Rattle.ptu_definitions.specs.Streams.{Reading, refusals, record_refusal, given, events_in, summary}
 use Rattle.abs_time.specs.declared.clock.Clock.{Clock}
 use Rattle.abs_time.specs.Placing.{HasPlaced}
+use Rattle.record_stream.specs.Floors.{moved_floor}
 use Rattle.record_stream.specs.declared.taker.EventTaker.{Ghosts}
 
 -- Where a stream stands that took these words and refused none.
@@ -24,6 +27,13 @@ module _ {T : Type 0} (g : Ghosts T) where
     pub mode_is : g.mode taker ≡ mode
     pub few : g.taken taker ≤ count
     pub before : g.floor taker ≤ top
+
+  -- With the event behind those that it got the taker is no further on than the stream.
+  pub record CanGet (mode : Mode) (count top : ℕ) (e : Event) (late : Bool) (taker : T) : Type 0 where
+    pub mode_is : g.mode taker ≡ mode
+    pub few : g.taken taker ≤ count
+    pub in_order : IsTrue (is_ordered mode e && not late) → g.floor taker ≤ e.time
+    pub before : moved_floor mode (g.floor taker) e late ≤ top
 
   -- It got what the words call for that came behind others.
   pub record GaveOn (how : Reading) (old new : T) (words now : List ℕ) : Type 0 where

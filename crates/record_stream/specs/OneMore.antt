@@ -1,8 +1,9 @@
 -- A summary with one more record, and with its event.
-use Rattle.std.specs.Prelude.{ℕ, ◌+◌, Bool, true, false, [], ◌∷◌, None, Some}
+use Rattle.std.specs.Prelude.{ℕ, ◌+◌, Bool, true, false, List, [], ◌∷◌, None, Some}
 use Rattle.std.specs.declared.option.Option.{Option}
 use Rattle.tally_base.specs.declared.event.Event.{Event}
 use Rattle.ptu_definitions.specs.declared.records.Summary.{Summary}
+use Rattle.ptu_definitions.specs.declared.records.KindCounts.{KindCounts}
 use Rattle.ptu_definitions.specs.declared.records.Raw.{Raw}
 use Rattle.ptu_definitions.specs.declared.records.Raw.TheVariants.{Photon, Marker, Wrap, Reserved}
 use Rattle.ptu_definitions.specs.Kept.{Marked}
@@ -24,3 +25,25 @@ with_event s e false = record s { first = or_time s.first e.time; last = Some e.
 abbrev pub with_marks : Summary → Marked → Summary
 with_marks s [] = s
 with_marks s (x ∷ xs) = with_marks (with_event s x.0 x.1) xs
+
+-- the first and the last time, with the events of a block
+abbrev pub first_with : Option ℕ → List Event → Option ℕ
+first_with o [] = o
+first_with o (e ∷ es) = or_time o e.time
+
+abbrev pub last_with : Option ℕ → List Event → Option ℕ
+last_with o [] = o
+last_with o (e ∷ es) = last_with (Some e.time) es
+
+-- records of these kinds more, with these events, none of them late
+abbrev pub with_block : Summary → KindCounts → List Event → Summary
+with_block s k es = record {
+  records = s.records + k.records;
+  photons = s.photons + k.photons;
+  markers = s.markers + k.markers;
+  wraps = s.wraps + k.wraps;
+  reserved = s.reserved + k.reserved;
+  late = s.late;
+  first = first_with s.first es;
+  last = last_with s.last es;
+}

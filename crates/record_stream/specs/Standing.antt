@@ -6,6 +6,7 @@ use Rattle.tally_base.specs.declared.fault.Fault.{Fault}
 use Rattle.tally_base.specs.declared.fault.Fault.TheVariants.{WriteFault}
 use Rattle.ptu_definitions.specs.Streams.{Reading, reading, record_refusal}
 use Rattle.ptu_definitions.specs.Words.{words_of, rest_of}
+use Rattle.record_layout.specs.Begun.{begun_in}
 use Rattle.abs_time.specs.declared.clock.Clock.{Clock}
 use Rattle.abs_time.specs.Placing.{greatest_by}
 use Rattle.record_stream.specs.Feeding.{IsAt}
@@ -27,7 +28,7 @@ abbrev pub refused_with : RecordStream → Option Fault
 refused_with stream = stream.refused
 
 abbrev pub carried_by : RecordStream → List ℕ
-carried_by stream = stream.carried.items
+carried_by stream = begun_in stream.carried
 
 abbrev pub summary_in : RecordStream → Summary
 summary_in stream = summed stream.walk.sums
@@ -37,7 +38,7 @@ records_of stream = stream.walk.sums.records
 
 -- how many bytes it took, as long as it refused none
 abbrev pub bytes_in : RecordStream → ℕ
-bytes_in stream = 4 * stream.walk.sums.records + length stream.carried.items
+bytes_in stream = 4 * stream.walk.sums.records + length (begun_in stream.carried)
 
 abbrev pub clock_in : RecordStream → Clock
 clock_in stream = stream.walk.clock
@@ -48,7 +49,7 @@ IsBehind stream words = IsAt (how_of stream) stream.walk.clock (summed stream.wa
 
 -- It took these bytes and refused none.
 abbrev pub CarriesOn : RecordStream → List ℕ → Type 0
-CarriesOn stream bytes = (stream.carried.items ≡ rest_of bytes) × IsBehind stream (words_of bytes)
+CarriesOn stream bytes = (begun_in stream.carried ≡ rest_of bytes) × IsBehind stream (words_of bytes)
 
 -- After a refusal nothing more is taken: the bytes are any that begin with those that were refused.
 abbrev pub Stands : Reading → Clock → Summary → ℕ → List ℕ → Option Fault → List ℕ → Type 0
@@ -57,4 +58,4 @@ Stands how clock sum count carried (Some fault) bytes = fault ≢ WriteFault →
 
 -- The stream was given these bytes.
 abbrev pub HasStreamed : RecordStream → List ℕ → Type 0
-HasStreamed stream bytes = Stands (how_of stream) stream.walk.clock (summed stream.walk.sums) stream.walk.given stream.carried.items stream.refused bytes
+HasStreamed stream bytes = Stands (how_of stream) stream.walk.clock (summed stream.walk.sums) stream.walk.given (begun_in stream.carried) stream.refused bytes

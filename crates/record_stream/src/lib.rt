@@ -1,6 +1,7 @@
 //! Bytes to events: each photon and marker of a stream of records, once and in order.
 #![tactic(auto)]
 
+mod blocks;
 mod count;
 pub mod laws;
 mod stream;
@@ -9,4 +10,4 @@ mod walk;
 
 pub use ptu_definitions::Summary;
 pub use stream::RecordStream;
-pub use taker::EventTaker;
+pub use taker::{EventTaker, moved_floor};

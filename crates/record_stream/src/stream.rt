@@ -1,16 +1,14 @@
 // A stream of records that comes in pieces.
 ghost use Rattle.std.specs.Prelude.{◌≡◌, ◌+◌, ◌*◌, ◌^◌, ◌<◌, ◌≤◌, ◌++◌, ◌∷◌, [], List, ℕ, length, None, Some, OnOk, OnErr, IfErr, ◌≢◌};
-ghost use Rattle.arrayvec.specs.ArrayVec.{array_vec_len};
 
+use crate::blocks::take_words;
 use crate::count::Sums;
 use crate::taker::EventTaker;
 use crate::walk::Walk;
 use abs_time::Clock;
-use arrayvec::ArrayVec;
-use byteorder::{ByteOrder, LittleEndian};
 use ptu_definitions::Summary;
-use record_layout::{HydraT2, HydraT3, PicoT2, PicoT3, RecordLayout};
-use tally_base::{Fault, Policy, RecordType, put_text};
+use record_layout::{BegunWord, RecordLayout, in_layout};
+use tally_base::{Fault, Policy, RecordType};
 
 /// The records of a file, of which the bytes come in pieces. It gives each photon and marker of the
 /// whole words to a taker, once and in order, each with whether it is late.
@@ -20,9 +18,8 @@ use tally_base::{Fault, Policy, RecordType, put_text};
 #[derive(Drop)]
 pub struct RecordStream {
     walk: Walk,
-    carried: ArrayVec<u8, 4>,
+    carried: BegunWord,
     refused: Option<Fault>,
-    ghost short: { array_vec_len carried < 4 },
 }
 
 impl RecordStream {
@@ -74,39 +71,31 @@ impl RecordStream {
                 },
                 given: 0,
             },
-            carried: ArrayVec::new(),
+            carried: BegunWord::new(),
             refused: None,
         }
     }
 
-    /// Takes a piece that begins with a whole word, and carries what is left over.
-    fn fours<R: RecordLayout, S: EventTaker>(
-        &mut self,
-        piece: &[u8],
-        taker: &mut S,
-    ) -> Result<(), Fault>
-        requires none { carried_by self.old ≡ [] }
-        requires meaning { R.meaning ≡ (how_of self.old).meaning }
-        requires follows { Follows S.EventTaker (how_of self.old).mode (given_by self.old)
-            (top_of self.old) taker.old }
-        ensures at { (before : List ℕ) → IsBehind self.old before
-            → OnOk result (IsBehind self.new (before ++ words_of piece.now)) }
-        ensures carried { OnOk result (carried_by self.new ≡ rest_of piece.now) }
-        ensures fed { (before : List ℕ) → IsBehind self.old before
-            → Fed S.EventTaker (how_of self.old) taker.old taker.new before
-            (before ++ words_of piece.now) result }
-        ensures follows { OnOk result (Follows S.EventTaker (how_of self.old).mode
-            (given_by self.new) (top_of self.new) taker.new) }
-        ensures counted { OnOk result (bytes_in self.new ≡ bytes_in self.old + length piece.now) }
-        ensures same_how { how_of self.new ≡ how_of self.old }
-        ensures same_refused { refused_with self.new ≡ refused_with self.old }
-        ensures later { S.faults taker.old ≤ S.faults taker.new }
-        ensures same { S.same taker.old taker.new }
+    /// What it was refused with, or none.
+    pub fn refusal(&self) -> Option<Fault>
+        ensures { result ≡ refused_with self.now }
     {
-        let (words, cut) = piece.as_chunks::<4>();
-        self.walk.words::<R, S>(words, taker)?;
-        put_text(&mut self.carried, cut);
-        Ok(())
+        self.refused
+    }
+
+    /// How many events it has given, as long as it refused nothing.
+    pub fn given(&self) -> u64
+        ensures { result ≡ given_by self.now }
+    {
+        self.walk.given
+    }
+
+    /// The greatest time of the events in order that it gave and that were not late, or 0 where there is
+    /// none, as long as it refused nothing.
+    pub fn top(&self) -> u64
+        ensures { result ≡ top_of self.now }
+    {
+        self.walk.clock.greatest()
     }
 
     /// Takes a piece in this layout.
@@ -131,21 +120,9 @@ impl RecordStream {
         ensures later { S.faults taker.old ≤ S.faults taker.new }
         ensures same { S.same taker.old taker.new }
     {
-        let carried = self.carried.len();
-        if carried == 0 {
-            return self.fours::<R, S>(piece, taker);
-        }
-        let missing = 4 - carried;
-        if piece.len() < missing {
-            put_text(&mut self.carried, piece);
-            return Ok(());
-        }
-        let (first, rest) = piece.split_at(missing);
-        put_text(&mut self.carried, first);
-        let word = LittleEndian::read_u32(self.carried.as_slice());
-        self.carried.clear();
-        self.walk.step::<R, S>(word, taker)?;
-        self.fours::<R, S>(rest, taker)
+        let (first, words) = self.carried.take(piece);
+        self.walk.words::<R, S>(first.as_slice(), taker)?;
+        take_words::<R, S>(&mut self.walk, words, taker)
     }
 
     /// Takes a piece in the layout of the record type.
@@ -165,20 +142,7 @@ impl RecordStream {
         ensures later { S.faults taker.old ≤ S.faults taker.new }
         ensures same { S.same taker.old taker.new }
     {
-        match self.walk.record_type {
-            RecordType::PicoHarpT2 => self.piece::<PicoT2, S>(piece, taker),
-            RecordType::PicoHarpT3 => self.piece::<PicoT3, S>(piece, taker),
-            RecordType::HydraHarpT2 => self.piece::<HydraT2<true>, S>(piece, taker),
-            RecordType::HydraHarpT3 => self.piece::<HydraT3<true>, S>(piece, taker),
-            RecordType::HydraHarp2T2
-            | RecordType::TimeHarp260NT2
-            | RecordType::TimeHarp260PT2
-            | RecordType::MultiHarpT2 => self.piece::<HydraT2<false>, S>(piece, taker),
-            RecordType::HydraHarp2T3
-            | RecordType::TimeHarp260NT3
-            | RecordType::TimeHarp260PT3
-            | RecordType::MultiHarpT3 => self.piece::<HydraT3<false>, S>(piece, taker),
-        }
+        in_layout!(self.walk.record_type, self.piece::<R, S>(piece, taker))
     }
 
     /// Takes a piece of the bytes, and gives the events of its whole words to the taker.

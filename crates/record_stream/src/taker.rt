@@ -1,12 +1,17 @@
 // What events are given to.
-ghost use Rattle.std.specs.Prelude.{◌≡◌, ℕ, ◌+◌, ◌<◌, ◌≤◌, ◌^◌, ◌&&◌, not, IsTrue, List, [], ◌∷◌, ◌++◌, length, OnOk, OnErr, if◌then◌else◌, max};
+ghost use Rattle.std.specs.Prelude.{◌≡◌, ℕ, ◌+◌, ◌<◌, ◌≤◌, ◌^◌, ◌&&◌, not, IsTrue, List, [], ◌∷◌, ◌++◌, length, OnOk, OnErr, max};
 ghost use Rattle.tally_base.specs.declared.header.Mode.{Mode};
 ghost use Rattle.tally_base.specs.FaultCounts.{HasCause};
 ghost use Rattle.tally_base.specs.Events.{is_ordered};
 ghost use Rattle.ptu_definitions.specs.Fitting.{KindFits};
 ghost use Rattle.ptu_definitions.specs.Kept.{Marked, floor_of};
+ghost use Rattle.record_stream.specs.Floors.{moved_floor};
+ghost use Rattle.event_block.specs.Columns.{sorted, gathered};
+ghost use Rattle.event_block.specs.Order.{floor_after, InOrder};
+ghost use Rattle.record_stream.specs.Blocks.{orders_markers, on_time, AllFit, BrokeAmong};
 
-use tally_base::{Event, Failed};
+use event_block::Block;
+use tally_base::{Event, EventKind, Failed, Mode};
 
 /// What a stream gives its events to, each with whether it is late.
 pub trait EventTaker {
@@ -38,12 +43,35 @@ pub trait EventTaker {
             → got start self.new (l ++ (event.now, late) ∷ [])) }
         ensures one_more { OnOk result (taken self.new ≡ taken self.old + 1) }
         ensures same_mode { OnOk result (mode self.new ≡ mode self.old) }
-        ensures moved { OnOk result (floor self.new ≡ (if is_ordered
-            (mode self.old) event.now && not late then event.now.time else floor self.old)) }
+        ensures moved { OnOk result (floor self.new
+            ≡ moved_floor (mode self.old) (floor self.old) event.now late) }
         ensures broken { OnErr result ((start : Self) (l : Marked) → got start self.old l
             → broke start self.new (l ++ (event.now, late) ∷ [])) }
         ensures cause { HasCause (faults self.old) (faults self.new) result }
         ensures same { same self.old self.new };
+
+    /// Takes the events of a block, which come in order and none late. What it leaves of the block is open.
+    fn take_block(&mut self, block: &mut Block) -> Result<(), Failed>
+        requires room { taken self.old + length (gathered block.old) ≤ 2 ^ 40 }
+        requires fit { AllFit (mode self.old) (gathered block.old) }
+        requires in_order { InOrder (orders_markers (mode self.old)) (floor self.old)
+            (gathered block.old) }
+        requires unsorted { sorted block.old ≡ 0 }
+        ensures follows { OnOk result ((start : Self) (l : Marked) → got start self.old l
+            → got start self.new (l ++ on_time (gathered block.old))) }
+        ensures more { OnOk result (taken self.new ≡ taken self.old + length (gathered block.old)) }
+        ensures same_mode { OnOk result (mode self.new ≡ mode self.old) }
+        ensures moved { OnOk result (floor self.new ≡ floor_after (orders_markers (mode self.old))
+            (floor self.old) (gathered block.old)) }
+        ensures broken { OnErr result (BrokeAmong got broke self.old self.new (gathered block.old)) }
+        ensures cause { HasCause (faults self.old) (faults self.new) result }
+        ensures same { same self.old self.new }
+    {
+        for at in 0..block.len() {
+            self.take(&block.event(at), false)?;
+        }
+        Ok(())
+    }
 
     /// What holds of every taker.
     ghost got_none: { (t : Self) → got t t [] };
@@ -55,4 +83,17 @@ pub trait EventTaker {
     ghost same_none: { (t : Self) → same t t };
 
     ghost same_more: { (t u v : Self) → same t u → same u v → same t v };
+}
+
+/// The greatest time of the events in order that were not late, with one event more. It is what the
+/// `floor` of a taker becomes.
+#[inline(always)]
+pub fn moved_floor(mode: Mode, floor: u64, event: &Event, late: bool) -> u64
+    ensures { result ≡ moved_floor mode floor event.now late }
+{
+    match (mode, event.kind) {
+        (Mode::T2, EventKind::Marker { .. }) => floor,
+        _ if late => floor,
+        _ => event.time,
+    }
 }

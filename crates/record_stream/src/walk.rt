@@ -28,7 +28,7 @@ pub struct Walk {
 }
 
 impl Walk {
-    ghost use Rattle.std.specs.Prelude.{◌&&◌, not, IsTrue, if◌then◌else◌};
+    ghost use Rattle.std.specs.Prelude.{◌&&◌, not, IsTrue};
     ghost use Rattle.tally_base.specs.declared.fault.Fault.TheVariants.{WriteFault};
     ghost use Rattle.tally_base.specs.FaultCounts.{HasCause};
     ghost use Rattle.tally_base.specs.Events.{is_ordered};
@@ -37,8 +37,8 @@ impl Walk {
     ghost use Rattle.record_stream.specs.OneMore.{with_event};
     ghost use Rattle.ptu_definitions.specs.Fitting.{Fits};
     ghost use Rattle.ptu_definitions.specs.Fours.{numbers};
-    ghost use Rattle.record_stream.specs.Feeding.{Follows, Fed};
-    ghost use Rattle.record_stream.specs.Walking.{how_of, given_by, top_of, records_of, summary_in, clock_in, IsBehind};
+    ghost use Rattle.record_stream.specs.Feeding.{Follows, CanGet, Fed};
+    ghost use Rattle.record_stream.specs.Walking.{how_of, given_by, top_of, records_of, Notes, KeepsPlace, IsBehind};
 
     /// What a word means.
     #[inline(always)]
@@ -52,7 +52,7 @@ impl Walk {
 
     /// Takes the next word.
     #[inline(always)]
-    pub(crate) fn step<R: RecordLayout, S: EventTaker>(
+    fn step<R: RecordLayout, S: EventTaker>(
         &mut self,
         word: u32,
         taker: &mut S,
@@ -86,7 +86,7 @@ impl Walk {
         }
         add_raw(&mut self.sums, &raw);
         match self.clock.place(&raw)? {
-            Placed::Event(event) => self.give(&event, false, taker),
+            Placed::Event(event) => self.give_event(&event, false, taker),
             Placed::Late { event, before } => {
                 if stops_late(self.policy.order) {
                     return Err(Fault::BackwardTime {
@@ -95,7 +95,7 @@ impl Walk {
                         before,
                     });
                 }
-                self.give(&event, true, taker)
+                self.give_event(&event, true, taker)
             }
             Placed::Wrap | Placed::Reserved => Ok(()),
         }
@@ -103,31 +103,27 @@ impl Walk {
 
     /// Gives an event whose record is counted already.
     #[inline(always)]
-    fn give<S: EventTaker>(&mut self, event: &Event, late: bool, taker: &mut S) -> Result<(), Fault>
-        requires mode { S.mode taker.old ≡ (how_of self.old).mode }
-        requires few { S.taken taker.old ≤ given_by self.old }
+    fn give_event<S: EventTaker>(
+        &mut self,
+        event: &Event,
+        late: bool,
+        taker: &mut S,
+    ) -> Result<(), Fault>
+        requires may { CanGet S.EventTaker (how_of self.old).mode (given_by self.old)
+            (top_of self.old) event.now late taker.old }
         requires room { given_by self.old < records_of self.old }
         requires small { IsSmall (how_of self.old).mode event.now }
-        requires in_order { IsTrue (is_ordered (how_of self.old).mode event.now && not late)
-            → S.floor taker.old ≤ event.now.time }
-        ensures follows { OnOk result ((start : S) (l : Marked) → S.got start taker.old l
+        ensures got { OnOk result ((start : S) (l : Marked) → S.got start taker.old l
             → S.got start taker.new (l ++ (event.now, late) ∷ [])) }
-        ensures same_mode { OnOk result (S.mode taker.new ≡ S.mode taker.old) }
-        ensures few { OnOk result (S.taken taker.new ≤ given_by self.new) }
-        ensures moved { OnOk result (S.floor taker.new ≡ (if is_ordered
-            (how_of self.old).mode event.now && not late then event.now.time else S.floor
-            taker.old)) }
-        ensures given { OnOk result (given_by self.new ≡ given_by self.old + 1) }
-        ensures summary { OnOk result (summary_in self.new ≡ with_event
-            (summary_in self.old) event.now late) }
+        ensures follows { OnOk result (Follows S.EventTaker (how_of self.old).mode
+            (given_by self.new) (top_of self.new) taker.new) }
+        ensures noted { OnOk result (Notes self.old self.new event.now late) }
         ensures broken { OnErr result ((start : S) (l : Marked) → S.got start taker.old l
             → S.broke start taker.new (l ++ (event.now, late) ∷ [])) }
         ensures fault { IfErr result (λ fault. fault ≡ WriteFault) }
         ensures cause { HasCause (S.faults taker.old) (S.faults taker.new) result }
         ensures same { S.same taker.old taker.new }
-        ensures same_how { how_of self.new ≡ how_of self.old }
-        ensures same_records { records_of self.new ≡ records_of self.old }
-        ensures same_clock { clock_in self.new ≡ clock_in self.old }
+        ensures keeps { KeepsPlace self.old self.new }
     {
         if taker.take(event, late).is_err() {
             return Err(Fault::WriteFault);

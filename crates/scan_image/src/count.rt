@@ -4,7 +4,7 @@ ghost use Rattle.tally_base.specs.Settings.{image_view};
 ghost use Rattle.tally_base.specs.Tally.{History};
 ghost use Rattle.event_block.specs.Columns.{gathered, events_in, IsSorted};
 ghost use Rattle.event_block.specs.Order.{floor_after, InOrder};
-ghost use Rattle.marker_map.specs.Lines.{image_of, markers_given, latest};
+ghost use Rattle.marker_map.specs.Lines.{image_of, markers_given, line_start};
 ghost use Rattle.scan_image.specs.Counted.{Counted};
 ghost use Rattle.scan_image.specs.ImageCounts.{is_at};
 
@@ -25,14 +25,15 @@ pub(crate) fn count_block(
     requires room { sum cells.old + outside + length (gathered block.now) ≤ 2 ^ 40 }
     requires of_set { image_of lines.old ≡ image_view set.now }
     requires few { markers_given lines.old + length (gathered block.now) ≤ 2 ^ 40 }
-    requires in_order { InOrder true (latest lines.old) (gathered block.now) }
+    requires in_order { InOrder true (line_start lines.old) (gathered block.now) }
     ensures follows { (h : History) → Counted (image_view set.now) lines.old cells.old outside h
         → Counted (image_view set.now) lines.new cells.new result (h ++ events_in block.now) }
     ensures few { sum cells.new + result ≤ sum cells.old + outside + length (gathered block.now) }
     ensures of_set { image_of lines.new ≡ image_of lines.old }
     ensures few_markers { markers_given lines.new
         ≤ markers_given lines.old + length (gathered block.now) }
-    ensures begun { latest lines.new ≤ floor_after true (latest lines.old) (gathered block.now) }
+    ensures begun { line_start lines.new
+        ≤ floor_after true (line_start lines.old) (gathered block.now) }
 {
     // Copies, so that no field is read again for each photon.
     let own = *set;

@@ -2,7 +2,7 @@
 ghost use Rattle.std.specs.Prelude.{◌≡◌, ◌+◌, ◌*◌, ◌<◌, ◌≤◌, vec_len, sum};
 ghost use Rattle.tally_base.specs.Settings.{image_view};
 ghost use Rattle.tally_base.specs.Tally.{History};
-ghost use Rattle.marker_map.specs.Lines.{image_of, markers_given, latest};
+ghost use Rattle.marker_map.specs.Lines.{image_of, markers_given, line_start};
 
 use crate::count::{cell_of, count_block};
 use event_block::Block;
@@ -30,7 +30,7 @@ pub struct Image {
     ghost small: { sum cells.items + outside ≤ taken },
     ghost of_set: { image_of lines ≡ image_view set },
     ghost few_markers: { markers_given lines ≤ taken },
-    ghost begun: { latest lines ≤ floor },
+    ghost begun: { line_start lines ≤ floor },
 }
 
 impl Image {

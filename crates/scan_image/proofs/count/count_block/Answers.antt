@@ -7,7 +7,7 @@ use Rattle.tally_base.specs.Settings.{image_view}
 use Rattle.event_block.specs.Columns.{item, event_at, rows, code_at, dtime_at, groups_at, time_at}
 use Rattle.event_block.proofs.Rows.{more_rows}
 use Rattle.event_block.proofs.Order.{floor-more, order-at}
-use Rattle.marker_map.specs.Lines.{Saw, latest}
+use Rattle.marker_map.specs.Lines.{Saw, line_start}
 use Rattle.marker_map.specs.Marks.{Mark, mark}
 use Rattle.marker_map.specs.Places.{place_of}
 use Rattle.scan_image.proofs.Steps.{photon_step, marker_step, only_group, few_more}
@@ -19,17 +19,9 @@ place-place-requires c =
     let inv = c.loop-at.invariant in
     let b = c.args.block.now in
     let within : c.loop-at.at < b.len = search (rules, arith) in
-    let next = order-at true (latest c.args.lines.now) (event_at b) b.len c.loop-at.at within c.requires.in_order in
-    let late : latest c.args.lines.now ≤ latest c.args.lines.now = omega arith in
+    let next = order-at true (line_start c.args.lines.now) (event_at b) b.len c.loop-at.at within c.requires.in_order in
+    let late : line_start c.args.lines.now ≤ line_start c.args.lines.now = omega arith in
     rw c.time.ensures (omega (arith, inv.begun, inv.before, next.1 refl))
-
-pub marker-requires-clause-in_order : goal.marker-requires-clause-in_order
-marker-requires-clause-in_order c =
-    let inv = c.loop-at.invariant in
-    let b = c.args.block.now in
-    let within : c.loop-at.at < b.len = search (rules, arith) in
-    let next = order-at true (latest c.args.lines.now) (event_at b) b.len c.loop-at.at within c.requires.in_order in
-    rw c.time-else-code-lt256.ensures (omega (arith, inv.before, next.1 refl))
 
 pub loop-at-preserved : goal.loop-at-preserved
 loop-at-preserved c =
@@ -38,12 +30,12 @@ loop-at-preserved c =
     let set = image_view c.args.set.now in
     let at = c.loop-at.at in
     let lines = c.loop-at.lines in
-    let low = latest c.args.lines.now in
+    let low = line_start c.args.lines.now in
     let code = code_at b at in
     let time = time_at b at in
     let within : at < b.len = search (rules, arith) in
     let next = order-at true low (event_at b) b.len at within c.requires.in_order in
-    let in_time : latest lines ≤ time = omega (arith, inv.before, next.1 refl) in
+    let in_time : line_start lines ≤ time = omega (arith, inv.before, next.1 refl) in
     let moved = floor-more true low (event_at b) at in
     let is_code : c.code-code.result ≡ code = c.code-code.ensures in
     elim c.if-code-lt256.branch [
@@ -77,7 +69,7 @@ loop-at-preserved c =
             few = omega (arith, inv.few);
             of_set = same;
             few_markers = omega (arith, inv.few_markers, w.marker.ensures.one_more);
-            before = rw moved (omega (arith, w.marker.ensures.moved, w.time-else-code-lt256.ensures));
+            before = rw moved (omega (arith, w.marker.ensures.begun, w.time-else-code-lt256.ensures, in_time));
             place = strip.place;
             begun = strip.begun;
             width = strip.width ∙ ap (λ image. image.width) same;

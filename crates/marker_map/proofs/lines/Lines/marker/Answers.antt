@@ -5,6 +5,7 @@ use Rattle.tally_base.specs.Settings.{image_view}
 use Rattle.marker_map.specs.Marks.{mark}
 use Rattle.marker_map.specs.Places.{is_line}
 use Rattle.marker_map.specs.Rows.{line_at, row_after}
+use Rattle.marker_map.proofs.Starts.{start-begins, start-stopped, greatest-push}
 use Rattle.marker_map.proofs.Steps.{open-begins, open-passes, next-begins, next-passes}
 use Rattle.marker_map.proofs.lines.Lines.marker.Goals as goal
 
@@ -19,7 +20,7 @@ returns-then-has_bit-clause-follows c = λ ms saw.
       line = c.begun_at-self.ensures ∙ (ap (option_map (line_at c.args.time)) row ∙ sym (open-begins set ms m c.has_named_bit.result begins (sym c.has_named_bit.ensures)));
       next = c.row_behind-self.ensures ∙ (ap (option_map (row_after set)) row ∙ sym (next-begins set ms m c.has_named_bit.result some begins (sym c.has_named_bit.ensures)));
       given = grind (arith, common_steps, saw.given);
-      latest = grind (arith, common_steps, saw.latest, c.requires.in_order);
+      begun = omega (arith, greatest-push ms m, start-begins c.args.time _ _ c.begun_at-self.ensures);
     }
 
 pub returns-else-has_bit-clause-follows : goal.returns-else-has_bit-clause-follows
@@ -31,5 +32,11 @@ returns-else-has_bit-clause-follows c = λ ms saw.
       line = c.unless_stopped-self.ensures ∙ (ap (cond c.has_named_bit-stops.result None) saw.line ∙ sym (open-passes set ms m c.has_named_bit-stops.result passes (sym c.has_named_bit-stops.ensures)));
       next = c.row_here-row.ensures ∙ (ap (cond c.has_named_bit.result (Some 0)) saw.next ∙ sym (next-passes set ms m c.has_named_bit.result passes (sym c.has_named_bit.ensures)));
       given = grind (arith, common_steps, saw.given);
-      latest = grind (arith, common_steps, saw.latest, c.requires.in_order);
+      begun = omega (arith, greatest-push ms m, start-stopped c.has_named_bit-stops.result _ _ c.unless_stopped-self.ensures, saw.begun);
     }
+
+pub returns-then-has_bit-clause-begun : goal.returns-then-has_bit-clause-begun
+returns-then-has_bit-clause-begun c = omega (arith, start-begins c.args.time _ _ c.begun_at-self.ensures)
+
+pub returns-else-has_bit-clause-begun : goal.returns-else-has_bit-clause-begun
+returns-else-has_bit-clause-begun c = omega (arith, start-stopped c.has_named_bit-stops.result _ _ c.unless_stopped-self.ensures)

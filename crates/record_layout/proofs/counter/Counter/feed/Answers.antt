@@ -1,4 +1,5 @@
 use Rattle.std.proofs.Common.{◌++◌, refl, arith}
+use Rattle.record_layout.specs.Begun.{begun_in}
 use Rattle.record_layout.proofs.Growing.{words-more, words-pass, counted-shows}
 use Rattle.record_layout.proofs.counter.Counter.feed.Goals as goal
 
@@ -17,14 +18,14 @@ pub returns-then-piece-room-clause-taken : goal.returns-then-piece-room-clause-t
 returns-then-piece-room-clause-taken c = λ record_type bytes h.
     record {
       same_type = h.same_type;
-      counts = words-pass record_type c.args.self.now.carried.items c.args.self.now.counts bytes (rw c.if-self.false at h.counts) c.args.piece.now (omega arith);
+      counts = words-pass record_type (begun_in c.args.self.now.carried) c.args.self.now.counts bytes (rw c.if-self.false at h.counts) c.args.piece.now (omega arith);
     }
 
 pub returns-then-piece-room-clause-limit : goal.returns-then-piece-room-clause-limit
 returns-then-piece-room-clause-limit c = λ record_type bytes h.
-    (λ _. words-pass record_type c.args.self.now.carried.items c.args.self.now.counts bytes (rw c.if-self.false at h.counts) c.args.piece.now (omega arith), λ _. refl)
+    (λ _. words-pass record_type (begun_in c.args.self.now.carried) c.args.self.now.counts bytes (rw c.if-self.false at h.counts) c.args.piece.now (omega arith), λ _. refl)
 
 pub returns-then-piece-room-clause-shown : goal.returns-then-piece-room-clause-shown
 returns-then-piece-room-clause-shown c = λ record_type bytes h.
     counted-shows record_type (bytes ++ c.args.piece.now)
-    (words-pass record_type c.args.self.now.carried.items c.args.self.now.counts bytes (rw c.if-self.false at h.counts) c.args.piece.now (omega arith))
+    (words-pass record_type (begun_in c.args.self.now.carried) c.args.self.now.counts bytes (rw c.if-self.false at h.counts) c.args.piece.now (omega arith))

@@ -1,5 +1,5 @@
 use Rattle.std.proofs.Common.{◌≡◌, [], false, true, refl, ap, sym, ◌∙◌, arith, map, None, Ok, add-zero}
-use Rattle.std.proofs.lemmas.Result.{err_from_is_err_and}
+use Rattle.std.proofs.lemmas.Result.{err_from_is_err_and, on_ok_weaker}
 use Rattle.tally_base.specs.Events.{stops_late}
 use Rattle.ptu_definitions.specs.Streams.{refusal}
 use Rattle.ptu_definitions.proofs.StreamLemmas.{fresh}
@@ -51,8 +51,8 @@ returns-in-Event-clause-at g c = λ words h.
     let refused = refusal-placed how words c.args.word _ c.decode-raw.result _ (records-is _ _ _ _ words h) (omega arith) means (sym c.stops_at.ensures ∙ c.if-stops_at.false) answers in
     let placed : c.place.result ≡ Ok (InOrder c.in-Event.event) = c.in_ok-event.was ∙ ap Ok c.in-Event.is in
     let none : refusal how words c.args.word ≡ None = refused ∙ rw placed refl in
-    at_given how _ _ _ _ _ _ _ _ _ words c.args.word c.decode-raw.result c.in-Event.event false _ c.give.ensures.same_how c.give.ensures.same_clock means h none (c.in_ok-event.ensures.placed _ h.placed)
-    (fresh-placed how words _ _ (sym answers ∙ placed)) c.add_raw.ensures.value c.give.ensures.summary c.give.ensures.given
+    at_given how _ _ _ _ _ _ _ _ _ words c.args.word c.decode-raw.result c.in-Event.event false _ c.give_event.ensures.keeps.same_how c.give_event.ensures.keeps.same_clock means h none (c.in_ok-event.ensures.placed _ h.placed)
+    (fresh-placed how words _ _ (sym answers ∙ placed)) c.add_raw.ensures.value (on_ok_weaker c.give_event.result (λ n. n.summary) c.give_event.ensures.noted) (on_ok_weaker c.give_event.result (λ n. n.given) c.give_event.ensures.noted)
 
 pub returns-in-Event-clause-fed : goal.returns-in-Event-clause-fed
 returns-in-Event-clause-fed g c = λ words h.
@@ -62,7 +62,7 @@ returns-in-Event-clause-fed g c = λ words h.
     let refused = refusal-placed how words c.args.word _ c.decode-raw.result _ (records-is _ _ _ _ words h) (omega arith) means (sym c.stops_at.ensures ∙ c.if-stops_at.false) answers in
     let placed : c.place.result ≡ Ok (InOrder c.in-Event.event) = c.in_ok-event.was ∙ ap Ok c.in-Event.is in
     let none : refusal how words c.args.word ≡ None = refused ∙ rw placed refl in
-    give_fed g.S.EventTaker how _ _ words c.args.word c.in-Event.event false _ h.clear none (rw means at (fresh-placed how words _ _ (sym answers ∙ placed))) c.give.ensures.follows c.give.ensures.broken c.give.ensures.fault c.give.ensures.cause
+    give_fed g.S.EventTaker how _ _ words c.args.word c.in-Event.event false _ h.clear none (rw means at (fresh-placed how words _ _ (sym answers ∙ placed))) c.give_event.ensures.got c.give_event.ensures.broken c.give_event.ensures.fault c.give_event.ensures.cause
 
 pub returns-else-stops_late-clause-at : goal.returns-else-stops_late-clause-at
 returns-else-stops_late-clause-at g c = λ words h.
@@ -73,8 +73,8 @@ returns-else-stops_late-clause-at g c = λ words h.
     let placed : c.place.result ≡ Ok (Late c.in-Late.event c.in-Late.before) = c.in_ok-event.was ∙ ap Ok c.in-Late.is in
     let stops : stops_late how.policy.order ≡ false = sym c.stops_late.ensures ∙ c.if-stops_late.false in
     let none : refusal how words c.args.word ≡ None = refused ∙ rw (placed, stops) refl in
-    at_given how _ _ _ _ _ _ _ _ _ words c.args.word c.decode-raw.result c.in-Late.event true _ c.give-in-Late.ensures.same_how c.give-in-Late.ensures.same_clock means h none (c.in_ok-event.ensures.placed _ h.placed)
-    (fresh-placed how words _ _ (sym answers ∙ placed)) c.add_raw.ensures.value c.give-in-Late.ensures.summary c.give-in-Late.ensures.given
+    at_given how _ _ _ _ _ _ _ _ _ words c.args.word c.decode-raw.result c.in-Late.event true _ c.give_event-in-Late.ensures.keeps.same_how c.give_event-in-Late.ensures.keeps.same_clock means h none (c.in_ok-event.ensures.placed _ h.placed)
+    (fresh-placed how words _ _ (sym answers ∙ placed)) c.add_raw.ensures.value (on_ok_weaker c.give_event-in-Late.result (λ n. n.summary) c.give_event-in-Late.ensures.noted) (on_ok_weaker c.give_event-in-Late.result (λ n. n.given) c.give_event-in-Late.ensures.noted)
 
 pub returns-else-stops_late-clause-fed : goal.returns-else-stops_late-clause-fed
 returns-else-stops_late-clause-fed g c = λ words h.
@@ -85,7 +85,7 @@ returns-else-stops_late-clause-fed g c = λ words h.
     let placed : c.place.result ≡ Ok (Late c.in-Late.event c.in-Late.before) = c.in_ok-event.was ∙ ap Ok c.in-Late.is in
     let stops : stops_late how.policy.order ≡ false = sym c.stops_late.ensures ∙ c.if-stops_late.false in
     let none : refusal how words c.args.word ≡ None = refused ∙ rw (placed, stops) refl in
-    give_fed g.S.EventTaker how _ _ words c.args.word c.in-Late.event true _ h.clear none (rw means at (fresh-placed how words _ _ (sym answers ∙ placed))) c.give-in-Late.ensures.follows c.give-in-Late.ensures.broken c.give-in-Late.ensures.fault c.give-in-Late.ensures.cause
+    give_fed g.S.EventTaker how _ _ words c.args.word c.in-Late.event true _ h.clear none (rw means at (fresh-placed how words _ _ (sym answers ∙ placed))) c.give_event-in-Late.ensures.got c.give_event-in-Late.ensures.broken c.give_event-in-Late.ensures.fault c.give_event-in-Late.ensures.cause
 
 pub returns-in-Wrap-clause-at : goal.returns-in-Wrap-clause-at
 returns-in-Wrap-clause-at g c = λ words h.

@@ -7,11 +7,11 @@ use Rattle.event_block.proofs.Rows.{length-rows}
 use Rattle.event_block.proofs.Greatest.{greatest-rows}
 use Rattle.event_block.proofs.Lower.{order-lower, floor-lower}
 use Rattle.event_block.proofs.Slices.{whole_slice}
-use Rattle.marker_map.specs.Lines.{latest}
+use Rattle.marker_map.specs.Lines.{line_start}
 use Rattle.scan_image.proofs.image.Image.events.Goals as goal
 
 pub count_block-self-requires-clause-in_order : goal.count_block-self-requires-clause-in_order
-count_block-self-requires-clause-in_order c = let t = c.args.self.now in order-lower true (latest t.lines) t.floor (gathered c.args.block.now) t.begun c.requires.in_order
+count_block-self-requires-clause-in_order c = let t = c.args.self.now in order-lower true (line_start t.lines) t.floor (gathered c.args.block.now) t.begun c.requires.in_order
 
 pub invariant_of-self : goal.invariant_of-self
 invariant_of-self c =
@@ -25,7 +25,7 @@ invariant_of-self c =
       small = rw (whole_slice c.count_block-self.new.cells t.cells.items t.cells.len count all) (omega (arith, e.few, t.small, c.len.ensures.value));
       of_set = e.of_set ∙ t.of_set;
       few_markers = omega (arith, e.few_markers, t.few_markers, c.len.ensures.value);
-      begun = rw c.floor_after-self.ensures (omega (arith, e.begun, floor-lower true (latest t.lines) t.floor es t.begun));
+      begun = rw c.floor_after-self.ensures (omega (arith, e.begun, floor-lower true (line_start t.lines) t.floor es t.begun));
     }
 
 pub returns-clause-follows : goal.returns-clause-follows

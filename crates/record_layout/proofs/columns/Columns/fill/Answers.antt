@@ -1,0 +1,25 @@
+use Rattle.std.proofs.Common.{◌≡◌, ◌<◌, ◌+◌, ℕ, [], get_or, ◌∙◌, ap, arith, ◌⊎◌, ⊎_elim}
+use Rattle.std.specs.Int.{from_le_bytes, w32}
+use Rattle.ptu_definitions.specs.declared.records.Raw.{Raw}
+use Rattle.ptu_definitions.specs.Times.{amount}
+use Rattle.record_layout.specs.declared.row.Row.{Row}
+use Rattle.record_layout.specs.InColumns.{IsRow, row_at}
+use Rattle.record_layout.proofs.columns.Columns.fill.Goals as goal
+
+last_or : (i n : ℕ) → i < n + 1 → (i ≡ n) ⊎ (i < n)
+last_or i n lt = grind (arith, lt)
+
+-- the row that is put, and those before it
+more_at : (meaning : ℕ → Raw) (word : ℕ → ℕ) (old new : ℕ → Row) (i : ℕ) (row : Row) → new i ≡ row → ((k : ℕ) → k < i → new k ≡ old k)
+    → IsRow meaning row (word i) → ((k : ℕ) → k < i → IsRow meaning (old k) (word k)) → (k : ℕ) → k < i + 1 → IsRow meaning (new k) (word k)
+more_at meaning word old new i row there before is so_far k lt =
+    ⊎_elim
+    (λ (here : k ≡ i). rw (here, there) is)
+    (λ (below : k < i). rw (before k below) (so_far k below))
+    (last_or k i lt)
+
+pub loop-i-preserved : goal.loop-i-preserved
+loop-i-preserved g c =
+    more_at g.R.RecordLayout.meaning (λ k. from_le_bytes w32 (get_or c.args.words.now k [])) (row_at c.loop-i.self) (row_at c.put.new.self) c.loop-i.i c.row-row.result c.put.ensures.there c.put.ensures.before
+    (record { raw = c.row-row.ensures.record ∙ ap g.R.RecordLayout.meaning c.from_le_bytes.ensures; amounts = c.row-row.ensures.amount ∙ ap (λ w. amount (g.R.RecordLayout.meaning w)) c.from_le_bytes.ensures })
+    c.loop-i.invariant

@@ -1,0 +1,47 @@
+-- What a record says, by its parts, and the parts by the fields of its word.
+use Rattle.std.specs.Prelude.{ℕ, ◌+◌, ◌%◌, ◌==◌, Bool, nat_lt, nat_le, if◌then◌else◌}
+use Rattle.ptu_definitions.specs.declared.records.Raw.{Raw}
+use Rattle.ptu_definitions.specs.declared.records.Raw.TheVariants.{Photon, Marker, Wrap, Reserved}
+use Rattle.ptu_definitions.specs.Layouts.{hydra_t2_wrap, hydra_t3_wrap}
+use Rattle.ptu_definitions.specs.Times.{amount}
+use Rattle.record_layout.specs.declared.row.Row.{Row}
+
+abbrev pub raw_of : Row → Raw
+raw_of row =
+    if nat_lt row.code 256 then Photon row.code row.time row.dtime
+    else if nat_lt row.code 512 then Marker (row.code % 256) row.time
+    else if row.code == 512 then Wrap row.amount
+    else Reserved
+
+-- the code by the top seven bits
+abbrev pub hydra_t2_code : ℕ → ℕ
+hydra_t2_code top =
+    if nat_lt top 64 then top + 1
+    else if top == 64 then 0
+    else if nat_lt top 80 then 192 + top
+    else if top == 127 then 512
+    else 513
+
+abbrev pub hydra_t3_code : ℕ → ℕ
+hydra_t3_code top =
+    if nat_lt top 64 then top
+    else if top == 64 then 513
+    else if nat_lt top 80 then 192 + top
+    else if top == 127 then 512
+    else 513
+
+abbrev pub hydra_t2_amount : Bool → ℕ → ℕ → ℕ
+hydra_t2_amount old top time = if top == 127 then amount (hydra_t2_wrap old time) else 0
+
+abbrev pub hydra_t3_amount : Bool → ℕ → ℕ → ℕ
+hydra_t3_amount old top time = if top == 127 then amount (hydra_t3_wrap old time) else 0
+
+-- the code by the channel, and by the marker bits that channel 15 has
+abbrev pub pico_code : ℕ → ℕ → ℕ
+pico_code channel marker =
+    if channel == 15 then (if marker == 0 then 512 else 256 + marker)
+    else if nat_le channel 4 then channel
+    else 513
+
+abbrev pub pico_amount : ℕ → ℕ → ℕ → ℕ
+pico_amount unit channel marker = if channel == 15 then (if marker == 0 then unit else 0) else 0

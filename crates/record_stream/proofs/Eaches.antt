@@ -1,0 +1,62 @@
+-- The events of a block, one by one.
+use Rattle.std.proofs.Common.{◌≡◌, ◌+◌, ◌<◌, ◌≤◌, ℕ, zero, suc, List, [], ◌∷◌, ◌++◌, Bool, true, false, All, length, map, get_or, refl, sym, ap, subst, ◌∙◌, append_assoc, arith, length-append, ◌⊎◌, ⊎_elim}
+use Rattle.std.specs.Prelude.{◌&&◌, not, IsTrue, if◌then◌else◌}
+use Rattle.std.proofs.lemmas.Grind.{get_or_at_push}
+use Rattle.std.proofs.lemmas.List.{map-append, get_or_append_left}
+use Rattle.tally_base.specs.declared.event.Event.{Event}
+use Rattle.tally_base.specs.declared.header.Mode.{Mode}
+use Rattle.tally_base.specs.Events.{is_ordered}
+use Rattle.tally_base.specs.Tally.{moves_floor}
+use Rattle.ptu_definitions.specs.Kept.{Marked}
+use Rattle.event_block.specs.Columns.{rows}
+use Rattle.event_block.specs.Order.{floor_after}
+use Rattle.event_block.proofs.Rows.{more_rows}
+use Rattle.event_block.proofs.Order.{floor-more}
+use Rattle.record_stream.specs.Blocks.{orders_markers, on_time}
+use Rattle.record_stream.proofs.Adding.{moves_by}
+
+all-last : {X : Type 0} (P : X → Type 0) (xs : List X) (x : X) → All P (xs ++ x ∷ []) → P x
+all-last P xs x all = subst P (get_or_at_push xs x).1 (all (length xs) x (omega (arith, length-append xs (x ∷ []))))
+
+all-front : {X : Type 0} (P : X → Type 0) (xs : List X) (x : X) → All P (xs ++ x ∷ []) → All P xs
+all-front P xs x all = λ k d lt. subst P (get_or_append_left xs (x ∷ []) d k lt) (all k d (omega (arith, lt, length-append xs (x ∷ []))))
+
+last_or : (i n : ℕ) → i < suc n → (i ≡ n) ⊎ (i < n)
+last_or i n lt = grind (arith, lt)
+
+-- what holds of all rows holds of each
+pub all-rows : {X : Type 0} (P : X → Type 0) (f : ℕ → X) (n i : ℕ) → i < n → All P (rows f n) → P (f i)
+all-rows P f zero i lt all = absurd (omega (arith, lt))
+all-rows P f (suc n) i lt all =
+    ⊎_elim
+    (λ (is : i ≡ n). rw is (all-last P (rows f n) (f n) all))
+    (λ (below : i < n). all-rows P f n i below (all-front P (rows f n) (f n) all))
+    (last_or i n lt)
+
+pub on_time-rows : (l : Marked) (f : ℕ → Event) (i : ℕ) → (l ++ on_time (rows f i)) ++ (f i, false) ∷ [] ≡ l ++ on_time (rows f (i + 1))
+on_time-rows l f i =
+    append_assoc l (on_time (rows f i)) ((f i, false) ∷ [])
+    ∙ ap (λ m. l ++ m) (sym (ap on_time (more_rows f i) ∙ map-append (λ (e : Event). (e, false)) (rows f i) (f i ∷ [])))
+
+pub not_late : (b : Bool) (x y : ℕ) → (if b && not false then x else y) ≡ (if b then x else y)
+not_late true x y = refl
+not_late false x y = refl
+
+ordered-true : (b : Bool) → IsTrue (b && not false) → IsTrue b
+ordered-true true is = refl
+ordered-true false is = is
+
+-- an event in order moves the floor
+pub ordered-moves : (mode : Mode) (e : Event) → IsTrue (is_ordered mode e && not false) → IsTrue (moves_floor (orders_markers mode) e)
+ordered-moves mode e is = rw (moves_by mode e) (ordered-true (is_ordered mode e) is)
+
+-- and so does one event more
+pub floor-step : (mode mode' : Mode) (low floor now : ℕ) (f : ℕ → Event) (i : ℕ) (e : Event) → mode' ≡ mode → e ≡ f i → floor ≡ floor_after (orders_markers mode) low (rows f i)
+    → now ≡ (if is_ordered mode' e && not false then e.time else floor) → now ≡ floor_after (orders_markers mode) low (rows f (i + 1))
+floor-step mode mode' low floor now f i e mode_is e_is floor_is moved =
+    let strict = orders_markers mode in
+    let flat : (if is_ordered mode' e && not false then e.time else floor) ≡ (if is_ordered mode (f i) then (f i).time else floor_after strict low (rows f i)) =
+    rw (mode_is, e_is, floor_is) (not_late (is_ordered mode (f i)) (f i).time (floor_after strict low (rows f i))) in
+    let more : floor_after strict low (rows f (i + 1)) ≡ (if is_ordered mode (f i) then (f i).time else floor_after strict low (rows f i)) =
+    floor-more strict low f i ∙ ap (λ b. if b then (f i).time else floor_after strict low (rows f i)) (moves_by mode (f i)) in
+    moved ∙ flat ∙ sym more

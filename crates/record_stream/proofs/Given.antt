@@ -1,0 +1,70 @@
+-- A block that is given to a taker.
+use Rattle.std.proofs.Common.{◌≡◌, ◌+◌, ◌<◌, ◌≤◌, ℕ, List, [], ◌∷◌, ◌++◌, true, false, None, Ok, Err, OnOk, OnErr, length, map, refl, sym, ap, ◌∙◌, append_assoc, arith, length-append}
+use Rattle.std.specs.Prelude.{is_err}
+use Rattle.std.specs.declared.result.Result.{Result}
+use Rattle.std.proofs.lemmas.List.{map-append}
+use Rattle.tally_base.specs.declared.event.Event.{Event}
+use Rattle.tally_base.specs.declared.header.Mode.{Mode}
+use Rattle.tally_base.specs.FaultCounts.{Rose}
+use Rattle.ptu_definitions.specs.declared.records.KindCounts.{KindCounts}
+use Rattle.ptu_definitions.specs.declared.records.Summary.{Summary}
+use Rattle.ptu_definitions.specs.Kinds.{counts_of}
+use Rattle.ptu_definitions.specs.Kept.{Marked}
+use Rattle.ptu_definitions.specs.Streams.{Reading, refusals, record_refusal, given, events_in, summary}
+use Rattle.ptu_definitions.proofs.StreamLemmas.{given-clear}
+use Rattle.abs_time.specs.declared.clock.Clock.{Clock}
+use Rattle.abs_time.specs.Placing.{mode_of, placed_by, base_of, greatest_by}
+use Rattle.event_block.specs.Order.{floor_after}
+use Rattle.event_block.proofs.Lower.{floor-lower}
+use Rattle.record_stream.specs.declared.taker.EventTaker.{Ghosts}
+use Rattle.record_stream.specs.OneMore.{with_block}
+use Rattle.record_stream.specs.Blocks.{orders_markers, on_time, Adds, BrokeAmong}
+use Rattle.record_stream.specs.Feeding.{IsAt, GaveOn, BrokeOn}
+use Rattle.record_stream.proofs.Summaries.{summary-more}
+
+pub ok_of : {X E P : Type 0} (r : Result X E) → is_err r ≡ false → OnOk r P → P
+ok_of (Ok x) is p = p
+ok_of (Err e) is p = cc
+
+pub err_of : {X E P : Type 0} (r : Result X E) → is_err r ≡ true → OnErr r P → P
+err_of (Ok x) is p = cc
+err_of (Err e) is p = p
+
+pub length-on_time : (es : List Event) → length (on_time es) ≡ length es
+length-on_time [] = refl
+length-on_time (e ∷ es) = omega (arith, length-on_time es)
+
+-- where the stream stands behind a block
+pub block_at : (how : Reading) (clock clock' : Clock) (sum sum' : Summary) (count count' n base top : ℕ) (before ws : List ℕ) (es : List Event) (k : KindCounts)
+    → IsAt how clock sum count before → Adds how n base top before (before ++ ws) es
+    → mode_of clock' ≡ how.mode → placed_by clock' ≡ n → base_of clock' ≡ base → greatest_by clock' ≡ top
+    → sum' ≡ with_block sum k es → k ≡ counts_of (map how.meaning ws) → count' ≡ count + length es
+    → IsAt how clock' sum' count' (before ++ ws)
+block_at how clock clock' sum sum' count count' n base top before ws es k h a mode placed based greatest sums kinds counts = record {
+  clear = a.clear;
+  placed = rw (mode, placed, based, greatest) a.clock;
+  summary = sums ∙ ap (λ s. with_block s k es) h.summary ∙ ap (λ k. with_block (summary how before) k es) kinds ∙ sym (summary-more how before ws es a.events);
+  counted = omega (arith, counts, h.counted, ap length a.events, length-append (events_in how before) (on_time es), length-on_time es);
+}
+
+pub floors_below : (mode : Mode) (low floor top : ℕ) (es : List Event) → low ≤ floor → floor_after (orders_markers mode) floor es ≡ top → floor_after (orders_markers mode) low es ≤ top
+floors_below mode low floor top es below is = omega (arith, floor-lower (orders_markers mode) low floor es below, is)
+
+module _ {T : Type 0} (g : Ghosts T) (how : Reading) (old new : T) (n base top : ℕ) (before now : List ℕ) (es : List Event) (clear : refusals how before ≡ []) (a : Adds how n base top before now es) where
+  given-block : given how now ≡ given how before ++ on_time es
+  given-block = given-clear how now a.clear ∙ a.events ∙ ap (λ l. l ++ on_time es) (sym (given-clear how before clear))
+
+  -- what was given of the words
+  pub block_fed : ((start : T) (l : Marked) → g.got start old l → g.got start new (l ++ on_time es)) → (record_refusal how now ≡ None) × GaveOn g how old new before now
+  block_fed got = (rw a.clear refl, record { more = on_time es; adds = given-block; follows = got })
+
+  -- or broke the taker
+  pub block_broke : BrokeAmong g.got g.broke old new es → Rose (g.faults old) (g.faults new) → BrokeOn g how old new before now
+  block_broke b rose = record {
+    front = on_time b.front;
+    back = on_time b.back;
+    some = omega (arith, b.some, length-on_time b.front);
+    adds = given-block ∙ ap (λ l. given how before ++ l) (ap on_time b.are ∙ map-append (λ (e : Event). (e, false)) b.front b.back);
+    broken = b.broken;
+    rose = rose;
+  }

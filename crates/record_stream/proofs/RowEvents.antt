@@ -1,0 +1,102 @@
+-- The event of a record, by its code.
+use Rattle.std.proofs.Common.{◌≡◌, ◌+◌, ◌<◌, ◌≤◌, ℕ, List, [], ◌∷◌, true, false, refl, rules, arith, ⊎_elim}
+use Rattle.std.specs.Prelude.{IsTrue, nat_lt, nat_le, ◌==◌, if◌then◌else◌}
+use Rattle.std.proofs.lemmas.Bool.{cases_lt, leb-true}
+use Rattle.std.proofs.lemmas.Bool.Decides.{nat_tests}
+use Rattle.tally_base.specs.declared.event.Event.{Event}
+use Rattle.tally_base.specs.declared.header.Mode.{Mode}
+use Rattle.tally_base.specs.declared.header.Mode.TheVariants.{T2, T3}
+use Rattle.ptu_definitions.specs.declared.records.Raw.{Raw}
+use Rattle.ptu_definitions.specs.declared.records.Raw.TheVariants.{Wrap, Reserved}
+use Rattle.ptu_definitions.specs.Times.{event_of}
+use Rattle.event_block.specs.Columns.{event_by}
+use Rattle.record_layout.specs.declared.row.Row.{Row}
+use Rattle.record_layout.specs.Rowed.{raw_of}
+use Rattle.record_stream.specs.Blocks.{top_with, IsOnTime}
+use Rattle.record_stream.specs.Rows.{ordered_below, top_by}
+
+module _ (place base : ℕ) (row : Row) where
+  skipped : (raw : Raw) → ◌≡◌ {A = List Event} (event_of place base (if row.code == 512 then Wrap row.amount else Reserved)) []
+  skipped raw = by_case (row.code == 512)
+    where
+      by_case : (b : _) → ◌≡◌ {A = List Event} (event_of place base (if b then Wrap row.amount else Reserved)) []
+      by_case true = refl
+      by_case false = refl
+
+  -- the event in its row, if it is one
+  pub event-row : event_of place base (raw_of row) ≡ (if nat_lt row.code 512 then event_by place row.code row.dtime (base + row.time) ∷ [] else [])
+  event-row =
+      ⊎_elim
+      (λ (photon : row.code < 256).
+      let a : nat_lt row.code 256 ≡ true = grind (arith, nat_tests, photon) in
+      let b : nat_lt row.code 512 ≡ true = grind (arith, nat_tests, photon) in
+      rw (a, b) refl)
+      (λ (other : 256 ≤ row.code).
+      let a : nat_lt row.code 256 ≡ false = grind (arith, nat_tests, other) in
+      ⊎_elim
+      (λ (marker : row.code < 512).
+      let b : nat_lt row.code 512 ≡ true = grind (arith, nat_tests, marker) in
+      rw (a, b) refl)
+      (λ (none : 512 ≤ row.code).
+      let b : nat_lt row.code 512 ≡ false = grind (arith, nat_tests, none) in
+      rw (a, b) (skipped Reserved))
+      (cases_lt row.code 512))
+      (cases_lt row.code 256)
+
+  -- the greatest time with it
+  pub top-row : (mode : Mode) (top : ℕ) → top_with mode top (event_of place base (raw_of row)) ≡ top_by (ordered_below mode) top base row
+  top-row T2 top =
+      rw event-row (⊎_elim
+      (λ (photon : row.code < 256).
+      let a : nat_lt row.code 256 ≡ true = grind (arith, nat_tests, photon) in
+      let b : nat_lt row.code 512 ≡ true = grind (arith, nat_tests, photon) in
+      rw (a, b) refl)
+      (λ (other : 256 ≤ row.code).
+      let a : nat_lt row.code 256 ≡ false = grind (arith, nat_tests, other) in
+      ⊎_elim
+      (λ (marker : row.code < 512).
+      let b : nat_lt row.code 512 ≡ true = grind (arith, nat_tests, marker) in
+      rw (a, b) refl)
+      (λ (none : 512 ≤ row.code).
+      let b : nat_lt row.code 512 ≡ false = grind (arith, nat_tests, none) in
+      rw (a, b) refl)
+      (cases_lt row.code 512))
+      (cases_lt row.code 256))
+  top-row T3 top =
+      rw event-row (⊎_elim
+      (λ (some : row.code < 512).
+      let b : nat_lt row.code 512 ≡ true = grind (arith, nat_tests, some) in
+      rw b refl)
+      (λ (none : 512 ≤ row.code).
+      let b : nat_lt row.code 512 ≡ false = grind (arith, nat_tests, none) in
+      rw b refl)
+      (cases_lt row.code 512))
+
+  -- It is not late where the greatest time does not fall.
+  pub on_time-row : (mode : Mode) (top : ℕ) → nat_le top (top_by (ordered_below mode) top base row) ≡ true → IsOnTime mode top (event_of place base (raw_of row))
+  on_time-row T2 top on =
+      rw event-row (⊎_elim
+      (λ (photon : row.code < 256).
+      let a : nat_lt row.code 256 ≡ true = grind (arith, nat_tests, photon) in
+      let b : nat_lt row.code 512 ≡ true = grind (arith, nat_tests, photon) in
+      rw (a, b) (λ _. leb-true _ _ (rw a at on)))
+      (λ (other : 256 ≤ row.code).
+      let a : nat_lt row.code 256 ≡ false = grind (arith, nat_tests, other) in
+      ⊎_elim
+      (λ (marker : row.code < 512).
+      let b : nat_lt row.code 512 ≡ true = grind (arith, nat_tests, marker) in
+      rw (a, b) (λ is. cc))
+      (λ (none : 512 ≤ row.code).
+      let b : nat_lt row.code 512 ≡ false = grind (arith, nat_tests, none) in
+      rw (a, b) tt)
+      (cases_lt row.code 512))
+      (cases_lt row.code 256))
+  on_time-row T3 top on =
+      rw event-row (⊎_elim
+      (λ (some : row.code < 512).
+      let b : nat_lt row.code 512 ≡ true = grind (arith, nat_tests, some) in
+      rw b (λ _. leb-true _ _ (rw b at on)))
+      (λ (none : 512 ≤ row.code).
+      let b : nat_lt row.code 512 ≡ false = grind (arith, nat_tests, none) in
+      rw b tt)
+      (cases_lt row.code 512))

@@ -1,0 +1,109 @@
+use Rattle.std.proofs.Common.{◌≡◌, ◌+◌, ◌≤◌, ◌<◌, ◌++◌, ◌∷◌, [], ℕ, List, true, false, length, map, refl, ap, sym, inr, ◌∙◌, arith, rules}
+use Rattle.ptu_definitions.specs.Fours.{numbers}
+use Rattle.ptu_definitions.specs.Kinds.{counts_of}
+use Rattle.abs_time.specs.Placing.{mode_of, placed_by}
+use Rattle.event_block.specs.Columns.{event_at, gathered, written}
+use Rattle.event_block.specs.Order.{floor_after, InOrder}
+use Rattle.event_block.proofs.Rows.{length-rows}
+use Rattle.event_block.proofs.Lower.{order-lower}
+use Rattle.record_stream.specs.OneMore.{with_block}
+use Rattle.record_stream.specs.Blocks.{orders_markers, on_time, BrokeAmong}
+use Rattle.record_stream.specs.Summing.{summed}
+use Rattle.record_stream.specs.Walking.{how_of, top_of, clock_in}
+use Rattle.record_stream.proofs.Given.{ok_of, err_of, block_at, block_fed, block_broke, floors_below}
+use Rattle.record_stream.proofs.blocks.take_block.Goals as goal
+
+pub take_block-requires-clause-room : goal.take_block-requires-clause-room
+take_block-requires-clause-room g c =
+    let s = g.S.EventTaker in
+    let walk = c.args.walk.now in
+    let how = how_of walk in
+    let ahead = c.gather-ahead.result in
+    let b = c.gather-ahead.new.block in
+    let es = written b ahead.len in
+    let sure : ahead.in_order ≡ true = search rules in
+    let many : length (gathered c.keep.new.self) ≡ ahead.len = ap length c.keep.ensures.kept ∙ length-rows (event_at b) ahead.len in
+    omega (arith, many, c.requires.follows.few, walk.few_given, walk.few, walk.limit, c.gather-ahead.ensures.few, c.kinds_of-counts.ensures.records, c.if-not-room.false)
+
+pub take_block-requires-clause-in_order : goal.take_block-requires-clause-in_order
+take_block-requires-clause-in_order g c =
+    let s = g.S.EventTaker in
+    let walk = c.args.walk.now in
+    let how = how_of walk in
+    let ahead = c.gather-ahead.result in
+    let b = c.gather-ahead.new.block in
+    let es = written b ahead.len in
+    let sure : ahead.in_order ≡ true = search rules in
+    rw (c.keep.ensures.kept, c.requires.follows.mode_is)
+    (order-lower (orders_markers how.mode) (s.floor c.args.taker.now) (top_of walk) es c.requires.follows.before (c.gather-ahead.ensures.in_line sure).in_order)
+
+pub returns-then-is_err-clause-fed : goal.returns-then-is_err-clause-fed
+returns-then-is_err-clause-fed g c = λ before h.
+    let s = g.S.EventTaker in
+    let walk = c.args.walk.now in
+    let how = how_of walk in
+    let ahead = c.gather-ahead.result in
+    let b = c.gather-ahead.new.block in
+    let es = written b ahead.len in
+    let sure : ahead.in_order ≡ true = search rules in
+    let broke : BrokeAmong s.got s.broke c.args.taker.now c.take_block.new.self (gathered c.keep.new.self) = err_of c.take_block.result (sym c.is_err.ensures.value ∙ c.if-is_err.true) c.take_block.ensures.broken in
+    inr (
+      refl,
+      block_broke s how c.args.taker.now c.take_block.new.self _ ahead.base ahead.greatest before (before ++ numbers c.args.words.now) es h.clear (c.gather-ahead.ensures.adds sure before h)
+          (rw c.keep.ensures.kept at broke) (err_of c.take_block.result (sym c.is_err.ensures.value ∙ c.if-is_err.true) c.take_block.ensures.cause.failed),
+    )
+
+pub returns-clause-empty : goal.returns-clause-empty
+returns-clause-empty g c = sym (length-rows (event_at c.clear.new.self) c.clear.new.self.len) ∙ ap length c.clear.ensures.empty
+
+pub returns-clause-at : goal.returns-clause-at
+returns-clause-at g c = λ before h.
+    let s = g.S.EventTaker in
+    let walk = c.args.walk.now in
+    let how = how_of walk in
+    let ahead = c.gather-ahead.result in
+    let b = c.gather-ahead.new.block in
+    let es = written b ahead.len in
+    let sure : ahead.in_order ≡ true = search rules in
+    let words = c.args.words.now in
+    let counts = c.kinds_of-counts.result in
+    let placed : placed_by c.go_on.new.self ≡ placed_by (clock_in walk) + length words = omega (arith, c.go_on.ensures.count, c.placed.ensures.value, c.kinds_of-counts.ensures.records) in
+    let sums : summed c.add_block.new.sums ≡ with_block (summed walk.sums) counts es = c.add_block.ensures.value ∙ ap (with_block (summed walk.sums) counts) c.keep.ensures.kept in
+    let kinds : counts ≡ counts_of (map how.meaning (numbers words)) = c.kinds_of-counts.ensures.value ∙ ap (λ (f : _). counts_of (map f (numbers words))) c.requires.meaning in
+    let counted : walk.given + ahead.len ≡ walk.given + length es = ap (λ (k : ℕ). walk.given + k) (sym (length-rows (event_at b) ahead.len)) in
+    block_at how (clock_in walk) c.go_on.new.self (summed walk.sums) (summed c.add_block.new.sums) walk.given (walk.given + ahead.len) (placed_by (clock_in walk) + length words) ahead.base ahead.greatest before (numbers words) es counts
+    h (c.gather-ahead.ensures.adds sure before h) (c.go_on.ensures.same_mode ∙ walk.same_mode) placed c.go_on.ensures.base c.go_on.ensures.greatest sums kinds counted
+
+pub returns-clause-fed : goal.returns-clause-fed
+returns-clause-fed g c = λ before h.
+    let s = g.S.EventTaker in
+    let walk = c.args.walk.now in
+    let how = how_of walk in
+    let ahead = c.gather-ahead.result in
+    let b = c.gather-ahead.new.block in
+    let es = written b ahead.len in
+    let sure : ahead.in_order ≡ true = search rules in
+    let got = ok_of c.take_block.result (sym c.is_err.ensures.value ∙ c.if-is_err.false) c.take_block.ensures.follows in
+    block_fed s how c.args.taker.now c.take_block.new.self _ ahead.base ahead.greatest before (before ++ numbers c.args.words.now) es h.clear (c.gather-ahead.ensures.adds sure before h)
+    (rw c.keep.ensures.kept at got)
+
+pub returns-clause-follows : goal.returns-clause-follows
+returns-clause-follows g c =
+    let s = g.S.EventTaker in
+    let walk = c.args.walk.now in
+    let how = how_of walk in
+    let ahead = c.gather-ahead.result in
+    let b = c.gather-ahead.new.block in
+    let es = written b ahead.len in
+    let sure : ahead.in_order ≡ true = search rules in
+    let fine = sym c.is_err.ensures.value ∙ c.if-is_err.false in
+    let r = c.take_block.result in
+    let many : length (gathered c.keep.new.self) ≡ ahead.len = ap length c.keep.ensures.kept ∙ length-rows (event_at b) ahead.len in
+    let more = ok_of r fine c.take_block.ensures.more in
+    let moved = rw (c.keep.ensures.kept, c.requires.follows.mode_is) at (ok_of r fine c.take_block.ensures.moved) in
+    let low = floors_below how.mode (s.floor c.args.taker.now) (top_of walk) ahead.greatest es c.requires.follows.before (c.gather-ahead.ensures.in_line sure).greatest in
+    record {
+      mode_is = ok_of r fine c.take_block.ensures.same_mode ∙ c.requires.follows.mode_is;
+      few = omega (arith, many, more, c.requires.follows.few);
+      before = omega (arith, moved, low, c.go_on.ensures.greatest);
+    }

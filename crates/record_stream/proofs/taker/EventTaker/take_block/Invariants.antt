@@ -1,0 +1,18 @@
+use Rattle.std.proofs.Common.{◌≡◌, ◌+◌, ◌≤◌, ◌++◌}
+use Rattle.ptu_definitions.specs.Kept.{Marked}
+use Rattle.event_block.specs.Columns.{event_at, rows}
+use Rattle.event_block.specs.Order.{floor_after}
+use Rattle.record_stream.specs.Blocks.{orders_markers, on_time}
+use Rattle.record_stream.proofs.taker.EventTaker.take_block.Given as goal
+
+abbrev pub invariant-loop-at : goal.invariant-loop-at
+invariant-loop-at g l =
+    let s = g.Self.EventTaker in
+    record {
+      taken : s.taken l.self ≡ s.taken l.fn.self + l.at;
+      mode : s.mode l.self ≡ s.mode l.fn.self;
+      floor : s.floor l.self ≡ floor_after (orders_markers (s.mode l.fn.self)) (s.floor l.fn.self) (rows (event_at l.block) l.at);
+      follows : (start : _) (m : Marked) → s.got start l.fn.self m → s.got start l.self (m ++ on_time (rows (event_at l.block) l.at));
+      later : s.faults l.fn.self ≤ s.faults l.self;
+      same : s.same l.fn.self l.self;
+    }

@@ -1,0 +1,212 @@
+// The words of a piece in blocks, without a branch on what each record is.
+ghost use Rattle.std.specs.Prelude.{◌≡◌, ◌+◌, ◌*◌, ◌^◌, ◌<◌, ◌≤◌, ◌++◌, ◌∷◌, ◌&&◌, [], List, ℕ, length, map, count_by, true, false, nat_lt, nat_le, if◌then◌else◌, OnOk, OnErr, IfErr};
+ghost use Rattle.tally_base.specs.declared.header.Mode.{Mode};
+ghost use Rattle.tally_base.specs.declared.fault.Fault.TheVariants.{WriteFault};
+ghost use Rattle.tally_base.specs.FaultCounts.{HasCause};
+ghost use Rattle.tally_base.specs.Events.{stops_reserved};
+ghost use Rattle.ptu_definitions.specs.Fours.{numbers};
+ghost use Rattle.ptu_definitions.specs.Kinds.{is_reserved, counts_of};
+ghost use Rattle.ptu_definitions.specs.Kept.{Marked};
+ghost use Rattle.ptu_definitions.specs.Times.{event_of};
+ghost use Rattle.abs_time.specs.Placing.{base_of, placed_by};
+ghost use Rattle.event_block.specs.Columns.{count, sorted, gathered, written};
+ghost use Rattle.record_layout.specs.Rowed.{raw_of};
+ghost use Rattle.record_stream.specs.Blocks.{on_time, Adds, IsInLine, BrokeAmong};
+ghost use Rattle.record_stream.specs.Rows.{ordered_below, top_by};
+ghost use Rattle.record_stream.specs.Feeding.{Follows, Fed};
+ghost use Rattle.record_stream.specs.Walking.{how_of, given_by, top_of, records_of, summary_in, clock_in, IsBehind};
+
+use crate::count::{add_block, stops_reserved};
+use crate::taker::EventTaker;
+use crate::walk::Walk;
+use event_block::Block;
+use record_layout::{Columns, RecordLayout, Row, kinds_of};
+use tally_base::{Fault, Mode};
+
+/// How many words are taken at once, as many as a block has places.
+const BLOCK: usize = 64;
+
+/// The greatest sum of wraps that those of a block of words can't make greater than 2^62.
+const EARLY_ENOUGH: u64 = (1 << 62) - (1 << 56);
+
+/// How far the clock of a stream is within a block of words.
+#[derive(Clone, Copy)]
+struct Ahead {
+    /// The sum of all wraps.
+    base: u64,
+    /// The time of the last event in order.
+    greatest: u64,
+    /// How many events there are in the block.
+    len: usize,
+    /// None of them is late.
+    in_order: bool,
+}
+
+impl Ahead {
+    /// Places a record. Its row is written in any case, and where it is no event the next one is written
+    /// over it. So no branch tests what the record is.
+    #[inline(always)]
+    fn place(&mut self, row: &Row, place: u64, ordered: u16, block: &mut Block)
+        requires room { self.old.len < 64 }
+        requires behind { count block.old ≤ self.old.len }
+        requires base { self.old.base + row.now.amount ≤ 2 ^ 62 }
+        ensures base { self.new.base ≡ self.old.base + row.now.amount }
+        ensures greatest { self.new.greatest ≡ top_by ordered self.old.greatest self.old.base row.now }
+        ensures in_order { self.new.in_order
+            ≡ (self.old.in_order && nat_le self.old.greatest self.new.greatest) }
+        ensures events { written block.new self.new.len ≡ written block.old self.old.len
+            ++ event_of place self.old.base (raw_of row.now) }
+        ensures behind { self.old.len ≤ self.new.len }
+        ensures few { self.new.len ≤ self.old.len + 1 }
+        ensures count { count block.new ≡ count block.old }
+        ensures unsorted { sorted block.new ≡ sorted block.old }
+    {
+        let time = self.base + row.time as u64;
+        block.write(self.len, place, row.code, row.dtime, time);
+        let greatest = if row.code < ordered {
+            time
+        } else {
+            self.greatest
+        };
+        self.in_order &= self.greatest <= greatest;
+        self.greatest = greatest;
+        self.len += (row.code < 512) as usize;
+        self.base += row.amount;
+    }
+}
+
+/// The codes below this one are those of events in order.
+#[inline(always)]
+fn ordered_below(mode: Mode) -> u16
+    ensures { result ≡ ordered_below mode }
+{
+    match mode {
+        Mode::T2 => 256,
+        Mode::T3 => 512,
+    }
+}
+
+/// Writes the events of words into an empty block, where their policy lets each of them pass. Whether none
+/// is late is known at the end.
+#[inline(always)]
+fn gather<R: RecordLayout>(
+    walk: &Walk,
+    words: &[[u8; 4]],
+    columns: &mut Columns,
+    block: &mut Block,
+) -> Ahead
+    requires meaning { R.meaning ≡ (how_of walk.now).meaning }
+    requires few { length words.now ≤ 64 }
+    requires empty { count block.old ≡ 0 }
+    requires room { records_of walk.now + length words.now ≤ (how_of walk.now).policy.records }
+    requires base { base_of (clock_in walk.now) + 2 ^ 56 ≤ 2 ^ 62 }
+    requires reserved { stops_reserved (how_of walk.now).policy.reserved ≡ true
+        → count_by is_reserved (map R.meaning (numbers words.now)) ≡ 0 }
+    ensures adds { result.in_order ≡ true → (before : List ℕ) → IsBehind walk.now before
+        → Adds (how_of walk.now) (placed_by (clock_in walk.now) + length words.now) result.base
+        result.greatest before (before ++ numbers words.now) (written block.new result.len) }
+    ensures in_line { result.in_order ≡ true → IsInLine (how_of walk.now).mode (top_of walk.now)
+        result.greatest (written block.new result.len) }
+    ensures few { result.len ≤ length words.now }
+    ensures base { result.base ≤ 2 ^ 62 }
+    ensures empty { count block.new ≡ 0 }
+    ensures unsorted { sorted block.new ≡ sorted block.old }
+{
+    let placed = walk.clock.placed();
+    let ordered = ordered_below(walk.clock.mode());
+    let mut ahead = Ahead {
+        base: walk.clock.base(),
+        greatest: walk.clock.greatest(),
+        len: 0,
+        in_order: true,
+    };
+    columns.fill::<R>(words);
+    for i in 0..words.len() {
+        let row = columns.get(i);
+        ahead.place(&row, placed + i as u64 + 1, ordered, block);
+    }
+    ahead
+}
+
+/// Takes at most 64 words, with columns for their records and an empty block for their events.
+#[inline(always)]
+fn take_block<R: RecordLayout, S: EventTaker>(
+    walk: &mut Walk,
+    words: &[[u8; 4]],
+    columns: &mut Columns,
+    block: &mut Block,
+    taker: &mut S,
+) -> Result<(), Fault>
+    requires few { length words.now ≤ 64 }
+    requires empty { count block.old ≡ 0 }
+    requires unsorted { sorted block.old ≡ 0 }
+    requires meaning { R.meaning ≡ (how_of walk.old).meaning }
+    requires follows { Follows S.EventTaker (how_of walk.old).mode (given_by walk.old)
+        (top_of walk.old) taker.old }
+    ensures empty { OnOk result (count block.new ≡ 0) }
+    ensures unsorted { OnOk result (sorted block.new ≡ 0) }
+    ensures at { (before : List ℕ) → IsBehind walk.old before
+        → OnOk result (IsBehind walk.new (before ++ numbers words.now)) }
+    ensures fed { (before : List ℕ) → IsBehind walk.old before
+        → Fed S.EventTaker (how_of walk.old) taker.old taker.new before
+        (before ++ numbers words.now) result }
+    ensures follows { OnOk result (Follows S.EventTaker (how_of walk.old).mode
+        (given_by walk.new) (top_of walk.new) taker.new) }
+    ensures counted { OnOk result (records_of walk.new ≡ records_of walk.old + length words.now) }
+    ensures same_how { how_of walk.new ≡ how_of walk.old }
+    ensures later { S.faults taker.old ≤ S.faults taker.new }
+    ensures same { S.same taker.old taker.new }
+{
+    let counts = kinds_of::<R>(words);
+    let stops = stops_reserved(walk.policy.reserved) && counts.reserved > 0;
+    let room = counts.records <= walk.policy.records - walk.sums.records;
+    if stops || !room || walk.clock.base() > EARLY_ENOUGH {
+        return walk.words::<R, S>(words, taker);
+    }
+    let ahead = gather::<R>(walk, words, columns, block);
+    if !ahead.in_order {
+        return walk.words::<R, S>(words, taker);
+    }
+    block.keep(ahead.len);
+    add_block(&mut walk.sums, &counts, block);
+    let placed = walk.clock.placed() + counts.records;
+    walk.clock.go_on(placed, ahead.base, ahead.greatest);
+    walk.given += ahead.len as u64;
+    if taker.take_block(block).is_err() {
+        return Err(Fault::WriteFault);
+    }
+    block.clear();
+    Ok(())
+}
+
+/// Takes the next words, in blocks.
+pub(crate) fn take_words<R: RecordLayout, S: EventTaker>(
+    walk: &mut Walk,
+    words: &[[u8; 4]],
+    taker: &mut S,
+) -> Result<(), Fault>
+    requires meaning { R.meaning ≡ (how_of walk.old).meaning }
+    requires follows { Follows S.EventTaker (how_of walk.old).mode (given_by walk.old)
+        (top_of walk.old) taker.old }
+    ensures at { (before : List ℕ) → IsBehind walk.old before
+        → OnOk result (IsBehind walk.new (before ++ numbers words.now)) }
+    ensures fed { (before : List ℕ) → IsBehind walk.old before
+        → Fed S.EventTaker (how_of walk.old) taker.old taker.new before
+        (before ++ numbers words.now) result }
+    ensures follows { OnOk result (Follows S.EventTaker (how_of walk.old).mode
+        (given_by walk.new) (top_of walk.new) taker.new) }
+    ensures counted { OnOk result (records_of walk.new ≡ records_of walk.old + length words.now) }
+    ensures same_how { how_of walk.new ≡ how_of walk.old }
+    ensures later { S.faults taker.old ≤ S.faults taker.new }
+    ensures same { S.same taker.old taker.new }
+{
+    let mut columns = Columns::new();
+    let mut block = Block::new();
+    let mut rest = words;
+    'many: while rest.len() > BLOCK {
+        let (front, back) = rest.split_at(BLOCK);
+        take_block::<R, S>(walk, front, &mut columns, &mut block, taker)?;
+        rest = back;
+    }
+    take_block::<R, S>(walk, rest, &mut columns, &mut block, taker)
+}
