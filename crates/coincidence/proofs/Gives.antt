@@ -13,7 +13,7 @@ use Rattle.lag_ring.proofs.Lists.{all_both, all_filter, all_passed}
 use Rattle.coincidence.specs.declared.pairing.Pairing.{Pairing}
 use Rattle.coincidence.specs.StandsFor.{CanGive, StandsFor}
 use Rattle.coincidence.specs.Pairs.{in_first, in_second, photons_of_groups}
-use Rattle.coincidence.specs.Pairing.{bin_of, CanPut, CanEnd, Came, PairingDone}
+use Rattle.coincidence.specs.Pairing.{bin_of, BinIs, CanPut, CanEnd, Came, PairingDone}
 
 abbrev pub mine : CoincidenceView → Event × ℕ → Bool
 mine set x = in_first set x || in_second set x
@@ -37,7 +37,7 @@ mine-photon : (p a b : Bool) → ((p && a) || (p && b)) ≡ true → p ≡ true
 mine-photon true a b is = refl
 mine-photon false a b is = is
 
-none_after : (set : CoincidenceView) (h : History) (time : ℕ) → greatest_time false h ≤ time → AllByRecursion (λ x. x.0.time ≤ time) (photons_of_groups set h)
+pub none_after : (set : CoincidenceView) (h : History) (time : ℕ) → greatest_time false h ≤ time → AllByRecursion (λ x. x.0.time ≤ time) (photons_of_groups set h)
 none_after set h time after =
     all_both (λ x. mine set x ≡ true) (λ x. is_photon x.0 ≡ true → x.0.time ≤ greatest_time false h) (λ x. x.0.time ≤ time)
     (λ x is before. let upto : x.0.time ≤ greatest_time false h = before (mine-photon (is_photon x.0) (is_in x.1 set.first) (is_in x.1 set.second) is) in omega arith)
@@ -46,6 +46,18 @@ none_after set h time after =
 pub few_photons : (set : CoincidenceView) (h : History) → length (photons_of_groups set h) ≤ length h
 few_photons set h = omega (arith, length-filter (mine set) h, count_by-le-length (mine set) h)
 
+-- the bin of one photon
+pub one_photon : (set : CoincidenceView) (e : Event) (groups : ℕ) → is_photon e ≡ true → BinIs set (bin_of e.time (is_in groups set.first) (is_in groups set.second)) ((e, groups) ∷ [])
+one_photon set e groups photon = record {
+  weighs = record {
+    some = omega arith;
+    here = (refl, tt);
+    a = rw photon (sym (zero-add (cond (is_in groups set.first) 1 0)));
+    b = rw photon (sym (zero-add (cond (is_in groups set.second) 1 0)));
+  };
+  both = rw photon (sym (zero-add (cond (is_in groups set.first && is_in groups set.second) 1 0)));
+}
+
 -- a photon of either group may be put after those that came
 pub may_put : (set : CoincidenceView) (p : Pairing) (e : Event) (groups : ℕ) (h : History) (can : CanGive set p e h) → is_photon e ≡ true → CanPut set p (bin_of e.time (is_in groups set.first) (is_in groups set.second)) can.was.0 can.was.1 ((e, groups) ∷ [])
 may_put set p e groups h can photon = record {
@@ -53,15 +65,7 @@ may_put set p e groups h can photon = record {
       let few : length (can.was.0 ++ can.was.1) ≤ length h = (rw can.was.2 at (few_photons set h)) in
       omega (arith, can.few, few, length-append can.was.0 can.was.1);
   was = can.was.3;
-  is = record {
-    weighs = record {
-      some = omega arith;
-      here = (refl, tt);
-      a = rw photon (sym (zero-add (cond (is_in groups set.first) 1 0)));
-      b = rw photon (sym (zero-add (cond (is_in groups set.second) 1 0)));
-    };
-    both = rw photon (sym (zero-add (cond (is_in groups set.first && is_in groups set.second) 1 0)));
-  };
+  is = one_photon set e groups photon;
   after = (rw can.was.2 at (none_after set h e.time (can.after photon)));
 }
 

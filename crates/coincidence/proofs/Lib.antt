@@ -12,3 +12,12 @@ pub mod Gives
 pub mod Photons
 pub mod Ends
 pub mod Blocks
+pub mod Blockwise
+pub mod LagPairs
+pub mod Chain
+pub mod WindowPairs
+pub mod Gathers
+pub mod Together
+pub mod GatherRows
+pub mod CellRows
+pub mod InBlocks

@@ -12,7 +12,7 @@ use Rattle.coincidence.specs.Pairing.{joined, BinIs, PairingIs, CanShut, CanPut,
 
 module _ (set : CoincidenceView) where
   -- two runs of photons of one tick
-  joined_is : (bin more : Bin) (xs ys : History) → BinIs set bin xs → BinIs set more ys → bin.weights.index ≡ more.weights.index → BinIs set (joined bin more) (xs ++ ys)
+  pub joined_is : (bin more : Bin) (xs ys : History) → BinIs set bin xs → BinIs set more ys → bin.weights.index ≡ more.weights.index → BinIs set (joined bin more) (xs ++ ys)
   joined_is bin more xs ys left right same = record {
     weighs = record {
       some = omega (arith, length-append xs ys, left.weighs.some);
@@ -23,14 +23,25 @@ module _ (set : CoincidenceView) where
     both = rw (left.both, right.both) (sym (sum_by-append _ xs ys));
   }
 
+  -- photons of another tick come after a bin and those before it
+  pub behind_bin : (bin new : Bin) (closed open' : History) → BinIs set bin open' → AllByRecursion (λ x. x.0.time < bin.weights.index) closed → AllByRecursion (λ x. x.0.time ≤ new.weights.index) (closed ++ open') → bin.weights.index ≢ new.weights.index
+      → AllByRecursion (λ x. x.0.time < new.weights.index) (closed ++ open')
+  behind_bin bin new closed open' is before all other =
+      let back = all_back (λ x. x.0.time ≤ new.weights.index) closed open' all in
+      let upto : bin.weights.index ≤ new.weights.index = of_some (λ x. x.0.time) bin.weights.index (λ m. m ≤ new.weights.index) open' is.weighs.some is.weighs.here back in
+      let below : bin.weights.index < new.weights.index = omega arith in
+      all_join (λ x. x.0.time < new.weights.index) closed open'
+      (all_weaker (λ x. x.0.time < bin.weights.index) (λ x. x.0.time < new.weights.index) (λ x under. omega arith) closed before)
+      (all_weaker (λ x. x.0.time ≡ bin.weights.index) (λ x. x.0.time < new.weights.index) (λ x here. omega arith) open' is.weighs.here)
+
   -- the open bin may be closed
-  pub may_shut : (p : Pairing) (bin : Bin) → p.open ≡ Some bin → (closed open' : History) → PairingIs set p closed open' → length closed + length open' ≤ 2 ^ 40 → CanShut set p bin closed open'
+  pub may_shut : (p : Pairing) (bin : Bin) → p.open ≡ Some bin → (closed open' : History) → PairingIs set p closed open' → length closed + length open' ≤ 2 ^ 40 → CanShut set p.ring p.cells bin closed open'
   may_shut p bin is closed open' was few =
       let opened : BinIs set bin open' × AllByRecursion (λ x. x.0.time < bin.weights.index) closed = (rw is at was.opened) in
-      record { few = few; is = opened.0; after = opened.1; ring = was.ring; cells = was.cells }
+      record { few = few; keep = record { is = opened.0; after = opened.1; were = was.ring }; had = was.cells }
 
   module _ (p : Pairing) (bin new : Bin) (is : p.open ≡ Some bin) (closed open' xs : History) (can : CanPut set p new closed open' xs) where
-    pub can_shut : CanShut set p bin closed open'
+    pub can_shut : CanShut set p.ring p.cells bin closed open'
     can_shut = may_shut p bin is closed open' can.was (omega (arith, can.few))
 
     -- photons of its own tick join it
@@ -40,7 +51,7 @@ module _ (set : CoincidenceView) where
       open' ++ xs,
       append_assoc closed open' xs,
       record {
-        opened = (joined_is bin new open' xs can_shut.is can.is same, can_shut.after);
+        opened = (joined_is bin new open' xs can_shut.keep.is can.is same, can_shut.keep.after);
         ring = can.was.ring;
         cells = can.was.cells;
       },
@@ -48,15 +59,9 @@ module _ (set : CoincidenceView) where
 
     -- those of another tick come after all that came
     pub moved_on : bin.weights.index ≢ new.weights.index → AllByRecursion (λ x. x.0.time < new.weights.index) (closed ++ open')
-    moved_on other =
-        let back = all_back (λ x. x.0.time ≤ new.weights.index) closed open' can.after in
-        let upto : bin.weights.index ≤ new.weights.index = of_some (λ x. x.0.time) bin.weights.index (λ m. m ≤ new.weights.index) open' can_shut.is.weighs.some can_shut.is.weighs.here back in
-        let before : bin.weights.index < new.weights.index = omega arith in
-        all_join (λ x. x.0.time < new.weights.index) closed open'
-        (all_weaker (λ x. x.0.time < bin.weights.index) (λ x. x.0.time < new.weights.index) (λ x under. omega arith) closed can_shut.after)
-        (all_weaker (λ x. x.0.time ≡ bin.weights.index) (λ x. x.0.time < new.weights.index) (λ x here. omega arith) open' can_shut.is.weighs.here)
+    moved_on other = behind_bin bin new closed open' can_shut.keep.is can_shut.keep.after can.after other
 
-  pub end_shut : (p : Pairing) (bin : Bin) → p.open ≡ Some bin → (came : History) (can : CanEnd set p came) → CanShut set p bin can.was.0 can.was.1
+  pub end_shut : (p : Pairing) (bin : Bin) → p.open ≡ Some bin → (came : History) (can : CanEnd set p came) → CanShut set p.ring p.cells bin can.was.0 can.was.1
   end_shut p bin is came can =
       let few : length (can.was.0 ++ can.was.1) ≤ 2 ^ 40 = (rw can.was.2 at can.few) in
       may_shut p bin is can.was.0 can.was.1 can.was.3 (omega (arith, few, length-append can.was.0 can.was.1))

@@ -1,23 +1,25 @@
 -- What a bin brings when it is closed.
-use Rattle.std.proofs.Common.{◌≡◌, ℕ, ◌+◌, ◌-◌, ◌*◌, ◌/◌, ◌^◌, ◌<◌, ◌≤◌, Bool, true, false, ◌&&◌, leb, eqb, cond, List, [], ◌∷◌, ◌++◌, length, get_or, refl, ◌∙◌, arith, length-append}
-use Rattle.std.specs.List.{sum_by, filter}
+use Rattle.std.proofs.Common.{◌≡◌, ℕ, ◌+◌, ◌-◌, ◌*◌, ◌/◌, ◌^◌, ◌<◌, ◌≤◌, Bool, true, false, ◌&&◌, leb, eqb, cond, List, [], ◌∷◌, ◌++◌, length, get_or, refl, sym, ◌∙◌, arith, length-append}
+use Rattle.std.specs.List.{sum_by, filter, AllByRecursion}
 use Rattle.std.proofs.Math.Nat.{mul-le-mul, mul-le-mul_right}
 use Rattle.std.proofs.lemmas.Grind.{common_steps}
 use Rattle.tally_base.specs.Settings.{CoincidenceView, coincidence_cells}
 use Rattle.tally_base.specs.Tally.{History}
 use Rattle.lag_ring.specs.declared.ring.Entry.{Entry}
 use Rattle.lag_ring.specs.Cells.{Cells}
-use Rattle.lag_ring.specs.Ring.{ring, IsRising}
+use Rattle.lag_ring.specs.Ring.{Ring, ring, IsRising}
 use Rattle.lag_ring.specs.Kept.{weight_where, IsInReach}
 use Rattle.lag_ring.proofs.Kept.{room_after, kept_after}
 use Rattle.lag_ring.proofs.Rising.{all_weaker}
-use Rattle.lag_ring.proofs.Sums.{sum_by-same, sum_by-times}
+use Rattle.lag_ring.proofs.Sums.{sum_by-same, sum_by-times, sum_by-zero}
 use Rattle.coincidence.specs.declared.pairing.Bin.{Bin}
-use Rattle.coincidence.specs.declared.pairing.Pairing.{Pairing}
+use Rattle.coincidence.specs.declared.pairing.Direction.{Direction}
+use Rattle.coincidence.specs.declared.pairing.Direction.TheVariants.{Forward, Backward}
 use Rattle.coincidence.specs.Pairs.{in_first, in_second, is_in_cell, is_coincidence, coincidences}
-use Rattle.coincidence.specs.Pairing.{pairs_with, bin_pairs, RingIs, CellsAre, CanShut}
+use Rattle.coincidence.specs.Pairing.{pairs_of, pairs_of_all, pairs_with, bin_pairs, RingIs, CellsAre, CanKeep, CanShut}
 use Rattle.coincidence.proofs.Hits.{pairs_in, hits-append, pairs_in-one, pairs_in-le}
 use Rattle.coincidence.proofs.Apart.{pairs_apart-in}
+use Rattle.coincidence.proofs.Visits.{pairs_far}
 
 scaled : (b : Bool) (n w : ℕ) → cond b (n * w) 0 ≡ cond b n 0 * w
 scaled true n w = refl
@@ -46,18 +48,22 @@ same_tick set c n =
     let back : n + set.reach - n ≡ set.reach = omega arith in
     rw (near, back) refl
 
+filter_none : {X : Type 0} (p : X → Bool) (xs : List X) → AllByRecursion (λ x. p x ≡ false) xs → filter p xs ≡ []
+filter_none p [] all = refl
+filter_none p (x ∷ xs) all = rw all.0 (filter_none p xs all.1)
+
 more_work : (r few more n : ℕ) → 0 < more → n ≤ (2 * r + 1) * few + (2 * r + 1) → n ≤ (2 * r + 1) * (few + more)
 more_work r few more n some is =
     let one : 1 * (2 * r + 1) ≤ more * (2 * r + 1) = mul-le-mul_right (2 * r + 1) some in
     grind (arith, is, one)
 
-module _ (set : CoincidenceView) (p : Pairing) (bin : Bin) (closed xs : History) (can : CanShut set p bin closed xs) where
-  window : (test : ℕ → Bool) → ((i : ℕ) → test i ≡ true → bin.weights.index ≤ i + set.reach) → IsInReach (λ x. x.0.time) p.ring.reach test closed
+module _ (set : CoincidenceView) (r : Ring) (bin : Bin) (closed xs : History) (can : CanKeep set r bin closed xs) where
+  window : (test : ℕ → Bool) → ((i : ℕ) → test i ≡ true → bin.weights.index ≤ i + set.reach) → IsInReach (λ x. x.0.time) r.reach test closed
   window test near = λ i passes.
       let from : bin.weights.index ≤ i + set.reach = near i passes in
-      all_weaker (λ x. x.0.time < bin.weights.index) (λ x. x.0.time < i + p.ring.reach) (λ x before. omega (arith, can.ring.reach)) closed can.after
+      all_weaker (λ x. x.0.time < bin.weights.index) (λ x. x.0.time < i + r.reach) (λ x before. omega (arith, can.were.reach)) closed can.after
 
-  pub inside : pairs_in (λ x y. in_first set x && in_second set y) xs ≡ bin.weights.a * bin.weights.b - bin.both
+  inside : pairs_in (λ x y. in_first set x && in_second set y) xs ≡ bin.weights.a * bin.weights.b - bin.both
   inside =
       let whole = pairs_in-one (in_first set) (in_second set) xs in
       rw (can.is.weighs.a, can.is.weighs.b, can.is.both) (omega (arith, whole))
@@ -68,57 +74,87 @@ module _ (set : CoincidenceView) (p : Pairing) (bin : Bin) (closed xs : History)
       rw (can.is.weighs.a, can.is.weighs.b, can.is.both) (omega (arith, whole))
 
   -- what each cell counts more
-  pub grown : (c : ℕ) → coincidences set c (closed ++ xs) ≡ coincidences set c closed + bin_pairs set c bin p.ring.entries
+  pub grown : (c : ℕ) → coincidences set c (closed ++ xs) ≡ coincidences set c closed + bin_pairs set c bin r.entries
   grown c =
       let n : ℕ = bin.weights.index in
-      let firsts = can.ring.keeps.firsts (λ i. is_in_cell set c i n) (window (λ i. is_in_cell set c i n) (λ i. forward_near set c i n)) in
-      let seconds = can.ring.keeps.seconds (λ i. is_in_cell set c n i) (window (λ i. is_in_cell set c n i) (λ i. backward_near set c i n)) in
+      let firsts = can.were.keeps.firsts (λ i. is_in_cell set c i n) (window (λ i. is_in_cell set c i n) (λ i. forward_near set c i n)) in
+      let seconds = can.were.keeps.seconds (λ i. is_in_cell set c n i) (window (λ i. is_in_cell set c n i) (λ i. backward_near set c i n)) in
       let more = hits-append (in_first set) (in_second set) (λ x. x.0.time) (is_in_cell set c) n closed xs can.is.weighs.here in
-      pairs_apart-in (is_coincidence set c) (closed ++ xs) ∙ more ∙ rw (pairs_apart-in (is_coincidence set c) closed, by_weights set c bin.weights p.ring.entries, firsts, seconds, inside, can.is.weighs.a, can.is.weighs.b, same_tick set c n) (omega arith)
+      pairs_apart-in (is_coincidence set c) (closed ++ xs) ∙ more ∙ rw (pairs_apart-in (is_coincidence set c) closed, by_weights set c bin.weights r.entries, firsts, seconds, inside, can.is.weighs.a, can.is.weighs.b, same_tick set c n) (omega arith)
 
+  pub before : AllByRecursion (λ e. e.index < bin.weights.index) r.entries
+  before = can.were.keeps.bounded bin.weights.index can.after
+
+  pub entries_within : length r.entries ≤ set.reach
+  entries_within = omega (arith, can.were.keeps.within, can.were.reach)
+
+  -- the ring has room for the bin, and keeps it, once what is further back than the reach is gone
+  module _ (some : 0 < set.reach) (es : List Entry) (kept : es ≡ filter (λ f. leb (bin.weights.index - (set.reach - 1)) f.index) r.entries) (rising : IsRising es) where
+    some_reach : 0 < r.reach
+    some_reach = omega (arith, some, can.were.reach)
+
+    kept_by_ring : es ≡ filter (λ f. leb (bin.weights.index - (r.reach - 1)) f.index) r.entries
+    kept_by_ring = rw can.were.reach kept
+
+    room : length es + 1 ≤ r.reach
+    room = room_after (in_first set) (in_second set) (λ x. x.0.time) r bin.weights closed some_reach can.were.keeps can.after es kept_by_ring rising
+
+    pub room_shut : length es + 1 ≤ set.reach
+    room_shut = omega (arith, room, can.were.reach)
+
+    pub ring_shut : RingIs set (ring (es ++ bin.weights ∷ []) r.reach) (closed ++ xs)
+    ring_shut = record {
+      reach = can.were.reach;
+      keeps = kept_after (in_first set) (in_second set) (λ x. x.0.time) r bin.weights closed some_reach can.were.keeps can.after xs can.is.weighs es kept_by_ring room;
+    }
+
+  module _ (far : AllByRecursion (λ e. e.index + set.reach < bin.weights.index) r.entries) where
+    none_far : (d : Direction) (later c : ℕ) → pairs_of_all d set c bin.weights.index later r.entries ≡ 0
+    none_far d later c = sum_by-zero (λ e. e.index + set.reach < bin.weights.index) (pairs_of d set c bin.weights.index later) r.entries far (λ e under. pairs_far set bin.weights.index e (omega arith) d later c)
+
+    -- entries out of reach bring nothing
+    pub alone : (c : ℕ) → bin_pairs set c bin r.entries ≡ bin_pairs set c bin []
+    alone c = rw (none_far Forward bin.weights.b c, none_far Backward bin.weights.a c) refl
+
+    -- and the ring has the bin alone then
+    pub ring_alone : 0 < set.reach → RingIs set (ring (bin.weights ∷ []) r.reach) (closed ++ xs)
+    ring_alone some =
+        let none : filter (λ f. leb (bin.weights.index - (set.reach - 1)) f.index) r.entries ≡ [] = filter_none (λ f. leb (bin.weights.index - (set.reach - 1)) f.index) r.entries (all_weaker (λ f. f.index + set.reach < bin.weights.index) (λ f. leb (bin.weights.index - (set.reach - 1)) f.index ≡ false) (λ f under. grind arith) r.entries far) in
+        ring_shut some [] (sym none) tt
+
+module _ (set : CoincidenceView) (r : Ring) (old : Cells) (bin : Bin) (closed xs : History) (can : CanShut set r old bin closed xs) where
   -- no sum passes the greatest count
-  pub may_fit : (c : ℕ) → c < coincidence_cells set → get_or p.cells.cells c 0 + bin_pairs set c bin p.ring.entries ≤ 2 ^ 80
+  pub may_fit : (c : ℕ) → c < coincidence_cells set → get_or old.cells c 0 + bin_pairs set c bin r.entries ≤ 2 ^ 80
   may_fit c in_range =
       let few : length (closed ++ xs) ≤ 2 ^ 40 = rw (length-append closed xs) can.few in
       let square : length (closed ++ xs) * length (closed ++ xs) ≤ 2 ^ 40 * 2 ^ 40 = mul-le-mul few few in
       let most = pairs_in-le (is_coincidence set c) (closed ++ xs) in
-      omega (arith, grown c, can.cells.pairs c in_range, pairs_apart-in (is_coincidence set c) (closed ++ xs), most, square)
+      omega (arith, grown set r bin closed xs can.keep c, can.had.pairs c in_range, pairs_apart-in (is_coincidence set c) (closed ++ xs), most, square)
 
-  pub entries_within : length p.ring.entries ≤ set.reach
-  entries_within = omega (arith, can.ring.keeps.within, can.ring.reach)
-
-  pub may_count : set.reach ≤ 2 ^ 20 → p.cells.added + (2 * length p.ring.entries + 1) < 2 ^ 64
+  pub may_count : set.reach ≤ 2 ^ 20 → old.added + (2 * length r.entries + 1) < 2 ^ 64
   may_count small =
       let each : 2 * set.reach + 1 ≤ 2 ^ 21 + 1 = omega arith in
       let few : length closed ≤ 2 ^ 40 = omega (arith, can.few) in
       let product : (2 * set.reach + 1) * length closed ≤ (2 ^ 21 + 1) * 2 ^ 40 = mul-le-mul each few in
-      omega (arith, can.cells.work, entries_within, small, product)
+      omega (arith, can.had.work, entries_within set r bin closed xs can.keep, small, product)
 
   -- the cells count the pairs of the bin too
-  pub cells_shut : (cells : Cells) → ((c : ℕ) → c < coincidence_cells set → get_or cells.cells c 0 ≡ get_or p.cells.cells c 0 + bin_pairs set c bin p.ring.entries)
-      → length cells.cells ≡ length p.cells.cells → cells.added ≤ p.cells.added + (2 * length p.ring.entries + 1) → CellsAre set cells (closed ++ xs)
+  pub cells_shut : (cells : Cells) → ((c : ℕ) → c < coincidence_cells set → get_or cells.cells c 0 ≡ get_or old.cells c 0 + bin_pairs set c bin r.entries)
+      → length cells.cells ≡ length old.cells → cells.added ≤ old.added + (2 * length r.entries + 1) → CellsAre set cells (closed ++ xs)
   cells_shut cells step same added = record {
-    count = same ∙ can.cells.count;
-    pairs = λ c in_range. omega (arith, step c in_range, can.cells.pairs c in_range, grown c);
-    work = rw (length-append closed xs) (more_work set.reach (length closed) (length xs) cells.added can.is.weighs.some (omega (arith, added, can.cells.work, entries_within)));
+    count = same ∙ can.had.count;
+    pairs = λ c in_range. omega (arith, step c in_range, can.had.pairs c in_range, grown set r bin closed xs can.keep c);
+    work = rw (length-append closed xs) (more_work set.reach (length closed) (length xs) cells.added can.keep.is.weighs.some (omega (arith, added, can.had.work, entries_within set r bin closed xs can.keep)));
   }
 
-  -- the ring has room for the bin, and keeps it, once what is further back than the reach is gone
-  module _ (some : 0 < set.reach) (es : List Entry) (kept : es ≡ filter (λ f. leb (bin.weights.index - (set.reach - 1)) f.index) p.ring.entries) (rising : IsRising es) where
-    some_reach : 0 < p.ring.reach
-    some_reach = omega (arith, some, can.ring.reach)
+  -- where no entry is in reach, they count those inside the bin
+  module _ (far : AllByRecursion (λ e. e.index + set.reach < bin.weights.index) r.entries) where
+    pub alone_fits : (c : ℕ) → c < coincidence_cells set → get_or old.cells c 0 + bin_pairs set c bin [] ≤ 2 ^ 80
+    alone_fits c in_range = omega (arith, alone set r bin closed xs can.keep far c, may_fit c in_range)
 
-    kept_by_ring : es ≡ filter (λ f. leb (bin.weights.index - (p.ring.reach - 1)) f.index) p.ring.entries
-    kept_by_ring = rw can.ring.reach kept
+    pub alone_counts : set.reach ≤ 2 ^ 20 → old.added + 1 < 2 ^ 64
+    alone_counts small = omega (arith, may_count small)
 
-    room : length es + 1 ≤ p.ring.reach
-    room = room_after (in_first set) (in_second set) (λ x. x.0.time) p.ring bin.weights closed some_reach can.ring.keeps can.after es kept_by_ring rising
-
-    pub room_shut : length es + 1 ≤ set.reach
-    room_shut = omega (arith, room, can.ring.reach)
-
-    pub ring_shut : RingIs set (ring (es ++ bin.weights ∷ []) p.ring.reach) (closed ++ xs)
-    ring_shut = record {
-      reach = can.ring.reach;
-      keeps = kept_after (in_first set) (in_second set) (λ x. x.0.time) p.ring bin.weights closed some_reach can.ring.keeps can.after xs can.is.weighs es kept_by_ring room;
-    }
+    pub cells_alone : (cells : Cells) → ((c : ℕ) → c < coincidence_cells set → get_or cells.cells c 0 ≡ get_or old.cells c 0 + bin_pairs set c bin [])
+        → length cells.cells ≡ length old.cells → cells.added ≤ old.added + 1 → CellsAre set cells (closed ++ xs)
+    cells_alone cells step same added = cells_shut cells (λ c in_range. omega (arith, step c in_range, alone set r bin closed xs can.keep far c)) same (omega (arith, added))

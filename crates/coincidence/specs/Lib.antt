@@ -10,3 +10,4 @@ pub mod CoincidenceLaws
 pub mod Ends
 pub mod Starts
 pub mod Counted
+pub mod Closing

@@ -58,6 +58,9 @@ joined bin more = record {
   both = bin.both + more.both;
 }
 
+abbrev pub pairing_of : Option Bin → Ring → Cells → Pairing
+pairing_of bin ring cells = record { «open» = bin; ring = ring; cells = cells }
+
 module _ (set : CoincidenceView) where
   -- the bin has these photons, of which there is one at least
   pub record BinIs (bin : Bin) (xs : History) : Type 0 where
@@ -92,13 +95,17 @@ module _ (set : CoincidenceView) where
     pub ring : RingIs p.ring came
     pub cells : CellsAre p.cells came
 
-  -- a bin of the photons xs may be closed
-  pub record CanShut (p : Pairing) (bin : Bin) (closed xs : History) : Type 0 where
-    pub few : length closed + length xs ≤ 2 ^ 40
+  -- a bin of the photons xs may be put behind the closed ones
+  pub record CanKeep (ring : Ring) (bin : Bin) (closed xs : History) : Type 0 where
     pub is : BinIs bin xs
     pub after : AllByRecursion (λ x. x.0.time < bin.weights.index) closed
-    pub ring : RingIs p.ring closed
-    pub cells : CellsAre p.cells closed
+    pub were : RingIs ring closed
+
+  -- and be paired with them
+  pub record CanShut (ring : Ring) (cells : Cells) (bin : Bin) (closed xs : History) : Type 0 where
+    pub few : length closed + length xs ≤ 2 ^ 40
+    pub keep : CanKeep ring bin closed xs
+    pub had : CellsAre cells closed
 
   -- photons xs of one tick may come, after all that came
   pub record CanPut (p : Pairing) (bin : Bin) (closed open' xs : History) : Type 0 where

@@ -1,9 +1,10 @@
 -- What the fields of a table of coincidences stand for.
-use Rattle.std.specs.Prelude.{◌≡◌, ℕ, ◌^◌, ◌<◌, ◌≤◌, Bool, true, false, IsTrue, length}
+use Rattle.std.specs.Prelude.{◌≡◌, ℕ, ◌+◌, ◌^◌, ◌<◌, ◌≤◌, Bool, true, false, IsTrue, List, length}
 use Rattle.tally_base.specs.declared.event.Event.{Event}
 use Rattle.tally_base.specs.Events.{is_photon}
 use Rattle.tally_base.specs.Settings.{CoincidenceView}
 use Rattle.tally_base.specs.Tally.{History, greatest_time}
+use Rattle.event_block.specs.Order.{InOrder}
 use Rattle.coincidence.specs.declared.pairing.Pairing.{Pairing}
 use Rattle.coincidence.specs.Pairs.{photons_of_groups}
 use Rattle.coincidence.specs.Pairing.{Came, PairingDone}
@@ -24,3 +25,9 @@ pub record CanGive (set : CoincidenceView) (p : Pairing) (e : Event) (h : Histor
   pub few : length h < 2 ^ 40
   pub was : Came set p (photons_of_groups set h)
   pub after : IsTrue (is_photon e) → greatest_time false h ≤ e.time
+
+-- these events may be given, after those that were
+pub record CanTake (set : CoincidenceView) (p : Pairing) (es : List Event) (h : History) : Type 0 where
+  pub few : length h + length es ≤ 2 ^ 40
+  pub was : Came set p (photons_of_groups set h)
+  pub after : InOrder false (greatest_time false h) es

@@ -7,6 +7,8 @@ ghost use Rattle.coincidence.specs.Pairing.{Came};
 ghost use Rattle.coincidence.specs.Pairs.{photons_of_groups};
 
 use crate::pairing::{Bin, Pairing, cells_of};
+use crate::taking::take_block;
+use event_block::Block;
 use std::alloc::{AllocError, Global};
 use std::sync::ledger::Ledger;
 use tally_base::{CoincidenceSet, Event, Steps, Tally, floor_behind, is_in};
@@ -30,10 +32,12 @@ pub struct Coincidence {
 }
 
 impl Coincidence {
-    ghost use Rattle.std.specs.Prelude.{◌<◌, IfOk, slice_index, true};
+    ghost use Rattle.std.specs.Prelude.{◌<◌, IfOk, length, slice_index, true};
     ghost use Rattle.tally_base.specs.Settings.{coincidence_cells};
     ghost use Rattle.tally_base.specs.Settings.PartSettings.{CoincidenceSettings};
-    ghost use Rattle.coincidence.specs.Coincidence.{Holds, set_of, cells_in, spent_by};
+    ghost use Rattle.event_block.specs.Columns.{gathered, events_in, IsSorted};
+    ghost use Rattle.event_block.specs.Order.{floor_after, InOrder};
+    ghost use Rattle.coincidence.specs.Coincidence.{Holds, set_of, settings, is_closed, taken_by, floor_by, cells_in, spent_by};
     ghost use Rattle.coincidence.specs.Pairs.{coincidences};
 
     /// A table of no events, with all the memory that it ever takes, or `AllocError` where it is wanting.
@@ -80,10 +84,31 @@ impl Coincidence {
     {
         self.pairing.cells.get(at)
     }
+
+    /// Takes the events of a block, as `event` does one by one.
+    pub fn events<L: Ledger>(&mut self, block: &Block, steps: &mut Steps<L>)
+        requires sorted { IsSorted block.now }
+        requires open { is_closed self.old ≡ false }
+        requires room { taken_by self.old + length (gathered block.now) ≤ 2 ^ 40 }
+        requires in_order { InOrder false (floor_by self.old) (gathered block.now) }
+        ensures follows { (h : History) → Holds self.old h
+            → Holds self.new (h ++ events_in block.now) }
+        ensures still_open { is_closed self.new ≡ false }
+        ensures more { taken_by self.new ≡ taken_by self.old + length (gathered block.now) }
+        ensures moved { floor_by self.new ≡ floor_after false (floor_by self.old)
+            (gathered block.now) }
+        ensures same_settings { settings self.new ≡ settings self.old }
+        ensures same_set { set_of self.new ≡ set_of self.old }
+        ensures steps { steps.new + spent_by self.old ≡ steps.old + spent_by self.new }
+    {
+        self.taken += block.len() as u64;
+        self.floor = block.floor_after(false, self.floor);
+        take_block(&mut self.pairing, &self.set, block, steps);
+    }
 }
 
-/// Gives a photon of either group to the bins, and leaves out other events.
-fn give<L: Ledger>(
+/// Puts a photon of either group into the open bin, and leaves out other events.
+fn put_photon<L: Ledger>(
     pairing: &mut Pairing,
     set: &CoincidenceSet,
     e: &Event,
@@ -147,7 +172,7 @@ impl Tally for Coincidence {
     {
         self.taken += 1;
         self.floor = floor_behind(self.floor, e);
-        give(&mut self.pairing, &self.set, e, groups, steps);
+        put_photon(&mut self.pairing, &self.set, e, groups, steps);
     }
 
     fn close<L: Ledger>(&mut self, steps: &mut Steps<L>)

@@ -1,7 +1,11 @@
 // Coincidences of known events, where memory is had.
-ghost use Rattle.std.specs.Prelude.{◌≡◌, true, ◌<◌, ◌≤◌, ◌^◌, IfOk, length};
+ghost use Rattle.std.specs.Prelude.{◌≡◌, true, false, ◌+◌, ◌<◌, ◌≤◌, ◌^◌, ◌∷◌, ◌++◌, [], IfOk, length};
+ghost use Rattle.event_block.specs.Columns.{gathered, IsSorted};
+ghost use Rattle.event_block.specs.Order.{floor_after, InOrder};
+ghost use Rattle.coincidence.specs.Coincidence.{set_of};
 
 use super::Coincidence;
+use event_block::Block;
 use std::alloc::Global;
 use std::marker::Brand;
 use std::process::Abort;
@@ -61,7 +65,8 @@ fn filled<L: Ledger>(
     requires parts { blank.parts ≡ L.parts }
     requires some { 0 < blank.parts }
     requires few { length events.now ≤ 100 }
-    ensures { IfOk result (λ t. ⟦<Coincidence as Tally>⟧.closed t ≡ true) }
+    ensures closed { IfOk result (λ t. ⟦<Coincidence as Tally>⟧.closed t ≡ true) }
+    ensures set { IfOk result (λ t. set_of t ≡ set) }
 {
     let mut steps = Steps::<L>::new(blank);
     let mut table = Coincidence::open(alloc, set)?;
@@ -80,6 +85,124 @@ fn filled<L: Ledger>(
     }
     table.close(&mut steps);
     Ok(table)
+}
+
+/// The groups of an event by its code: a marker is in none.
+fn groups_of(code: u16, groups: u64) -> u64
+    ensures marker { 256 ≤ code → result ≡ 0 }
+    ensures photon { code < 256 → result ≡ groups }
+{
+    if code < 256 { groups } else { 0 }
+}
+
+/// Puts an event behind those of a block.
+fn put_event(block: &mut Block, event: &Event, groups: u64)
+    requires room { length (gathered block.old) < 64 }
+    requires sorted { IsSorted block.old }
+    ensures more { gathered block.new ≡ gathered block.old ++ event.now ∷ [] }
+    ensures sorted { IsSorted block.new }
+{
+    let at = block.len();
+    block.push(event);
+    block.put(at, groups_of(block.code(at), groups));
+}
+
+/// Gives a block to a table, and drops its events, once there are `size` of them.
+fn give_full<L: Ledger>(
+    table: &mut Coincidence,
+    block: &mut Block,
+    size: usize,
+    steps: &mut Steps<L>,
+)
+    requires size { size ≤ 64 }
+    requires open { ⟦<Coincidence as Tally>⟧.closed table.old ≡ false }
+    requires few { ⟦<Coincidence as Tally>⟧.taken table.old + length (gathered block.old) ≤ 100 }
+    requires sorted { IsSorted block.old }
+    requires in_order { InOrder false (⟦<Coincidence as Tally>⟧.floor table.old)
+        (gathered block.old) }
+    ensures open { ⟦<Coincidence as Tally>⟧.closed table.new ≡ false }
+    ensures all { ⟦<Coincidence as Tally>⟧.taken table.new + length (gathered block.new)
+        ≡ ⟦<Coincidence as Tally>⟧.taken table.old + length (gathered block.old) }
+    ensures sorted { IsSorted block.new }
+    ensures in_order { InOrder false (⟦<Coincidence as Tally>⟧.floor table.new)
+        (gathered block.new) }
+    ensures floor { floor_after false (⟦<Coincidence as Tally>⟧.floor table.new) (gathered block.new)
+        ≡ floor_after false (⟦<Coincidence as Tally>⟧.floor table.old) (gathered block.old) }
+    ensures room { length (gathered block.new) < 64 }
+    ensures set { set_of table.new ≡ set_of table.old }
+{
+    if block.len() < size {
+        return;
+    }
+    table.events(block, steps);
+    block.clear();
+}
+
+/// A closed table that was given these events in blocks of `size`.
+fn filled_in_blocks<L: Ledger>(
+    alloc: Global,
+    blank: Blank,
+    set: CoincidenceSet,
+    events: &[Given],
+    size: usize,
+) -> Result<Coincidence, Fail>
+    requires name { blank.name ≡ L.name }
+    requires parts { blank.parts ≡ L.parts }
+    requires some { 0 < blank.parts }
+    requires few { length events.now ≤ 100 }
+    requires size { size ≤ 64 }
+    ensures closed { IfOk result (λ t. ⟦<Coincidence as Tally>⟧.closed t ≡ true) }
+    ensures set { IfOk result (λ t. set_of t ≡ set) }
+{
+    let mut steps = Steps::<L>::new(blank);
+    let mut table = Coincidence::open(alloc, set)?;
+    let mut block = Block::new();
+    let mut latest = 0;
+    for &(time, kind, groups) in events {
+        if time < latest || time > END {
+            return Err(Fail::new("the times of a row are out of order"));
+        }
+        latest = time;
+        give_full(&mut table, &mut block, size, &mut steps);
+        let event = Event {
+            place: 1,
+            kind,
+            time,
+        };
+        put_event(&mut block, &event, groups);
+    }
+    table.events(&block, &mut steps);
+    table.close(&mut steps);
+    Ok(table)
+}
+
+/// Whether two tables have the same cells.
+fn same_cells(one: &Coincidence, other: &Coincidence) -> bool
+    requires set { set_of one.now ≡ set_of other.now }
+{
+    for at in 0..one.cells() {
+        if one.cell(at) != other.cell(at) {
+            return false;
+        }
+    }
+    true
+}
+
+/// A table of events in blocks of `size` has the cells that it has of them one by one.
+fn agrees_in_blocks(
+    rt: &impl Abort,
+    alloc: Global,
+    set: CoincidenceSet,
+    events: &[Given],
+    size: usize,
+) -> Result<(), Fail>
+    requires few { length events.now ≤ 100 }
+    requires size { size ≤ 64 }
+{
+    let one = filled::<Brand>(alloc, Blank::new(1), set, events)?;
+    let other = filled_in_blocks::<Brand>(alloc, Blank::new(1), set, events, size)?;
+    assert!(rt; same_cells(&one, &other), "{size} {set:?}");
+    Ok(())
 }
 
 /// Events, and the cells of a table of them.
@@ -108,6 +231,32 @@ fn agrees(rt: &impl Abort, alloc: Global, row: &Row) -> Result<(), Fail> {
             cells.get(at as usize),
             "{at} {set:?}"
         );
+    }
+    for size in [1, 2, 3, 64] {
+        agrees_in_blocks(rt, alloc, set, events, size)?;
+    }
+    Ok(())
+}
+
+/// Photons of close ticks, of which some are in both groups.
+fn close_photons(alloc: Global) -> Result<Vec<Given>, Fail>
+    ensures few { IfOk result (λ events. length events.items ≤ 100) }
+{
+    let mut events = Vec::new(alloc);
+    for at in 0..100u64 {
+        events.push(photon(at + at / 7, 1 + at % 3))?;
+    }
+    Ok(events)
+}
+
+#[test]
+fn a_block_means_its_events_one_by_one(rt: HostRuntime) -> Result<(), Fail> {
+    let events = close_photons(rt.alloc())?;
+    // In blocks of 40 the last closes 20 bins, with more than 64 of the ones before in reach.
+    for size in [1, 7, 40, 64] {
+        for set in [of_two(80, 1), of_one(90, 7)] {
+            agrees_in_blocks(&rt, rt.alloc(), set, &events, size)?;
+        }
     }
     Ok(())
 }

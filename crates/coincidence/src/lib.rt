@@ -1,12 +1,16 @@
 //! Counts of pairs of photons by the time between them: the start-stop table and the coincidences.
 #![tactic(auto)]
 
+mod closing;
 mod coincidence;
 mod counting;
+mod gathering;
+mod lags;
 pub mod laws;
 mod pairing;
 mod start;
 mod start_stop;
+mod taking;
 
 pub use coincidence::Coincidence;
 pub use start_stop::StartStop;

@@ -1,9 +1,9 @@
 // The bins of a table of coincidences, the ring of the last closed ones, and the cells.
-ghost use Rattle.std.specs.Prelude.{◌≡◌, ℕ, ◌+◌, ◌-◌, ◌*◌, ◌/◌, ◌^◌, ◌<◌, ◌≤◌, [], length, slice_index, if◌then◌else◌, ◌==◌, nat_le};
+ghost use Rattle.std.specs.Prelude.{◌≡◌, ℕ, ◌+◌, ◌-◌, ◌*◌, ◌/◌, ◌^◌, ◌<◌, ◌≤◌, [], ◌++◌, length, slice_index, if◌then◌else◌, ◌==◌, nat_le};
 ghost use Rattle.std.specs.List.{AllByRecursion};
 ghost use Rattle.tally_base.specs.Settings.{coincidence_view, coincidence_cells};
 ghost use Rattle.tally_base.specs.Tally.{History};
-ghost use Rattle.coincidence.specs.Pairing.{pairs_of, pairs_of_all, pairs_with, bin_pairs};
+ghost use Rattle.coincidence.specs.Pairing.{pairs_of, pairs_of_all, pairs_with, bin_pairs, pairing_of, RingIs, CellsAre, CanKeep, CanShut, CanPut, Came};
 
 use lag_ring::{Entry, LagRing, PairCells};
 use std::alloc::{AllocError, Global};
@@ -11,7 +11,7 @@ use std::sync::ledger::Ledger;
 use tally_base::{CoincidenceSet, Steps};
 
 /// The photons of one tick.
-#[derive(Clone, Copy, Debug)]
+#[derive(Clone, Copy, Debug, Default)]
 pub struct Bin {
     /// The tick, and how many of its photons are in each group.
     pub weights: Entry,
@@ -33,12 +33,12 @@ impl Bin {
                 a: u64::from(first),
                 b: u64::from(second),
             },
-            both: u64::from(first && second),
+            both: u64::from(first & second),
         }
     }
 
     /// The photons of this bin, and more of the same tick.
-    fn with(&self, more: &Bin) -> Bin
+    pub(crate) fn with(&self, more: &Bin) -> Bin
         requires a { self.now.weights.a + more.now.weights.a < 2 ^ 64 }
         requires b { self.now.weights.b + more.now.weights.b < 2 ^ 64 }
         requires both { self.now.both + more.now.both < 2 ^ 64 }
@@ -81,7 +81,7 @@ impl Direction {
 
     /// The difference of two ticks that are so far apart, with the reach added.
     #[inline(always)]
-    fn shifted(self, set: CoincidenceSet, apart: u64) -> u32
+    pub(crate) fn shifted(self, set: CoincidenceSet, apart: u64) -> u32
         requires { apart ≤ set.reach }
         ensures { result ≡ shifted_by self set.reach apart }
     {
@@ -137,7 +137,7 @@ fn least_kept(set: &CoincidenceSet, index: u64) -> u64
 /// Adds the pairs of so many photons of an earlier tick and so many of a later one to the cell of their
 /// difference.
 #[inline(always)]
-fn add_pairs<L: Ledger>(
+pub(crate) fn add_pairs<L: Ledger>(
     cells: &mut PairCells,
     set: CoincidenceSet,
     shifted: u32,
@@ -312,7 +312,7 @@ fn pair_entries<L: Ledger>(
 }
 
 /// Pairs the photons of a bin with one another, and none with itself.
-fn pair_inside<L: Ledger>(
+pub(crate) fn pair_inside<L: Ledger>(
     cells: &mut PairCells,
     set: &CoincidenceSet,
     bin: &Bin,
@@ -365,9 +365,132 @@ fn pair<L: Ledger>(
     pair_inside(cells, set, bin, steps);
 }
 
+/// Puts a bin into the ring, in place of those that no later photon reaches.
+#[inline(always)]
+pub(crate) fn keep(ring: &mut LagRing, set: &CoincidenceSet, bin: &Bin)
+    requires stands { ∥ ((closed : History) × (xs : History)
+        × CanKeep (coincidence_view set.now) ring.old bin.now closed xs) ∥₁ }
+    ensures ring { (closed xs : History)
+        → CanKeep (coincidence_view set.now) ring.old bin.now closed xs
+        → RingIs (coincidence_view set.now) ring.new (closed ++ xs) }
+{
+    let weights = bin.weights;
+    ring.retire(least_kept(set, weights.index));
+    ring.push(weights.index, weights.a, weights.b);
+}
+
+/// Pairs the photons of a bin with one another, and puts it into the ring, which has no other that it
+/// reaches.
+#[inline(always)]
+fn begin<L: Ledger>(
+    ring: &mut LagRing,
+    cells: &mut PairCells,
+    set: &CoincidenceSet,
+    bin: &Bin,
+    steps: &mut Steps<L>,
+)
+    requires far { AllByRecursion (λ e. e.index + set.now.reach < bin.now.weights.index) ring.old.entries }
+    requires stands { ∥ ((closed : History) × (xs : History)
+        × CanShut (coincidence_view set.now) ring.old cells.old bin.now closed xs) ∥₁ }
+    ensures ring { (closed xs : History)
+        → CanKeep (coincidence_view set.now) ring.old bin.now closed xs
+        → RingIs (coincidence_view set.now) ring.new (closed ++ xs) }
+    ensures cells { (closed xs : History)
+        → CanShut (coincidence_view set.now) ring.old cells.old bin.now closed xs
+        → CellsAre (coincidence_view set.now) cells.new (closed ++ xs) }
+    ensures steps { steps.new + cells.old.added ≡ steps.old + cells.new.added }
+{
+    pair_inside(cells, set, bin, steps);
+    ring.restart(bin.weights.index, bin.weights.a, bin.weights.b);
+}
+
+/// Pairs the photons of a bin with one another and with those of the closed bins, and puts it among
+/// these.
+fn append<L: Ledger>(
+    ring: &mut LagRing,
+    cells: &mut PairCells,
+    set: &CoincidenceSet,
+    bin: &Bin,
+    steps: &mut Steps<L>,
+)
+    requires stands { ∥ ((closed : History) × (xs : History)
+        × CanShut (coincidence_view set.now) ring.old cells.old bin.now closed xs) ∥₁ }
+    ensures ring { (closed xs : History)
+        → CanKeep (coincidence_view set.now) ring.old bin.now closed xs
+        → RingIs (coincidence_view set.now) ring.new (closed ++ xs) }
+    ensures cells { (closed xs : History)
+        → CanShut (coincidence_view set.now) ring.old cells.old bin.now closed xs
+        → CellsAre (coincidence_view set.now) cells.new (closed ++ xs) }
+    ensures steps { steps.new + cells.old.added ≡ steps.old + cells.new.added }
+{
+    pair(cells, ring, set, bin, steps);
+    keep(ring, set, bin);
+}
+
+/// Pairs the photons of a bin, and puts it among the closed ones. Where the last of those is out of
+/// reach, which is the most frequent case, no other pairs with it.
+#[inline(always)]
+pub(crate) fn shut<L: Ledger>(
+    ring: &mut LagRing,
+    cells: &mut PairCells,
+    set: &CoincidenceSet,
+    bin: &Bin,
+    steps: &mut Steps<L>,
+)
+    requires stands { ∥ ((closed : History) × (xs : History)
+        × CanShut (coincidence_view set.now) ring.old cells.old bin.now closed xs) ∥₁ }
+    ensures ring { (closed xs : History)
+        → CanKeep (coincidence_view set.now) ring.old bin.now closed xs
+        → RingIs (coincidence_view set.now) ring.new (closed ++ xs) }
+    ensures cells { (closed xs : History)
+        → CanShut (coincidence_view set.now) ring.old cells.old bin.now closed xs
+        → CellsAre (coincidence_view set.now) cells.new (closed ++ xs) }
+    ensures steps { steps.new + cells.old.added ≡ steps.old + cells.new.added }
+{
+    if bin.weights.index.saturating_sub(ring.newest()) > u64::from(set.reach) {
+        begin(ring, cells, set, bin, steps);
+    } else {
+        // A copy, so that a bin that is alone need not stand in memory.
+        let near = *bin;
+        append(ring, cells, set, &near, steps);
+    }
+}
+
+/// Takes photons of one tick, after all that came. They join the open bin, or close it: the answer is
+/// the bin that is open then.
+#[inline(always)]
+pub(crate) fn put<L: Ledger>(
+    waiting: Option<Bin>,
+    ring: &mut LagRing,
+    cells: &mut PairCells,
+    set: &CoincidenceSet,
+    bin: Bin,
+    steps: &mut Steps<L>,
+) -> Option<Bin>
+    requires stands { ∥ ((closed : History) × (open' : History) × (xs : History) × CanPut
+        (coincidence_view set.now) (pairing_of waiting ring.old cells.old) bin closed open' xs) ∥₁ }
+    ensures follows { (closed open' xs : History) → CanPut
+        (coincidence_view set.now) (pairing_of waiting ring.old cells.old) bin closed open' xs
+        → Came (coincidence_view set.now) (pairing_of result ring.new cells.new)
+        ((closed ++ open') ++ xs) }
+    ensures steps { steps.new + cells.old.added ≡ steps.old + cells.new.added }
+{
+    match waiting {
+        Some(open) => {
+            if open.weights.index == bin.weights.index {
+                Some(open.with(&bin))
+            } else {
+                shut(ring, cells, set, &open, steps);
+                Some(bin)
+            }
+        }
+        None => Some(bin),
+    }
+}
+
 impl Pairing {
     ghost use Rattle.std.specs.Prelude.{◌++◌, IfOk, None};
-    ghost use Rattle.coincidence.specs.Pairing.{RingIs, CellsAre, PairingIs, PairingDone, CanShut, CanPut, CanEnd, Came};
+    ghost use Rattle.coincidence.specs.Pairing.{PairingIs, PairingDone, CanPut, CanEnd, Came};
 
     /// No bins, with all the memory that they and the cells ever take, or `AllocError` where it is
     /// wanting.
@@ -382,23 +505,6 @@ impl Pairing {
         })
     }
 
-    /// Pairs the photons of a bin, and puts it among the closed ones.
-    fn shut<L: Ledger>(&mut self, set: &CoincidenceSet, bin: &Bin, steps: &mut Steps<L>)
-        requires stands { ∥ ((closed : History) × (xs : History)
-            × CanShut (coincidence_view set.now) self.old bin.now closed xs) ∥₁ }
-        ensures ring { (closed xs : History) → CanShut (coincidence_view set.now) self.old bin.now closed xs
-            → RingIs (coincidence_view set.now) self.new.ring (closed ++ xs) }
-        ensures cells { (closed xs : History) → CanShut (coincidence_view set.now) self.old bin.now closed xs
-            → CellsAre (coincidence_view set.now) self.new.cells (closed ++ xs) }
-        ensures open { self.new.open ≡ self.old.open }
-        ensures steps { steps.new + self.old.cells.added ≡ steps.old + self.new.cells.added }
-    {
-        pair(&mut self.cells, &self.ring, set, bin, steps);
-        let weights = bin.weights;
-        self.ring.retire(least_kept(set, weights.index));
-        self.ring.push(weights.index, weights.a, weights.b);
-    }
-
     /// Takes photons of one tick, after all that came. They join the open bin, or close it.
     pub fn put<L: Ledger>(&mut self, set: &CoincidenceSet, bin: Bin, steps: &mut Steps<L>)
         requires stands { ∥ ((closed : History) × (open' : History) × (xs : History)
@@ -408,17 +514,7 @@ impl Pairing {
             → Came (coincidence_view set.now) self.new ((closed ++ open') ++ xs) }
         ensures steps { steps.new + self.old.cells.added ≡ steps.old + self.new.cells.added }
     {
-        match self.open {
-            Some(open) => {
-                if open.weights.index == bin.weights.index {
-                    self.open = Some(open.with(&bin));
-                } else {
-                    self.shut(set, &open, steps);
-                    self.open = Some(bin);
-                }
-            }
-            None => self.open = Some(bin),
-        }
+        self.open = put(self.open, &mut self.ring, &mut self.cells, set, bin, steps);
     }
 
     /// Closes the open bin, and opens none.
@@ -429,7 +525,7 @@ impl Pairing {
         ensures steps { steps.new + self.old.cells.added ≡ steps.old + self.new.cells.added }
     {
         if let Some(open) = self.open {
-            self.shut(set, &open, steps);
+            shut(&mut self.ring, &mut self.cells, set, &open, steps);
             self.open = None;
         }
     }

@@ -3,3 +3,4 @@ pub mod Lists
 pub mod Sums
 pub mod Between
 pub mod Kept
+pub mod Windows

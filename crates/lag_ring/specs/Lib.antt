@@ -1,3 +1,4 @@
 pub mod Cells
 pub mod Ring
 pub mod Kept
+pub mod Window

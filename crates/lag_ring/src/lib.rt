@@ -4,9 +4,13 @@
 mod buffer;
 mod cells;
 mod ring;
+mod window;
 
 pub use cells::PairCells;
 pub use ring::{Entry, LagRing};
+pub use window::{LAGS, Side, lag_sums, put_weights, total_weight};
 
 #[cfg(test)]
 mod tests;
+#[cfg(test)]
+mod window_tests;

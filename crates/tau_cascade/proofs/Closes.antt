@@ -32,7 +32,7 @@ module _ (set : CorrelationView) (level : ℕ) (r : Ring) (e : Entry) (closed xs
         keeps = kept_after (in_first set) (in_second set) (bin level) r e closed reach can.was.keeps can.before xs can.is_bin es (rw can.was.reach kept) (kept_few es kept rising);
       }
 
-filter_none : {X : Type 0} (p : X → Bool) (xs : List X) → AllByRecursion (λ x. p x ≡ false) xs → filter p xs ≡ []
+pub filter_none : {X : Type 0} (p : X → Bool) (xs : List X) → AllByRecursion (λ x. p x ≡ false) xs → filter p xs ≡ []
 filter_none p [] all = refl
 filter_none p (x ∷ xs) all = rw all.0 (filter_none p xs all.1)
 

@@ -1,5 +1,5 @@
 -- What an event does to the photons of the two groups.
-use Rattle.std.proofs.Common.{◌≡◌, ℕ, ◌+◌, ◌^◌, ◌<◌, ◌≤◌, max, Bool, true, false, ◌&&◌, ◌||◌, cond, ◌⊎◌, List, [], ◌∷◌, ◌++◌, length, fold, refl, sym, ap, ◌∙◌, arith, length-append, append-nil, zero-add, inl, inr}
+use Rattle.std.proofs.Common.{◌≡◌, ℕ, ◌+◌, ◌^◌, ◌<◌, ◌≤◌, max, Bool, true, false, ◌&&◌, ◌||◌, cond, ◌⊎◌, List, [], ◌∷◌, ◌++◌, length, map, fold, refl, sym, ap, ◌∙◌, arith, length-append, append-nil, zero-add, inl, inr}
 use mir.Val.{bool_byte}
 use Rattle.std.specs.Prelude.{IsTrue}
 use Rattle.std.specs.List.{AllByRecursion}
@@ -17,7 +17,8 @@ use Rattle.lag_ring.proofs.Rising.{all_weaker}
 use Rattle.tau_cascade.specs.declared.level.Level.{Level}
 use Rattle.tau_cascade.specs.Correlation.{Given, bin, in_first, in_second, photons_of}
 use Rattle.tau_cascade.specs.StandsFor.{StandsFor, CanGive}
-use Rattle.tau_cascade.specs.Levels.{CanCarry, CanEnd, Chain, Complete}
+use Rattle.tau_cascade.specs.Levels.{IsBin, CanEnd, Chain, Complete}
+use Rattle.tau_cascade.specs.Bins.{raised, CanCome}
 
 abbrev later : ℕ → Given → ℕ
 later t x = cond (moves_floor false x.0) (max t x.0.time) t
@@ -34,7 +35,7 @@ in_time : (t : ℕ) (h : History) → AllByRecursion (λ x. is_photon x.0 ≡ tr
 in_time t [] = tt
 in_time t (x ∷ h) = (λ is. let rest = from_start (later t x) h in later_than t x h is rest, in_time (later t x) h)
 
-mine-photon : (p a b : Bool) → ((p && a) || (p && b)) ≡ true → p ≡ true
+pub mine-photon : (p a b : Bool) → ((p && a) || (p && b)) ≡ true → p ≡ true
 mine-photon true a b is = refl
 mine-photon false a b is = is
 
@@ -46,10 +47,10 @@ none_after set h time after =
     (λ x is before. let in_h : x.0.time ≤ greatest_time false h = before (mine-photon (is_photon x.0) (is_in x.1 set.first) (is_in x.1 set.second) is) in omega arith)
     (photons_of set h) (all_passed mine h) (all_filter (λ x. is_photon x.0 ≡ true → x.0.time ≤ greatest_time false h) mine h (in_time 0 h))
 
-few_photons : (set : CorrelationView) (h : History) → length (photons_of set h) ≤ length h
+pub few_photons : (set : CorrelationView) (h : History) → length (photons_of set h) ≤ length h
 few_photons set h = omega (arith, length-filter (λ x. in_first set x || in_second set x) h, count_by-le-length (λ x. in_first set x || in_second set x) h)
 
-bin-zero : (x : Given) → bin 0 x ≡ x.0.time
+pub bin-zero : (x : Given) → bin 0 x ≡ x.0.time
 bin-zero x = div-one x.0.time
 
 -- the same of the bins of the first level
@@ -57,17 +58,18 @@ pub none_before : (set : CorrelationView) (h : History) (time : ℕ) → greates
 none_before set h time after = all_weaker (λ x. x.0.time ≤ time) (λ x. bin 0 x ≤ time) (λ x upto. rw (bin-zero x) upto) (photons_of set h) (none_after set h time after)
 
 -- an event that is a photon may come
-pub may_carry : (set : CorrelationView) (ls : List Level) (e : Event) (groups : ℕ) (h : History) → CanGive set ls e h → is_photon e ≡ true → (a b : ℕ) → a ≡ cond (is_in groups set.first) 1 0 → b ≡ cond (is_in groups set.second) 1 0 → CanCarry set 0 ls (record { index = e.time; a = a; b = b }) (photons_of set h) ((e, groups) ∷ [])
-may_carry set ls e groups h can photon a b is_a is_b = record {
+pub may_come : (set : CorrelationView) (ls : List Level) (e : Event) (groups : ℕ) (h : History) → CanGive set ls e h → is_photon e ≡ true → (a b : ℕ) → a ≡ cond (is_in groups set.first) 1 0 → b ≡ cond (is_in groups set.second) 1 0 → CanCome set 0 ls (map (raised 0) (record { index = e.time; a = a; b = b } ∷ [])) (photons_of set h) ((e, groups) ∷ [])
+may_come set ls e groups h can photon a b is_a is_b = record {
   few = omega (arith, can.few, few_photons set h);
   chain = can.chain;
-  is_bin = record {
-    some = omega arith;
-    here = (bin-zero (e, groups), tt);
-    a = rw photon (is_a ∙ sym (zero-add (cond (is_in groups set.first) 1 0)));
-    b = rw photon (is_b ∙ sym (zero-add (cond (is_in groups set.second) 1 0)));
-  };
-  after = none_before set h e.time (can.after photon);
+  come =
+      let is : IsBin set 0 (raised 0 (record { index = e.time; a = a; b = b })) ((e, groups) ∷ []) = record {
+        some = omega arith;
+        here = (refl, tt);
+        a = rw photon (is_a ∙ sym (zero-add (cond (is_in groups set.first) 1 0)));
+        b = rw photon (is_b ∙ sym (zero-add (cond (is_in groups set.second) 1 0)));
+      } in
+      ((e, groups) ∷ [], [], refl, is, rw (div-one e.time) (none_before set h e.time (can.after photon)), refl);
 }
 
 pub either : (a b : Bool) → (a ≡ true) ⊎ ((a ≡ false) × (b ≡ true)) → (a || b) ≡ true

@@ -6,6 +6,15 @@ pub mod Distinct
 pub mod Pairs
 pub mod Puts
 pub mod Carries
+pub mod Follows
+pub mod Paired
+pub mod Keeping
+pub mod Nexts
+pub mod Together
+pub mod Blocks
+pub mod Takes
+pub mod Spaced
+pub mod Passes
 pub mod Opened
 pub mod Gives
 pub mod Slices
@@ -13,3 +22,4 @@ pub mod Shown
 pub mod Opens
 pub mod Work
 pub mod SettingsRead
+pub mod InBlocks

@@ -18,7 +18,7 @@ use Rattle.tau_cascade.specs.Levels.{OpenIs, Chain, Complete}
 use Rattle.tau_cascade.specs.StandsFor.{StandsFor}
 use Rattle.std.proofs.lemmas.Bool.{false≢true}
 use Rattle.tau_cascade.proofs.Gives.{none_before}
-use Rattle.tau_cascade.proofs.Carries.{bin-suc}
+use Rattle.tau_cascade.proofs.Follows.{bin-suc}
 use Rattle.lag_ring.proofs.Lists.{all_both, all_join, all_map, all_back, of_some}
 use Rattle.lag_ring.proofs.Sums.{sum_by-agree, sum_by-zero}
 use Rattle.tau_cascade.specs.Opens.{greatest, open_index, has_come, open_of, open_bin}

@@ -1,15 +1,15 @@
--- What a bin that comes does to a level.
-use Rattle.std.proofs.Common.{◌≡◌, ◌≢◌, ℕ, ◌+◌, ◌<◌, ◌≤◌, Some, ◌++◌, refl, sym, arith, length-append}
+-- Bins of one index, and the open bin that is closed in the end.
+use Rattle.std.proofs.Common.{◌≡◌, ℕ, ◌+◌, ◌<◌, Some, [], ◌∷◌, ◌++◌, append-nil, refl, sym, arith, length-append}
 use Rattle.std.specs.List.{AllByRecursion}
 use Rattle.std.proofs.lemmas.List.Sums.{sum_by-append}
 use Rattle.tally_base.specs.Settings.{CorrelationView}
 use Rattle.tally_base.specs.Tally.{History}
 use Rattle.lag_ring.specs.declared.ring.Entry.{Entry}
-use Rattle.lag_ring.proofs.Lists.{all_back, all_join, of_some}
-use Rattle.lag_ring.proofs.Rising.{all_weaker}
+use Rattle.lag_ring.proofs.Lists.{all_join}
 use Rattle.tau_cascade.specs.declared.level.Level.{Level}
 use Rattle.tau_cascade.specs.Correlation.{bin}
-use Rattle.tau_cascade.specs.Levels.{IsBin, LevelIs, CanShut, CanPut, CanFinish}
+use Rattle.tau_cascade.specs.Levels.{IsBin, CanFinish}
+use Rattle.tau_cascade.specs.Bins.{CanShutAll}
 
 module _ (set : CorrelationView) (level : ℕ) where
   -- two runs of photons in one bin
@@ -21,36 +21,16 @@ module _ (set : CorrelationView) (level : ℕ) where
     b = rw (left.b, right.b) (sym (sum_by-append _ xs ys));
   })
 
-  pub finish_shut : (l : Level) (e : Entry) → l.open ≡ Some e → (closed open' : History) → CanFinish set level l closed open' → CanShut set level l.ring l.cells e closed open'
-  finish_shut l e is closed open' can =
-      let opened : IsBin set level e open' × AllByRecursion (λ x. bin level x < e.index) closed = (rw is at can.was.opened) in
-      record { few = can.few; close = record { was = can.was.ring; is_bin = opened.0; before = opened.1 }; were = can.was.cells }
+  module _ (l : Level) (e : Entry) (is : l.open ≡ Some e) (closed open' : History) (can : CanFinish set level l closed open') where
+    -- the open bin has the photons that are not in closed ones
+    pub finish_open : IsBin set level e open' × AllByRecursion (λ x. bin level x < e.index) closed
+    finish_open = (rw is at can.was.opened)
 
-  module _ (l : Level) (e new : Entry) (is : l.open ≡ Some e) (closed open' xs : History) (can : CanPut set level l new closed open' xs) where
-    pub was_open : IsBin set level e open' × AllByRecursion (λ x. bin level x < e.index) closed
-    was_open = (rw is at can.was.opened)
-
-    pub can_shut : CanShut set level l.ring l.cells e closed open'
-    can_shut = record {
-      few = omega (arith, can.few);
-      close = record { was = can.was.ring; is_bin = was_open.0; before = was_open.1 };
-      were = can.was.cells;
-    }
-
-    -- a bin of the open one's index joins it
-    pub joined : e.index ≡ new.index → (l' : Level) → l' ≡ record l { «open» = Some (record { index = e.index; a = e.a + new.a; b = e.b + new.b }) } → LevelIs set level l' closed (open' ++ xs)
-    joined same l' now = rw now (record {
-      opened = (is_bin-append e new _ open' xs was_open.0 can.is_bin same refl, was_open.1);
+    -- it may be closed
+    pub finish_shut : CanShutAll set level l.ring l.cells (e ∷ []) closed open'
+    finish_shut = record {
+      few = can.few;
       ring = can.was.ring;
       cells = can.was.cells;
-    })
-
-    -- another one is after all that came
-    pub moved_on : e.index ≢ new.index → AllByRecursion (λ x. bin level x < new.index) (closed ++ open')
-    moved_on other =
-        let back = all_back (λ x. bin level x ≤ new.index) closed open' can.after in
-        let upto : e.index ≤ new.index = of_some (bin level) e.index (λ m. m ≤ new.index) open' was_open.0.some was_open.0.here back in
-        let before : e.index < new.index = omega arith in
-        all_join (λ x. bin level x < new.index) closed open'
-        (all_weaker (λ x. bin level x < e.index) (λ x. bin level x < new.index) (λ x under. omega arith) closed was_open.1)
-        (all_weaker (λ x. bin level x ≡ e.index) (λ x. bin level x < new.index) (λ x here. omega arith) open' was_open.0.here)
+      bins = (open', [], sym (append-nil open'), finish_open.0, finish_open.1, refl);
+    }

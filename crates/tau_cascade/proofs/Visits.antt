@@ -57,7 +57,7 @@ module _ (es : List Entry) (i : ℕ) (none : Entry) (inside : i < length es) whe
       rw (step p at_level, so_far p at_level, weight_more (p + skipped + 1) n, same)
       (elim (eqb (e.index + (p + skipped + 1)) n) as (λ b. get_or old p 0 + weight_before (p + skipped + 1) n (take i es) * w + cond b (e.a * w) 0 ≡ get_or old p 0 + (weight_before (p + skipped + 1) n (take i es) + cond b e.a 0) * w) [ true ↦ omega arith | false ↦ omega arith ])
 
-rising_drop : (es : List Entry) (i : ℕ) → IsRising es → IsRising (drop i es)
+pub rising_drop : (es : List Entry) (i : ℕ) → IsRising es → IsRising (drop i es)
 rising_drop es zero rising = rising
 rising_drop [] (suc i) rising = tt
 rising_drop (e ∷ es) (suc i) rising = rising_drop es i rising.1

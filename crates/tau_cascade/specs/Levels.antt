@@ -57,24 +57,6 @@ module _ (set : CorrelationView) (level : ℕ) where
     pub is_bin : IsBin e xs
     pub before : AllByRecursion (λ x. bin level x < e.index) closed
 
-  -- and be paired with them
-  pub record CanShut (ring : Ring) (cells : Cells) (e : Entry) (closed xs : History) : Type 0 where
-    pub few : length closed + length xs ≤ 2 ^ 40
-    pub close : CanClose ring e closed xs
-    pub were : CellsAre cells closed
-
-  -- photons xs of one bin may come, after all that came
-  pub record CanPut (l : Level) (e : Entry) (closed open' xs : History) : Type 0 where
-    pub few : length closed + length open' + length xs ≤ 2 ^ 40
-    pub was : LevelIs l closed open'
-    pub is_bin : IsBin e xs
-    pub after : AllByRecursion (λ x. bin level x ≤ e.index) (closed ++ open')
-
-  -- they came, and joined the open bin, or closed it
-  abbrev pub Put : Level → Option Entry → History → History → History → Type 0
-  Put l None closed open' xs = LevelIs l closed (open' ++ xs)
-  Put l (Some e) closed open' xs = LevelIs l (closed ++ open') xs × IsBin e open' × AllByRecursion (λ x. bin level x < e.index) closed
-
   -- its open bin may be closed
   pub record CanFinish (l : Level) (closed open' : History) : Type 0 where
     pub few : length closed + length open' ≤ 2 ^ 40
@@ -99,13 +81,6 @@ Chain set level (l ∷ ls) came = (closed : History) × (open' : History) × (ca
 abbrev pub Complete : CorrelationView → ℕ → List Level → History → Type 0
 Complete set level [] came = ⊤
 Complete set level (l ∷ ls) came = LevelDone set level l came × Complete set (suc level) ls came
-
--- photons xs of one bin may come to a level and those above it, after all that came
-pub record CanCarry (set : CorrelationView) (level : ℕ) (ls : List Level) (e : Entry) (came xs : History) : Type 0 where
-  pub few : length came + length xs ≤ 2 ^ 40
-  pub chain : Chain set level ls came
-  pub is_bin : IsBin set level e xs
-  pub after : AllByRecursion (λ x. bin level x ≤ e.index) came
 
 -- the open bins may be closed, from the first level upwards
 pub record CanEnd (set : CorrelationView) (level : ℕ) (ls : List Level) (came : History) : Type 0 where

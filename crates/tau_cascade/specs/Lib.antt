@@ -2,6 +2,9 @@ pub mod Correlation
 pub mod Work
 pub mod Opens
 pub mod Levels
+pub mod Paired
+pub mod Dense
+pub mod Bins
 pub mod StandsFor
 pub mod Cascade
 pub mod Laws

@@ -1,46 +1,95 @@
 // What goes from level to level.
-ghost use Rattle.std.specs.Prelude.{◌≡◌, ◌+◌, ◌≤◌, ◌∷◌, ◌++◌, length};
+ghost use Rattle.std.specs.Prelude.{◌≡◌, ◌+◌, ◌<◌, ◌≤◌, ◌∷◌, ◌++◌, length, take, drop};
 ghost use Rattle.tally_base.specs.Settings.{correlation_view};
 ghost use Rattle.tally_base.specs.Tally.{History};
-ghost use Rattle.tau_cascade.specs.Levels.{CanCarry, CanEnd, Chain, Complete, LevelDone, spent};
+ghost use Rattle.tau_cascade.specs.Levels.{CanEnd, Chain, Complete, LevelDone, spent};
+ghost use Rattle.tau_cascade.specs.Bins.{stretch, IsSpaced, CanCome};
 
-use crate::level::Level;
+use crate::level::{Closed, Level};
 use lag_ring::Entry;
 use std::sync::ledger::Ledger;
 use tally_base::{CorrelationSet, Steps};
 
-/// Gives a bin to the first of these levels, and the bin that this closes to the next, and so on.
-///
-/// The bin comes as three numbers, so that the call of itself, which is the last thing it does, is a loop when it runs.
-pub(crate) fn carry<L: Ledger>(
+/// Bins that come to a level.
+#[derive(Clone, Copy)]
+pub(crate) struct Coming {
+    /// Where they are in their list.
+    pub(crate) closed: Closed,
+    /// Each is meant so many levels up from where it stands in the list.
+    pub(crate) levels: u32,
+    /// A distance that no two of them fall below, as they stand in the list, or 0.
+    pub(crate) apart: u64,
+}
+
+/// Gives bins of a list to the first of these levels, and those that this closes to the next level, and so
+/// on. What is in `bins` and `spare` is lost.
+pub(crate) fn carry_all<L: Ledger>(
     levels: &mut [Level],
     set: &CorrelationSet,
     level: u32,
-    index: u64,
-    a: u64,
-    b: u64,
+    bins: &mut [Entry],
+    coming: Coming,
+    spare: &mut [Entry],
     steps: &mut Steps<L>,
 )
-    requires stands { ∥ ((came : History) × (xs : History) × CanCarry (correlation_view set.now)
-        level levels.old (record { index = index; a = a; b = b }) came xs) ∥₁ }
+    requires sized { (length bins.old ≡ 192) × (length spare.old ≡ 192) }
+    requires places { (coming.closed.from ≤ 128) × (coming.closed.count ≤ 64) }
+    requires up { coming.levels ≤ level + 1 }
+    requires spaced { 0 < coming.apart → IsSpaced coming.apart
+        (take coming.closed.count (drop coming.closed.from bins.old)) }
+    requires stands { ∥ ((came : History) × (xs : History) × CanCome (correlation_view set.now) level
+        levels.old (stretch coming.closed.from coming.closed.count coming.levels bins.old) came xs) ∥₁ }
     requires depth { level + length levels.old ≤ 40 }
-    ensures follows { (came xs : History) → CanCarry (correlation_view set.now)
-        level levels.old (record { index = index; a = a; b = b }) came xs → Chain (correlation_view set.now) level levels.new (came ++ xs) }
+    ensures follows { (came xs : History) → CanCome (correlation_view set.now) level
+        levels.old (stretch coming.closed.from coming.closed.count coming.levels bins.old) came xs
+        → Chain (correlation_view set.now) level levels.new (came ++ xs) }
     ensures steps { steps.new + spent levels.old ≡ steps.old + spent levels.new }
 {
-    if let Some((first, rest)) = levels.split_first_mut() {
-        if let Some(closed) = first.put(set, level, Entry { index, a, b }, steps) {
-            carry(
-                rest,
-                set,
-                level + 1,
-                closed.index / 2,
-                closed.a,
-                closed.b,
-                steps,
-            );
+    let Closed { from, count } = coming.closed;
+    let up = coming.levels;
+    if count > 0 {
+        if let Some((first, rest)) = levels.split_first_mut() {
+            match first.alone(set, bins[from].index, reach(from, coming.apart), up) {
+                Some(alone) => {
+                    first.pass(set, &alone.open, bins, coming.closed, up);
+                    let next = Coming {
+                        closed: Closed {
+                            from: from - 1,
+                            count,
+                        },
+                        levels: up + 1,
+                        apart: alone.apart,
+                    };
+                    carry_all(rest, set, level + 1, bins, next, spare, steps);
+                }
+                None => {
+                    let closed = first.take(
+                        set,
+                        level,
+                        &bins[from..from + count],
+                        up,
+                        spare,
+                        steps,
+                    );
+                    let next = Coming {
+                        closed,
+                        levels: 1,
+                        apart: 0,
+                    };
+                    carry_all(rest, set, level + 1, spare, next, bins, steps);
+                }
+            }
         }
     }
+}
+
+/// The distance, where there is a place before the first bin, or 0.
+#[inline(always)]
+fn reach(from: usize, apart: u64) -> u64
+    ensures value { 0 < result → result ≡ apart }
+    ensures place { 0 < result → 0 < from }
+{
+    if from > 0 { apart } else { 0 }
 }
 
 /// Closes the open bin of a level, and gives it to the levels above.
@@ -58,7 +107,14 @@ fn end_first<L: Ledger>(
     ensures steps { steps.new + (first.old.cells.added + spent rest.old) ≡ steps.old + (first.new.cells.added + spent rest.new) }
 {
     if let Some(last) = first.end(set, level, steps) {
-        carry(rest, set, level + 1, last.index / 2, last.a, last.b, steps);
+        let mut bins = [last; 192];
+        let mut spare = [last; 192];
+        let one = Coming {
+            closed: Closed { from: 0, count: 1 },
+            levels: 1,
+            apart: 0,
+        };
+        carry_all(rest, set, level + 1, &mut bins, one, &mut spare, steps);
     }
 }
 

@@ -3,11 +3,15 @@ ghost use Rattle.std.specs.Prelude.{◌≡◌, ◌+◌, ◌^◌, ◌<◌, ◌≤
 ghost use Rattle.tally_base.specs.Settings.{correlation_view};
 ghost use Rattle.tally_base.specs.Tally.{History};
 ghost use Rattle.tau_cascade.specs.Correlation.{photons_of};
+ghost use Rattle.event_block.specs.Columns.{events_in, IsSorted};
 ghost use Rattle.tau_cascade.specs.StandsFor.{StandsFor, CanGive};
 ghost use Rattle.tau_cascade.specs.Levels.{Chain, spent};
+ghost use Rattle.tau_cascade.specs.Bins.{CanGiveBlock};
 
-use crate::carry::{carry, end_all};
-use crate::level::{Level, skipped_lags};
+use crate::bins::{gather, spacing};
+use crate::carry::{Coming, carry_all, end_all};
+use crate::level::{Closed, Level, skipped_lags};
+use event_block::Block;
 use lag_ring::{Entry, PairCells};
 use std::alloc::{AllocError, Global};
 use std::sync::ledger::Ledger;
@@ -32,9 +36,11 @@ pub struct Cascade {
 }
 
 impl Cascade {
-    ghost use Rattle.std.specs.Prelude.{◌≡◌, ◌-◌, ◌<◌, ◌≤◌, true, IfOk, None, Some, slice_index};
+    ghost use Rattle.std.specs.Prelude.{◌≡◌, ◌+◌, ◌-◌, ◌<◌, ◌≤◌, ◌^◌, ◌++◌, true, IfOk, None, Some, length, slice_index};
     ghost use Rattle.std.specs.Option.{ForSome, option_map};
     ghost use Rattle.tally_base.specs.Settings.PartSettings.{CorrelationSettings};
+    ghost use Rattle.event_block.specs.Columns.{gathered, events_in, IsSorted};
+    ghost use Rattle.event_block.specs.Order.{floor_after, InOrder};
     ghost use Rattle.tau_cascade.specs.Cascade.{Holds, cells_at, ring_at, open_at, set_of, spent_by, added_below};
     ghost use Rattle.tau_cascade.specs.Correlation.{correlation, lag_count, skipped_lags};
     ghost use Rattle.tau_cascade.specs.Opens.{open_bin};
@@ -61,6 +67,30 @@ impl Cascade {
             floor: 0,
             closed: false,
         })
+    }
+
+    /// Takes the events of a block, as `event` does one by one.
+    pub fn events<L: Ledger>(&mut self, block: &Block, steps: &mut Steps<L>)
+        requires sorted { IsSorted block.now }
+        requires open { ⟦<Cascade as Tally>⟧.closed self.old ≡ false }
+        requires room { ⟦<Cascade as Tally>⟧.taken self.old + length (gathered block.now) ≤ 2 ^ 40 }
+        requires in_order { InOrder false (⟦<Cascade as Tally>⟧.floor self.old)
+            (gathered block.now) }
+        ensures follows { (h : History) → Holds self.old h
+            → Holds self.new (h ++ events_in block.now) }
+        ensures still_open { ⟦<Cascade as Tally>⟧.closed self.new ≡ false }
+        ensures more { ⟦<Cascade as Tally>⟧.taken self.new
+            ≡ ⟦<Cascade as Tally>⟧.taken self.old + length (gathered block.now) }
+        ensures moved { ⟦<Cascade as Tally>⟧.floor self.new
+            ≡ floor_after false (⟦<Cascade as Tally>⟧.floor self.old) (gathered block.now) }
+        ensures same_settings { ⟦<Cascade as Tally>⟧.settings self.new
+            ≡ ⟦<Cascade as Tally>⟧.settings self.old }
+        ensures same_set { set_of self.new ≡ set_of self.old }
+        ensures steps { steps.new + spent_by self.old ≡ steps.old + spent_by self.new }
+    {
+        self.taken += block.len() as u64;
+        self.floor = block.floor_after(false, self.floor);
+        give_block(&mut self.levels, &self.set, block, steps);
     }
 
     /// What it was opened with.
@@ -144,9 +174,54 @@ fn give<L: Ledger>(
         let a = is_in(groups, set.first);
         let b = is_in(groups, set.second);
         if a || b {
-            carry(levels, set, 0, e.time, u64::from(a), u64::from(b), steps);
+            let bin = Entry {
+                index: e.time,
+                a: u64::from(a),
+                b: u64::from(b),
+            };
+            let mut bins = [bin; 192];
+            let mut spare = [bin; 192];
+            let one = Coming {
+                closed: Closed { from: 0, count: 1 },
+                levels: 0,
+                apart: 0,
+            };
+            carry_all(levels, set, 0, &mut bins, one, &mut spare, steps);
         }
     }
+}
+
+/// Gives the events of a block to the levels.
+fn give_block<L: Ledger>(
+    levels: &mut [Level],
+    set: &CorrelationSet,
+    block: &Block,
+    steps: &mut Steps<L>,
+)
+    requires sorted { IsSorted block.now }
+    requires stands { ∥ ((h : History)
+        × CanGiveBlock (correlation_view set.now) levels.old block.now h) ∥₁ }
+    requires depth { length levels.old ≤ 40 }
+    ensures same { length levels.new ≡ length levels.old }
+    ensures follows { (h : History) → CanGiveBlock (correlation_view set.now) levels.old block.now h
+        → Chain (correlation_view set.now) 0 levels.new
+        (photons_of (correlation_view set.now) (h ++ events_in block.now)) }
+    ensures steps { steps.new + spent levels.old ≡ steps.old + spent levels.new }
+{
+    let none = Entry {
+        index: 0,
+        a: 0,
+        b: 0,
+    };
+    let mut bins = [none; 192];
+    let mut spare = [none; 192];
+    let count = gather(set, block, &mut bins, 40);
+    let all = Coming {
+        closed: Closed { from: 40, count },
+        levels: 0,
+        apart: spacing(&bins[40..40 + count]),
+    };
+    carry_all(levels, set, 0, &mut bins, all, &mut spare, steps);
 }
 
 impl Tally for Cascade {

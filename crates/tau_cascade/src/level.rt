@@ -1,12 +1,14 @@
 // One level: its open bin, the ring of its last closed bins, and its cells.
-ghost use Rattle.std.specs.Prelude.{◌≡◌, ℕ, ◌+◌, ◌-◌, ◌*◌, ◌^◌, ◌<◌, ◌≤◌, ◌++◌, length, slice_index, if◌then◌else◌, ◌==◌, ◌&&◌, nat_lt, nat_le};
+ghost use Rattle.std.specs.Prelude.{◌≡◌, ◌+◌, ◌<◌, ◌≤◌, ◌++◌, filter, length, nat_le, take, drop};
 ghost use Rattle.std.specs.List.{AllByRecursion};
-ghost use Rattle.lag_ring.specs.Ring.{IsRising};
-ghost use Rattle.tally_base.specs.Settings.{CorrelationView, correlation_view};
+ghost use Rattle.lag_ring.specs.Ring.{IsRising, ring as ring_of};
+ghost use Rattle.tally_base.specs.Settings.{correlation_view};
 ghost use Rattle.tally_base.specs.Tally.{History};
 ghost use Rattle.tau_cascade.specs.Correlation.{skipped_lags};
-ghost use Rattle.tau_cascade.specs.Levels.{weight_before, entries_at_lags, RingIs, CellsAre, CanClose, CanShut};
+ghost use Rattle.tau_cascade.specs.Levels.{RingIs, CellsAre};
 
+use crate::bins::{lay_out, merge_onto, raised};
+use crate::pairing::pair_all;
 use lag_ring::{Entry, LagRing, PairCells};
 use std::alloc::{AllocError, Global};
 use std::sync::ledger::Ledger;
@@ -23,6 +25,23 @@ pub struct Level {
     pub(crate) cells: PairCells,
 }
 
+/// Where the bins are that a level closed.
+#[derive(Clone, Copy)]
+pub(crate) struct Closed {
+    /// The place of the first.
+    pub(crate) from: usize,
+    /// How many there are.
+    pub(crate) count: usize,
+}
+
+/// An open bin that is out of reach of what is before it and behind it.
+#[derive(Clone, Copy)]
+pub(crate) struct Alone {
+    pub(crate) open: Entry,
+    /// A distance that no two neighbours fall below, with this bin before the others.
+    pub(crate) apart: u64,
+}
+
 /// How many of the first lags a level leaves to those below it: its own are above them.
 pub(crate) fn skipped_lags(set: &CorrelationSet, level: u32) -> u32
     ensures skipped { result ≡ skipped_lags (correlation_view set.now) level }
@@ -31,157 +50,44 @@ pub(crate) fn skipped_lags(set: &CorrelationSet, level: u32) -> u32
     if level == 0 { 0 } else { set.lags / 2 }
 }
 
-/// Adds the pairs of so many photons of an earlier bin and so many of a later one to the cell of their lag,
-/// where the level has that lag.
+/// The place of the bin from which on none is before an index.
 #[inline(always)]
-fn add_at_lag<L: Ledger>(
-    cells: &mut PairCells,
-    skipped: u32,
-    lags: u32,
-    lag: u64,
-    earlier: u64,
-    later: u64,
-    steps: &mut Steps<L>,
-)
-    requires lags { (skipped ≤ lags) × (length cells.old.cells ≡ lags - skipped) }
-    requires sum { skipped < lag → lag ≤ lags
-        → slice_index cells.old.cells (lag - skipped - 1) + earlier * later ≤ 2 ^ 80 }
-    requires count { skipped < lag → lag ≤ lags → cells.old.added < 2 ^ 64 - 1 }
-    ensures cells { (p : ℕ) → p < lags - skipped → slice_index cells.new.cells p
-        ≡ slice_index cells.old.cells p + (if p + skipped + 1 == lag then earlier * later else 0) }
-    ensures same { length cells.new.cells ≡ length cells.old.cells }
-    ensures added { cells.new.added
-        ≤ cells.old.added + (if nat_lt skipped lag && nat_le lag lags then 1 else 0) }
-    ensures steps { steps.new + cells.old.added ≡ steps.old + cells.new.added }
+fn first_kept(bins: &[Entry], before: u64) -> usize
+    requires { IsRising bins.now }
+    ensures within { result ≤ length bins.now }
+    ensures left { AllByRecursion (λ e. e.index < before) (take result bins.now) }
+    ensures kept { AllByRecursion (λ e. before ≤ e.index) (drop result bins.now) }
 {
-    if lag > u64::from(skipped) && lag <= u64::from(lags) {
-        let pairs = u128::from(earlier) * u128::from(later);
-        cells.add((lag - u64::from(skipped) - 1) as u32, pairs, steps);
-    }
-}
-
-/// Pairs photons of the bin at `index`, of which `weight` are in the second group, with those of earlier
-/// entries at the lags above `skipped` and up to `lags`. From the first entry on that is nearer, all are.
-#[inline(always)]
-fn pair_entries<L: Ledger>(
-    cells: &mut PairCells,
-    skipped: u32,
-    lags: u32,
-    index: u64,
-    weight: u64,
-    entries: &[Entry],
-    steps: &mut Steps<L>,
-)
-    requires lags { (skipped ≤ lags) × (length cells.old.cells ≡ lags - skipped) }
-    requires rising { IsRising entries.now }
-    requires after { AllByRecursion (λ e. e.index < index) entries.now }
-    requires fits { (p : ℕ) → p < lags - skipped → slice_index cells.old.cells p
-        + weight_before (p + skipped + 1) index entries.now * weight ≤ 2 ^ 80 }
-    requires count { cells.old.added + entries_at_lags skipped lags index entries.now < 2 ^ 64 }
-    ensures cells { (p : ℕ) → p < lags - skipped → slice_index cells.new.cells p
-        ≡ slice_index cells.old.cells p
-        + weight_before (p + skipped + 1) index entries.now * weight }
-    ensures same { length cells.new.cells ≡ length cells.old.cells }
-    ensures added { cells.new.added
-        ≤ cells.old.added + entries_at_lags skipped lags index entries.now }
-    ensures steps { steps.new + cells.old.added ≡ steps.old + cells.new.added }
-{
-    for e in entries {
-        let lag = index - e.index;
-        if lag <= u64::from(skipped) {
-            return;
+    let mut start = bins.len();
+    'back: while start > 0 {
+        if bins[start - 1].index < before {
+            return start;
         }
-        add_at_lag(cells, skipped, lags, lag, e.a, weight, steps);
+        start -= 1;
     }
+    start
 }
 
-/// Pairs photons of the bin at `index`, of which `weight` are in the second group, with the entries at the
-/// lags above `skipped` and up to `lags`.
+/// Puts into a ring those of the bins that are not before an index, and removes what is before it.
 #[inline(always)]
-fn pair<L: Ledger>(
-    ring: &LagRing,
-    cells: &mut PairCells,
-    skipped: u32,
-    lags: u32,
-    index: u64,
-    weight: u64,
-    steps: &mut Steps<L>,
-)
-    requires lags { (skipped ≤ lags) × (length cells.old.cells ≡ lags - skipped) }
-    requires after { AllByRecursion (λ e. e.index < index) ring.now.entries }
-    requires fits { (p : ℕ) → p < lags - skipped → slice_index cells.old.cells p
-        + weight_before (p + skipped + 1) index ring.now.entries * weight ≤ 2 ^ 80 }
-    requires count { cells.old.added + entries_at_lags skipped lags index ring.now.entries < 2 ^ 64 }
-    ensures cells { (p : ℕ) → p < lags - skipped → slice_index cells.new.cells p
-        ≡ slice_index cells.old.cells p
-        + weight_before (p + skipped + 1) index ring.now.entries * weight }
-    ensures same { length cells.new.cells ≡ length cells.old.cells }
-    ensures added { cells.new.added
-        ≤ cells.old.added + entries_at_lags skipped lags index ring.now.entries }
-    ensures steps { steps.new + cells.old.added ≡ steps.old + cells.new.added }
+fn keep_all(ring: &mut LagRing, bins: &[Entry], before: u64)
+    requires rising { IsRising (ring.old.entries ++ bins.now) }
+    requires room { length (filter (λ e. nat_le before e.index) (ring.old.entries ++ bins.now))
+        ≤ ring.old.reach }
+    ensures { ring.new ≡ ring_of
+        (filter (λ e. nat_le before e.index) (ring.old.entries ++ bins.now))
+        ring.old.reach }
 {
-    let (front, back) = ring.slices();
-    pair_entries(cells, skipped, lags, index, weight, front, steps);
-    pair_entries(cells, skipped, lags, index, weight, back, steps);
-}
-
-/// Puts a closed bin into the ring, in place of those that no later photon reaches.
-#[inline(always)]
-fn keep(ring: &mut LagRing, set: &CorrelationSet, bin: &Entry)
-    requires stands { ∥ ((level : ℕ) × (closed : History) × (xs : History)
-        × CanClose (correlation_view set.now) level ring.old bin.now closed xs) ∥₁ }
-    ensures follows { (level : ℕ) (closed xs : History)
-        → CanClose (correlation_view set.now) level ring.old bin.now closed xs
-        → RingIs (correlation_view set.now) level ring.new (closed ++ xs) }
-{
-    ring.retire(bin.index.saturating_sub(u64::from(set.lags) - 1));
-    ring.push(bin.index, bin.a, bin.b);
-}
-
-/// Pairs a bin that is closed with those that were closed before.
-#[inline(always)]
-fn pair_bin<L: Ledger>(
-    ring: &LagRing,
-    cells: &mut PairCells,
-    set: &CorrelationSet,
-    level: u32,
-    bin: &Entry,
-    steps: &mut Steps<L>,
-)
-    requires stands { ∥ ((closed : History) × (xs : History)
-        × CanShut (correlation_view set.now) level ring.now cells.old bin.now closed xs) ∥₁ }
-    ensures follows { (closed xs : History)
-        → CanShut (correlation_view set.now) level ring.now cells.old bin.now closed xs
-        → CellsAre (correlation_view set.now) level cells.new (closed ++ xs) }
-    ensures steps { steps.new + cells.old.added ≡ steps.old + cells.new.added }
-{
-    if bin.b > 0 {
-        pair(
-            ring,
-            cells,
-            skipped_lags(set, level),
-            set.lags,
-            bin.index,
-            bin.b,
-            steps,
-        );
+    ring.retire(before);
+    for bin in &bins[first_kept(bins, before)..] {
+        ring.push(bin.index, bin.a, bin.b);
     }
-}
-
-/// Puts a closed bin into the ring, which has no other that it reaches.
-#[inline(always)]
-fn begin(ring: &mut LagRing, bin: &Entry)
-    ensures ring { (set : CorrelationView) (level : ℕ) (closed xs : History) → 0 < set.lags
-        → AllByRecursion (λ e. e.index + set.lags < bin.now.index) ring.old.entries
-        → CanClose set level ring.old bin.now closed xs
-        → RingIs set level ring.new (closed ++ xs) }
-{
-    ring.restart(bin.index, bin.a, bin.b);
 }
 
 impl Level {
-    ghost use Rattle.std.specs.Prelude.{◌++◌, [], IfOk};
-    ghost use Rattle.tau_cascade.specs.Levels.{LevelIs, CanPut, Put, CanFinish, Finished};
+    ghost use Rattle.std.specs.Prelude.{ℕ, ◌*◌, ◌/◌, ◌^◌, ◌-◌, ◌∷◌, ◌++◌, [], IfOk, IfSome, Some, map, slice_set};
+    ghost use Rattle.tau_cascade.specs.Levels.{LevelIs, CanFinish, Finished};
+    ghost use Rattle.tau_cascade.specs.Bins.{raised, lowered, stretch, IsSpaced, CanShutAll, CanTake, Took};
 
     /// A level to which nothing came, or `AllocError` where memory for it is wanting.
     pub(crate) fn open(alloc: Global, set: &CorrelationSet, level: u32) -> Result<Level, AllocError>
@@ -195,72 +101,155 @@ impl Level {
         })
     }
 
-    /// Pairs a bin with the closed ones, and puts it among them. Where the last of those is out of reach,
-    /// which is the most frequent case, there is no pair.
-    #[inline(always)]
-    fn shut<L: Ledger>(
+    /// Pairs the bins of a list from `start` on with the closed ones, which stand before them as far as the
+    /// ring has them, and with one another. Puts them among the closed ones.
+    fn shut_all<L: Ledger>(
         &mut self,
         set: &CorrelationSet,
         level: u32,
-        bin: &Entry,
+        list: &[Entry],
+        start: usize,
         steps: &mut Steps<L>,
     )
-        requires stands { ∥ ((closed : History) × (xs : History) × CanShut
-            (correlation_view set.now) level self.old.ring self.old.cells bin.now closed xs) ∥₁ }
-        ensures ring { (closed xs : History)
-            → CanClose (correlation_view set.now) level self.old.ring bin.now closed xs
+        requires start { start ≤ length list.now }
+        requires ring { take start list.now ≡ self.old.ring.entries }
+        requires stands { ∥ ((closed : History) × (xs : History) × CanShutAll
+            (correlation_view set.now) level self.old.ring self.old.cells (drop start list.now)
+            closed xs) ∥₁ }
+        ensures ring { (closed xs : History) → CanShutAll
+            (correlation_view set.now) level self.old.ring self.old.cells (drop start list.now)
+            closed xs
             → RingIs (correlation_view set.now) level self.new.ring (closed ++ xs) }
-        ensures cells { (closed xs : History) → CanShut
-            (correlation_view set.now) level self.old.ring self.old.cells bin.now closed xs
+        ensures cells { (closed xs : History) → CanShutAll
+            (correlation_view set.now) level self.old.ring self.old.cells (drop start list.now)
+            closed xs
             → CellsAre (correlation_view set.now) level self.new.cells (closed ++ xs) }
         ensures open { self.new.open ≡ self.old.open }
         ensures steps { steps.new + self.old.cells.added ≡ steps.old + self.new.cells.added }
     {
-        if bin.index.saturating_sub(self.ring.newest()) > u64::from(set.lags) {
-            begin(&mut self.ring, bin);
-        } else {
-            pair_bin(&self.ring, &mut self.cells, set, level, bin, steps);
-            keep(&mut self.ring, set, bin);
+        let bins = &list[start..];
+        if let Some(last) = bins.last() {
+            let skipped = skipped_lags(set, level);
+            pair_all(&mut self.cells, skipped, set.lags, list, start, steps);
+            let before = last.index.saturating_sub(u64::from(set.lags) - 1);
+            keep_all(&mut self.ring, bins, before);
         }
     }
 
-    /// Takes photons of one bin, none of them before one that came. They join the open bin, or close it:
-    /// the answer is the bin that was closed.
-    #[inline(always)]
-    pub(crate) fn put<L: Ledger>(
+    /// Takes bins, one after the other and none before what came, each as many levels up as `levels` says.
+    /// Puts those that this closes into `list`, and answers where they are.
+    pub(crate) fn take<L: Ledger>(
         &mut self,
         set: &CorrelationSet,
         level: u32,
-        bin: Entry,
+        came: &[Entry],
+        levels: u32,
+        list: &mut [Entry],
         steps: &mut Steps<L>,
-    ) -> Option<Entry>
-        requires stands { ∥ ((closed : History) × (open' : History) × (xs : History)
-            × CanPut (correlation_view set.now) level self.old bin closed open' xs) ∥₁ }
-        ensures follows { (closed open' xs : History)
-            → CanPut (correlation_view set.now) level self.old bin closed open' xs
-            → Put (correlation_view set.now) level self.new result closed open' xs }
+    ) -> Closed
+        requires some { 0 < length came.now }
+        requires levels { levels < 64 }
+        requires room { 128 + length came.now ≤ length list.old }
+        requires stands { ∥ ((shut : History) × (open' : History) × (xs : History)
+            × CanTake (correlation_view set.now) level self.old (map (raised levels) came.now)
+            shut open' xs) ∥₁ }
+        ensures follows { (shut open' xs : History)
+            → CanTake (correlation_view set.now) level self.old (map (raised levels) came.now)
+            shut open' xs
+            → (done : History) × (now : History) × Took (correlation_view set.now) level self.new
+            (take result.count (drop result.from list.new)) shut open' xs done now }
+        ensures few { result.count ≤ length came.now }
+        ensures early { result.from ≤ 128 }
         ensures steps { steps.new + self.old.cells.added ≡ steps.old + self.new.cells.added }
     {
+        let from = lay_out(&self.ring, list);
+        let merged = merge_onto(&self.open, came, levels, list, from);
+        self.open = Some(merged.open);
+        self.shut_all(set, level, &list[..from + merged.closed], from, steps);
+        Closed {
+            from,
+            count: merged.closed,
+        }
+    }
+
+    /// The open bin, where it is further from the ring and from the bin that comes first than the lags, and
+    /// no two of those that come are nearer: `first` is the index of the first, and `apart` a distance of
+    /// neighbours, both so many levels down.
+    #[inline(always)]
+    pub(crate) fn alone(
+        &self,
+        set: &CorrelationSet,
+        first: u64,
+        apart: u64,
+        levels: u32,
+    ) -> Option<Alone>
+        requires { levels < 64 }
+        ensures is { IfSome result (λ alone. self.now.open ≡ Some alone.open) }
+        ensures behind { IfSome result (λ alone. AllByRecursion
+            (λ e. e.index + set.now.lags < alone.open.index) self.now.ring.entries) }
+        ensures before { IfSome result
+            (λ alone. alone.open.index + set.now.lags < first / 2 ^ levels) }
+        ensures apart { IfSome result (λ alone. set.now.lags < apart / 2 ^ levels) }
+        ensures nearer { IfSome result (λ alone. alone.apart ≤ apart) }
+        ensures next { IfSome result
+            (λ alone. alone.open.index * 2 ^ levels + alone.apart ≤ first) }
+    {
+        let lags = u64::from(set.lags);
         match self.open {
             Some(open) => {
-                if open.index == bin.index {
-                    self.open = Some(Entry {
-                        index: open.index,
-                        a: open.a + bin.a,
-                        b: open.b + bin.b,
-                    });
-                    None
+                if apart >> levels > lags
+                    && (first >> levels).saturating_sub(open.index) > lags
+                    && open.index.saturating_sub(self.ring.newest()) > lags
+                {
+                    let apart = apart.min(first - (open.index << levels));
+                    Some(Alone { open, apart })
                 } else {
-                    self.shut(set, level, &open, steps);
-                    self.open = Some(bin);
-                    Some(open)
+                    None
                 }
             }
-            None => {
-                self.open = Some(bin);
-                None
-            }
+            None => None,
         }
+    }
+
+    /// Takes bins that reach one another at no lag, nor the open one, nor that one the ring: the open bin
+    /// goes before them in the list, and the last of them is open.
+    #[inline(always)]
+    pub(crate) fn pass(
+        &mut self,
+        set: &CorrelationSet,
+        first: &Entry,
+        bins: &mut [Entry],
+        closed: Closed,
+        levels: u32,
+    )
+        requires places { (0 < closed.from) × (0 < closed.count)
+            × (closed.from + closed.count ≤ length bins.old) }
+        requires levels { levels < 64 }
+        requires fits { first.now.index * 2 ^ levels < 2 ^ 64 }
+        requires is { self.old.open ≡ Some first.now }
+        requires spaced { IsSpaced (set.now.lags + 1)
+            (first.now ∷ stretch closed.from closed.count levels bins.old) }
+        requires behind { AllByRecursion
+            (λ e. e.index + set.now.lags < first.now.index) self.old.ring.entries }
+        ensures follows { (level : ℕ) (shut open' xs : History)
+            → CanTake (correlation_view set.now) level self.old
+            (stretch closed.from closed.count levels bins.old) shut open' xs
+            → (done : History) × (now : History) × Took (correlation_view set.now) level self.new
+            (stretch (closed.from - 1) closed.count levels bins.new) shut open' xs done now }
+        ensures bins { bins.new
+            ≡ slice_set bins.old (closed.from - 1) (lowered levels first.now) }
+        ensures added { self.new.cells.added ≡ self.old.cells.added }
+    {
+        let Closed { from, count } = closed;
+        let last = raised(&bins[from + count - 1], levels);
+        bins[from - 1] = Entry {
+            index: first.index << levels,
+            a: first.a,
+            b: first.b,
+        };
+        let shut = raised(&bins[from + count - 2], levels);
+        self.ring.restart(shut.index, shut.a, shut.b);
+        self.open = Some(last);
     }
 
     /// Closes the open bin, and answers it.
@@ -279,7 +268,10 @@ impl Level {
     {
         match self.open {
             Some(last) => {
-                self.shut(set, level, &last, steps);
+                let mut list = [last; 129];
+                let from = lay_out(&self.ring, &mut list);
+                list[from] = last;
+                self.shut_all(set, level, &list[..from + 1], from, steps);
                 self.open = None;
                 Some(last)
             }

@@ -1,8 +1,11 @@
 // Cells of known events, where memory is had.
-ghost use Rattle.std.specs.Prelude.{◌≡◌, ◌<◌, ◌≤◌, ◌%◌, IfOk, length, true, false};
+ghost use Rattle.std.specs.Prelude.{◌≡◌, ◌+◌, ◌<◌, ◌≤◌, ◌%◌, ◌∷◌, ◌++◌, [], IfOk, length, true, false};
+ghost use Rattle.event_block.specs.Columns.{gathered, IsSorted};
+ghost use Rattle.event_block.specs.Order.{floor_after, InOrder};
 ghost use Rattle.tau_cascade.specs.Cascade.{set_of};
 
 use super::Cascade;
+use event_block::Block;
 use std::alloc::Global;
 use std::marker::Brand;
 use std::process::Abort;
@@ -74,6 +77,85 @@ fn given<L: Ledger>(
         };
         table.event(&event, groups, steps);
     }
+    Ok(table)
+}
+
+/// The groups of an event by its code: a marker is in none.
+fn groups_of(code: u16, groups: u64) -> u64
+    ensures marker { 256 ≤ code → result ≡ 0 }
+    ensures photon { code < 256 → result ≡ groups }
+{
+    if code < 256 { groups } else { 0 }
+}
+
+/// Puts an event behind those of a block.
+fn put_event(block: &mut Block, event: &Event, groups: u64)
+    requires room { length (gathered block.old) < 64 }
+    requires sorted { IsSorted block.old }
+    ensures more { gathered block.new ≡ gathered block.old ++ event.now ∷ [] }
+    ensures sorted { IsSorted block.new }
+{
+    let at = block.len();
+    block.push(event);
+    block.put(at, groups_of(block.code(at), groups));
+}
+
+/// Gives a block to a table, and drops its events, once there are `size` of them.
+fn give_full<L: Ledger>(table: &mut Cascade, block: &mut Block, size: usize, steps: &mut Steps<L>)
+    requires size { size ≤ 64 }
+    requires open { ⟦<Cascade as Tally>⟧.closed table.old ≡ false }
+    requires few { ⟦<Cascade as Tally>⟧.taken table.old + length (gathered block.old) ≤ 100 }
+    requires sorted { IsSorted block.old }
+    requires in_order { InOrder false (⟦<Cascade as Tally>⟧.floor table.old)
+        (gathered block.old) }
+    ensures open { ⟦<Cascade as Tally>⟧.closed table.new ≡ false }
+    ensures all { ⟦<Cascade as Tally>⟧.taken table.new + length (gathered block.new)
+        ≡ ⟦<Cascade as Tally>⟧.taken table.old + length (gathered block.old) }
+    ensures sorted { IsSorted block.new }
+    ensures in_order { InOrder false (⟦<Cascade as Tally>⟧.floor table.new)
+        (gathered block.new) }
+    ensures floor { floor_after false (⟦<Cascade as Tally>⟧.floor table.new) (gathered block.new)
+        ≡ floor_after false (⟦<Cascade as Tally>⟧.floor table.old) (gathered block.old) }
+    ensures room { length (gathered block.new) < 64 }
+    ensures set { set_of table.new ≡ set_of table.old }
+{
+    if block.len() < size {
+        return;
+    }
+    table.events(block, steps);
+    block.clear();
+}
+
+/// A table that was given these events in blocks of `size`, and isn't closed.
+fn given_in_blocks<L: Ledger>(
+    alloc: Global,
+    set: CorrelationSet,
+    events: &[Given],
+    size: usize,
+    steps: &mut Steps<L>,
+) -> Result<Cascade, Fail>
+    requires few { length events.now ≤ 100 }
+    requires size { size ≤ 64 }
+    ensures open { IfOk result (λ t. ⟦<Cascade as Tally>⟧.closed t ≡ false) }
+    ensures set { IfOk result (λ t. set_of t ≡ set) }
+{
+    let mut table = Cascade::open(alloc, set)?;
+    let mut block = Block::new();
+    let mut latest = 0;
+    for &(time, kind, groups) in events {
+        if time < latest || time > END {
+            return Err(Fail::new("the times of a row are out of order"));
+        }
+        latest = time;
+        give_full(&mut table, &mut block, size, steps);
+        let event = Event {
+            place: 1,
+            kind,
+            time,
+        };
+        put_event(&mut block, &event, groups);
+    }
+    table.events(&block, steps);
     Ok(table)
 }
 
@@ -185,6 +267,73 @@ fn agrees(rt: &impl Abort, alloc: Global, row: &Row) -> Result<(), Fail> {
     let table = filled::<Brand>(alloc, Blank::new(1), set, events)?;
     assert_eq!(rt; cells(alloc, &table)?.as_slice(), row.cells, "{set:?}");
     assert_eq!(rt; table.level(0).get(0), table.cell(0, 1));
+    for size in [1, 2, 3, 64] {
+        assert!(rt;
+            same_in_blocks::<Brand>(alloc, Blank::new(1), set, events, size)?,
+            "{size} {set:?}"
+        );
+    }
+    Ok(())
+}
+
+/// Whether two tables have the same open bins.
+fn same_bins(one: &Cascade, other: &Cascade) -> bool
+    requires levels { (set_of one.now).levels ≡ (set_of other.now).levels }
+{
+    for level in 0..one.set().levels {
+        if opened(one, level) != opened(other, level) {
+            return false;
+        }
+    }
+    true
+}
+
+/// Whether events in blocks of `size` come to the open bins and the cells to which they come one by
+/// one.
+fn same_in_blocks<L: Ledger>(
+    alloc: Global,
+    blank: Blank,
+    set: CorrelationSet,
+    events: &[Given],
+    size: usize,
+) -> Result<bool, Fail>
+    requires name { blank.name ≡ L.name }
+    requires parts { blank.parts ≡ L.parts }
+    requires some { 0 < blank.parts }
+    requires few { length events.now ≤ 100 }
+    requires size { size ≤ 64 }
+{
+    let mut steps = Steps::<L>::new(blank);
+    let mut one = given(alloc, set, events, &mut steps)?;
+    let mut other = given_in_blocks(alloc, set, events, size, &mut steps)?;
+    let same = same_bins(&one, &other);
+    one.close(&mut steps);
+    other.close(&mut steps);
+    Ok(same && cells(alloc, &one)?.as_slice() == cells(alloc, &other)?.as_slice())
+}
+
+/// Photons of close ticks, of which some are in both groups.
+fn close_photons(alloc: Global) -> Result<Vec<Given>, Fail>
+    ensures few { IfOk result (λ events. length events.items ≤ 100) }
+{
+    let mut events = Vec::new(alloc);
+    for at in 0..100u64 {
+        events.push((at + at / 7, PHOTON, 1 + at % 3))?;
+    }
+    Ok(events)
+}
+
+#[test]
+fn a_block_means_its_events_one_by_one(rt: HostRuntime) -> Result<(), Fail> {
+    let events = close_photons(rt.alloc())?;
+    for size in [1, 7, 40, 64] {
+        for set in [of_two(8, 1), of_two(16, 6)] {
+            assert!(rt;
+                same_in_blocks::<Brand>(rt.alloc(), Blank::new(1), set, &events, size)?,
+                "{size} {set:?}"
+            );
+        }
+    }
     Ok(())
 }
 
@@ -262,6 +411,17 @@ fn each_pair_is_in_its_cells(rt: HostRuntime) -> Result<(), Fail> {
             set: of_two(4, 2),
             events: &[second(0), second(1), first(2), first(3)],
             cells: &[],
+        },
+        // Photons that are near on the upper levels alone.
+        Row {
+            set: CorrelationSet {
+                first: 1,
+                second: 1,
+                lags: 2,
+                levels: 6,
+            },
+            events: &[first(0), first(20), first(40), first(64), first(100)],
+            cells: &[(3, 2, 1), (4, 2, 3), (5, 2, 3)],
         },
         Row {
             set: of_two(128, 40),

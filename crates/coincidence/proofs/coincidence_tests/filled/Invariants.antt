@@ -1,4 +1,5 @@
 use Rattle.std.proofs.Common.{◌≡◌, ◌≤◌, false}
+use Rattle.coincidence.specs.Coincidence.{set_of}
 use Rattle.coincidence.proofs.coincidence_tests.filled.Given as goal
 
 abbrev pub invariant-loop-time : goal.invariant-loop-time
@@ -6,4 +7,5 @@ invariant-loop-time g l = record {
   not_closed : l.table.closed ≡ false;
   count : l.table.taken ≡ l.time-index;
   early : l.table.floor ≤ l.latest;
+  same : set_of l.table ≡ l.fn.set;
 }

@@ -13,6 +13,6 @@ pub returns-in-Some : goal.returns-in-Some
 returns-in-Some g c = record {
   follows = λ came can.
       let may = end_shut (coincidence_view c.args.set.now) c.args.self.now c.in-Some.open c.in-Some.is came can in
-      rw can.was.2 (record { shut = refl; ring = c.shut.ensures.ring _ _ may; cells = c.shut.ensures.cells _ _ may });
+      rw can.was.2 (record { shut = refl; ring = c.shut.ensures.ring _ _ may.keep; cells = c.shut.ensures.cells _ _ may });
   steps = c.shut.ensures.steps;
 }

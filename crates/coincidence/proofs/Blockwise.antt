@@ -1,0 +1,114 @@
+-- The events of a block for a table of coincidences.
+use Rattle.std.proofs.Common.{◌≡◌, ◌∙◌, ℕ, zero, suc, ◌+◌, ◌^◌, ◌<◌, ◌≤◌, Bool, true, false, ◌&&◌, ◌||◌, List, [], ◌∷◌, ◌++◌, length, refl, sym, ap, arith, length-append, append-nil, append_assoc, ◌⊎◌, ⊎_elim}
+use Rattle.std.specs.Prelude.{nat_lt}
+use Rattle.std.proofs.lemmas.Bool.{false≢true}
+use Rattle.std.proofs.lemmas.List.Elements.{filter-append}
+use Rattle.tally_base.specs.declared.event.Event.{Event}
+use Rattle.tally_base.specs.Events.{is_photon, is_in}
+use Rattle.tally_base.specs.Settings.{CoincidenceView}
+use Rattle.tally_base.specs.Tally.{History, greatest_time}
+use Rattle.event_block.specs.declared.block.Block.{Block}
+use Rattle.event_block.specs.Columns.{rows, item, event_at, code_at, groups_at, time_at, gathered, events_in}
+use Rattle.event_block.specs.Order.{floor_after, InOrder}
+use Rattle.event_block.proofs.Back.{moves_row}
+use Rattle.event_block.proofs.Greatest.{greatest-rows}
+use Rattle.event_block.proofs.Order.{order-front, order-at}
+use Rattle.event_block.proofs.Rows.{length-rows, more_rows}
+use Rattle.coincidence.specs.declared.pairing.Pairing.{Pairing}
+use Rattle.coincidence.specs.Pairs.{photons_of_groups}
+use Rattle.coincidence.specs.declared.pairing.Bin.{Bin}
+use Rattle.coincidence.specs.Pairing.{bin_of, CanPut, Came}
+use Rattle.coincidence.specs.StandsFor.{StandsFor, CanGive, CanTake}
+use Rattle.coincidence.proofs.Gives.{mine, may_put, photons-push}
+use Rattle.coincidence.proofs.Blocks.{in_group}
+
+last_or : (i n : ℕ) → i ≤ suc n → (i ≡ suc n) ⊎ (i ≤ n)
+last_or i n le = grind (arith, le)
+
+-- the first of events in order are in order
+pub order-upto : (strict : Bool) (floor : ℕ) (f : ℕ → Event) (n i : ℕ) → i ≤ n → InOrder strict floor (rows f n) → InOrder strict floor (rows f i)
+order-upto strict floor f zero i le all = let none : i ≡ 0 = omega (arith, le) in rw none tt
+order-upto strict floor f (suc n) i le all =
+    ⊎_elim
+    (λ (is : i ≡ suc n). rw is all)
+    (λ (below : i ≤ n). order-upto strict floor f n i below (order-front strict floor (rows f n) (f n) all))
+    (last_or i n le)
+
+-- the next event of a block may be given
+abbrev pub may_take : (set : CoincidenceView) (p p' : Pairing) (b : Block) (h : History) (at : ℕ) → at < b.len → CanTake set p (gathered b) h → Came set p' (photons_of_groups set (h ++ rows (item b) at)) → CanGive set p' (event_at b at) (h ++ rows (item b) at)
+may_take set p p' b h at inside can came =
+    let floor = greatest_time false h in
+    let next = order-at false floor (event_at b) b.len at inside can.after in
+    let so_far : greatest_time false (h ++ rows (item b) at) ≡ _ = greatest-rows false h (item b) at (order-upto false floor (event_at b) b.len at (omega (arith, inside)) can.after) in
+    record {
+      few = omega (arith, can.few, inside, length-append h (rows (item b) at), length-rows (item b) at, length-rows (event_at b) b.len);
+      was = came;
+      after = λ photon. rw so_far (next.1 photon);
+    }
+
+-- a group that is found is that of a photon
+pub found_photon : (a b c found other : Bool) → found ≡ (a && c) → other ≡ (b && c) → (found || other) ≡ true → c ≡ true
+found_photon a b true found other is also either = refl
+found_photon a b false found other is also either = grind (arith, is, also, either)
+
+-- where none is found, the photons stay the same
+none_found : (a b c found other : Bool) → found ≡ (a && c) → other ≡ (b && c) → (found || other) ≡ false → ((c && a) || (c && b)) ≡ false
+none_found a b true found other is also neither = grind (arith, is, also, neither)
+none_found a b false found other is also neither = refl
+
+pub photons-same : (set : CoincidenceView) (b : Block) (h : History) (at : ℕ) (found other : Bool) → found ≡ (is_in (groups_at b at) set.first && nat_lt (code_at b at) 256) → other ≡ (is_in (groups_at b at) set.second && nat_lt (code_at b at) 256) → (found || other) ≡ false → photons_of_groups set (h ++ item b at ∷ []) ≡ photons_of_groups set h
+photons-same set b h at found other is also neither =
+    let out : mine set (item b at) ≡ false = rw (moves_row false b at) (none_found (is_in (groups_at b at) set.first) (is_in (groups_at b at) set.second) (nat_lt (code_at b at) 256) found other is also neither) in
+    filter-append (mine set) h (item b at ∷ []) ∙ ap (λ xs. photons_of_groups set h ++ xs) (rw out refl) ∙ append-nil (photons_of_groups set h)
+
+pub one_more : (b : Block) (h : History) (at : ℕ) → h ++ rows (item b) (at + 1) ≡ (h ++ rows (item b) at) ++ item b at ∷ []
+one_more b h at = ap (λ xs. h ++ xs) (more_rows (item b) at) ∙ sym (append_assoc h (rows (item b) at) (item b at ∷ []))
+
+-- where none is found, an event brings no photon
+pub came_same : (set : CoincidenceView) (p : Pairing) (b : Block) (h : History) (at : ℕ) (found other : Bool) → found ≡ (is_in (groups_at b at) set.first && nat_lt (code_at b at) 256) → other ≡ (is_in (groups_at b at) set.second && nat_lt (code_at b at) 256) → (found || other) ≡ false
+    → Came set p (photons_of_groups set (h ++ rows (item b) at)) → Came set p (photons_of_groups set (h ++ rows (item b) (at + 1)))
+came_same set p b h at found other is also neither came = rw (one_more b h at, photons-same set b (h ++ rows (item b) at) at found other is also neither) came
+
+-- the next event of a block comes after the photons before it
+pub row_after : (set : CoincidenceView) (p : Pairing) (b : Block) (h : History) (at : ℕ) → at < b.len → CanTake set p (gathered b) h → is_photon (event_at b at) ≡ true → greatest_time false (h ++ rows (item b) at) ≤ time_at b at
+row_after set p b h at inside can photon =
+    let floor = greatest_time false h in
+    let next = order-at false floor (event_at b) b.len at inside can.after in
+    let so_far : greatest_time false (h ++ rows (item b) at) ≡ _ = greatest-rows false h (item b) at (order-upto false floor (event_at b) b.len at (omega (arith, inside)) can.after) in
+    rw so_far (next.1 photon)
+
+module _ (set : CoincidenceView) (p p' : Pairing) (b : Block) (h : History) (at : ℕ) (inside : at < b.len) (can : CanTake set p (gathered b) h) (came : Came set p' (photons_of_groups set (h ++ rows (item b) at))) (found other : Bool) (is : found ≡ (is_in (groups_at b at) set.first && nat_lt (code_at b at) 256)) (also : other ≡ (is_in (groups_at b at) set.second && nat_lt (code_at b at) 256)) (either : (found || other) ≡ true) where
+  seen : nat_lt (code_at b at) 256 ≡ true
+  seen = found_photon (is_in (groups_at b at) set.first) (is_in (groups_at b at) set.second) (nat_lt (code_at b at) 256) found other is also either
+
+  photon : is_photon (event_at b at) ≡ true
+  photon = moves_row false b at ∙ seen
+
+  first : is_in (groups_at b at) set.first ≡ found
+  first = in_group (is_in (groups_at b at) set.first) (nat_lt (code_at b at) 256) found seen is
+
+  second : is_in (groups_at b at) set.second ≡ other
+  second = in_group (is_in (groups_at b at) set.second) (nat_lt (code_at b at) 256) other seen also
+
+  -- a photon of either group may be put
+  pub put_row : (bin : Bin) (time : ℕ) → time ≡ time_at b at → bin ≡ bin_of time found other → CanPut set p' bin came.0 came.1 (item b at ∷ [])
+  put_row bin time at_time is_bin = rw (is_bin, at_time, ← first, ← second) (may_put set p' (event_at b at) (groups_at b at) (h ++ rows (item b) at) (may_take set p p' b h at inside can came) photon)
+
+  -- and is then among those that came
+  pub came_more : (p'' : Pairing) → Came set p'' ((came.0 ++ came.1) ++ item b at ∷ []) → Came set p'' (photons_of_groups set (h ++ rows (item b) (at + 1)))
+  came_more p'' more = rw (one_more b h at, photons-push set (h ++ rows (item b) at) (item b at) photon (rw (first, second) either), came.2) more
+
+-- what a table that isn't closed may take
+pub may_events : (closed : Bool) → closed ≡ false → (set : CoincidenceView) (p : Pairing) (count time : ℕ) (h : History) (es : List Event) → StandsFor closed set p count time h → count + length es ≤ 2 ^ 40 → InOrder false time es → CanTake set p es h
+may_events true open' set p count time h es is few after = absurd (false≢true (sym open'))
+may_events false open' set p count time h es is few after = record { few = omega (arith, few, is.taken); was = is.photons; after = (rw is.floor at after) }
+
+-- what it stands for then
+pub events_count : (closed : Bool) → closed ≡ false → (set : CoincidenceView) (p p' : Pairing) (count time count' time' : ℕ) (h : History) (b : Block) → StandsFor closed set p count time h → InOrder false time (gathered b)
+    → count' ≡ count + b.len → time' ≡ floor_after false time (gathered b) → Came set p' (photons_of_groups set (h ++ events_in b)) → StandsFor closed set p' count' time' (h ++ events_in b)
+events_count true open' set p p' count time count' time' h b is after more moved came = absurd (false≢true (sym open'))
+events_count false open' set p p' count time count' time' h b is after more moved came = record {
+  taken = omega (arith, is.taken, more, length-append h (events_in b), length-rows (item b) b.len);
+  floor = moved ∙ ap (λ n. floor_after false n (gathered b)) is.floor ∙ sym (greatest-rows false h (item b) b.len (rw is.floor at after));
+  photons = came;
+}

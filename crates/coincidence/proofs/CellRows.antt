@@ -1,0 +1,165 @@
+-- The sums of a strip, row by row.
+use Rattle.std.proofs.Common.{◌≡◌, ◌≢◌, ◌∙◌, ℕ, ◌+◌, ◌-◌, ◌*◌, ◌/◌, ◌<◌, ◌≤◌, true, false, ◌&&◌, leb, ltb, eqb, cond, List, length, get_or, take, drop, refl, sym, ap, arith, length-drop}
+use Rattle.std.specs.List.{sum_by, range_with_len}
+use Rattle.std.proofs.lemmas.Grind.{common_steps}
+use Rattle.std.proofs.lemmas.Bool.Decides.{nat_tests}
+use Rattle.std.proofs.lemmas.List.{get_or-drop, get_or_past, take_all}
+use Rattle.tally_base.specs.Settings.{CoincidenceView}
+use Rattle.lag_ring.specs.Cells.{upwards_at, downwards_at}
+use Rattle.lag_ring.proofs.Sums.{sum_by-agree, sum_by-same}
+use Rattle.coincidence.specs.declared.pairing.Direction.TheVariants.{Forward, Backward}
+use Rattle.coincidence.specs.Closing.{strip_pairs}
+use Rattle.coincidence.proofs.LagPairs.{at_one, range-within}
+
+-- a place of the last sums
+last-at : (sums : List ℕ) (count j : ℕ) → get_or (drop (64 - count) sums) j 0 ≡ get_or sums (64 - count + j) 0
+last-at sums count j = get_or-drop (64 - count) sums j 0
+
+module _ (sums : List ℕ) (full : length sums ≡ 64) (reach c least count : ℕ) (few : count ≤ 64) (upto : least + count ≤ reach) where
+  past : (i : ℕ) → 64 ≤ i → get_or sums i 0 ≡ 0
+  past i over = get_or_past sums i 0 (omega arith)
+
+  abbrev forward_term : ℕ → ℕ
+  forward_term lag = cond (eqb (reach + lag) c) (get_or sums (least + 64 - lag) 0) 0
+
+  abbrev backward_term : ℕ → ℕ
+  backward_term lag = cond (eqb (lag + c) reach) (get_or sums (least + 64 - lag) 0) 0
+
+  above : (k : ℕ) → least + count < k → cond (leb (least + 1) k && ltb k (least + 1 + count)) (get_or sums (least + 64 - k) 0) 0 ≡ 0
+  above k over = let last : ltb k (least + 1 + count) ≡ false = grind (arith, nat_tests) in rw last (grind (arith, common_steps))
+
+  below : (k : ℕ) → k ≤ least → cond (leb (least + 1) k && ltb k (least + 1 + count)) (get_or sums (least + 64 - k) 0) 0 ≡ 0
+  below k under = let first : leb (least + 1) k ≡ false = grind (arith, nat_tests) in rw first refl
+
+  between : (k : ℕ) → least < k → k ≤ least + count → cond (leb (least + 1) k && ltb k (least + 1 + count)) (get_or sums (least + 64 - k) 0) 0 ≡ get_or sums (least + 64 - k) 0
+  between k over under =
+      let first : leb (least + 1) k ≡ true = grind (arith, nat_tests) in
+      let last : ltb k (least + 1 + count) ≡ true = grind (arith, nat_tests) in
+      rw (first, last) refl
+
+  -- the term that counts, among so many
+  abbrev counted : ℕ → ℕ
+  counted k = cond (leb (least + 1) k && ltb k (least + 1 + count)) (get_or sums (least + 64 - k) 0) 0
+
+  -- it stands in the row, or the row has nothing there
+  row-counted : (k j : ℕ) → j + k ≡ least + count → get_or (drop (64 - count) sums) j 0 ≡ counted k
+  row-counted k j is = last-at sums count j ∙ (elim (leb k least) as (λ b. leb k least ≡ b → get_or sums (64 - count + j) 0 ≡ counted k) [
+    | true ↦ λ low.
+        let under : k ≤ least = grind (arith, nat_tests, low) in
+        rw (below k under) (past (64 - count + j) (omega arith))
+    | false ↦ λ high.
+        let over : least < k = grind (arith, nat_tests, high) in
+        let place : 64 - count + j ≡ least + 64 - k = omega arith in
+        rw (between k over (omega arith), place) refl
+  ]) refl
+
+  forward-row : counted (c - reach) ≡ downwards_at (reach + (least + count)) (drop (64 - count) sums) c
+  forward-row = (elim (leb c (reach + (least + count))) as (λ b. leb c (reach + (least + count)) ≡ b → counted (c - reach) ≡ cond b (get_or (drop (64 - count) sums) (reach + (least + count) - c) 0) 0) [
+    | true ↦ λ low.
+        let upto_most : c ≤ reach + (least + count) = grind (arith, nat_tests, low) in
+        (elim (leb c reach) as (λ b. leb c reach ≡ b → counted (c - reach) ≡ get_or (drop (64 - count) sums) (reach + (least + count) - c) 0) [
+          | true ↦ λ at.
+              let no : c ≤ reach = grind (arith, nat_tests, at) in
+              rw (below (c - reach) (omega arith), last-at sums count (reach + (least + count) - c), past (64 - count + (reach + (least + count) - c)) (omega arith)) refl
+          | false ↦ λ at.
+              let over : reach < c = grind (arith, nat_tests, at) in
+              sym (row-counted (c - reach) (reach + (least + count) - c) (omega arith))
+        ]) refl
+    | false ↦ λ high.
+        let over : reach + (least + count) < c = grind (arith, nat_tests, high) in
+        above (c - reach) (omega arith)
+  ]) refl
+
+  backward-row : counted (reach - c) ≡ upwards_at (reach - (least + count)) (drop (64 - count) sums) c
+  backward-row = (elim (leb (reach - (least + count)) c) as (λ b. leb (reach - (least + count)) c ≡ b → counted (reach - c) ≡ cond b (get_or (drop (64 - count) sums) (c - (reach - (least + count))) 0) 0) [
+    | true ↦ λ low.
+        let from_most : reach - (least + count) ≤ c = grind (arith, nat_tests, low) in
+        (elim (leb reach c) as (λ b. leb reach c ≡ b → counted (reach - c) ≡ get_or (drop (64 - count) sums) (c - (reach - (least + count))) 0) [
+          | true ↦ λ at.
+              let no : reach ≤ c = grind (arith, nat_tests, at) in
+              rw (below (reach - c) (omega arith), last-at sums count (c - (reach - (least + count))), past (64 - count + (c - (reach - (least + count)))) (omega arith)) refl
+          | false ↦ λ at.
+              let under : c < reach = grind (arith, nat_tests, at) in
+              sym (row-counted (reach - c) (c - (reach - (least + count))) (omega arith))
+        ]) refl
+    | false ↦ λ high.
+        let under : c < reach - (least + count) = grind (arith, nat_tests, high) in
+        above (reach - c) (omega arith)
+  ]) refl
+
+  forward-none : (lag : ℕ) → lag ≢ c - reach → forward_term lag ≡ 0
+  forward-none lag other = let away : eqb (reach + lag) c ≡ false = grind (arith, nat_tests) in rw away refl
+
+  backward-none : (lag : ℕ) → lag ≢ reach - c → backward_term lag ≡ 0
+  backward-none lag other = let away : eqb (lag + c) reach ≡ false = grind (arith, nat_tests) in rw away refl
+
+  -- at the one lag that may have the cell, the test of the cell changes nothing
+  forward-one : cond (leb (least + 1) (c - reach) && ltb (c - reach) (least + 1 + count)) (forward_term (c - reach)) 0 ≡ counted (c - reach)
+  forward-one = (elim (leb c reach) as (λ b. leb c reach ≡ b → cond (leb (least + 1) (c - reach) && ltb (c - reach) (least + 1 + count)) (forward_term (c - reach)) 0 ≡ counted (c - reach)) [
+    | true ↦ λ at.
+        let no : c ≤ reach = grind (arith, nat_tests, at) in
+        let first : leb (least + 1) (c - reach) ≡ false = grind (arith, nat_tests) in
+        rw first refl
+    | false ↦ λ at.
+        let over : reach < c = grind (arith, nat_tests, at) in
+        let here : eqb (reach + (c - reach)) c ≡ true = grind (arith, nat_tests) in
+        rw here refl
+  ]) refl
+
+  backward-one : cond (leb (least + 1) (reach - c) && ltb (reach - c) (least + 1 + count)) (backward_term (reach - c)) 0 ≡ counted (reach - c)
+  backward-one = (elim (leb reach c) as (λ b. leb reach c ≡ b → cond (leb (least + 1) (reach - c) && ltb (reach - c) (least + 1 + count)) (backward_term (reach - c)) 0 ≡ counted (reach - c)) [
+    | true ↦ λ at.
+        let no : reach ≤ c = grind (arith, nat_tests, at) in
+        let first : leb (least + 1) (reach - c) ≡ false = grind (arith, nat_tests) in
+        rw first refl
+    | false ↦ λ at.
+        let under : c < reach = grind (arith, nat_tests, at) in
+        let here : eqb (reach - c + c) reach ≡ true = grind (arith, nat_tests) in
+        rw here refl
+  ]) refl
+
+-- the row of the last sums
+pub last-all : (sums : List ℕ) (count : ℕ) → length sums ≡ 64 → count ≤ 64 → take (64 - (64 - count)) (drop (64 - count) sums) ≡ drop (64 - count) sums
+last-all sums count full few = take_all (64 - (64 - count)) (drop (64 - count) sums) (omega (arith, length-drop (64 - count) sums))
+
+single-cell : (width n c : ℕ) → width ≡ 1 → eqb (n / width) c ≡ eqb n c
+single-cell width n c single = rw single (let same : n / 1 ≡ n = omega arith in rw same refl)
+
+pub strip-forward : (set : CoincidenceView) (c least count : ℕ) (sums : List ℕ) → set.width ≡ 1 → length sums ≡ 64 → count ≤ 64 → least + count ≤ set.reach
+    → sum_by (strip_pairs Forward set c least sums) (range_with_len (least + 1) count) ≡ downwards_at (set.reach + (least + count)) (take (64 - (64 - count)) (drop (64 - count) sums)) c
+strip-forward set c least count sums single full few upto =
+    rw (last-all sums count full few)
+    (sum_by-same (strip_pairs Forward set c least sums) (forward_term sums full set.reach c least count few upto) (range_with_len (least + 1) count) (λ lag. ap (λ b. cond b (get_or sums (least + 64 - lag) 0) 0) (single-cell set.width (set.reach + lag) c single))
+    ∙ at_one (forward_term sums full set.reach c least count few upto) (c - set.reach) (least + 1) count (forward-none sums full set.reach c least count few upto)
+    ∙ forward-one sums full set.reach c least count few upto
+    ∙ forward-row sums full set.reach c least count few upto)
+
+back-test : (reach lag c : ℕ) → lag ≤ reach → eqb (reach - lag) c ≡ eqb (lag + c) reach
+back-test reach lag c near = grind (arith, nat_tests)
+
+pub strip-backward : (set : CoincidenceView) (c least count : ℕ) (sums : List ℕ) → set.width ≡ 1 → length sums ≡ 64 → count ≤ 64 → least + count ≤ set.reach
+    → sum_by (strip_pairs Backward set c least sums) (range_with_len (least + 1) count) ≡ upwards_at (set.reach - (least + count)) (take (64 - (64 - count)) (drop (64 - count) sums)) c
+strip-backward set c least count sums single full few upto =
+    rw (last-all sums count full few)
+    (sum_by-agree (λ lag. (least + 1 ≤ lag) × (lag < least + 1 + count)) (strip_pairs Backward set c least sums) (backward_term sums full set.reach c least count few upto) (range_with_len (least + 1) count) (range-within (least + 1) count)
+    (λ lag within. ap (λ b. cond b (get_or sums (least + 64 - lag) 0) 0) (single-cell set.width (set.reach - lag) c single ∙ back-test set.reach lag c (omega arith)))
+    ∙ at_one (backward_term sums full set.reach c least count few upto) (set.reach - c) (least + 1) count (backward-none sums full set.reach c least count few upto)
+    ∙ backward-one sums full set.reach c least count few upto
+    ∙ backward-row sums full set.reach c least count few upto)
+
+-- a cell of a row has its number
+pub downwards-here : (from q : ℕ) (row : List ℕ) → q ≤ from → downwards_at from row (from - q) ≡ get_or row q 0
+downwards-here from q row upto =
+    let here : leb (from - q) from ≡ true = grind (arith, nat_tests) in
+    let place : from - (from - q) ≡ q = omega arith in
+    rw (here, place) refl
+
+pub upwards-here : (from q : ℕ) (row : List ℕ) → upwards_at from row (from + q) ≡ get_or row q 0
+upwards-here from q row =
+    let here : leb from (from + q) ≡ true = grind (arith, nat_tests) in
+    let place : from + q - from ≡ q = omega arith in
+    rw (here, place) refl
+
+-- a difference in reach has a cell of its own
+pub single-inside : (reach width n : ℕ) → width ≡ 1 → n ≤ 2 * reach → n < 2 * reach / width + 1
+single-inside reach width n single upto = rw single (omega arith)

@@ -1,0 +1,51 @@
+use Rattle.std.proofs.Common.{◌++◌, [], append_assoc, arith}
+use Rattle.std.proofs.Props.{props}
+use Rattle.std.proofs.Math.Logic.{∥∥₁_map, ∥∥₁_elim}
+use Rattle.std.proofs.lemmas.List.Sums.{sum_by_more, sum_by_more_le}
+use Rattle.tally_base.specs.Settings.{coincidence_view}
+use Rattle.coincidence.specs.declared.pairing.Bin.{Bin}
+use Rattle.coincidence.specs.Pairing.{bin_pairs}
+use Rattle.coincidence.proofs.Shut.{both_fit}
+use Rattle.coincidence.proofs.Together.{next_keep, three_runs}
+use Rattle.coincidence.proofs.closing.keep_all.Goals as goal
+
+pub pair_inside-requires-clause-both : goal.pair_inside-requires-clause-both
+pair_inside-requires-clause-both g c =
+    let none : Bin = record { weights = record { index = 0; a = 0; b = 0 }; both = 0 } in
+    ∥∥₁_elim c.requires.stands (hlevel props) (λ w.
+    let was = c.loop-bin.invariant.ring w.0 w.1 w.2 in
+    let next = next_keep (coincidence_view c.args.set.now) c.loop-bin.ring c.args.bins.now c.loop-bin.bin-index none (w.0 ++ was.0) was.1 c.loop-bin-test.true was.3 in
+    both_fit (coincidence_view c.args.set.now) c.loop-bin.ring _ (w.0 ++ was.0) next.0 next.3)
+
+pub pair_inside-requires-clause-fits : goal.pair_inside-requires-clause-fits
+pair_inside-requires-clause-fits g c = λ at inside.
+    let none : Bin = record { weights = record { index = 0; a = 0; b = 0 }; both = 0 } in
+    let more = sum_by_more_le (λ bin. bin_pairs (coincidence_view c.args.set.now) at bin []) c.args.bins.now c.loop-bin.bin-index none c.loop-bin-test.true in
+    omega (arith, more, c.loop-bin.invariant.cells at inside, c.requires.fits at inside)
+
+pub keep-requires : goal.keep-requires
+keep-requires g c =
+    let none : Bin = record { weights = record { index = 0; a = 0; b = 0 }; both = 0 } in
+    record {
+      stands = ∥∥₁_map c.requires.stands (λ w.
+          let was = c.loop-bin.invariant.ring w.0 w.1 w.2 in
+          let next = next_keep (coincidence_view c.args.set.now) c.loop-bin.ring c.args.bins.now c.loop-bin.bin-index none (w.0 ++ was.0) was.1 c.loop-bin-test.true was.3 in
+          (w.0 ++ was.0, next.0, next.3));
+    }
+
+pub loop-bin-preserved : goal.loop-bin-preserved
+loop-bin-preserved g c =
+    let none : Bin = record { weights = record { index = 0; a = 0; b = 0 }; both = 0 } in
+    let inv = c.loop-bin.invariant in
+    record {
+      ring = λ closed xs can.
+          let was = inv.ring closed xs can in
+          let next = next_keep (coincidence_view c.args.set.now) c.loop-bin.ring c.args.bins.now c.loop-bin.bin-index none (closed ++ was.0) was.1 c.loop-bin-test.true was.3 in
+          (was.0 ++ next.0, next.1, three_runs xs was.0 next.0 next.1 was.1 was.2 next.2, rw (← append_assoc closed was.0 next.0) (next.4 c.keep.new.ring (c.keep.ensures.ring (closed ++ was.0) next.0 next.3)));
+      cells = λ at inside.
+          let more = sum_by_more (λ bin. bin_pairs (coincidence_view c.args.set.now) at bin []) c.args.bins.now c.loop-bin.bin-index none c.loop-bin-test.true in
+          omega (arith, more, inv.cells at inside, c.pair_inside.ensures.cells at inside);
+      same = omega (arith, inv.same, c.pair_inside.ensures.same);
+      added = omega (arith, inv.added, c.pair_inside.ensures.added);
+      steps = omega (arith, inv.steps, c.pair_inside.ensures.steps);
+    }

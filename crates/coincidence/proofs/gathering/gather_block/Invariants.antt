@@ -1,0 +1,18 @@
+use Rattle.std.proofs.Common.{◌≤◌, ◌++◌}
+use Rattle.tally_base.specs.Settings.{coincidence_view}
+use Rattle.tally_base.specs.Tally.{History}
+use Rattle.lag_ring.specs.Cells.{Cells}
+use Rattle.lag_ring.specs.Ring.{Ring}
+use Rattle.arrayvec.specs.ArrayVec.{array_vec_len}
+use Rattle.event_block.specs.Columns.{item, rows, gathered}
+use Rattle.coincidence.specs.Pairs.{photons_of_groups}
+use Rattle.coincidence.specs.Pairing.{pairing_of}
+use Rattle.coincidence.specs.StandsFor.{CanTake}
+use Rattle.coincidence.specs.Closing.{Gathered}
+use Rattle.coincidence.proofs.gathering.gather_block.Given as goal
+
+abbrev pub invariant-loop-at : goal.invariant-loop-at
+invariant-loop-at l = record {
+  came : (ring : Ring) (cells : Cells) (h : History) → (can : CanTake (coincidence_view l.set) (pairing_of l.fn.waiting ring cells) (gathered l.block) h) → Gathered (coincidence_view l.set) l.open l.bins.items can.was.0 (photons_of_groups (coincidence_view l.set) (h ++ rows (item l.block) l.at));
+  few : array_vec_len l.bins ≤ l.at;
+}

@@ -1,0 +1,29 @@
+use Rattle.std.proofs.Common.{◌<◌}
+use Rattle.std.specs.List.{AllByRecursion-prop}
+use Rattle.std.proofs.Props.{props}
+use Rattle.std.proofs.Math.Logic.{∥∥₁_elim, ∥∥₁_map}
+use Rattle.tally_base.specs.Settings.{coincidence_view}
+use Rattle.lag_ring.specs.declared.ring.Entry.{Entry}
+use Rattle.coincidence.proofs.Shut.{both_fit, before, may_fit, may_count, cells_shut}
+use Rattle.coincidence.proofs.pairing.append.Goals as goal
+
+pub pair-requires-clause-after : goal.pair-requires-clause-after
+pair-requires-clause-after g c = ∥∥₁_elim c.requires.stands (AllByRecursion-prop (λ (e : Entry). e.index < c.args.bin.now.weights.index) (λ e. hlevel props) _) (λ w. before (coincidence_view c.args.set.now) c.args.ring.now c.args.bin.now w.0 w.1 w.2.keep)
+
+pub pair-requires-clause-both : goal.pair-requires-clause-both
+pair-requires-clause-both g c = ∥∥₁_elim c.requires.stands (hlevel props) (λ w. both_fit (coincidence_view c.args.set.now) c.args.ring.now c.args.bin.now w.0 w.1 w.2.keep)
+
+pub pair-requires-clause-fits : goal.pair-requires-clause-fits
+pair-requires-clause-fits g c = ∥∥₁_elim c.requires.stands (hlevel props) (λ w. may_fit (coincidence_view c.args.set.now) c.args.ring.now c.args.cells.now c.args.bin.now w.0 w.1 w.2)
+
+pub pair-requires-clause-count : goal.pair-requires-clause-count
+pair-requires-clause-count g c = ∥∥₁_elim c.requires.stands (hlevel props) (λ w. may_count (coincidence_view c.args.set.now) c.args.ring.now c.args.cells.now c.args.bin.now w.0 w.1 w.2 c.args.set.now.some_reach.1)
+
+pub returns-clause-cells : goal.returns-clause-cells
+returns-clause-cells g c = λ closed xs can. cells_shut (coincidence_view c.args.set.now) c.args.ring.now c.args.cells.now c.args.bin.now closed xs can c.pair.new.cells c.pair.ensures.cells c.pair.ensures.same c.pair.ensures.added
+
+pub keep-requires : goal.keep-requires
+keep-requires g c = record { stands = ∥∥₁_map c.requires.stands (λ w. (w.0, w.1, w.2.keep)) }
+
+pub returns-clause-ring : goal.returns-clause-ring
+returns-clause-ring g c = λ closed xs can. c.keep.ensures.ring closed xs can

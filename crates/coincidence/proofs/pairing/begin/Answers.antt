@@ -1,0 +1,20 @@
+use Rattle.std.proofs.Props.{props}
+use Rattle.std.proofs.Math.Logic.{∥∥₁_elim}
+use Rattle.tally_base.specs.Settings.{coincidence_view}
+use Rattle.coincidence.proofs.Shut.{both_fit, alone_fits, alone_counts, cells_alone, ring_alone}
+use Rattle.coincidence.proofs.pairing.begin.Goals as goal
+
+pub pair_inside-requires-clause-both : goal.pair_inside-requires-clause-both
+pair_inside-requires-clause-both g c = ∥∥₁_elim c.requires.stands (hlevel props) (λ w. both_fit (coincidence_view c.args.set.now) c.args.ring.now c.args.bin.now w.0 w.1 w.2.keep)
+
+pub pair_inside-requires-clause-fits : goal.pair_inside-requires-clause-fits
+pair_inside-requires-clause-fits g c = ∥∥₁_elim c.requires.stands (hlevel props) (λ w. alone_fits (coincidence_view c.args.set.now) c.args.ring.now c.args.cells.now c.args.bin.now w.0 w.1 w.2 c.requires.far)
+
+pub pair_inside-requires-clause-count : goal.pair_inside-requires-clause-count
+pair_inside-requires-clause-count g c = ∥∥₁_elim c.requires.stands (hlevel props) (λ w. alone_counts (coincidence_view c.args.set.now) c.args.ring.now c.args.cells.now c.args.bin.now w.0 w.1 w.2 c.requires.far c.args.set.now.some_reach.1)
+
+pub returns-clause-ring : goal.returns-clause-ring
+returns-clause-ring g c = λ closed xs can. rw c.restart.ensures.alone (ring_alone (coincidence_view c.args.set.now) c.args.ring.now c.args.bin.now closed xs can c.requires.far c.args.set.now.some_reach.0)
+
+pub returns-clause-cells : goal.returns-clause-cells
+returns-clause-cells g c = λ closed xs can. cells_alone (coincidence_view c.args.set.now) c.args.ring.now c.args.cells.now c.args.bin.now closed xs can c.requires.far c.pair_inside.new.cells c.pair_inside.ensures.cells c.pair_inside.ensures.same c.pair_inside.ensures.added

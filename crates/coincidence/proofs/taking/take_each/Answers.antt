@@ -1,0 +1,45 @@
+use Rattle.std.proofs.Common.{◌<◌, [], ◌∷◌, rules, arith}
+use Rattle.std.proofs.Math.Logic.{∥∥₁_map}
+use Rattle.tally_base.specs.Settings.{coincidence_view}
+use Rattle.event_block.specs.Columns.{item}
+use Rattle.coincidence.specs.Pairing.{pairing_of}
+use Rattle.coincidence.proofs.Blockwise.{came_same, put_row, came_more}
+use Rattle.coincidence.proofs.taking.take_each.Goals as goal
+use Rattle.coincidence.proofs.taking.take_each.Goals.{then-first-second, else-first-second}
+
+pub put-open-requires : goal.put-open-requires
+put-open-requires g c =
+    let b = c.args.block.now in
+    let set = coincidence_view c.args.set.now in
+    let at = c.loop-at.at in
+    let within : at < b.len = search (rules, arith) in
+    let now = pairing_of c.loop-at.open c.loop-at.pairing.ring c.loop-at.pairing.cells in
+    record {
+      stands = ∥∥₁_map c.requires.stands (λ w.
+          let came = c.loop-at.invariant.came w.0 w.1 in
+          (came.0, came.1, item b at ∷ [], put_row set c.args.pairing.now now b w.0 at within w.1 came c.has_photon-first.result c.has_photon-second.result c.has_photon-first.ensures c.has_photon-second.ensures c.if-first-second.true _ c.time.result c.time.ensures c.of_photon-bin.ensures));
+    }
+
+pub loop-at-preserved : goal.loop-at-preserved
+loop-at-preserved g c =
+    let inv = c.loop-at.invariant in
+    let b = c.args.block.now in
+    let set = coincidence_view c.args.set.now in
+    let at = c.loop-at.at in
+    let within : at < b.len = search (rules, arith) in
+    let now = pairing_of c.loop-at.open c.loop-at.pairing.ring c.loop-at.pairing.cells in
+    elim c.if-first-second.branch [
+      | then-first-second w ↦
+          rw (w.pairing-is, w.steps-is, w.open-is) (record {
+            came = λ h can.
+                let came = inv.came h can in
+                came_more set c.args.pairing.now now b h at within can came c.has_photon-first.result c.has_photon-second.result c.has_photon-first.ensures c.has_photon-second.ensures w.if-first-second.true (pairing_of w.put-open.result w.put-open.new.ring w.put-open.new.cells)
+                (w.put-open.ensures.follows came.0 came.1 (item b at ∷ []) (put_row set c.args.pairing.now now b h at within can came c.has_photon-first.result c.has_photon-second.result c.has_photon-first.ensures c.has_photon-second.ensures w.if-first-second.true _ w.time.result w.time.ensures w.of_photon-bin.ensures));
+            steps = omega (arith, inv.steps, w.put-open.ensures.steps);
+          })
+      | else-first-second w ↦
+          rw (w.pairing-is, w.steps-is, w.open-is) (record {
+            came = λ h can. came_same set now b h at c.has_photon-first.result c.has_photon-second.result c.has_photon-first.ensures c.has_photon-second.ensures w.if-first-second.false (inv.came h can);
+            steps = inv.steps;
+          })
+    ]

@@ -1,0 +1,14 @@
+use Rattle.std.proofs.Common.{◌≡◌, ◌+◌, ◌++◌}
+use Rattle.tally_base.specs.Settings.{coincidence_view}
+use Rattle.tally_base.specs.Tally.{History}
+use Rattle.event_block.specs.Columns.{item, rows, gathered}
+use Rattle.coincidence.specs.Pairs.{photons_of_groups}
+use Rattle.coincidence.specs.Pairing.{pairing_of, Came}
+use Rattle.coincidence.specs.StandsFor.{CanTake}
+use Rattle.coincidence.proofs.taking.take_each.Given as goal
+
+abbrev pub invariant-loop-at : goal.invariant-loop-at
+invariant-loop-at g l = record {
+  came : (h : History) → CanTake (coincidence_view l.set) l.initial.pairing (gathered l.block) h → Came (coincidence_view l.set) (pairing_of l.open l.pairing.ring l.pairing.cells) (photons_of_groups (coincidence_view l.set) (h ++ rows (item l.block) l.at));
+  steps : l.steps + l.initial.pairing.cells.added ≡ l.initial.steps + l.pairing.cells.added;
+}

@@ -1,0 +1,97 @@
+-- Bins that are closed together.
+use Rattle.std.specs.Prelude.{◌≡◌, ℕ, ◌+◌, ◌-◌, ◌^◌, ◌<◌, ◌≤◌, ◌==◌, ◌/◌, ◌*◌, slice_index, Option, List, [], ◌∷◌, ◌++◌, length, map, sum_by, if◌then◌else◌}
+use Rattle.std.specs.List.{AllByRecursion, range_with_len}
+use Rattle.tally_base.specs.Settings.{CoincidenceView}
+use Rattle.tally_base.specs.Tally.{History}
+use Rattle.lag_ring.specs.declared.ring.Entry.{Entry}
+use Rattle.lag_ring.specs.declared.window.Side.{Side}
+use Rattle.lag_ring.specs.declared.window.Side.TheVariants.{First, Second}
+use Rattle.lag_ring.specs.Cells.{Cells}
+use Rattle.lag_ring.specs.Ring.{Ring}
+use Rattle.lag_ring.specs.Window.{weight_of, weight_before, product_at}
+use Rattle.coincidence.specs.declared.pairing.Bin.{Bin}
+use Rattle.coincidence.specs.declared.pairing.Direction.{Direction}
+use Rattle.coincidence.specs.declared.pairing.Direction.TheVariants.{Forward, Backward}
+use Rattle.coincidence.specs.Pairing.{BinIs, OpenIs, RingIs, CellsAre, bin_pairs, shifted_by}
+
+-- the entries of bins
+abbrev pub weights_in : List Bin → List Entry
+weights_in bins = map (λ bin. bin.weights) bins
+
+-- the pairs of bins, each with itself and with the entries before it, that the cell counts
+abbrev pub all_pairs : CoincidenceView → ℕ → List Entry → List Bin → ℕ
+all_pairs set c es [] = 0
+all_pairs set c es (bin ∷ bins) = bin_pairs set c bin es + all_pairs set c (es ++ bin.weights ∷ []) bins
+
+-- the bins have these photons, one bin after the other, and each is after those that were closed before it
+abbrev pub BinsAre : CoincidenceView → List Bin → History → History → Type 0
+BinsAre set [] closed xs = xs ≡ []
+BinsAre set (bin ∷ bins) closed xs = (here : History) × (rest : History) × (xs ≡ here ++ rest) × BinIs set bin here × AllByRecursion (λ x. x.0.time < bin.weights.index) closed × BinsAre set bins (closed ++ here) rest
+
+-- which weights of entries count in a direction: those of earlier ones, and those of later ones
+abbrev pub earlier_side : Direction → Side
+earlier_side Forward = First
+earlier_side Backward = Second
+
+abbrev pub later_side : Direction → Side
+later_side Forward = Second
+later_side Backward = First
+
+-- the pairs of the photons of later entries with those of the entry so many ticks before, where the cell is that of their difference
+abbrev pub lag_pairs : Direction → CoincidenceView → ℕ → List Entry → List Entry → ℕ → ℕ
+lag_pairs direction set c es later lag =
+    if shifted_by direction set.reach lag / set.width == c
+    then sum_by (λ e. weight_before (earlier_side direction) lag e.index es * weight_of (later_side direction) e) later else 0
+
+-- the sum of a lag, where it stands in the order of falling lags from the one so many above the least, and the cell is that of its difference
+abbrev pub strip_pairs : Direction → CoincidenceView → ℕ → ℕ → List ℕ → ℕ → ℕ
+strip_pairs direction set c least sums lag = if shifted_by direction set.reach lag / set.width == c then slice_index sums (least + 64 - lag) else 0
+
+-- the pairs of the photons of later entries with what stands so many ticks before in a window, where the cell is that of the difference
+abbrev pub window_pairs : Direction → CoincidenceView → ℕ → List ℕ → ℕ → ℕ → List Entry → ℕ → ℕ
+window_pairs direction set c window low top later lag =
+    if shifted_by direction set.reach lag / set.width == c
+    then sum_by (product_at (later_side direction) window low (top - lag)) later else 0
+
+-- the sums of so many lags from the one above the least on
+abbrev pub strip_sum : Direction → CoincidenceView → ℕ → ℕ → ℕ → List ℕ → ℕ
+strip_sum direction set c least count sums = sum_by (strip_pairs direction set c least sums) (range_with_len (least + 1) count)
+
+abbrev pub window_sum : Direction → CoincidenceView → ℕ → ℕ → ℕ → ℕ → List ℕ → ℕ → List Entry → ℕ
+window_sum direction set c least count top window low later = sum_by (window_pairs direction set c window low top later) (range_with_len (least + 1) count)
+
+-- the pairs of the photons of later entries with all that are in reach before them
+abbrev pub lag_sum : Direction → CoincidenceView → ℕ → List Entry → List Entry → ℕ
+lag_sum direction set c es later = sum_by (lag_pairs direction set c es later) (range_with_len 1 set.reach)
+
+-- the later entries, and all that they reach, have a place in a window, and few photons
+pub record FitsWindow (set : CoincidenceView) (low : ℕ) (es later : List Entry) : Type 0 where
+  pub reach : set.reach ≤ 4096
+  pub early : AllByRecursion (λ e. e.index + 4096 < 2 ^ 64) es
+  pub early' : AllByRecursion (λ e. e.index + 4096 < 2 ^ 64) later
+  pub near : AllByRecursion (λ e. (low ≤ e.index) × (e.index - low < 4096)) later
+  pub firsts : sum_by (weight_of First) (es ++ later) < 2 ^ 16
+  pub seconds : sum_by (weight_of Second) (es ++ later) < 2 ^ 16
+
+module _ (set : CoincidenceView) where
+  -- photons came: those of closed bins, and behind them those of the gathered ones and of the open one
+  abbrev pub Gathered : Option Bin → List Bin → History → History → Type 0
+  Gathered bin bins closed came = (pending : History) × (open' : History) × (came ≡ (closed ++ pending) ++ open') × BinsAre set bins closed pending × OpenIs set bin (closed ++ pending) open'
+
+  -- photons of one tick may come behind them
+  pub record CanGather (last : Option Bin) (bins : List Bin) (bin : Bin) (closed came xs : History) : Type 0 where
+    pub few : length came + length xs ≤ 2 ^ 40
+    pub was : Gathered last bins closed came
+    pub is : BinIs set bin xs
+    pub after : AllByRecursion (λ x. x.0.time ≤ bin.weights.index) came
+
+  -- bins of the photons xs may be put behind the closed ones
+  pub record CanKeepAll (ring : Ring) (bins : List Bin) (closed xs : History) : Type 0 where
+    pub are : BinsAre set bins closed xs
+    pub were : RingIs set ring closed
+
+  -- and be paired with them
+  pub record CanShutAll (ring : Ring) (cells : Cells) (bins : List Bin) (closed xs : History) : Type 0 where
+    pub few : length closed + length xs ≤ 2 ^ 40
+    pub keep : CanKeepAll ring bins closed xs
+    pub had : CellsAre set cells closed

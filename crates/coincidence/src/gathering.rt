@@ -1,0 +1,74 @@
+// Bins that the photons of a block close.
+ghost use Rattle.std.specs.Prelude.{◌≡◌, ◌+◌, ◌<◌, ◌≤◌, ◌++◌, []};
+ghost use Rattle.tally_base.specs.Settings.{CoincidenceView, coincidence_view};
+ghost use Rattle.tally_base.specs.Tally.{History};
+ghost use Rattle.lag_ring.specs.Cells.{Cells};
+ghost use Rattle.lag_ring.specs.Ring.{Ring};
+ghost use Rattle.arrayvec.specs.ArrayVec.{array_vec_len};
+ghost use Rattle.event_block.specs.Columns.{gathered, events_in, IsSorted};
+ghost use Rattle.coincidence.specs.StandsFor.{CanTake};
+ghost use Rattle.coincidence.specs.Pairing.{pairing_of};
+ghost use Rattle.coincidence.specs.Pairs.{photons_of_groups};
+ghost use Rattle.coincidence.specs.Closing.{Gathered, CanGather};
+
+use crate::pairing::Bin;
+use arrayvec::ArrayVec;
+use event_block::Block;
+use tally_base::CoincidenceSet;
+
+/// Takes photons of one tick, after all that came. They join the open bin, or put it behind those that
+/// are to be closed: the answer is the bin that is open then.
+#[inline(always)]
+fn gather_bin(waiting: Option<Bin>, bins: &mut ArrayVec<Bin, 64>, bin: Bin) -> Option<Bin>
+    requires room { array_vec_len bins.old < 64 }
+    requires stands { ∥ ((set : CoincidenceView) × (closed : History) × (came : History)
+        × (xs : History) × CanGather set waiting bins.old.items bin closed came xs) ∥₁ }
+    ensures follows { (set : CoincidenceView) (closed came xs : History)
+        → CanGather set waiting bins.old.items bin closed came xs
+        → Gathered set result bins.new.items closed (came ++ xs) }
+    ensures few { array_vec_len bins.new ≤ array_vec_len bins.old + 1 }
+{
+    match waiting {
+        Some(open) => {
+            if open.weights.index == bin.weights.index {
+                Some(open.with(&bin))
+            } else {
+                bins.push(open);
+                Some(bin)
+            }
+        }
+        None => Some(bin),
+    }
+}
+
+/// Takes the photons of a block, and puts the bins that they close into a list. The answer is the bin
+/// that is open then.
+pub(crate) fn gather_block(
+    set: &CoincidenceSet,
+    waiting: Option<Bin>,
+    block: &Block,
+    bins: &mut ArrayVec<Bin, 64>,
+) -> Option<Bin>
+    requires sorted { IsSorted block.now }
+    requires empty { (bins.old.items ≡ []) × (array_vec_len bins.old ≡ 0) }
+    requires stands { ∥ ((ring : Ring) × (cells : Cells) × (h : History) × CanTake
+        (coincidence_view set.now) (pairing_of waiting ring cells) (gathered block.now) h) ∥₁ }
+    ensures follows { (ring : Ring) (cells : Cells) (h : History) → (can : CanTake
+        (coincidence_view set.now) (pairing_of waiting ring cells) (gathered block.now) h)
+        → Gathered (coincidence_view set.now) result bins.new.items can.was.0
+        (photons_of_groups (coincidence_view set.now) (h ++ events_in block.now)) }
+    ensures few { array_vec_len bins.new ≤ 64 }
+{
+    // Copies, so that no field is read again for each photon.
+    let own = *set;
+    let mut open = waiting;
+    for at in 0..block.len().min(64) {
+        let first = block.has_photon(at, own.first);
+        let second = block.has_photon(at, own.second);
+        if first | second {
+            let bin = Bin::of_photon(block.time(at), first, second);
+            open = gather_bin(open, bins, bin);
+        }
+    }
+    open
+}

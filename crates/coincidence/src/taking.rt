@@ -1,0 +1,94 @@
+// The photons of a block, for a table of coincidences.
+ghost use Rattle.std.specs.Prelude.{◌≡◌, ◌+◌, ◌++◌};
+ghost use Rattle.tally_base.specs.Settings.{coincidence_view};
+ghost use Rattle.tally_base.specs.Tally.{History};
+ghost use Rattle.event_block.specs.Columns.{gathered, events_in, IsSorted};
+ghost use Rattle.coincidence.specs.StandsFor.{CanTake};
+ghost use Rattle.coincidence.specs.Pairing.{Came};
+ghost use Rattle.coincidence.specs.Pairs.{photons_of_groups};
+
+use crate::closing::{MANY, shut_all};
+use crate::gathering::gather_block;
+use crate::pairing::{Bin, Pairing, put};
+use arrayvec::ArrayVec;
+use event_block::Block;
+use std::sync::ledger::Ledger;
+use tally_base::{CoincidenceSet, Steps};
+
+/// Gives the photons of a block to the bins, and leaves out those of other groups. Where many bins are
+/// in reach, those that it closes are paired together.
+pub(crate) fn take_block<L: Ledger>(
+    pairing: &mut Pairing,
+    set: &CoincidenceSet,
+    block: &Block,
+    steps: &mut Steps<L>,
+)
+    requires sorted { IsSorted block.now }
+    requires stands { ∥ ((h : History)
+        × CanTake (coincidence_view set.now) pairing.old (gathered block.now) h) ∥₁ }
+    ensures follows { (h : History)
+        → CanTake (coincidence_view set.now) pairing.old (gathered block.now) h
+        → Came (coincidence_view set.now) pairing.new
+        (photons_of_groups (coincidence_view set.now) (h ++ events_in block.now)) }
+    ensures steps { steps.new + pairing.old.cells.added ≡ steps.old + pairing.new.cells.added }
+{
+    if pairing.ring.len() >= MANY {
+        take_together(pairing, set, block, steps);
+    } else {
+        take_each(pairing, set, block, steps);
+    }
+}
+
+/// Gives the photons of a block to the bins. What they close is paired at the end.
+fn take_together<L: Ledger>(
+    pairing: &mut Pairing,
+    set: &CoincidenceSet,
+    block: &Block,
+    steps: &mut Steps<L>,
+)
+    requires sorted { IsSorted block.now }
+    requires stands { ∥ ((h : History)
+        × CanTake (coincidence_view set.now) pairing.old (gathered block.now) h) ∥₁ }
+    ensures follows { (h : History)
+        → CanTake (coincidence_view set.now) pairing.old (gathered block.now) h
+        → Came (coincidence_view set.now) pairing.new
+        (photons_of_groups (coincidence_view set.now) (h ++ events_in block.now)) }
+    ensures steps { steps.new + pairing.old.cells.added ≡ steps.old + pairing.new.cells.added }
+{
+    let mut bins = ArrayVec::new();
+    let open = gather_block(set, pairing.open, block, &mut bins);
+    shut_all(&mut pairing.ring, &mut pairing.cells, set, &bins, steps);
+    pairing.open = open;
+}
+
+/// Gives the photons of a block to the bins, one by one.
+fn take_each<L: Ledger>(
+    pairing: &mut Pairing,
+    set: &CoincidenceSet,
+    block: &Block,
+    steps: &mut Steps<L>,
+)
+    requires sorted { IsSorted block.now }
+    requires stands { ∥ ((h : History)
+        × CanTake (coincidence_view set.now) pairing.old (gathered block.now) h) ∥₁ }
+    ensures follows { (h : History)
+        → CanTake (coincidence_view set.now) pairing.old (gathered block.now) h
+        → Came (coincidence_view set.now) pairing.new
+        (photons_of_groups (coincidence_view set.now) (h ++ events_in block.now)) }
+    ensures steps { steps.new + pairing.old.cells.added ≡ steps.old + pairing.new.cells.added }
+{
+    // Copies, so that no field is read again for each photon.
+    let own = *set;
+    let mut open = pairing.open;
+    for at in 0..block.len().min(64) {
+        // No branch on which group it is, which is as good as random from photon to photon.
+        let first = block.has_photon(at, own.first);
+        let second = block.has_photon(at, own.second);
+        if first | second {
+            let bin = Bin::of_photon(block.time(at), first, second);
+            let (ring, cells) = (&mut pairing.ring, &mut pairing.cells);
+            open = put(open, ring, cells, &own, bin, steps);
+        }
+    }
+    pairing.open = open;
+}

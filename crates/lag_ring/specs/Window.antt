@@ -1,0 +1,22 @@
+-- Weights by tick.
+use Rattle.std.specs.Prelude.{ℕ, ◌+◌, ◌-◌, ◌*◌, ◌==◌, List, slice_index}
+use Rattle.lag_ring.specs.declared.ring.Entry.{Entry}
+use Rattle.lag_ring.specs.declared.window.Side.{Side}
+use Rattle.lag_ring.specs.declared.window.Side.TheVariants.{First, Second}
+use Rattle.lag_ring.specs.Kept.{weight_where}
+
+abbrev pub weight_of : Side → Entry → ℕ
+weight_of First e = e.a
+weight_of Second e = e.b
+
+-- the weight of the entry that stands so many lags before an index, or 0
+abbrev pub weight_before : Side → ℕ → ℕ → List Entry → ℕ
+weight_before side lag index es = weight_where (weight_of side) (λ i. i + lag == index) es
+
+-- the weight of the entry that has the place p in a window, whose place 0 is that of the index top below low
+abbrev pub weight_at : Side → ℕ → ℕ → ℕ → List Entry → ℕ
+weight_at side top low p es = weight_where (weight_of side) (λ i. i + top == low + p) es
+
+-- an entry's weight times what stands in the window so many places after that of its index, where place 0 is that of low
+abbrev pub product_at : Side → List ℕ → ℕ → ℕ → Entry → ℕ
+product_at side window low from e = slice_index window (e.index - low + from) * weight_of side e

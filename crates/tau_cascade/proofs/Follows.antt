@@ -1,0 +1,191 @@
+-- Bins that come to a level, and what they are merged into.
+use Rattle.std.proofs.Common.{◌≡◌, ◌≢◌, ℕ, suc, ◌+◌, ◌/◌, ◌^◌, ◌<◌, ◌≤◌, Bool, true, false, not, cond, eqb, Option, None, Some, List, [], ◌∷◌, ◌++◌, length, map, take, drop, get_or, refl, sym, ap, ◌∙◌, append_assoc, append-nil, arith}
+use Rattle.std.specs.List.{sum_by, count_by, AllByRecursion}
+use mir.Val.{bool_byte}
+use Rattle.std.specs.Prelude.{slice_set, slice_range}
+use Rattle.std.proofs.Math.Nat.{div-div-eq-div-mul, div-one}
+use Rattle.std.proofs.lemmas.Grind.{common_steps}
+use Rattle.std.proofs.lemmas.List.{take_more_set, drop_more, drop-set-add, length-drop}
+use Rattle.std.proofs.lemmas.Slice.{first_rest}
+use Rattle.std.proofs.lemmas.List.Sums.{sum_by-cons, sum_by-append}
+use Rattle.tally_base.specs.Settings.{CorrelationView}
+use Rattle.tally_base.specs.Tally.{History}
+use Rattle.lag_ring.specs.declared.ring.Entry.{Entry}
+use Rattle.lag_ring.proofs.Lists.{all_back, all_join, of_some}
+use Rattle.lag_ring.proofs.Rising.{all_weaker}
+use Rattle.tau_cascade.specs.Correlation.{Given, bin, in_first, in_second}
+use Rattle.tau_cascade.specs.Levels.{IsBin, OpenIs}
+use Rattle.tau_cascade.specs.Bins.{raised, both_of, merged, merged_onto, Come, Follow}
+use Rattle.tau_cascade.proofs.Puts.{is_bin-append}
+
+-- a bin of the next level is two of this one
+pub bin-suc : (level : ℕ) (x : Given) → bin (suc level) x ≡ bin level x / 2
+bin-suc level x = grind (arith, common_steps, div-div-eq-div-mul x.0.time (2 ^ level) 2)
+
+pub raised-none : (es : List Entry) → map (raised 0) es ≡ es
+raised-none [] = refl
+raised-none (e ∷ es) = rw (div-one e.index, raised-none es) refl
+
+module _ (set : CorrelationView) (level : ℕ) where
+  -- where nothing that came is behind an index that the last bin hasn't, all is before it
+  pub is_after : (e : Entry) (n : ℕ) (closed open' : History) → IsBin set level e open' → AllByRecursion (λ x. bin level x < e.index) closed → AllByRecursion (λ x. bin level x ≤ n) (closed ++ open') → e.index ≢ n → AllByRecursion (λ x. bin level x < n) (closed ++ open')
+  is_after e n closed open' is before after other =
+      let back = all_back (λ x. bin level x ≤ n) closed open' after in
+      let upto : e.index ≤ n = of_some (bin level) e.index (λ m. m ≤ n) open' is.some is.here back in
+      let below : e.index < n = omega arith in
+      all_join (λ x. bin level x < n) closed open'
+      (all_weaker (λ x. bin level x < e.index) (λ x. bin level x < n) (λ x under. omega arith) closed before)
+      (all_weaker (λ x. bin level x ≡ e.index) (λ x. bin level x < n) (λ x here. omega arith) open' is.here)
+
+  -- the bins that an open one and those that come are merged into
+  pub merged_follow : (e : Entry) (es : List Entry) (closed open' xs : History) → IsBin set level e open' → AllByRecursion (λ x. bin level x < e.index) closed → Come set level (closed ++ open') es xs → Follow set level closed (merged e es) (open' ++ xs)
+  merged_follow e [] closed open' xs is before come = (open', [], ap (λ ys. open' ++ ys) come, is, before, refl)
+  merged_follow e (f ∷ fs) closed open' xs is before come = (elim (eqb e.index f.index) as (λ b. eqb e.index f.index ≡ b → Follow set level closed (cond b (merged (both_of e f) fs) (e ∷ merged f fs)) (open' ++ xs)) [
+    | true ↦ λ one.
+        let same : e.index ≡ f.index = grind arith in
+        let next : Come set level (closed ++ (open' ++ come.0)) fs come.1 = (rw (append_assoc closed open' come.0) at come.5) in
+        rw (come.2, ← append_assoc open' come.0 come.1) (merged_follow (both_of e f) fs closed (open' ++ come.0) come.1 (is_bin-append set level e f (both_of e f) open' come.0 is come.3 same refl) before next)
+    | false ↦ λ two.
+        let other : e.index ≢ f.index = λ same. grind arith in
+        let after = is_after e f.index closed open' is before come.4 other in
+        (open', xs, refl, is, before, rw come.2 (merged_follow f fs (closed ++ open') come.0 come.1 come.3 after come.5))
+  ]) refl
+
+  -- the first of some bins, and those behind them
+  pub follow_split : (es fs : List Entry) (closed xs : History) → Follow set level closed (es ++ fs) xs → (front : History) × (back : History) × (xs ≡ front ++ back) × Follow set level closed es front × Follow set level (closed ++ front) fs back
+  follow_split [] fs closed xs follow = ([], xs, refl, refl, rw append-nil follow)
+  follow_split (e ∷ es) fs closed xs follow =
+      let rest = follow_split es fs (closed ++ follow.0) follow.1 follow.5 in
+      (follow.0 ++ rest.0, rest.1, follow.2 ∙ ap (λ ys. follow.0 ++ ys) rest.2 ∙ sym (append_assoc follow.0 rest.0 rest.1), (follow.0, rest.0, refl, follow.3, follow.4, rest.3), rw (← append_assoc closed follow.0 rest.0) rest.4)
+
+  -- all but the last, which is open
+  pub last_open : (es shut : List Entry) (open' : Entry) (closed xs : History) → shut ++ open' ∷ [] ≡ es → Follow set level closed es xs → (done : History) × (now : History) × (xs ≡ done ++ now) × Follow set level closed shut done × IsBin set level open' now × AllByRecursion (λ x. bin level x < open'.index) (closed ++ done)
+  last_open es shut open' closed xs same follow =
+      let parts = follow_split shut (open' ∷ []) closed xs (rw same follow) in
+      let end = parts.4 in
+      (parts.0, end.0, parts.2 ∙ ap (λ ys. parts.0 ++ ys) (end.2 ∙ ap (λ ys. end.0 ++ ys) end.5 ∙ append-nil end.0), parts.3, end.3, end.4)
+
+  first_follow : (e : Entry) (es : List Entry) (xs : History) → Come set level [] (e ∷ es) xs → Follow set level [] (merged e es) xs
+  first_follow e es xs come = rw come.2 (merged_follow e es [] come.0 come.1 come.3 tt come.5)
+
+  -- the same where there may be no open bin
+  pub onto_follow : (o : Option Entry) (es : List Entry) (closed open' xs : History) → 0 < length es → OpenIs set level o closed open' → Come set level (closed ++ open') es xs → Follow set level closed (merged_onto o es) (open' ++ xs)
+  onto_follow None [] closed open' xs some is come = absurd (omega arith)
+  onto_follow None (e ∷ es) closed open' xs some is come =
+      let first : Come set level [] (e ∷ es) xs = (rw (is.0, is.1) at come) in
+      rw (is.0, is.1) (first_follow e es xs first)
+  onto_follow (Some e) es closed open' xs some is come = merged_follow e es closed open' xs is.0 is.1 come
+
+  -- bins that follow one another have the weights of their photons
+  pub first_weights : (es : List Entry) (closed xs : History) → Follow set level closed es xs → sum_by (λ e. e.a) es ≡ count_by (in_first set) xs
+  first_weights [] closed xs follow = rw follow refl
+  first_weights (e ∷ es) closed xs follow = rw (sum_by-cons (λ (f : Entry). f.a) e es, follow.2, sum_by-append (λ x. cond (in_first set x) 1 0) follow.0 follow.1, first_weights es (closed ++ follow.0) follow.1 follow.5, follow.3.a) refl
+
+  pub second_weights : (es : List Entry) (closed xs : History) → Follow set level closed es xs → sum_by (λ e. e.b) es ≡ count_by (in_second set) xs
+  second_weights [] closed xs follow = rw follow refl
+  second_weights (e ∷ es) closed xs follow = rw (sum_by-cons (λ (f : Entry). f.b) e es, follow.2, sum_by-append (λ x. cond (in_second set x) 1 0) follow.0 follow.1, second_weights es (closed ++ follow.0) follow.1 follow.5, follow.3.b) refl
+
+  -- closed bins may come to the next level
+  pub goes_up : (es : List Entry) (closed xs : History) → Follow set level closed es xs → Come set (suc level) closed (map (raised 1) es) xs
+  goes_up [] closed xs follow = follow
+  goes_up (e ∷ es) closed xs follow = (
+    follow.0,
+    follow.1,
+    follow.2,
+    record {
+      some = follow.3.some;
+      here = all_weaker (λ x. bin level x ≡ e.index) (λ x. bin (suc level) x ≡ e.index / 2) (λ x here. bin-suc level x ∙ ap (λ n. n / 2) here) follow.0 follow.3.here;
+      a = follow.3.a;
+      b = follow.3.b;
+    },
+    all_weaker (λ x. bin level x < e.index) (λ x. bin (suc level) x ≤ e.index / 2) (λ x before. rw (bin-suc level x) (grind arith)) closed follow.4,
+    goes_up es (closed ++ follow.0) follow.1 follow.5,
+  )
+
+  -- one bin more comes
+  pub come_push : (es : List Entry) (e : Entry) (came xs run : History) → Come set level came es xs → IsBin set level e run → AllByRecursion (λ x. bin level x ≤ e.index) (came ++ xs) → Come set level came (es ++ e ∷ []) (xs ++ run)
+  come_push [] e came xs run come is after =
+      let before : AllByRecursion (λ x. bin level x ≤ e.index) came = (rw (come, append-nil) at after) in
+      (run, [], rw (come, append-nil) refl, is, before, refl)
+  come_push (f ∷ es) e came xs run come is after =
+      let later : AllByRecursion (λ x. bin level x ≤ e.index) ((came ++ come.0) ++ come.1) = rw (append_assoc came come.0 come.1, ← come.2) after in
+      (come.0, come.1 ++ run, rw come.2 (append_assoc come.0 come.1 run), come.3, come.4, come_push es e (came ++ come.0) come.1 run come.5 is later)
+
+-- the merging of one bin more
+pub merge_step : (closed : List Entry) (count : ℕ) (open' x : Entry) (rest : List Entry) → count < length closed → (same : Bool) → eqb open'.index x.index ≡ same
+    → take (count + cond same 0 1) (slice_set closed count open') ++ merged (cond same (both_of open' x) x) rest ≡ take count closed ++ merged open' (x ∷ rest)
+merge_step closed count open' x rest inside true is = rw is (ap (λ ys. ys ++ merged (both_of open' x) rest) (grind (arith, common_steps)))
+merge_step closed count open' x rest inside false is = rw (is, take_more_set closed count open' inside) (append_assoc (take count closed) (open' ∷ []) (merged x rest))
+
+-- the first weight is within that of the merged ones
+pub head_first : (e : Entry) (es : List Entry) → e.a ≤ sum_by (λ f. f.a) (merged e es)
+head_first e [] = omega (arith, sum_by-cons (λ (f : Entry). f.a) e [])
+head_first e (f ∷ fs) = elim (eqb e.index f.index) as (λ b. e.a ≤ sum_by (λ f. f.a) (cond b (merged (both_of e f) fs) (e ∷ merged f fs))) [ true ↦ (let more = head_first (both_of e f) fs in omega arith) | false ↦ omega (arith, sum_by-cons (λ (g : Entry). g.a) e (merged f fs)) ]
+
+pub head_second : (e : Entry) (es : List Entry) → e.b ≤ sum_by (λ f. f.b) (merged e es)
+head_second e [] = omega (arith, sum_by-cons (λ (f : Entry). f.b) e [])
+head_second e (f ∷ fs) = elim (eqb e.index f.index) as (λ b. e.b ≤ sum_by (λ f. f.b) (cond b (merged (both_of e f) fs) (e ∷ merged f fs))) [ true ↦ (let more = head_second (both_of e f) fs in omega arith) | false ↦ omega (arith, sum_by-cons (λ (g : Entry). g.b) e (merged f fs)) ]
+
+-- two bins that are merged fit
+pub both_first : (front : List Entry) (e x : Entry) (rest whole : List Entry) → front ++ merged e (x ∷ rest) ≡ whole → e.index ≡ x.index → e.a + x.a ≤ sum_by (λ f. f.a) whole
+both_first front e x rest whole is same =
+    let one : eqb e.index x.index ≡ true = grind arith in
+    let joins : merged e (x ∷ rest) ≡ merged (both_of e x) rest = rw one refl in
+    let all : sum_by (λ f. f.a) front + sum_by (λ f. f.a) (merged (both_of e x) rest) ≡ sum_by (λ f. f.a) whole = sym (sum_by-append (λ (f : Entry). f.a) front (merged (both_of e x) rest)) ∙ ap (sum_by (λ (f : Entry). f.a)) (ap (λ ys. front ++ ys) (sym joins) ∙ is) in
+    let head = head_first (both_of e x) rest in
+    omega arith
+
+pub both_second : (front : List Entry) (e x : Entry) (rest whole : List Entry) → front ++ merged e (x ∷ rest) ≡ whole → e.index ≡ x.index → e.b + x.b ≤ sum_by (λ f. f.b) whole
+both_second front e x rest whole is same =
+    let one : eqb e.index x.index ≡ true = grind arith in
+    let joins : merged e (x ∷ rest) ≡ merged (both_of e x) rest = rw one refl in
+    let all : sum_by (λ f. f.b) front + sum_by (λ f. f.b) (merged (both_of e x) rest) ≡ sum_by (λ f. f.b) whole = sym (sum_by-append (λ (f : Entry). f.b) front (merged (both_of e x) rest)) ∙ ap (sum_by (λ (f : Entry). f.b)) (ap (λ ys. front ++ ys) (sym joins) ∙ is) in
+    let head = head_second (both_of e x) rest in
+    omega arith
+
+-- the bins that are left, from one on
+pub rest_at : (levels : ℕ) (came : List Entry) (i : ℕ) (none : Entry) → i < length came → map (raised levels) (drop i came) ≡ raised levels (get_or came i none) ∷ map (raised levels) (drop (i + 1) came)
+rest_at levels came i none inside = ap (map (raised levels)) (drop_more came i none inside)
+
+-- what is merged so far and what is left are together what all is merged into
+module _ (levels : ℕ) (came closed : List Entry) (i count : ℕ) (open' next none : Entry) (whole : List Entry) (inside : i < length came) (is : next ≡ raised levels (get_or came i none)) (so_far : take count closed ++ merged open' (map (raised levels) (drop i came)) ≡ whole) where
+  with_next : take count closed ++ merged open' (next ∷ map (raised levels) (drop (i + 1) came)) ≡ whole
+  with_next = rw is (rw (rest_at levels came i none inside) at so_far)
+
+  pub fits_first : open'.index ≡ next.index → open'.a + next.a ≤ sum_by (λ f. f.a) whole
+  fits_first same = both_first (take count closed) open' next (map (raised levels) (drop (i + 1) came)) whole with_next same
+
+  pub fits_second : open'.index ≡ next.index → open'.b + next.b ≤ sum_by (λ f. f.b) whole
+  fits_second same = both_second (take count closed) open' next (map (raised levels) (drop (i + 1) came)) whole with_next same
+
+  pub merged_next : count < length closed → (same : Bool) → eqb open'.index next.index ≡ same → take (count + cond same 0 1) (slice_set closed count open') ++ merged (cond same (both_of open' next) next) (map (raised levels) (drop (i + 1) came)) ≡ whole
+  merged_next room same one = merge_step closed count open' next (map (raised levels) (drop (i + 1) came)) room same one ∙ with_next
+
+-- the open bin, by its three numbers
+pub joined_is : (index a b a' b' : ℕ) (next : Entry) (same : Bool) → eqb index next.index ≡ same → a' ≡ cond (not same) next.a (a + next.a) → b' ≡ cond (not same) next.b (b + next.b)
+    → record { index = next.index; a = a'; b = b' } ≡ cond same (both_of (record { index = index; a = a; b = b }) next) next
+joined_is index a b a' b' next true is is_a is_b = let one : index ≡ next.index = grind arith in rw (is_a, is_b, one) refl
+joined_is index a b a' b' next false is is_a is_b = rw (is_a, is_b) refl
+
+pub byte_small : (b : Bool) → bool_byte b ≤ 1
+byte_small true = omega arith
+byte_small false = omega arith
+
+-- one bin more is merged
+pub merge_more : (levels : ℕ) (came list : List Entry) (start i count index a b a' b' more : ℕ) (none : Entry) (whole : List Entry) → i < length came → start + count < length list
+    → take count (drop start list) ++ merged (record { index = index; a = a; b = b }) (map (raised levels) (drop i came)) ≡ whole
+    → (same : Bool) → eqb index (raised levels (get_or came i none)).index ≡ same
+    → a' ≡ cond (not same) (get_or came i none).a (a + (get_or came i none).a) → b' ≡ cond (not same) (get_or came i none).b (b + (get_or came i none).b) → more ≡ bool_byte (not same)
+    → take (count + more) (drop start (slice_set list (start + count) (record { index = index; a = a; b = b }))) ++ merged (record { index = (raised levels (get_or came i none)).index; a = a'; b = b' }) (map (raised levels) (drop (i + 1) came)) ≡ whole
+merge_more levels came list start i count index a b a' b' more none whole inside room so_far same is is_a is_b is_more =
+    let next : Entry = raised levels (get_or came i none) in
+    let own : Entry = record { index = index; a = a; b = b } in
+    let opens : record { index = next.index; a = a'; b = b' } ≡ cond same (both_of own next) next = joined_is index a b a' b' next same is is_a is_b in
+    let grows : more ≡ cond same 0 1 = is_more ∙ elim same as (λ s. bool_byte (not s) ≡ cond s 0 1) [ true ↦ refl | false ↦ refl ] in
+    let written : drop start (slice_set list (start + count) own) ≡ slice_set (drop start list) count own = drop-set-add start list count own in
+    let long : count < length (drop start list) = omega (arith, length-drop start list) in
+    rw (opens, grows, written) (merged_next levels came (drop start list) i count own next none whole inside refl so_far long same is)
+
+-- the first bin is open where none was
+pub onto_none : (levels : ℕ) (came : List Entry) (none : Entry) → 0 < length came → merged_onto None (map (raised levels) came) ≡ merged (raised levels (get_or came 0 none)) (map (raised levels) (slice_range came 1 (length came)))
+onto_none levels came none some = ap (λ ys. merged_onto None (map (raised levels) ys)) (first_rest came none some)

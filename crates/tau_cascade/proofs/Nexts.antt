@@ -1,0 +1,126 @@
+-- The pairs of one bin more with the ring and the bins before it.
+use Rattle.std.proofs.Common.{◌≡◌, ℕ, ◌+◌, ◌-◌, ◌*◌, ◌<◌, ◌≤◌, cond, eqb, List, [], ◌∷◌, ◌++◌, length, get_or, take, drop, refl, sym, ap, ◌∙◌, append_assoc, append-nil, subst, arith}
+use Rattle.std.specs.List.{AllByRecursion}
+use Rattle.std.proofs.Math.Nat.{mul-le-mul_left}
+use Rattle.std.proofs.lemmas.List.{take_more, take-append-drop, take-take, drop-take, drop-append-le, drop_all, length-take-le}
+use Rattle.std.proofs.lemmas.List.Sums.{sum_by-append}
+use Rattle.lag_ring.specs.declared.ring.Entry.{Entry}
+use Rattle.lag_ring.specs.Ring.{IsRising}
+use Rattle.lag_ring.proofs.Lists.{all_back}
+use Rattle.lag_ring.proofs.Rising.{all_weaker, all_push, rising_front, rising_back}
+use Rattle.tau_cascade.specs.Levels.{weight_before, entries_at_lags}
+use Rattle.tau_cascade.specs.Paired.{paired}
+use Rattle.tau_cascade.proofs.Keeping.{all_below, split_at}
+use Rattle.tau_cascade.proofs.Lags.{few_at_lags}
+use Rattle.tau_cascade.proofs.Visits.{none_at_lag}
+
+-- what two lists add
+pub paired-append : (lag : ℕ) (before es fs : List Entry) → paired lag before (es ++ fs) ≡ paired lag before es + paired lag (before ++ es) fs
+paired-append lag before [] fs = rw (append-nil before) (omega arith)
+paired-append lag before (e ∷ es) fs =
+    let rest = paired-append lag (before ++ e ∷ []) es fs in
+    let same : (before ++ e ∷ []) ++ es ≡ before ++ e ∷ es = append_assoc before (e ∷ []) es in
+    let here : paired lag (before ++ e ∷ []) (es ++ fs) ≡ paired lag (before ++ e ∷ []) es + paired lag (before ++ e ∷ es) fs = (rw same at rest) in
+    omega (arith, here)
+
+take_both : (es : List Entry) (from n : ℕ) → take (from + n) es ≡ take from es ++ take n (drop from es)
+take_both es from n =
+    let front : take from (take (from + n) es) ≡ take from es = take-take from (from + n) es (omega arith) in
+    let back : drop from (take (from + n) es) ≡ take n (drop from es) = drop-take from n es in
+    let both : take from (take (from + n) es) ++ drop from (take (from + n) es) ≡ take (from + n) es = take-append-drop from (take (from + n) es) in
+    sym both ∙ rw (front, back) refl
+
+-- the entries before a place, parted at an earlier one
+take_parts : (es : List Entry) (from at : ℕ) → from ≤ at → take at es ≡ take from es ++ take (at - from) (drop from es)
+take_parts es from at within =
+    let whole : from + (at - from) ≡ at = omega arith in
+    subst (λ m. take m es ≡ take from es ++ take (at - from) (drop from es)) whole (take_both es from (at - from))
+
+-- the bin at a place of a list, and those from an earlier place on that are near
+module _ (list : List Entry) (from at' lags : ℕ) (none : Entry) (inside : at' < length list) (within : from ≤ at') (rising : IsRising list) where
+  abbrev e : Entry
+  e = get_or list at' none
+
+  abbrev near : List Entry
+  near = take (at' - from) (drop from list)
+
+  split : IsRising (take at' list ++ e ∷ drop (at' + 1) list)
+  split = rw (← split_at [] list at' none inside) rising
+
+  parts : take at' list ≡ take from list ++ near
+  parts = take_parts list from at' within
+
+  pub below_bins : AllByRecursion (λ f. f.index < e.index) (take at' list)
+  below_bins = all_below (take at' list) (drop (at' + 1) list) e split
+
+  below_near : AllByRecursion (λ f. f.index < e.index) near
+  below_near = all_back (λ f. f.index < e.index) (take from list) near (rw (← parts) below_bins)
+
+  near_rising : IsRising near
+  near_rising = rising_back (take from list) near (rw (← parts) (rising_front (take at' list) (e ∷ drop (at' + 1) list) split))
+
+  pub is_near : IsRising near × AllByRecursion (λ f. f.index < e.index) near
+  is_near = (near_rising, below_near)
+
+  -- at most one of them stands at each lag
+  pub few_next : (skipped : ℕ) → entries_at_lags skipped lags e.index near ≤ lags - skipped
+  few_next skipped = few_at_lags near skipped lags e.index near_rising below_near
+
+  module _ (start : ℕ) (behind : start ≤ at') where
+    front-more : drop start (take (at' + 1) list) ≡ drop start (take at' list) ++ e ∷ []
+    front-more =
+        let long : length (take at' list) ≡ at' = length-take-le at' list (omega arith) in
+        ap (drop start) (take_more list at' none inside) ∙ drop-append-le start (take at' list) (e ∷ []) (omega arith)
+
+    whole : take start list ++ drop start (take at' list) ≡ take at' list
+    whole =
+        let front : take start (take at' list) ≡ take start list = take-take start at' list behind in
+        let both : take start (take at' list) ++ drop start (take at' list) ≡ take at' list = take-append-drop start (take at' list) in
+        rw front at both
+
+    -- what the bin adds is among what all add
+    pub paired_part : (k : ℕ) → paired k (take start list) (drop start (take (at' + 1) list)) ≤ paired k (take start list) (drop start list)
+    paired_part k =
+        let long : length (take (at' + 1) list) ≡ at' + 1 = length-take-le (at' + 1) list (omega arith) in
+        let all : take (at' + 1) list ++ drop (at' + 1) list ≡ list = take-append-drop (at' + 1) list in
+        let rest : drop start list ≡ drop start (take (at' + 1) list) ++ drop (at' + 1) list = ap (drop start) (sym all) ∙ drop-append-le start (take (at' + 1) list) (drop (at' + 1) list) (omega arith) in
+        omega (arith, ap (paired k (take start list)) rest, paired-append k (take start list) (drop start (take (at' + 1) list)) (drop (at' + 1) list))
+
+    module _ (far : AllByRecursion (λ f. f.index + lags < e.index) (take from list)) where
+      weight_next : (k : ℕ) → k ≤ lags → weight_before k e.index (take start list ++ drop start (take at' list)) ≡ weight_before k e.index near
+      weight_next k few =
+          let part : weight_before k e.index (take at' list) ≡ weight_before k e.index (take from list) + weight_before k e.index near = ap (weight_before k e.index) parts ∙ sum_by-append (λ f. cond (eqb (f.index + k) e.index) f.a 0) (take from list) near in
+          let no : weight_before k e.index (take from list) ≡ 0 = none_at_lag (take from list) lags e.index k far few in
+          rw whole (omega (arith, part, no))
+
+      pub paired_next : (k : ℕ) → k ≤ lags → paired k (take start list) (drop start (take (at' + 1) list)) ≡ paired k (take start list) (drop start (take at' list)) + weight_before k e.index near * e.b
+      paired_next k few =
+          let push : paired k (take start list) (drop start (take (at' + 1) list)) ≡ paired k (take start list) (drop start (take at' list)) + paired k (take start list ++ drop start (take at' list)) (e ∷ []) = ap (paired k (take start list)) front-more ∙ paired-append k (take start list) (drop start (take at' list)) (e ∷ []) in
+          let one : paired k (take start list ++ drop start (take at' list)) (e ∷ []) ≡ weight_before k e.index near * e.b + 0 = ap (λ w. w * e.b + 0) (weight_next k few) in
+          omega (arith, push, one)
+
+  -- what is behind the reach stays there
+  pub far_next : AllByRecursion (λ f. f.index + lags < e.index) (take from list) → (n : ℕ) → AllByRecursion (λ f. f.index < n) (take (at' + 1) list) → AllByRecursion (λ f. f.index + lags < n) (take from list)
+  far_next far n all =
+      let up : AllByRecursion (λ f. f.index < n) (take at' list ++ e ∷ []) = rw (← take_more list at' none inside) all in
+      let here : e.index < n = (all_back (λ f. f.index < n) (take at' list) (e ∷ []) up).0 in
+      all_weaker (λ f. f.index + lags < e.index) (λ f. f.index + lags < n) (λ f under. omega arith) (take from list) far
+
+-- before the first bin nothing is added
+pub none_paired : (k start : ℕ) (list : List Entry) → start ≤ length list → paired k (take start list) (drop start (take start list)) ≡ 0
+none_paired k start list inside = rw (drop_all start (take start list) (omega (arith, length-take-le start list inside))) refl
+
+-- one bin more has room among the additions
+pub added_next : (lags skipped start i before now few : ℕ) → start ≤ i → now ≤ before + (lags - skipped) * (i - start) → few ≤ lags - skipped → now + few ≤ before + (lags - skipped) * (i + 1 - start)
+added_next lags skipped start i before now few behind so_far some =
+    let one : i + 1 - start ≡ (i - start) + 1 = omega arith in
+    rw one (omega (arith, so_far, some))
+
+pub count_next : (lags skipped start i n before now few : ℕ) → start ≤ i → i < n → now ≤ before + (lags - skipped) * (i - start) → few ≤ lags - skipped → now + few ≤ before + (lags - skipped) * (n - start)
+count_next lags skipped start i n before now few behind inside so_far some =
+    let more : (lags - skipped) * (i + 1 - start) ≤ (lags - skipped) * (n - start) = mul-le-mul_left (lags - skipped) (omega arith) in
+    omega (arith, added_next lags skipped start i before now few behind so_far some, more)
+
+-- one bin more is behind the reach
+pub reach_more : (bins : List Entry) (place lags index : ℕ) (none : Entry) → place < length bins → AllByRecursion (λ f. f.index + lags < index) (take place bins) → lags < index - (get_or bins place none).index → AllByRecursion (λ f. f.index + lags < index) (take (place + 1) bins)
+reach_more bins place lags index none inside far here = rw (take_more bins place none inside) (all_push (λ f. f.index + lags < index) (take place bins) (get_or bins place none) far (omega arith))

@@ -1,0 +1,114 @@
+-- Pairs of dense bins, lag by lag.
+use Rattle.std.proofs.Common.{◌≡◌, ◌∙◌, ℕ, zero, suc, ◌+◌, ◌-◌, ◌*◌, ◌^◌, ◌<◌, ◌≤◌, true, false, ltb, eqb, cond, List, [], ◌∷◌, ◌++◌, length, get_or, take, drop, refl, sym, ap, subst, arith, append_assoc}
+use Rattle.std.specs.List.{sum_by, filter, AllByRecursion}
+use Rattle.std.proofs.Math.Nat.{mul-le-mul_left}
+use Rattle.std.proofs.lemmas.Bool.Decides.{nat_tests}
+use Rattle.std.proofs.lemmas.List.{take-append-drop, take_more, take_all, drop_more, length-drop}
+use Rattle.std.proofs.lemmas.List.Sums.{sum_by-cons, sum_by-append, sum_by-le-sum_by}
+use Rattle.lag_ring.specs.declared.ring.Entry.{Entry}
+use Rattle.lag_ring.specs.declared.window.Side.TheVariants.{First, Second}
+use Rattle.lag_ring.specs.Ring.{IsRising}
+use Rattle.lag_ring.specs.Window.{weight_of, weight_at}
+use Rattle.lag_ring.proofs.Lists.{all_back, all_both}
+use Rattle.lag_ring.proofs.Rising.{all_weaker, all_push, rising_back}
+use Rattle.lag_ring.proofs.Sums.{sum_by-same, sum_by-agree, sum_by-filter, sum_by-zero}
+use Rattle.lag_ring.proofs.Windows.{window-before, part-le}
+use Rattle.tau_cascade.specs.Levels.{weight_before}
+use Rattle.tau_cascade.specs.Paired.{paired}
+use Rattle.tau_cascade.specs.Dense.{window_pairs, FitsWindow}
+use Rattle.tau_cascade.proofs.Nexts.{below_bins}
+use Rattle.tau_cascade.proofs.Visits.{rising_drop}
+
+-- bins that aren't before an index count nowhere
+before_only : (k index : ℕ) (es fs : List Entry) → 0 < k → AllByRecursion (λ f. index ≤ f.index) fs → weight_before k index (es ++ fs) ≡ weight_before k index es
+before_only k index es fs some after =
+    let none : weight_before k index fs ≡ 0 = sum_by-zero (λ f. index ≤ f.index) (λ f. cond (eqb (f.index + k) index) f.a 0) fs after (λ f upto. let not : eqb (f.index + k) index ≡ false = grind arith in rw not refl) in
+    omega (arith, sum_by-append (λ f. cond (eqb (f.index + k) index) f.a 0) es fs, none)
+
+-- what bins add, where all bins of a list stand before them
+pub paired-all : (k : ℕ) (all before es : List Entry) → 0 < k → before ++ es ≡ all → IsRising all → paired k before es ≡ sum_by (λ e. weight_before k e.index all * e.b) es
+paired-all k all before [] some is rising = refl
+paired-all k all before (e ∷ es) some is rising =
+    let parted : IsRising (before ++ e ∷ es) = rw is rising in
+    let behind : IsRising (e ∷ es) = rising_back before (e ∷ es) parted in
+    let here : weight_before k e.index all ≡ weight_before k e.index before = ap (weight_before k e.index) (sym is) ∙ before_only k e.index before (e ∷ es) some (omega arith, all_weaker (λ f. e.index < f.index) (λ f. e.index ≤ f.index) (λ f up. omega arith) es behind.0) in
+    let rest = paired-all k all (before ++ e ∷ []) es some (append_assoc before (e ∷ []) es ∙ is) rising in
+    rw (sum_by-cons (λ f. weight_before k f.index all * f.b) e es, here, ← rest) refl
+
+-- bins without photons of the second group count nowhere
+counted : (f : Entry → ℕ) (es : List Entry) → sum_by (λ e. f e * e.b) (filter (λ e. ltb 0 e.b) es) ≡ sum_by (λ e. f e * e.b) es
+counted f es =
+    sum_by-filter (λ e. ltb 0 e.b) (λ e. f e * e.b) es
+    ∙ sum_by-same (λ e. cond (ltb 0 e.b) (f e * e.b) 0) (λ e. f e * e.b) es (λ e. some-or-none (f e) e.b)
+  where
+    some-or-none : (n w : ℕ) → cond (ltb 0 w) (n * w) 0 ≡ n * w
+    some-or-none n zero = omega arith
+    some-or-none n (suc w) = let some : ltb 0 (suc w) ≡ true = grind (arith, nat_tests) in rw some refl
+
+-- the pairs of a window are those with the bins in it
+pub window-paired : (lags low start k : ℕ) (window : List ℕ) (list : List Entry) → 0 < k → k ≤ 192 → length window ≡ 1024 → IsRising list → FitsWindow lags low list (drop start list)
+    → ((p : ℕ) → p < length window → get_or window p 0 ≡ weight_at First 192 low p list)
+    → window_pairs window low (filter (λ e. ltb 0 e.b) (drop start list)) k ≡ paired k (take start list) (drop start list)
+window-paired lags low start k window list some upto long rising fits has =
+    counted (λ e. get_or window (e.index - low + (192 - k)) 0) (drop start list)
+    ∙ sum_by-agree (λ e. (low ≤ e.index) × (e.index - low + 192 ≤ 1024)) (λ e. get_or window (e.index - low + (192 - k)) 0 * e.b) (λ e. weight_before k e.index list * e.b) (drop start list) fits.near
+    (λ e at. ap (λ n. n * e.b) (window-before First window low 192 list has k e.index upto at.0 (omega (arith, at.1, some, long))))
+    ∙ sym (paired-all k list (take start list) (drop start list) some (take-append-drop start list) rising)
+
+-- bins with photons of the second group have no more of them than all
+pub few_counted : (es : List Entry) → sum_by (weight_of Second) (filter (λ e. ltb 0 e.b) es) ≤ sum_by (weight_of Second) es
+few_counted es = rw (sum_by-filter (λ e. ltb 0 e.b) (weight_of Second) es) (sum_by-le-sum_by (λ e. cond (ltb 0 e.b) (weight_of Second e) 0) (weight_of Second) es (λ e. part-le (ltb 0 e.b) (weight_of Second e)))
+
+-- no bin is behind the last
+to_last : (list : List Entry) (none : Entry) → 0 < length list → IsRising list → AllByRecursion (λ e. e.index ≤ (get_or list (length list - 1) none).index) list
+to_last list none some rising =
+    let n : ℕ = length list - 1 in
+    let last : Entry = get_or list n none in
+    let inside : n < length list = omega (arith, some) in
+    let below = below_bins list 0 n 0 none inside (omega arith) rising in
+    let all : AllByRecursion (λ e. e.index ≤ last.index) (take n list ++ last ∷ []) = all_push (λ e. e.index ≤ last.index) (take n list) last (all_weaker (λ e. e.index < last.index) (λ e. e.index ≤ last.index) (λ e under. omega arith) (take n list) below) (omega arith) in
+    let whole : take n list ++ last ∷ [] ≡ list = sym (take_more list n none inside) ∙ take_all (n + 1) list (omega (arith, some)) in
+    subst (λ es. AllByRecursion (λ e. e.index ≤ last.index) es) whole all
+
+-- none from one on is before it
+from_first : (list : List Entry) (start : ℕ) (none : Entry) → start < length list → IsRising list → AllByRecursion (λ e. (get_or list start none).index ≤ e.index) (drop start list)
+from_first list start none inside rising =
+    let first : Entry = get_or list start none in
+    let split : drop start list ≡ first ∷ drop (start + 1) list = drop_more list start none inside in
+    let later : IsRising (first ∷ drop (start + 1) list) = (rw split at (rising_drop list start rising)) in
+    rw split (omega arith, all_weaker (λ e. first.index < e.index) (λ e. first.index ≤ e.index) (λ e up. omega arith) (drop (start + 1) list) later.0)
+
+-- where the first and the last of the later bins have their places, all have
+module _ (list : List Entry) (start low last : ℕ) (none : Entry) (inside : start < length list) (rising : IsRising list) (is_low : low ≡ (get_or list start none).index) (is_last : last ≡ (get_or list (length list - 1) none).index) where
+  upto : AllByRecursion (λ e. e.index ≤ last) list
+  upto = rw is_last (to_last list none (omega (arith, inside)) rising)
+
+  pub all_early : last < 2 ^ 63 → AllByRecursion (λ e. e.index + 192 < 2 ^ 64) list
+  all_early early = all_weaker (λ e. e.index ≤ last) (λ e. e.index + 192 < 2 ^ 64) (λ e under. omega (arith, early)) list upto
+
+  pub all_near : last - low ≤ 832 → AllByRecursion (λ e. (low ≤ e.index) × (e.index - low + 192 ≤ 1024)) (drop start list)
+  all_near near =
+      let from : AllByRecursion (λ e. low ≤ e.index) (drop start list) = rw is_low (from_first list start none inside rising) in
+      let under : AllByRecursion (λ e. e.index ≤ last) (drop start list) = all_back (λ e. e.index ≤ last) (take start list) (drop start list) (rw (take-append-drop start list) upto) in
+      all_both (λ e. low ≤ e.index) (λ e. e.index ≤ last) (λ e. (low ≤ e.index) × (e.index - low + 192 ≤ 1024)) (λ e over below. (over, omega (arith, near))) (drop start list) from under
+
+-- the cells after one strip of lags more
+pub strip_more : (at' count n skipped : ℕ) (old cells new : List ℕ) (f : ℕ → ℕ) → ((p : ℕ) → p < at' → p < n → get_or cells p 0 ≡ get_or old p 0 + f (p + skipped + 1)) → ((p : ℕ) → at' ≤ p → get_or cells p 0 ≡ get_or old p 0)
+    → ((p : ℕ) → p < at' → get_or new p 0 ≡ get_or cells p 0) → ((i : ℕ) → i < count → get_or new (at' + i) 0 ≡ get_or cells (at' + i) 0 + f (skipped + at' + 1 + i))
+    → (p : ℕ) → p < at' + count → p < n → get_or new p 0 ≡ get_or old p 0 + f (p + skipped + 1)
+strip_more at' count n skipped old cells new f so_far left before here p within inside =
+    (elim (ltb p at') as (λ b. ltb p at' ≡ b → get_or new p 0 ≡ get_or old p 0 + f (p + skipped + 1)) [
+      | true ↦ λ is. let under : p < at' = grind (arith, nat_tests, is) in before p under ∙ so_far p under inside
+      | false ↦ λ is.
+          let from : at' ≤ p = grind (arith, nat_tests, is) in
+          let place : at' + (p - at') ≡ p = omega arith in
+          let lag : skipped + at' + 1 + (p - at') ≡ p + skipped + 1 = omega arith in
+          (rw (place, lag) at (here (p - at') (omega (arith, within)))) ∙ ap (λ m. m + f (p + skipped + 1)) (left p from)
+    ]) refl
+
+-- the additions of all lags at once are within those of one bin after the other
+pub once_each : (lags skipped start : ℕ) (list : List Entry) → 0 < length (drop start list) → lags - skipped ≤ (lags - skipped) * (length list - start)
+once_each lags skipped start list some =
+    let bins : 1 ≤ length list - start = omega (arith, some, length-drop start list) in
+    let product : (lags - skipped) * 1 ≤ (lags - skipped) * (length list - start) = mul-le-mul_left (lags - skipped) bins in
+    omega (arith, product)

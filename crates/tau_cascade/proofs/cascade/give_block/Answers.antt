@@ -1,0 +1,16 @@
+use Rattle.std.proofs.Math.Logic.{∥∥₁_map}
+use Rattle.tally_base.specs.Settings.{correlation_view}
+use Rattle.event_block.specs.Columns.{events_in}
+use Rattle.tau_cascade.specs.Correlation.{photons_of}
+use Rattle.tau_cascade.proofs.Blocks.{block_comes, photons-append}
+use Rattle.tau_cascade.proofs.cascade.give_block.Goals as goal
+
+pub carry_all-requires-clause-stands : goal.carry_all-requires-clause-stands
+carry_all-requires-clause-stands g c =
+    let view = correlation_view c.args.set.now in
+    rw c.gather-count.ensures.bins (∥∥₁_map c.requires.stands (λ w. (photons_of view w.0, photons_of view (events_in c.args.block.now), block_comes view c.args.levels.now c.args.block.now w.0 w.1)))
+
+pub returns-clause-follows : goal.returns-clause-follows
+returns-clause-follows g c = λ h can.
+    let view = correlation_view c.args.set.now in
+    rw photons-append (c.carry_all.ensures.follows (photons_of view h) (photons_of view (events_in c.args.block.now)) (rw c.gather-count.ensures.bins (block_comes view c.args.levels.now c.args.block.now h can)))

@@ -1,0 +1,21 @@
+use Rattle.std.proofs.Common.{◌≡◌, ◌∙◌, ◌<◌, ◌+◌, ◌-◌, ◌*◌, ℕ, min, arith}
+use Rattle.tau_cascade.specs.Dense.{window_pairs}
+use Rattle.tau_cascade.proofs.Together.{strip_more}
+use Rattle.tau_cascade.proofs.dense.pair_window.Goals as goal
+
+pub loop-strip-preserved : goal.loop-strip-preserved
+loop-strip-preserved g c =
+    let inv = c.loop-strip.invariant in
+    let e = c.pair_strip.ensures in
+    let at' : ℕ = c.loop-strip.strip * 64 in
+    let all : ℕ = c.args.lags - c.args.skipped in
+    let below : at' < all = omega arith in
+    let so_far : min at' all ≡ at' = omega arith in
+    let next : min ((c.loop-strip.strip + 1) * 64) all ≡ at' + c.min-count.result = omega arith in
+    record {
+      done = λ p within inside. strip_more at' c.min-count.result all c.args.skipped c.args.cells.now.cells c.loop-strip.cells.cells c.pair_strip.new.cells.cells (window_pairs c.args.window.now c.args.low c.args.later.now) inv.done inv.left e.before e.cells p (omega arith) inside;
+      left = λ p from. e.behind p (omega arith) ∙ inv.left p (omega arith);
+      same = omega (arith, inv.same, e.same);
+      added = omega (arith, inv.added, e.added, next, so_far);
+      steps = omega (arith, inv.steps, e.steps);
+    }

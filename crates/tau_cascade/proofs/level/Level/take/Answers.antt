@@ -1,0 +1,56 @@
+use Rattle.std.proofs.Common.{◌≡◌, ◌∙◌, ◌+◌, ◌<◌, ◌≤◌, length, map, take, rules, arith}
+use Rattle.std.proofs.Props.{props}
+use Rattle.std.proofs.Math.Logic.{∥∥₁_map, ∥∥₁_elim}
+use Rattle.std.proofs.lemmas.List.{length-map, take-take, drop-take}
+use Rattle.tally_base.specs.Settings.{correlation_view}
+use Rattle.tau_cascade.specs.Bins.{raised}
+use Rattle.tau_cascade.proofs.Takes.{first_fit, second_fit, parts, may_shut, took}
+use Rattle.tau_cascade.proofs.level.Level.take.Goals as goal
+
+pub lay_out-from-requires : goal.lay_out-from-requires
+lay_out-from-requires g c =
+    let few : length c.args.self.now.ring.entries ≤ c.args.set.now.lags = ∥∥₁_elim c.requires.stands (hlevel props) (λ w. omega (arith, w.3.was.ring.keeps.within, w.3.was.ring.reach)) in
+    omega (arith, few, c.requires.room, c.args.set.now.some_lags)
+
+pub merge_onto-merged-requires-clause-room : goal.merge_onto-merged-requires-clause-room
+merge_onto-merged-requires-clause-room g c =
+    let few : length c.args.self.now.ring.entries ≤ c.args.set.now.lags = ∥∥₁_elim c.requires.stands (hlevel props) (λ w. omega (arith, w.3.was.ring.keeps.within, w.3.was.ring.reach)) in
+    let long : length c.lay_out-from.new.list ≡ length c.args.list.now = search rules in
+    omega (arith, few, c.requires.room, c.args.set.now.some_lags, c.lay_out-from.ensures.count, long)
+
+pub merge_onto-merged-requires-clause-a : goal.merge_onto-merged-requires-clause-a
+merge_onto-merged-requires-clause-a g c = ∥∥₁_elim c.requires.stands (hlevel props) (λ w.
+    let es = map (raised c.args.levels) c.args.came.now in
+    let some : 0 < length es = rw length-map c.requires.some in
+    omega (arith, first_fit (correlation_view c.args.set.now) c.args.level c.args.self.now es some w.0 w.1 w.2 w.3))
+
+pub merge_onto-merged-requires-clause-b : goal.merge_onto-merged-requires-clause-b
+merge_onto-merged-requires-clause-b g c = ∥∥₁_elim c.requires.stands (hlevel props) (λ w.
+    let es = map (raised c.args.levels) c.args.came.now in
+    let some : 0 < length es = rw length-map c.requires.some in
+    omega (arith, second_fit (correlation_view c.args.set.now) c.args.level c.args.self.now es some w.0 w.1 w.2 w.3))
+
+pub shut_all-requires-clause-ring : goal.shut_all-requires-clause-ring
+shut_all-requires-clause-ring g c =
+    let from = c.lay_out-from.result in
+    let all = c.merge_onto-merged.new.list in
+    let front : take from (take (from + c.merge_onto-merged.result.closed) all) ≡ take from all = take-take from (from + c.merge_onto-merged.result.closed) all (omega arith) in
+    front ∙ c.merge_onto-merged.ensures.before ∙ c.lay_out-from.ensures.entries
+
+pub shut_all-requires-clause-stands : goal.shut_all-requires-clause-stands
+shut_all-requires-clause-stands g c =
+    let es = map (raised c.args.levels) c.args.came.now in
+    let some : 0 < length es = rw length-map c.requires.some in
+    let view = correlation_view c.args.set.now in
+    rw (drop-take c.lay_out-from.result c.merge_onto-merged.result.closed c.merge_onto-merged.new.list) (∥∥₁_map c.requires.stands (λ w.
+    (w.0, (parts view c.args.level c.args.self.now es some w.0 w.1 w.2 w.3 _ c.merge_onto-merged.result.open c.merge_onto-merged.ensures.bins).0, may_shut view c.args.level c.args.self.now es some w.0 w.1 w.2 w.3 _ c.merge_onto-merged.result.open c.merge_onto-merged.ensures.bins)))
+
+pub returns-clause-follows : goal.returns-clause-follows
+returns-clause-follows g c = λ shut open' xs can.
+    let view = correlation_view c.args.set.now in
+    let es = map (raised c.args.levels) c.args.came.now in
+    let some : 0 < length es = rw length-map c.requires.some in
+    let split = parts view c.args.level c.args.self.now es some shut open' xs can _ c.merge_onto-merged.result.open c.merge_onto-merged.ensures.bins in
+    let may = may_shut view c.args.level c.args.self.now es some shut open' xs can _ c.merge_onto-merged.result.open c.merge_onto-merged.ensures.bins in
+    let part = drop-take c.lay_out-from.result c.merge_onto-merged.result.closed c.merge_onto-merged.new.list in
+    (split.0, split.1, took view c.args.level c.args.self.now es some shut open' xs can _ c.merge_onto-merged.result.open c.merge_onto-merged.ensures.bins c.shut_all.new.self c.shut_all.ensures.open (c.shut_all.ensures.ring shut split.0 (rw part may)) (c.shut_all.ensures.cells shut split.0 (rw part may)))

@@ -1,0 +1,13 @@
+use Rattle.std.proofs.Common.{◌≤◌, length, drop}
+use Rattle.std.specs.List.{AllByRecursion}
+use Rattle.lag_ring.specs.declared.ring.Entry.{Entry}
+use Rattle.tau_cascade.proofs.level.first_kept.Given as goal
+
+abbrev pub invariant-back : goal.invariant-back
+invariant-back l = record {
+  within : l.start ≤ length l.bins;
+  kept : AllByRecursion (λ (e : Entry). l.before ≤ e.index) (drop l.start l.bins);
+}
+
+abbrev pub decreases-back : goal.decreases-back
+decreases-back l = l.start

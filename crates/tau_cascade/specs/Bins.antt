@@ -1,0 +1,100 @@
+-- Bins that come to a level one after the other, and those that it closes.
+use Rattle.std.specs.Prelude.{◌≡◌, ℕ, ◌+◌, ◌*◌, ◌/◌, ◌^◌, ◌<◌, ◌≤◌, ◌==◌, ⊤, false, Option, None, Some, List, [], ◌∷◌, ◌++◌, map, take, drop, length, if◌then◌else◌}
+use Rattle.std.specs.List.{AllByRecursion}
+use Rattle.tally_base.specs.Settings.{CorrelationView}
+use Rattle.tally_base.specs.Tally.{History, greatest_time}
+use Rattle.event_block.specs.declared.block.Block.{Block}
+use Rattle.event_block.specs.Columns.{gathered, events_in}
+use Rattle.event_block.specs.Order.{InOrder}
+use Rattle.lag_ring.specs.declared.ring.Entry.{Entry}
+use Rattle.lag_ring.specs.Ring.{Ring}
+use Rattle.lag_ring.specs.Cells.{Cells}
+use Rattle.tau_cascade.specs.declared.level.Level.{Level}
+use Rattle.tau_cascade.specs.Correlation.{Given, bin, in_first, in_second, photons_of}
+use Rattle.tau_cascade.specs.Levels.{IsBin, LevelIs, RingIs, CellsAre, Chain}
+
+-- the bin so many levels up in which a bin lies
+abbrev pub raised : ℕ → Entry → Entry
+raised levels e = record { index = e.index / 2 ^ levels; a = e.a; b = e.b }
+
+-- the first bin, so many levels down, that lies in a bin
+abbrev pub lowered : ℕ → Entry → Entry
+lowered levels e = record { index = e.index * 2 ^ levels; a = e.a; b = e.b }
+
+-- two bins of one index as one
+abbrev pub both_of : Entry → Entry → Entry
+both_of e f = record { index = e.index; a = e.a + f.a; b = e.b + f.b }
+
+-- a bin and those that follow it, neighbours of one index as one bin
+abbrev pub merged : Entry → List Entry → List Entry
+merged e [] = e ∷ []
+merged e (f ∷ fs) = if e.index == f.index then merged (both_of e f) fs else e ∷ merged f fs
+
+-- the same behind an open bin, where there is one
+abbrev pub merged_onto : Option Entry → List Entry → List Entry
+merged_onto None [] = []
+merged_onto None (e ∷ es) = merged e es
+merged_onto (Some e) es = merged e es
+
+-- each bin is so far before those behind it, or further
+abbrev pub IsSpaced : ℕ → List Entry → Type 0
+IsSpaced distance [] = ⊤
+IsSpaced distance (e ∷ es) = AllByRecursion (λ f. e.index + distance ≤ f.index) es × IsSpaced distance es
+
+-- the bins of a stretch of a list, so many levels up
+abbrev pub stretch : ℕ → ℕ → ℕ → List Entry → List Entry
+stretch from count levels bins = map (raised levels) (take count (drop from bins))
+
+-- the bin of one photon on the lowest level
+abbrev pub bin_of : CorrelationView → Given → Entry
+bin_of set x = record {
+  index = x.0.time;
+  a = (if in_first set x then 1 else 0);
+  b = (if in_second set x then 1 else 0);
+}
+
+-- the photons of either group, each in a bin
+abbrev pub photon_bins : CorrelationView → History → List Entry
+photon_bins set h = map (bin_of set) (photons_of set h)
+
+module _ (set : CorrelationView) (level : ℕ) where
+  -- photons xs come in these bins, one after the other, none of them before what came until then
+  abbrev pub Come : History → List Entry → History → Type 0
+  Come came [] xs = xs ≡ []
+  Come came (e ∷ es) xs = (run : History) × (rest : History) × (xs ≡ run ++ rest) × IsBin set level e run × AllByRecursion (λ x. bin level x ≤ e.index) came × Come (came ++ run) es rest
+
+  -- photons xs are in these bins, one after the other, and each bin is after all that was closed until then
+  abbrev pub Follow : History → List Entry → History → Type 0
+  Follow closed [] xs = xs ≡ []
+  Follow closed (e ∷ es) xs = (run : History) × (rest : History) × (xs ≡ run ++ rest) × IsBin set level e run × AllByRecursion (λ x. bin level x < e.index) closed × Follow (closed ++ run) es rest
+
+  -- these bins of photons xs may be closed
+  pub record CanShutAll (r : Ring) (cs : Cells) (es : List Entry) (closed xs : History) : Type 0 where
+    pub few : length closed + length xs ≤ 2 ^ 40
+    pub ring : RingIs set level r closed
+    pub cells : CellsAre set level cs closed
+    pub bins : Follow closed es xs
+
+  -- photons xs may come in these bins
+  pub record CanTake (l : Level) (es : List Entry) (closed open' xs : History) : Type 0 where
+    pub few : length closed + length open' + length xs ≤ 2 ^ 40
+    pub was : LevelIs set level l closed open'
+    pub come : Come (closed ++ open') es xs
+
+  -- they came: those of `done` are in bins that were closed, and those of `now` in the open one
+  pub record Took (l : Level) (shut : List Entry) (closed open' xs done now : History) : Type 0 where
+    pub all : open' ++ xs ≡ done ++ now
+    pub is : LevelIs set level l (closed ++ done) now
+    pub bins : Follow closed shut done
+
+-- photons xs may come in these bins to a level and those above it
+pub record CanCome (set : CorrelationView) (level : ℕ) (ls : List Level) (es : List Entry) (came xs : History) : Type 0 where
+  pub few : length came + length xs ≤ 2 ^ 40
+  pub chain : Chain set level ls came
+  pub come : Come set level came es xs
+
+-- the events of a block may be given, after those that were
+pub record CanGiveBlock (set : CorrelationView) (ls : List Level) (block : Block) (h : History) : Type 0 where
+  pub few : length h + length (events_in block) ≤ 2 ^ 40
+  pub chain : Chain set 0 ls (photons_of set h)
+  pub order : InOrder false (greatest_time false h) (gathered block)

@@ -1,0 +1,20 @@
+-- Pairs of bins with what stands in a window.
+use Rattle.std.specs.Prelude.{ℕ, ◌+◌, ◌-◌, ◌^◌, ◌<◌, ◌≤◌, List, length, sum_by}
+use Rattle.std.specs.List.{AllByRecursion}
+use Rattle.lag_ring.specs.declared.ring.Entry.{Entry}
+use Rattle.lag_ring.specs.declared.window.Side.TheVariants.{First, Second}
+use Rattle.lag_ring.specs.Window.{weight_of, product_at}
+
+-- the second weights of later bins times what stands so many lags before each in a window of 192 lags
+abbrev pub window_pairs : List ℕ → ℕ → List Entry → ℕ → ℕ
+window_pairs window low later lag = sum_by (product_at Second window low (192 - lag)) later
+
+-- the later bins, and all that they reach, have a place in a window of 1024 places, and few photons
+pub record FitsWindow (lags low : ℕ) (list later : List Entry) : Type 0 where
+  pub served : lags ≤ 128
+  pub some : 0 < length later
+  pub few : length later ≤ 64
+  pub early : AllByRecursion (λ e. e.index + 192 < 2 ^ 64) list
+  pub near : AllByRecursion (λ e. (low ≤ e.index) × (e.index - low + 192 ≤ 1024)) later
+  pub firsts : sum_by (weight_of First) list < 2 ^ 16
+  pub seconds : sum_by (weight_of Second) later < 2 ^ 16

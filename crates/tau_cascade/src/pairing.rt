@@ -1,0 +1,196 @@
+// Pairs of bins with those before them.
+ghost use Rattle.std.specs.Prelude.{◌≡◌, ℕ, ◌+◌, ◌-◌, ◌*◌, ◌^◌, ◌<◌, ◌≤◌, length, take, drop, slice_index, if◌then◌else◌, ◌==◌, ◌&&◌, nat_lt, nat_le};
+ghost use Rattle.std.specs.List.{AllByRecursion};
+ghost use Rattle.lag_ring.specs.Ring.{IsRising};
+ghost use Rattle.tau_cascade.specs.Levels.{weight_before, entries_at_lags};
+ghost use Rattle.tau_cascade.specs.Paired.{paired};
+
+use crate::dense::{pair_together, window_from};
+use lag_ring::{Entry, PairCells};
+use std::sync::ledger::Ledger;
+use tally_base::Steps;
+
+/// Adds the pairs of so many photons of an earlier bin and so many of a later one to the cell of their lag,
+/// where the level has that lag.
+#[inline(always)]
+fn add_at_lag<L: Ledger>(
+    cells: &mut PairCells,
+    skipped: u32,
+    lags: u32,
+    lag: u64,
+    earlier: u64,
+    later: u64,
+    steps: &mut Steps<L>,
+)
+    requires lags { (skipped ≤ lags) × (length cells.old.cells ≡ lags - skipped) }
+    requires sum { skipped < lag → lag ≤ lags
+        → slice_index cells.old.cells (lag - skipped - 1) + earlier * later ≤ 2 ^ 80 }
+    requires count { skipped < lag → lag ≤ lags → cells.old.added < 2 ^ 64 - 1 }
+    ensures cells { (p : ℕ) → p < lags - skipped → slice_index cells.new.cells p
+        ≡ slice_index cells.old.cells p + (if p + skipped + 1 == lag then earlier * later else 0) }
+    ensures same { length cells.new.cells ≡ length cells.old.cells }
+    ensures added { cells.new.added
+        ≤ cells.old.added + (if nat_lt skipped lag && nat_le lag lags then 1 else 0) }
+    ensures steps { steps.new + cells.old.added ≡ steps.old + cells.new.added }
+{
+    if lag > u64::from(skipped) && lag <= u64::from(lags) {
+        let pairs = u128::from(earlier) * u128::from(later);
+        cells.add((lag - u64::from(skipped) - 1) as u32, pairs, steps);
+    }
+}
+
+/// Pairs photons of the bin at `index`, of which `weight` are in the second group, with those of earlier
+/// entries at the lags above `skipped` and up to `lags`. From the first entry on that is nearer, all are.
+#[inline(always)]
+fn pair_entries<L: Ledger>(
+    cells: &mut PairCells,
+    skipped: u32,
+    lags: u32,
+    index: u64,
+    weight: u64,
+    entries: &[Entry],
+    steps: &mut Steps<L>,
+)
+    requires lags { (skipped ≤ lags) × (length cells.old.cells ≡ lags - skipped) }
+    requires rising { IsRising entries.now }
+    requires after { AllByRecursion (λ e. e.index < index) entries.now }
+    requires fits { (p : ℕ) → p < lags - skipped → slice_index cells.old.cells p
+        + weight_before (p + skipped + 1) index entries.now * weight ≤ 2 ^ 80 }
+    requires count { cells.old.added + entries_at_lags skipped lags index entries.now < 2 ^ 64 }
+    ensures cells { (p : ℕ) → p < lags - skipped → slice_index cells.new.cells p
+        ≡ slice_index cells.old.cells p
+        + weight_before (p + skipped + 1) index entries.now * weight }
+    ensures same { length cells.new.cells ≡ length cells.old.cells }
+    ensures added { cells.new.added
+        ≤ cells.old.added + entries_at_lags skipped lags index entries.now }
+    ensures steps { steps.new + cells.old.added ≡ steps.old + cells.new.added }
+{
+    for e in entries {
+        let lag = index - e.index;
+        if lag <= u64::from(skipped) {
+            return;
+        }
+        add_at_lag(cells, skipped, lags, lag, e.a, weight, steps);
+    }
+}
+
+/// Pairs photons of the bin at `index` with those of entries, where there are entries and photons of the
+/// second group. That there are none is the most frequent case.
+#[inline(always)]
+fn pair_some<L: Ledger>(
+    cells: &mut PairCells,
+    skipped: u32,
+    lags: u32,
+    index: u64,
+    weight: u64,
+    entries: &[Entry],
+    steps: &mut Steps<L>,
+)
+    requires lags { (skipped ≤ lags) × (length cells.old.cells ≡ lags - skipped) }
+    requires rising { IsRising entries.now }
+    requires after { AllByRecursion (λ e. e.index < index) entries.now }
+    requires fits { (p : ℕ) → p < lags - skipped → slice_index cells.old.cells p
+        + weight_before (p + skipped + 1) index entries.now * weight ≤ 2 ^ 80 }
+    requires count { cells.old.added + entries_at_lags skipped lags index entries.now < 2 ^ 64 }
+    ensures cells { (p : ℕ) → p < lags - skipped → slice_index cells.new.cells p
+        ≡ slice_index cells.old.cells p
+        + weight_before (p + skipped + 1) index entries.now * weight }
+    ensures same { length cells.new.cells ≡ length cells.old.cells }
+    ensures added { cells.new.added
+        ≤ cells.old.added + entries_at_lags skipped lags index entries.now }
+    ensures steps { steps.new + cells.old.added ≡ steps.old + cells.new.added }
+{
+    if entries.len() > 0 {
+        if weight > 0 {
+            pair_entries(cells, skipped, lags, index, weight, entries, steps);
+        }
+    }
+}
+
+/// The place, from `from` on and at most `at`, of the first bin that is no more than `lags` before the
+/// index.
+#[inline(always)]
+fn first_in_reach(bins: &[Entry], from: usize, at: usize, index: u64, lags: u32) -> usize
+    requires places { (from ≤ at) × (at ≤ length bins.now) }
+    requires after { AllByRecursion (λ e. e.index < index) (take at bins.now) }
+    requires far { AllByRecursion (λ e. e.index + lags < index) (take from bins.now) }
+    ensures place { result ≤ at }
+    ensures far { AllByRecursion (λ e. e.index + lags < index) (take result bins.now) }
+{
+    for place in from..at {
+        if index - bins[place].index <= u64::from(lags) {
+            return place;
+        }
+    }
+    at
+}
+
+/// Pairs the bins of a list from `start` on with those before them, at the lags above `skipped` and up
+/// to `lags`: bin by bin.
+fn pair_each<L: Ledger>(
+    cells: &mut PairCells,
+    skipped: u32,
+    lags: u32,
+    list: &[Entry],
+    start: usize,
+    steps: &mut Steps<L>,
+)
+    requires lags { (skipped ≤ lags) × (length cells.old.cells ≡ lags - skipped) }
+    requires start { start ≤ length list.now }
+    requires rising { IsRising list.now }
+    requires fits { (p : ℕ) → p < lags - skipped → slice_index cells.old.cells p
+        + paired (p + skipped + 1) (take start list.now) (drop start list.now) ≤ 2 ^ 80 }
+    requires count { cells.old.added + (lags - skipped) * (length list.now - start) < 2 ^ 64 }
+    ensures cells { (p : ℕ) → p < lags - skipped → slice_index cells.new.cells p
+        ≡ slice_index cells.old.cells p
+        + paired (p + skipped + 1) (take start list.now) (drop start list.now) }
+    ensures same { length cells.new.cells ≡ length cells.old.cells }
+    ensures added { cells.new.added
+        ≤ cells.old.added + (lags - skipped) * (length list.now - start) }
+    ensures steps { steps.new + cells.old.added ≡ steps.old + cells.new.added }
+{
+    let mut from = 0;
+    for at in start..list.len() {
+        let bin = list[at];
+        from = first_in_reach(list, from, at, bin.index, lags);
+        pair_some(
+            cells,
+            skipped,
+            lags,
+            bin.index,
+            bin.b,
+            &list[from..at],
+            steps,
+        );
+    }
+}
+
+/// Pairs the bins of a list from `start` on with those before them, at the lags above `skipped` and up
+/// to `lags`. Where the bins are dense, lag by lag over a window.
+pub(crate) fn pair_all<L: Ledger>(
+    cells: &mut PairCells,
+    skipped: u32,
+    lags: u32,
+    list: &[Entry],
+    start: usize,
+    steps: &mut Steps<L>,
+)
+    requires lags { (skipped ≤ lags) × (length cells.old.cells ≡ lags - skipped) }
+    requires start { start ≤ length list.now }
+    requires rising { IsRising list.now }
+    requires fits { (p : ℕ) → p < lags - skipped → slice_index cells.old.cells p
+        + paired (p + skipped + 1) (take start list.now) (drop start list.now) ≤ 2 ^ 80 }
+    requires count { cells.old.added + (lags - skipped) * (length list.now - start) < 2 ^ 64 }
+    ensures cells { (p : ℕ) → p < lags - skipped → slice_index cells.new.cells p
+        ≡ slice_index cells.old.cells p
+        + paired (p + skipped + 1) (take start list.now) (drop start list.now) }
+    ensures same { length cells.new.cells ≡ length cells.old.cells }
+    ensures added { cells.new.added
+        ≤ cells.old.added + (lags - skipped) * (length list.now - start) }
+    ensures steps { steps.new + cells.old.added ≡ steps.old + cells.new.added }
+{
+    match window_from(skipped, lags, list, start) {
+        Some(low) => pair_together(cells, skipped, lags, list, start, low, steps),
+        None => pair_each(cells, skipped, lags, list, start, steps),
+    }
+}
