@@ -9,7 +9,7 @@ use Rattle.tally_base.specs.Tally.{moves_floor}
 use Rattle.event_block.specs.Order.{floor_after}
 use Rattle.event_block.proofs.Order.{floor-push}
 use Rattle.tally_engine.specs.declared.reached.Reached.{Reached}
-use Rattle.tally_engine.specs.Reached.{orders_markers}
+use Rattle.record_stream.specs.Blocks.{orders_markers}
 use Rattle.tally_engine.specs.Ahead.{floor_with}
 
 moves_by : (mode : Mode) (e : Event) → moves_floor (orders_markers mode) e ≡ is_ordered mode e

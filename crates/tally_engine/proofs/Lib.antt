@@ -6,3 +6,4 @@ pub mod Slices
 pub mod Refusals
 pub mod Opens
 pub mod Suits
+pub mod Behind

@@ -45,8 +45,8 @@ part_taken p = (laws_of p).taken_is
 part_floor : (p : Part) (h : History) → ghosts.holds p h → ghosts.floor p ≡ greatest_time (is_strict (ghosts.settings p)) h
 part_floor p = (laws_of p).floor_is
 
-pub standing_first : (mode : Mode) (settings : PartSettings) (p : Part) → (mode ≡ T2 → is_strict (ghosts.settings p) ≡ false) → IsOpened settings p → Standing ghosts mode 0 0 p
-standing_first mode settings p loose opened =
+pub standing_first : (mode : Mode) (taken floor : ℕ) (settings : PartSettings) (p : Part) → (mode ≡ T2 → is_strict (ghosts.settings p) ≡ false) → IsOpened settings p → Standing ghosts mode taken floor p
+standing_first mode taken floor settings p loose opened =
     let none = part_taken p [] opened.empty in
     let early = part_floor p [] opened.empty in
     record { still_open = opened.opened; few = omega (arith, none); before = omega (arith, early); suits = loose }

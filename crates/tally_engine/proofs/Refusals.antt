@@ -10,12 +10,6 @@ use Rattle.ptu_definitions.specs.Streams.{Reading, record_refusal}
 use Rattle.ptu_definitions.proofs.Firsts.{record_refusal-inside}
 use Rattle.tally_base.specs.Faults.{fault_in}
 
--- every refusal is one that the bytes call for
-pub inside_after : (how : Reading) (words : List ℕ) (old new : Option Fault) → ((fault : Fault) → old ≡ Some fault → is_outside fault ≡ false) → ((fault : Fault) → old ≡ Some fault → new ≡ Some fault) → (old ≡ None → new ≡ record_refusal how words)
-    → (fault : Fault) → new ≡ Some fault → is_outside fault ≡ false
-inside_after how words (Some before) new inside kept fresh fault is = let e : before ≡ fault = cc (kept before refl, is) in rw (← e) (inside before refl)
-inside_after how words None new inside kept fresh fault is = record_refusal-inside how words fault (sym (fresh refl) ∙ is)
-
 -- what holds behind a piece that was taken
 pub where_taken : {X A : Type 0} (r : Result X Fault) (refused : Option Fault) → refused ≡ fault_in r → OnOk r A → refused ≡ None → A
 where_taken (Ok x) refused is a none = a

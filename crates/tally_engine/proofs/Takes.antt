@@ -1,5 +1,5 @@
 -- One event more for all tables.
-use Rattle.std.proofs.Common.{◌≡◌, ◌+◌, ◌≤◌, ◌<◌, ℕ, List, [], ◌∷◌, ◌++◌, Bool, true, false, max, refl, sym, ap, ◌^◌, ◌∙◌, append_assoc, append-nil, arith, length, length-append}
+use Rattle.std.proofs.Common.{◌≡◌, ◌+◌, ◌≤◌, ◌<◌, ℕ, List, [], ◌∷◌, ◌++◌, Bool, true, false, refl, sym, ap, ◌^◌, ◌∙◌, append_assoc, append-nil, arith, length, length-append}
 use Rattle.std.specs.Prelude.{◌&&◌, not, IsTrue, if◌then◌else◌, slice_index_or}
 use Rattle.std.proofs.lemmas.List.{map-append}
 use Rattle.std.proofs.lemmas.List.Elements.{filter-append}
@@ -10,21 +10,14 @@ use Rattle.tally_base.specs.declared.tally.Tally.{Ghosts}
 use Rattle.tally_base.specs.Events.{is_ordered}
 use Rattle.tally_base.specs.Settings.{GroupView, is_strict}
 use Rattle.tally_base.specs.Tally.{History, moves_floor}
-use Rattle.ptu_definitions.specs.Kept.{Marked, floor_of}
+use Rattle.ptu_definitions.specs.Kept.{Marked}
 use Rattle.gate_plan.specs.Groups.{groups_in}
 use Rattle.tally_engine.specs.Histories.{with_groups, unmarked}
+use Rattle.record_stream.proofs.Floors.{moved_floor-push}
 use Rattle.event_block.specs.Order.{floor_after, InOrder}
 use Rattle.event_block.proofs.Order.{floor-push, order-push, order-front, order-last}
 use Rattle.tally_engine.specs.Give.{kept_of, CanTake, Took, Holding, Moves}
-use Rattle.tally_engine.specs.Taker.{Waits, Gave}
-
-floor_of-push : (mode : Mode) (l : Marked) (e : Event) (late : Bool) → floor_of mode (l ++ (e, late) ∷ []) ≡ max (floor_of mode l) (if is_ordered mode e && not late then e.time else 0)
-floor_of-push mode [] e late = omega arith
-floor_of-push mode (x ∷ l) e late = rw (floor_of-push mode l e late) (omega arith)
-
-moved_on : (b : Bool) (first floor time so_far : ℕ) → floor ≡ max first so_far → (IsTrue b → floor ≤ time) → (if b then time else floor) ≡ max first (max so_far (if b then time else 0))
-moved_on true first floor time so_far is in_order = let h : floor ≤ time = in_order refl in omega arith
-moved_on false first floor time so_far is in_order = omega arith
+use Rattle.tally_engine.specs.Taker.{Standing, Waits, Gave}
 
 unmarked-late : (l : Marked) (e : Event) → unmarked (l ++ (e, true) ∷ []) ≡ unmarked l
 unmarked-late l e = rw (filter-append, append-nil) refl
@@ -138,7 +131,7 @@ module _ {T : Type 0} (g : Ghosts T) where
     same_groups = gave.same_groups;
     same_mode = gave.same_mode;
     counted = omega (arith, one, gave.counted, length-append l ((e, late) ∷ []));
-    moved = is ∙ moved_on (is_ordered mode' e && not late) floor floor' e.time (floor_of mode l) gave.moved in_order ∙ rw (floor_of-push mode l e late, gave.same_mode) refl;
+    moved = is ∙ rw gave.same_mode (moved_floor-push mode floor floor' l e late gave.moved (rw gave.same_mode at in_order));
     follows = λ h held. λ k d inside.
         let within : k < length old = omega (arith, same, inside) in
         rw (unmarked-more l e late, with_groups-more groups (unmarked l) (kept_of late e), ← append_assoc h) ((rw gave.same_groups at (moves k d within)).follows _ (gave.follows h held k d within));
@@ -149,3 +142,12 @@ module _ {T : Type 0} (g : Ghosts T) where
 
   pub holding_all : (groups : List GroupView) (es : List Event) (old new : T) (h : History) → Holding g groups es old h → Took g es (with_groups groups es) old new → g.holds new h
   holding_all groups es old new h held took = rw held.1 (took.follows held.0 held.2)
+
+  -- A table that was given the events that wait for it stands where they lead.
+  pub standing_took : (mode : Mode) (taken floor given top : ℕ) (es : List Event) (more : History) (old new : T) → Waits g mode taken floor es old → Took g es more old new → taken ≤ given → floor ≤ top → Standing g mode given top new
+  standing_took mode taken floor given top es more old new w took few before = record {
+    still_open = took.still_open;
+    few = omega (arith, w.few, took.count, few);
+    before = omega (arith, w.before, took.moved, before);
+    suits = λ is. rw took.same_settings (w.suits is);
+  }

@@ -4,7 +4,7 @@ use Rattle.tally_base.specs.declared.event.Event.{Event}
 use Rattle.tally_base.specs.declared.header.Mode.{Mode}
 use Rattle.event_block.specs.Order.{floor_after}
 use Rattle.tally_engine.specs.declared.reached.Reached.{Reached}
-use Rattle.tally_engine.specs.Reached.{orders_markers}
+use Rattle.record_stream.specs.Blocks.{orders_markers}
 
 abbrev pub taken_with : Reached → List Event → ℕ
 taken_with reached es = reached.taken + length es

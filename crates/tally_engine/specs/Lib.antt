@@ -5,6 +5,5 @@ pub mod Histories
 pub mod Part
 pub mod Parts
 pub mod Plans
-pub mod Reached
 pub mod Same
 pub mod Taker

@@ -1,5 +1,5 @@
 // All tables of a plan, and the stream that feeds them.
-ghost use Rattle.std.specs.Prelude.{◌≡◌, ℕ, ◌≤◌, All, List, None, Some, false};
+ghost use Rattle.std.specs.Prelude.{◌≡◌, ℕ, All, List, None, Some, false};
 ghost use Rattle.tally_base.specs.declared.fault.Fault.{Fault};
 ghost use Rattle.tally_base.specs.Faults.{is_outside};
 ghost use Rattle.tally_base.specs.RecordTypes.{mode_of};
@@ -9,8 +9,7 @@ ghost use Rattle.tally_engine.specs.Taker.{Standing};
 use crate::give::close_all;
 use crate::open::open_all;
 use crate::part::Part;
-use crate::reached::Reached;
-use crate::taker::feed_parts;
+use crate::part_taker::feed_parts;
 use gate_plan::Gates;
 use plan_text::Plan;
 use record_stream::{RecordStream, Summary};
@@ -38,19 +37,16 @@ pub struct Engine {
     gates: Gates,
     stream: RecordStream,
     parts: Vec<Part>,
-    reached: Reached,
     ghost same_mode: { (how_of stream).mode ≡ mode_of header.record_type },
-    ghost standing: { All (Standing ⟦<Part as Tally>⟧ (mode_of header.record_type) reached.taken
-        reached.floor) parts.items },
-    ghost few: { refused_with stream ≡ None → reached.taken ≤ given_by stream },
-    ghost before: { refused_with stream ≡ None → reached.floor ≤ top_of stream },
+    ghost standing: { refused_with stream ≡ None
+        → All (Standing ⟦<Part as Tally>⟧ (mode_of header.record_type) (given_by stream) (top_of stream)) parts.items },
     ghost streams: { ∥ ((bytes : List ℕ) × HasStreamed stream bytes) ∥₁ },
     ghost inside: { (fault : Fault) → refused_with stream ≡ Some fault
         → is_outside fault ≡ false },
 }
 
 impl Engine {
-    ghost use Rattle.std.specs.Prelude.{◌+◌, ◌*◌, ◌^◌, ◌<◌, [], ◌++◌, length, Err, OnOk, IfOk, IfErr};
+    ghost use Rattle.std.specs.Prelude.{◌+◌, ◌*◌, ◌^◌, ◌<◌, ◌≤◌, [], ◌++◌, length, Err, OnOk, IfOk, IfErr};
     ghost use Rattle.plan_text.specs.Fits.{fits};
     ghost use Rattle.plan_text.specs.Reading.{plan_view};
     ghost use Rattle.tally_engine.specs.Plans.{plan_bound, OpensAs};
@@ -83,7 +79,6 @@ impl Engine {
                 gates: Gates::of(plan),
                 stream: RecordStream::new(header.record_type, plan.policy),
                 parts,
-                reached: Reached { taken: 0, floor: 0 },
             }),
             Err(AllocError) => Err(Fault::OutOfMemory),
         }
@@ -112,6 +107,9 @@ impl Engine {
         ensures same { SameEngine self.old self.new }
         ensures within { held self.new ≤ bound self.new }
     {
+        if let Some(refusal) = self.stream.refusal() {
+            return Err(refusal);
+        }
         let mode = self.header.record_type.mode();
         feed_parts(
             &mut self.stream,
@@ -119,7 +117,6 @@ impl Engine {
             mode,
             &self.gates,
             &mut self.parts,
-            &mut self.reached,
             steps,
         )
     }
@@ -137,7 +134,6 @@ impl Engine {
             gates: _,
             stream,
             mut parts,
-            reached: _,
         } = self;
         match stream.finish() {
             Ok(summary) => {

@@ -1,13 +1,14 @@
 // A block of events to every table.
-ghost use Rattle.std.specs.Prelude.{◌≡◌, ℕ, ◌+◌, ◌^◌, ◌<◌, ◌≤◌, ◌++◌, ◌∷◌, [], All, false, length, slice_index_or, if◌then◌else◌, ◌&&◌, not};
+ghost use Rattle.std.specs.Prelude.{◌≡◌, ℕ, ◌+◌, ◌^◌, ◌<◌, ◌≤◌, ◌++◌, ◌∷◌, [], All, false, length, if◌then◌else◌};
 ghost use Rattle.tally_base.specs.declared.event.Event.{Event};
 ghost use Rattle.event_block.specs.Codes.{kind_of};
 ghost use Rattle.event_block.specs.Columns.{sorted, gathered, events_in, IsSorted};
 ghost use Rattle.gate_plan.specs.Groups.{groups_of, groups_in};
 ghost use Rattle.gate_plan.specs.Parting.{plain_bits, gated_bits};
 ghost use Rattle.tally_base.specs.Events.{is_ordered};
+ghost use Rattle.record_stream.specs.Floors.{moved_floor};
 ghost use Rattle.tally_engine.specs.Ahead.{taken_with, floor_with};
-ghost use Rattle.tally_engine.specs.Give.{CanTake, Took, Moves, Closed, kept_of};
+ghost use Rattle.tally_engine.specs.Give.{Each, CanTake, Took, Moves, Closed, kept_of};
 ghost use Rattle.tally_engine.specs.Histories.{with_groups};
 
 use crate::part::Part;
@@ -34,15 +35,12 @@ pub(crate) fn gather<L: Ledger>(
     requires room { taken_with reached.old (gathered block.old) < 2 ^ 40 }
     requires idle { length parts.old ≡ 0 → gathered block.old ≡ [] }
     requires unsorted { sorted block.old ≡ 0 }
-    ensures moves { (k : ℕ) (d : Part) → k < length parts.old
-        → Moves ⟦<Part as Tally>⟧ (groups_of gates.now) (gathered block.old)
-        (gathered block.new) (kept_of late event.now) (slice_index_or parts.old k d)
-        (slice_index_or parts.new k d) }
+    ensures moves { Each (Moves ⟦<Part as Tally>⟧ (groups_of gates.now) (gathered block.old)
+        (gathered block.new) (kept_of late event.now)) parts.old parts.new }
     ensures taken { taken_with reached.new (gathered block.new)
         ≡ taken_with reached.old (gathered block.old) + 1 }
     ensures floor { floor_with mode reached.new (gathered block.new)
-        ≡ (if is_ordered mode event.now && not late then event.now.time
-        else floor_with mode reached.old (gathered block.old)) }
+        ≡ moved_floor mode (floor_with mode reached.old (gathered block.old)) event.now late }
     ensures idle { length parts.new ≡ 0 → gathered block.new ≡ [] }
     ensures unsorted { sorted block.new ≡ 0 }
 {
@@ -67,10 +65,8 @@ fn gather_one<L: Ledger>(
     requires may { All (CanTake ⟦<Part as Tally>⟧ (gathered block.old ++ event.now ∷ [])) parts.old }
     requires room { taken_with reached.old (gathered block.old) < 2 ^ 40 }
     requires unsorted { sorted block.old ≡ 0 }
-    ensures moves { (k : ℕ) (d : Part) → k < length parts.old
-        → Moves ⟦<Part as Tally>⟧ (groups_of gates.now) (gathered block.old)
-        (gathered block.new) (event.now ∷ []) (slice_index_or parts.old k d)
-        (slice_index_or parts.new k d) }
+    ensures moves { Each (Moves ⟦<Part as Tally>⟧ (groups_of gates.now) (gathered block.old)
+        (gathered block.new) (event.now ∷ [])) parts.old parts.new }
     ensures taken { taken_with reached.new (gathered block.new)
         ≡ taken_with reached.old (gathered block.old) + 1 }
     ensures floor { floor_with mode reached.new (gathered block.new)
@@ -96,9 +92,8 @@ fn make_room<L: Ledger>(
     requires room { taken_with reached.old (gathered block.old) ≤ 2 ^ 40 }
     requires unsorted { sorted block.old ≡ 0 }
     ensures room { length (gathered block.new) < 64 }
-    ensures moves { (k : ℕ) (d : Part) → k < length parts.old
-        → Moves ⟦<Part as Tally>⟧ (groups_of gates.now) (gathered block.old)
-        (gathered block.new) [] (slice_index_or parts.old k d) (slice_index_or parts.new k d) }
+    ensures moves { Each (Moves ⟦<Part as Tally>⟧ (groups_of gates.now) (gathered block.old)
+        (gathered block.new) []) parts.old parts.new }
     ensures taken { taken_with reached.new (gathered block.new)
         ≡ taken_with reached.old (gathered block.old) }
     ensures floor { floor_with mode reached.new (gathered block.new)
@@ -124,10 +119,8 @@ pub(crate) fn flush<L: Ledger>(
     requires room { taken_with reached.old (gathered block.old) ≤ 2 ^ 40 }
     requires unsorted { sorted block.old ≡ 0 }
     ensures empty { gathered block.new ≡ [] }
-    ensures took { (k : ℕ) (d : Part) → k < length parts.old
-        → Took ⟦<Part as Tally>⟧ (gathered block.old)
-        (with_groups (groups_of gates.now) (gathered block.old)) (slice_index_or parts.old k d)
-        (slice_index_or parts.new k d) }
+    ensures took { Each (Took ⟦<Part as Tally>⟧ (gathered block.old)
+        (with_groups (groups_of gates.now) (gathered block.old))) parts.old parts.new }
     ensures taken { reached.new.taken ≡ taken_with reached.old (gathered block.old) }
     ensures floor { reached.new.floor ≡ floor_with mode reached.old (gathered block.old) }
     ensures unsorted { sorted block.new ≡ 0 }
@@ -186,9 +179,8 @@ fn photon_groups(gates: &Gates, gated: bool, input: u8, dtime: u16) -> u64
 fn give_all<L: Ledger>(parts: &mut [Part], block: &Block, steps: &mut Steps<L>)
     requires sorted { IsSorted block.now }
     requires may { All (CanTake ⟦<Part as Tally>⟧ (gathered block.now)) parts.old }
-    ensures took { (k : ℕ) (d : Part) → k < length parts.old
-        → Took ⟦<Part as Tally>⟧ (gathered block.now) (events_in block.now)
-        (slice_index_or parts.old k d) (slice_index_or parts.new k d) }
+    ensures took { Each (Took ⟦<Part as Tally>⟧ (gathered block.now) (events_in block.now))
+        parts.old parts.new }
 {
     for part in parts.iter_mut() {
         part.events(block, steps);
@@ -198,8 +190,7 @@ fn give_all<L: Ledger>(parts: &mut [Part], block: &Block, steps: &mut Steps<L>)
 /// Closes every table.
 pub(crate) fn close_all<T: Tally, L: Ledger>(parts: &mut [T], steps: &mut Steps<L>)
     requires open { All (λ t. T.closed t ≡ false) parts.old }
-    ensures closed { (k : ℕ) (d : T) → k < length parts.old
-        → Closed T.Tally (slice_index_or parts.old k d) (slice_index_or parts.new k d) }
+    ensures closed { Each (Closed T.Tally) parts.old parts.new }
 {
     for part in parts.iter_mut() {
         part.close(steps);

@@ -3,11 +3,12 @@
 
 mod engine;
 mod give;
+mod give_behind;
 pub mod laws;
 mod open;
 mod part;
+mod part_taker;
 mod reached;
-mod taker;
 
 pub use engine::{Engine, Results};
 pub use part::Part;

@@ -1,7 +1,7 @@
 // A table of any kind.
 use coincidence::{Coincidence, StartStop};
 use count_trace::Trace;
-use event_block::{Block, give_block};
+use event_block::Block;
 use scan_image::Image;
 use std::sync::ledger::Ledger;
 use tally_base::{Event, Steps, Tally};
@@ -100,9 +100,9 @@ impl Part {
             Part::Hist(t) => t.events(block),
             Part::Trace(t) => t.events(block),
             Part::StartStop(t) => t.events(block),
-            Part::Coincidence(t) => give_block(t, block, steps),
+            Part::Coincidence(t) => t.events(block, steps),
             Part::Image(t) => t.events(block),
-            Part::Correlation(t) => give_block(t, block, steps),
+            Part::Correlation(t) => t.events(block, steps),
         }
     }
 }

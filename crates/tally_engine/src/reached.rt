@@ -1,12 +1,13 @@
-// How far the tables of an engine are.
-ghost use Rattle.std.specs.Prelude.{◌≡◌, if◌then◌else◌, ◌&&◌, not};
-ghost use Rattle.tally_base.specs.Events.{is_ordered};
-ghost use Rattle.tally_engine.specs.Reached.{orders_markers};
+// How far the tables of an engine are within a piece.
+ghost use Rattle.std.specs.Prelude.{◌≡◌};
+ghost use Rattle.record_stream.specs.Floors.{moved_floor};
+ghost use Rattle.record_stream.specs.Blocks.{orders_markers};
 
 use event_block::Block;
-use tally_base::{Event, EventKind, Mode};
+use record_stream::moved_floor;
+use tally_base::{Event, Mode};
 
-/// How far the tables of an engine are.
+/// How far the tables of an engine are within a piece.
 #[derive(Clone, Copy)]
 pub(crate) struct Reached {
     /// How many events came, with the late ones, which the tables aren't given.
@@ -25,11 +26,10 @@ impl Reached {
     pub(crate) fn pass(&mut self, mode: Mode, event: &Event, late: bool)
         requires { self.old.taken < 2 ^ 40 }
         ensures taken { self.new.taken ≡ self.old.taken + 1 }
-        ensures floor { self.new.floor ≡ (if is_ordered mode event.now && not late then event.now.time
-            else self.old.floor) }
+        ensures floor { self.new.floor ≡ moved_floor mode self.old.floor event.now late }
     {
         self.taken += 1;
-        self.floor = moved(mode, event, late, self.floor);
+        self.floor = moved_floor(mode, self.floor, event, late);
     }
 
     /// The events of a block more, which were given to every table.
@@ -40,18 +40,6 @@ impl Reached {
     {
         self.taken += block.len() as u64;
         self.floor = block.floor_after(orders_markers(mode), self.floor);
-    }
-}
-
-/// The greatest time of the events in order that were not late, with one event more.
-#[inline(always)]
-fn moved(mode: Mode, event: &Event, late: bool, floor: u64) -> u64
-    ensures { result ≡ (if is_ordered mode event.now && not late then event.now.time else floor) }
-{
-    match (mode, event.kind) {
-        (Mode::T2, EventKind::Marker { .. }) => floor,
-        _ if late => floor,
-        _ => event.time,
     }
 }
 

@@ -1,35 +1,48 @@
-use Rattle.std.proofs.Common.{rules, arith, ◌≤◌, ◌≡◌, ◌++◌, refl, ◌∙◌, length}
+use Rattle.std.proofs.Common.{rules, arith, ◌≤◌, ◌≡◌, ◌++◌, refl, sym, ◌∙◌, None, Some, length}
 use Rattle.std.proofs.Math.Logic.{∥∥₁_map, ∥∥₁_elim}
 use Rattle.std.proofs.Props.{props}
 use Rattle.ptu_definitions.specs.Words.{words_of}
 use Rattle.std.specs.Vec.{with_items}
-use Rattle.record_stream.specs.Standing.{carried_by}
+use Rattle.record_stream.specs.Standing.{carried_by, refused_with}
 use Rattle.event_block.proofs.Slices.{whole_slice}
 use Rattle.tally_engine.proofs.Slices.{same_map}
-use Rattle.tally_engine.proofs.Refusals.{inside_after, of_faults, no_write}
-use Rattle.tally_engine.proofs.Opens.{kept_within}
+use Rattle.ptu_definitions.proofs.Firsts.{record_refusal-inside}
+use Rattle.record_stream.proofs.Fours.{refused-bytes}
+use Rattle.record_stream.proofs.Lasts.{streamed-shown}
+use Rattle.tally_engine.proofs.Refusals.{where_taken, of_faults, no_write}
+use Rattle.tally_engine.proofs.Opens.{kept_within, engine_within}
 use Rattle.tally_engine.proofs.engine.Engine.feed.Goals as goal
 
-pub invariant_of-self-clause-standing : goal.invariant_of-self-clause-standing
-invariant_of-self-clause-standing g c =
+pub invariant_of-self-2-clause-standing : goal.invariant_of-self-2-clause-standing
+invariant_of-self-2-clause-standing g c = λ none.
     let count : length c.feed_parts.new.parts ≡ length c.args.self.now.parts.items = search rules in
     let all : c.args.self.now.parts.len ≡ length c.args.self.now.parts.items = search rules in
-    rw (whole_slice _ _ _ count all, ← c.mode-mode.ensures) c.feed_parts.ensures.standing
+    rw (whole_slice _ _ _ count all, ← c.mode-mode.ensures) (where_taken c.feed_parts.result _ c.feed_parts.ensures.refused c.feed_parts.ensures.standing none)
 
-pub invariant_of-self-clause-streams : goal.invariant_of-self-clause-streams
-invariant_of-self-clause-streams g c = ∥∥₁_map c.args.self.now.streams (λ w. (w.0 ++ c.args.piece.now, c.feed_parts.ensures.taken w.0 w.1))
+pub invariant_of-self-2-clause-streams : goal.invariant_of-self-2-clause-streams
+invariant_of-self-2-clause-streams g c = ∥∥₁_map c.args.self.now.streams (λ w. (w.0 ++ c.args.piece.now, c.feed_parts.ensures.taken w.0 w.1))
 
-pub invariant_of-self-clause-inside : goal.invariant_of-self-clause-inside
-invariant_of-self-clause-inside g c = λ fault is.
+pub invariant_of-self-2-clause-inside : goal.invariant_of-self-2-clause-inside
+invariant_of-self-2-clause-inside g c = λ fault is.
     ∥∥₁_elim c.args.self.now.streams (hlevel props)
-    (λ w. inside_after _ (words_of (w.0 ++ c.args.piece.now)) _ _ c.args.self.now.inside (λ fault is. c.feed_parts.ensures.refused ∙ rw (c.feed_parts.ensures.kept fault is).0 refl) (λ none. c.feed_parts.ensures.refused ∙ c.feed_parts.ensures.answer none w.0 w.1) fault is)
+    (λ w. record_refusal-inside _ (words_of (w.0 ++ c.args.piece.now)) fault (sym (c.feed_parts.ensures.answer w.0 w.1) ∙ sym c.feed_parts.ensures.refused ∙ is))
 
 pub returns-clause-shown : goal.returns-clause-shown
 returns-clause-shown g c = λ bytes h.
     let fed = c.feed_parts.ensures in
     of_faults c.feed_parts.result _ fed.refused
-    (λ fault is shows. shows (no_write fault (inside_after _ (words_of (bytes ++ c.args.piece.now)) _ _ c.args.self.now.inside (λ fault is. fed.refused ∙ rw (fed.kept fault is).0 refl) (λ none. fed.refused ∙ fed.answer none bytes h.0) fault is)))
+    (λ fault is shows. shows (no_write fault (record_refusal-inside _ (words_of (bytes ++ c.args.piece.now)) fault (sym (fed.answer bytes h.0) ∙ sym fed.refused ∙ is))))
     (fed.shown bytes h.0)
+
+pub returns-in-Some-clause-taken : goal.returns-in-Some-clause-taken
+returns-in-Some-clause-taken g c = λ bytes h.
+    let is : refused_with c.args.self.now.stream ≡ Some c.in-Some.refusal = sym c.refusal.ensures ∙ c.in-Some.is in
+    (rw is (λ inside. refused-bytes _ bytes c.args.piece.now _ ((rw is at h.0) inside)), λ none. let e : Some c.in-Some.refusal ≡ None = sym is ∙ none in cc)
+
+pub returns-in-Some-clause-shown : goal.returns-in-Some-clause-shown
+returns-in-Some-clause-shown g c = λ bytes h.
+    let is : refused_with c.args.self.now.stream ≡ Some c.in-Some.refusal = sym c.refusal.ensures ∙ c.in-Some.is in
+    streamed-shown _ (bytes ++ c.args.piece.now) c.in-Some.refusal (refused-bytes _ bytes c.args.piece.now _ ((rw is at h.0) (no_write c.in-Some.refusal (c.args.self.now.inside c.in-Some.refusal is))))
 
 pub returns-clause-same : goal.returns-clause-same
 returns-clause-same g c =
@@ -45,3 +58,6 @@ returns-clause-same g c =
 
 pub returns-clause-within : goal.returns-clause-within
 returns-clause-within g c = let few : length (carried_by c.feed_parts.new.stream) ≤ 48 = search (rules, arith) in kept_within (with_items c.args.self.now.parts c.feed_parts.new.parts).items _ few
+
+pub returns-in-Some-clause-within : goal.returns-in-Some-clause-within
+returns-in-Some-clause-within g c = engine_within c.args.self.now

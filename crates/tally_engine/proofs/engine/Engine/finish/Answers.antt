@@ -19,3 +19,8 @@ returns-in-Ok-clause-answer g c = λ bytes h.
       counts = rw (whole_slice _ _ _ count all) (λ k d within. let inside = (rw count at within) in (closed k d inside).keeps _ (h.1 going k d inside));
       worked = rw (whole_slice _ _ _ count all) (λ k d within. let inside = (rw count at within) in part_worked _ _ ((closed k d inside).keeps _ (h.1 going k d inside)));
     }
+
+pub close_all-requires : goal.close_all-requires
+close_all-requires g c =
+    let going = unrefused _ c.finish.result _ c.in-Ok.is c.finish.ensures.kept in
+    rw c.deref_mut.ensures.value (record { «open» = λ k d within. (c.args.self.standing going k d within).still_open })

@@ -10,7 +10,7 @@ use Rattle.tally_engine.proofs.engine.Engine.open.Goals as goal
 pub invariant_of-result-clause-standing : goal.invariant_of-result-clause-standing
 invariant_of-result-clause-standing c =
     let fit : fits (mode_of c.args.header.now.record_type) (plan_view c.args.plan.now) ≡ Ok (tt {0}) = search rules in
-    λ k d within. standing_first _ _ _ (suits_T2 _ (plan_view c.args.plan.now) c.in-Ok.parts.items fit c.in-Ok.ensures.settings k d within) (c.in-Ok.ensures.opened k d within)
+    λ none. λ k d within. standing_first _ _ _ _ _ (suits_T2 _ (plan_view c.args.plan.now) c.in-Ok.parts.items fit c.in-Ok.ensures.settings k d within) (c.in-Ok.ensures.opened k d within)
 
 pub invariant_of-result-clause-streams : goal.invariant_of-result-clause-streams
 invariant_of-result-clause-streams c = ∣ ([], c.new.ensures.empty) ∣₁

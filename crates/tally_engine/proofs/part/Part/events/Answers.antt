@@ -11,3 +11,9 @@ returns-in-StartStop-clause-follows g c = λ h is. c.events-in-StartStop.ensures
 
 pub returns-in-Image-clause-follows : goal.returns-in-Image-clause-follows
 returns-in-Image-clause-follows g c = λ h is. c.events-in-Image.ensures.follows h (rw c.in-Image.is at is)
+
+pub returns-in-Correlation-clause-follows : goal.returns-in-Correlation-clause-follows
+returns-in-Correlation-clause-follows g c = λ h is. c.events-in-Correlation.ensures.follows h (rw c.in-Correlation.is at is)
+
+pub returns-in-Coincidence-clause-follows : goal.returns-in-Coincidence-clause-follows
+returns-in-Coincidence-clause-follows g c = λ h is. c.events-in-Coincidence.ensures.follows h (rw c.in-Coincidence.is at is)

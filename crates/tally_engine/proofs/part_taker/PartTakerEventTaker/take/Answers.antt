@@ -4,7 +4,7 @@ use Rattle.gate_plan.specs.Groups.{groups_of}
 use Rattle.tally_engine.specs.Ahead.{taken_with, floor_with}
 use Rattle.tally_engine.specs.contracts.part.PartTally.TheImpl.{ghosts}
 use Rattle.tally_engine.proofs.Takes.{can_take, waits_on, gave_more}
-use Rattle.tally_engine.proofs.taker.TakerEventTaker.take.Goals as goal
+use Rattle.tally_engine.proofs.part_taker.PartTakerEventTaker.take.Goals as goal
 
 pub gather-requires : goal.gather-requires
 gather-requires g c =

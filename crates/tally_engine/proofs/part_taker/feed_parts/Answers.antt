@@ -1,16 +1,18 @@
-use Rattle.std.proofs.Common.{rules, arith, All, OnOk, ◌≡◌, ◌<◌, ◌++◌, List, length}
+use Rattle.std.proofs.Common.{rules, arith, All, OnOk, ◌≡◌, ◌<◌, ◌++◌, ◌∙◌, ap, sym, List, length}
+use Rattle.std.proofs.lemmas.Result.{on_ok_weaker}
 use Rattle.event_block.specs.Columns.{gathered}
 use Rattle.tally_base.specs.Tally.{History}
 use Rattle.ptu_definitions.specs.Words.{words_of}
-use Rattle.record_stream.specs.Standing.{how_of}
+use Rattle.ptu_definitions.specs.Streams.{Reading}
+use Rattle.record_stream.specs.Standing.{how_of, given_by, top_of}
 use Rattle.gate_plan.specs.Groups.{groups_of}
 use Rattle.tally_engine.specs.contracts.part.PartTally.TheImpl.{ghosts}
 use Rattle.tally_engine.specs.declared.part.Part.{Part}
 use Rattle.tally_engine.specs.Histories.{history}
-use Rattle.tally_engine.specs.Taker.{gave_none}
+use Rattle.tally_engine.specs.Taker.{Standing, gave_none}
 use Rattle.tally_engine.proofs.Feeds.{fed_whole, counts_on, at_same}
-use Rattle.tally_engine.proofs.Takes.{holding_none, holding_all}
-use Rattle.tally_engine.proofs.taker.feed_parts.Goals as goal
+use Rattle.tally_engine.proofs.Takes.{holding_none, holding_all, standing_took}
+use Rattle.tally_engine.proofs.part_taker.feed_parts.Goals as goal
 
 pub returns-clause-counts : goal.returns-clause-counts
 returns-clause-counts g c = λ bytes h.
@@ -30,4 +32,20 @@ returns-clause-counts g c = λ bytes h.
           let within : k < length taker.parts.now = omega (arith, same, inside) in
           holding_all ghosts groups (gathered taker.block) _ _ _ (r.1.2.follows h (λ k d within. holding_none ghosts groups _ _ h c.new.ensures.empty (held k d within)) k d within) (rw r.1.2.same_groups at (c.give_rest.ensures.took k d within)),
     )))
+    (search rules)
+
+pub returns-clause-standing : goal.returns-clause-standing
+returns-clause-standing g c =
+    let fed = c.feed-fed.ensures in
+    let taker = c.feed-fed.new.taker in
+    let given = given_by c.feed-fed.new.self in
+    let top = top_of c.feed-fed.new.self in
+    at_same (λ parts. OnOk c.feed-fed.result (All (Standing ghosts c.args.mode given top) parts)) c.give_rest.new.parts _
+    (on_ok_weaker c.feed-fed.result
+    (λ follows. λ k d inside.
+    let same : length c.give_rest.new.parts ≡ length taker.parts.now = search rules in
+    let within : k < length taker.parts.now = omega (arith, same, inside) in
+    let mode : taker.mode ≡ c.args.mode = follows.mode_is ∙ ap (λ (how : Reading). how.mode) fed.same_how ∙ sym c.requires.mode in
+    rw mode at (standing_took ghosts taker.mode _ _ given top (gathered taker.block) _ _ _ (taker.waiting k d within) (c.give_rest.ensures.took k d within) follows.few follows.before))
+    fed.follows)
     (search rules)

@@ -1,5 +1,5 @@
 // The taker of a stream's events that gives them to every table.
-ghost use Rattle.std.specs.Prelude.{◌≡◌, ◌≢◌, ℕ, ◌+◌, ◌*◌, ◌^◌, ◌<◌, ◌≤◌, ◌++◌, [], List, All, length, false, None, Some, Err, OnOk, IfErr, slice_index_or};
+ghost use Rattle.std.specs.Prelude.{◌≡◌, ◌≢◌, ℕ, ◌+◌, ◌*◌, ◌^◌, ◌<◌, ◌≤◌, ◌++◌, [], List, All, length, false, None, Some, Err, OnOk, IfErr};
 ghost use Rattle.tally_base.specs.declared.fault.Fault.{Fault};
 ghost use Rattle.tally_base.specs.declared.fault.Fault.TheVariants.{WriteFault};
 ghost use Rattle.ptu_definitions.specs.Shown.{Shows};
@@ -7,17 +7,19 @@ ghost use Rattle.ptu_definitions.specs.Streams.{record_refusal, streamed};
 ghost use Rattle.ptu_definitions.specs.Words.{words_of};
 ghost use Rattle.record_stream.specs.Standing.{how_of, given_by, top_of, refused_with, bytes_in, HasStreamed};
 ghost use Rattle.tally_base.specs.Faults.{fault_in};
-ghost use Rattle.tally_engine.specs.Histories.{history, with_groups};
+ghost use Rattle.tally_engine.specs.Histories.{with_groups};
+ghost use Rattle.tally_engine.specs.Parts.{HoldOn};
 ghost use Rattle.tally_engine.specs.Same.{SameTables};
 ghost use Rattle.gate_plan.specs.Groups.{groups_of};
 ghost use Rattle.event_block.specs.Columns.{sorted, gathered};
 ghost use Rattle.event_block.proofs.Props.{in_order-prop};
 ghost use Rattle.std.proofs.Props.{props};
 ghost use Rattle.tally_engine.specs.Ahead.{taken_with, floor_with};
-ghost use Rattle.tally_engine.specs.Give.{CanTake, Took};
+ghost use Rattle.tally_engine.specs.Give.{Each, CanTake, Took};
 ghost use Rattle.tally_engine.specs.Taker.{Standing, Waits};
 
 use crate::give::{flush, gather};
+use crate::give_behind::give_behind;
 use crate::part::Part;
 use crate::reached::Reached;
 use event_block::Block;
@@ -26,10 +28,11 @@ use record_stream::{EventTaker, RecordStream};
 use std::sync::ledger::Ledger;
 use tally_base::{Event, Failed, Fault, Mode, Steps, Tally};
 
-/// Gives each event that isn't late to every table, with its groups. It gathers up to 64 of them in a
-/// block, so that the kind of a table is tested once for many events. It lives for one piece.
+/// Gives each event that isn't late to every table, with its groups. A block of them it passes on as it is;
+/// those that come one by one it gathers in a block of its own, so that the kind of a table is tested once
+/// for many events. It lives for one piece.
 #[derive(Drop)]
-struct Taker<'g, 'p, 's, L: Ledger> {
+struct PartTaker<'g, 'p, 's, L: Ledger> {
     gates: &'g Gates,
     parts: &'p mut [Part],
     steps: &'s mut Steps<L>,
@@ -43,7 +46,7 @@ struct Taker<'g, 'p, 's, L: Ledger> {
     ghost unsorted: { sorted block ≡ 0 },
 }
 
-impl<'g, 'p, 's, L: Ledger> EventTaker for Taker<'g, 'p, 's, L> {
+impl<'g, 'p, 's, L: Ledger> EventTaker for PartTaker<'g, 'p, 's, L> {
     ghost use Rattle.tally_engine.specs.Same.{SameTaker, same_taker_none, same_taker_more};
     ghost use Rattle.tally_engine.specs.Taker.{Gave, gave_none};
 
@@ -89,39 +92,45 @@ impl<'g, 'p, 's, L: Ledger> EventTaker for Taker<'g, 'p, 's, L> {
         );
         Ok(())
     }
+
+    fn take_block(&mut self, block: &mut Block) -> Result<(), Failed> {
+        give_behind(
+            self.gates,
+            self.mode,
+            block,
+            self.parts,
+            &mut self.reached,
+            &mut self.block,
+            self.steps,
+        );
+        Ok(())
+    }
 }
 
-/// Takes a piece of the bytes of a stream, and gives each of its events that isn't late to every table.
+/// Takes a piece of the bytes of a stream that has refused nothing, and gives each of its events that
+/// isn't late to every table.
 pub(crate) fn feed_parts<L: Ledger>(
     stream: &mut RecordStream,
     piece: &[u8],
     mode: Mode,
     gates: &Gates,
     parts: &mut [Part],
-    reached: &mut Reached,
     steps: &mut Steps<L>,
 ) -> Result<(), Fault>
     requires mode { mode ≡ (how_of stream.old).mode }
-    requires standing { All (Standing ⟦<Part as Tally>⟧ mode reached.old.taken reached.old.floor) parts.old }
-    requires few { refused_with stream.old ≡ None → reached.old.taken ≤ given_by stream.old }
-    requires before { refused_with stream.old ≡ None → reached.old.floor ≤ top_of stream.old }
+    requires going { refused_with stream.old ≡ None }
+    requires standing { All (Standing ⟦<Part as Tally>⟧ mode (given_by stream.old)
+        (top_of stream.old)) parts.old }
     ensures taken { (bytes : List ℕ) → HasStreamed stream.old bytes
         → HasStreamed stream.new (bytes ++ piece.now) }
-    ensures answer { refused_with stream.old ≡ None → (bytes : List ℕ)
-        → HasStreamed stream.old bytes
+    ensures answer { (bytes : List ℕ) → HasStreamed stream.old bytes
         → fault_in result ≡ record_refusal (how_of stream.old) (words_of (bytes ++ piece.now)) }
-    ensures counts { (bytes : List ℕ) → HasStreamed stream.old bytes → OnOk result
-        (All (λ t. ⟦<Part as Tally>⟧.holds t (history (groups_of gates.now) (how_of stream.old)
-        (words_of bytes))) parts.old
-        → All (λ t. ⟦<Part as Tally>⟧.holds t (history (groups_of gates.now) (how_of stream.old)
-        (words_of (bytes ++ piece.now)))) parts.new) }
-    ensures kept { (fault : Fault) → refused_with stream.old ≡ Some fault
-        → (result ≡ Err fault) × (stream.new ≡ stream.old) × (parts.new ≡ parts.old)
-        × (reached.new ≡ reached.old) }
+    ensures counts { (bytes : List ℕ) → HasStreamed stream.old bytes
+        → OnOk result (HoldOn (groups_of gates.now) (how_of stream.old) (words_of bytes)
+        (words_of (bytes ++ piece.now)) parts.old parts.new) }
     ensures refused { refused_with stream.new ≡ fault_in result }
-    ensures standing { All (Standing ⟦<Part as Tally>⟧ mode reached.new.taken reached.new.floor) parts.new }
-    ensures few { OnOk result (reached.new.taken ≤ given_by stream.new) }
-    ensures before { OnOk result (reached.new.floor ≤ top_of stream.new) }
+    ensures standing { OnOk result (All (Standing ⟦<Part as Tally>⟧ mode (given_by stream.new)
+        (top_of stream.new)) parts.new) }
     ensures counted { OnOk result (bytes_in stream.new ≡ bytes_in stream.old + length piece.now) }
     ensures limit { bytes_in stream.new ≤ 4 * 2 ^ 40 + 3 }
     ensures shown { (bytes : List ℕ) → HasStreamed stream.old bytes
@@ -130,25 +139,27 @@ pub(crate) fn feed_parts<L: Ledger>(
     ensures same_how { how_of stream.new ≡ how_of stream.old }
     ensures same_tables { SameTables ⟦<Part as Tally>⟧ parts.old parts.new }
 {
-    let mut taker = Taker {
+    let mut taker = PartTaker {
         gates,
         parts,
         steps,
         mode,
-        reached: *reached,
+        reached: Reached {
+            taken: stream.given(),
+            floor: stream.top(),
+        },
         block: Block::new(),
     };
     let fed = stream.feed(piece, &mut taker);
-    let Taker {
+    let PartTaker {
         gates,
         parts,
         steps,
         mode,
-        reached: mut now,
+        mut reached,
         mut block,
     } = taker;
-    give_rest(gates, mode, parts, &mut now, &mut block, steps);
-    *reached = now;
+    give_rest(gates, mode, parts, &mut reached, &mut block, steps);
     fed
 }
 
@@ -167,11 +178,8 @@ fn give_rest<L: Ledger>(
         → All (CanTake ⟦<Part as Tally>⟧ (gathered block.old)) parts.old }
     requires room { 0 < length (gathered block.old)
         → taken_with reached.old (gathered block.old) ≤ 2 ^ 40 }
-    ensures kept { gathered block.old ≡ [] → (parts.new ≡ parts.old) × (reached.new ≡ reached.old) }
-    ensures took { (k : ℕ) (d : Part) → k < length parts.old
-        → Took ⟦<Part as Tally>⟧ (gathered block.old)
-        (with_groups (groups_of gates.now) (gathered block.old)) (slice_index_or parts.old k d)
-        (slice_index_or parts.new k d) }
+    ensures took { Each (Took ⟦<Part as Tally>⟧ (gathered block.old)
+        (with_groups (groups_of gates.now) (gathered block.old))) parts.old parts.new }
     ensures taken { reached.new.taken ≡ taken_with reached.old (gathered block.old) }
     ensures floor { reached.new.floor ≡ floor_with mode reached.old (gathered block.old) }
 {

@@ -1,0 +1,114 @@
+-- A block more for all tables.
+use Rattle.std.proofs.Common.{◌≡◌, ◌+◌, ◌≤◌, ◌<◌, ℕ, List, [], ◌∷◌, ◌++◌, Bool, true, false, max, refl, sym, ap, ◌^◌, ◌∙◌, append_assoc, append-nil, arith, length, length-append}
+use Rattle.std.specs.Prelude.{◌&&◌, not, IsTrue, if◌then◌else◌, slice_index_or}
+use Rattle.std.proofs.lemmas.List.{map-append}
+use Rattle.std.proofs.lemmas.List.Elements.{filter-append}
+use Rattle.tally_base.specs.declared.event.Event.{Event}
+use Rattle.tally_base.specs.declared.header.Mode.{Mode}
+use Rattle.tally_base.specs.declared.header.Mode.TheVariants.{T2, T3}
+use Rattle.tally_base.specs.declared.tally.Tally.{Ghosts}
+use Rattle.tally_base.specs.Events.{is_ordered}
+use Rattle.tally_base.specs.Settings.{GroupView, is_strict}
+use Rattle.tally_base.specs.Tally.{moves_floor}
+use Rattle.ptu_definitions.specs.Kept.{Marked, floor_of}
+use Rattle.record_stream.specs.Blocks.{orders_markers, on_time}
+use Rattle.record_stream.proofs.Adding.{moves_by}
+use Rattle.event_block.specs.Order.{floor_after, InOrder}
+use Rattle.event_block.proofs.Order.{floor-append, order-append, order-parts}
+use Rattle.event_block.proofs.Lower.{order-looser}
+use Rattle.tally_engine.specs.Histories.{with_groups, unmarked}
+use Rattle.tally_engine.specs.Give.{CanTake, Took, Holding, Moves}
+use Rattle.tally_engine.specs.Taker.{Waits, Gave}
+use Rattle.record_stream.proofs.Floors.{moved_floor-push}
+use Rattle.record_stream.proofs.Eaches.{not_late, ordered-moves}
+
+-- a strict table is of a mode that orders markers
+fewer : (mode : Mode) (strict : Bool) → (mode ≡ T2 → strict ≡ false) → IsTrue strict → IsTrue (orders_markers mode)
+fewer T2 strict loose is = let e = loose refl in cc
+fewer T3 strict loose is = refl
+
+unmarked-on_time : (es : List Event) → unmarked (on_time es) ≡ es
+unmarked-on_time [] = refl
+unmarked-on_time (e ∷ es) = ap (λ l. e ∷ l) (unmarked-on_time es)
+
+unmarked-block : (l : Marked) (es : List Event) → unmarked (l ++ on_time es) ≡ unmarked l ++ es
+unmarked-block l es = rw (filter-append, map-append) (ap (λ m. unmarked l ++ m) (unmarked-on_time es))
+
+length-on_time : (es : List Event) → length (on_time es) ≡ length es
+length-on_time [] = refl
+length-on_time (e ∷ es) = omega (arith, length-on_time es)
+
+-- the greatest time with a block
+floor_of-block : (mode : Mode) (l : Marked) (es : List Event) (first now : ℕ) → now ≡ max first (floor_of mode l) → InOrder (orders_markers mode) now es
+    → floor_after (orders_markers mode) now es ≡ max first (floor_of mode (l ++ on_time es))
+floor_of-block mode l [] first now is all = rw (append-nil l) is
+floor_of-block mode l (e ∷ es) first now is all =
+    let strict = orders_markers mode in
+    let next : (if moves_floor strict e then e.time else now) ≡ max first (floor_of mode (l ++ (e, false) ∷ [])) =
+    ap (λ b. if b then e.time else now) (moves_by mode e) ∙ sym (not_late (is_ordered mode e) e.time now) ∙ moved_floor-push mode first now l e false is (λ o. all.1 (ordered-moves mode e o)) in
+    floor_of-block mode (l ++ (e, false) ∷ []) es first (if moves_floor strict e then e.time else now) next all.2
+    ∙ ap (λ m. max first (floor_of mode m)) (append_assoc l ((e, false) ∷ []) (on_time es))
+
+module _ {T : Type 0} (g : Ghosts T) where
+  pub can_parts : (es more : List Event) (t : T) → CanTake g (es ++ more) t → CanTake g es t
+  can_parts es more t can = record { open' = can.open'; room = omega (arith, can.room, length-append es more); in_order = (order-parts (is_strict (g.settings t)) (g.floor t) es more can.in_order).0 }
+
+  -- the rest, once the front was given
+  pub can_rest : (es more : List Event) (given : _) (old new : T) → CanTake g (es ++ more) old → Took g es given old new → CanTake g more new
+  can_rest es more given old new can took = record {
+    open' = took.still_open;
+    room = omega (arith, can.room, took.count, length-append es more);
+    in_order = rw (took.same_settings, took.moved) (order-parts (is_strict (g.settings old)) (g.floor old) es more can.in_order).1;
+  }
+
+  -- what waited was given, and then the block
+  pub moves_two : (groups : List GroupView) (es more none : List Event) (old mid new : T) → none ≡ [] → Took g es (with_groups groups es) old mid → Took g more (with_groups groups more) mid new → Moves g groups es none more old new
+  moves_two groups es more none old mid new empty first second = rw empty (record {
+    follows = λ h held. (h ++ with_groups groups more, sym (append-nil (h ++ with_groups groups more)), second.follows h (rw held.1 (first.follows held.0 held.2)));
+    still_open = second.still_open;
+    count = omega (arith, first.count, second.count, length-append es more);
+    moved = second.moved ∙ rw (first.same_settings, first.moved) (sym (floor-append (is_strict (g.settings old)) (g.floor old) es more));
+    in_order = tt;
+    same_settings = second.same_settings ∙ first.same_settings;
+  })
+
+  -- a block that comes in order can be taken behind the events that wait
+  pub can_block : (mode : Mode) (taken floor : ℕ) (es more : List Event) (t : T) → Waits g mode taken floor es t → taken + length more ≤ 2 ^ 40 → InOrder (orders_markers mode) floor more → CanTake g (es ++ more) t
+  can_block mode taken floor es more t w room order =
+      let strict = is_strict (g.settings t) in
+      record {
+        open' = w.still_open;
+        room = omega (arith, w.few, room, length-append es more);
+        in_order = order-append strict (g.floor t) es more w.in_order (order-looser (orders_markers mode) strict (floor_after strict (g.floor t) es) floor more (fewer mode strict w.suits) w.before order).0;
+      }
+
+  pub waits_block : (groups : List GroupView) (mode : Mode) (taken next floor now : ℕ) (es es' more : List Event) (old new : T) → Waits g mode taken floor es old → Moves g groups es es' more old new
+      → InOrder (orders_markers mode) floor more → next ≡ taken + length more → now ≡ floor_after (orders_markers mode) floor more → Waits g mode next now es' new
+  waits_block groups mode taken next floor now es es' more old new w m order counted moves =
+      let strict = is_strict (g.settings old) in
+      let below = (order-looser (orders_markers mode) strict (floor_after strict (g.floor old) es) floor more (fewer mode strict w.suits) w.before order).1 in
+      record {
+        still_open = m.still_open;
+        few = omega (arith, w.few, m.count, counted, length-append es more);
+        before = rw (m.same_settings, m.moved, floor-append strict (g.floor old) es more, moves) below;
+        suits = λ is. rw m.same_settings (w.suits is);
+        in_order = rw m.same_settings m.in_order;
+      }
+
+  pub gave_block : (groups groups' : List GroupView) (mode mode' : Mode) (taken taken' next floor floor' now : ℕ) (es0 es es' more : List Event) (first old new : List T) (l : Marked)
+      → Gave g groups groups' mode mode' taken taken' floor floor' es0 es first old l → length new ≡ length old
+      → ((k : ℕ) (d : T) → k < length old → Moves g groups' es es' more (slice_index_or old k d) (slice_index_or new k d))
+      → InOrder (orders_markers mode') floor' more → next ≡ taken' + length more → now ≡ floor_after (orders_markers mode') floor' more
+      → Gave g groups groups' mode mode' taken next floor now es0 es' first new (l ++ on_time more)
+  gave_block groups groups' mode mode' taken taken' next floor floor' now es0 es es' more first old new l gave same moves order counted is = record {
+    same_groups = gave.same_groups;
+    same_mode = gave.same_mode;
+    counted = omega (arith, counted, gave.counted, length-append l (on_time more), length-on_time more);
+    moved = is ∙ floor_of-block mode' l more floor floor' (rw gave.same_mode gave.moved) order ∙ rw gave.same_mode refl;
+    follows = λ h held. λ k d inside.
+        let within : k < length old = omega (arith, same, inside) in
+        rw (unmarked-block l more, with_groups-two groups (unmarked l) more, ← append_assoc h) ((rw gave.same_groups at (moves k d within)).follows _ (gave.follows h held k d within));
+  }
+    where
+      with_groups-two : (groups : List GroupView) (es more : List Event) → with_groups groups (es ++ more) ≡ with_groups groups es ++ with_groups groups more
+      with_groups-two groups es more = rw map-append refl

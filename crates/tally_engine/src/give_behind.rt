@@ -1,0 +1,78 @@
+// A block of events to every table, behind events that wait.
+ghost use Rattle.std.specs.Prelude.{◌≡◌, ℕ, ◌+◌, ◌^◌, ◌<◌, ◌≤◌, ◌++◌, [], All, length, slice_index_or};
+ghost use Rattle.event_block.specs.Columns.{sorted, gathered};
+ghost use Rattle.event_block.specs.Order.{floor_after};
+ghost use Rattle.gate_plan.specs.Groups.{groups_of};
+ghost use Rattle.record_stream.specs.Blocks.{orders_markers};
+ghost use Rattle.tally_engine.specs.Ahead.{taken_with, floor_with};
+ghost use Rattle.tally_engine.specs.Give.{CanTake, Took, Moves};
+ghost use Rattle.tally_engine.specs.Histories.{with_groups};
+
+use crate::give::flush;
+use crate::part::Part;
+use crate::reached::Reached;
+use event_block::Block;
+use gate_plan::Gates;
+use std::sync::ledger::Ledger;
+use tally_base::{Mode, Steps, Tally};
+
+/// Gives the events of a block to every table, behind those that wait in another block.
+pub(crate) fn give_behind<L: Ledger>(
+    gates: &Gates,
+    mode: Mode,
+    more: &mut Block,
+    parts: &mut [Part],
+    reached: &mut Reached,
+    block: &mut Block,
+    steps: &mut Steps<L>,
+)
+    requires may { All (CanTake ⟦<Part as Tally>⟧ (gathered block.old ++ gathered more.old)) parts.old }
+    requires room { taken_with reached.old (gathered block.old) + length (gathered more.old) ≤ 2 ^ 40 }
+    requires idle { length parts.old ≡ 0 → gathered block.old ≡ [] }
+    requires unsorted { sorted block.old ≡ 0 }
+    requires more_unsorted { sorted more.old ≡ 0 }
+    ensures moves { (k : ℕ) (d : Part) → k < length parts.old
+        → Moves ⟦<Part as Tally>⟧ (groups_of gates.now) (gathered block.old)
+        (gathered block.new) (gathered more.old) (slice_index_or parts.old k d)
+        (slice_index_or parts.new k d) }
+    ensures taken { taken_with reached.new (gathered block.new)
+        ≡ taken_with reached.old (gathered block.old) + length (gathered more.old) }
+    ensures floor { floor_with mode reached.new (gathered block.new)
+        ≡ floor_after (orders_markers mode) (floor_with mode reached.old (gathered block.old))
+        (gathered more.old) }
+    ensures empty { gathered block.new ≡ [] }
+    ensures unsorted { sorted block.new ≡ 0 }
+{
+    if parts.is_empty() {
+        reached.pass_block(mode, more);
+        return;
+    }
+    flush_waiting(gates, mode, parts, reached, block, steps);
+    flush(gates, mode, parts, reached, more, steps);
+}
+
+/// Gives the events of a block to every table, if there are any.
+fn flush_waiting<L: Ledger>(
+    gates: &Gates,
+    mode: Mode,
+    parts: &mut [Part],
+    reached: &mut Reached,
+    block: &mut Block,
+    steps: &mut Steps<L>,
+)
+    requires may { All (CanTake ⟦<Part as Tally>⟧ (gathered block.old)) parts.old }
+    requires room { taken_with reached.old (gathered block.old) ≤ 2 ^ 40 }
+    requires unsorted { sorted block.old ≡ 0 }
+    ensures empty { gathered block.new ≡ [] }
+    ensures took { (k : ℕ) (d : Part) → k < length parts.old
+        → Took ⟦<Part as Tally>⟧ (gathered block.old)
+        (with_groups (groups_of gates.now) (gathered block.old)) (slice_index_or parts.old k d)
+        (slice_index_or parts.new k d) }
+    ensures taken { reached.new.taken ≡ taken_with reached.old (gathered block.old) }
+    ensures floor { reached.new.floor ≡ floor_with mode reached.old (gathered block.old) }
+    ensures unsorted { sorted block.new ≡ 0 }
+{
+    if block.len() > 0 {
+        flush(gates, mode, parts, reached, block, steps);
+    }
+}
