@@ -1,52 +1,50 @@
--- From what a command answers to what it answers over files that are told.
-use Rattle.std.proofs.Common.{◌≡◌, ℕ, List, true, None, refl, ap, inl, inr, subst}
+-- What holds over some files that may be those of the words holds over files that are told.
+use Rattle.std.proofs.Common.{◌≡◌, ℕ, List, true, None, Some, Ok, Err, refl, ap, ◌∙◌, inl, inr, subst}
 use Rattle.std.specs.Prelude.{◌⊎◌, Result, IsErrAnd}
 use Rattle.std.specs.declared.option.Option.{Option}
 use Rattle.tally_base.specs.declared.fault.Fault.{Fault}
 use Rattle.tally_base.specs.Faults.{is_outside, fault_in}
 use Rattle.bench_io.specs.Inputs.{File, InputState}
+use Rattle.plan_text.specs.Plan.{PlanView}
+use Rattle.plan_text.specs.Reading.{plan_answer}
 use Rattle.ptu_cli.specs.Outcomes.{Outcome}
-use Rattle.ptu_cli.specs.Behaviours.{Behaviour, NoCommand, Alone, OnFile, ByPlan}
-use Rattle.ptu_cli.specs.Endings.{Answers, EndsWith, PlanMayBe, TellsPlan, TellsData, Tells, EndsBy, outcome}
+use Rattle.ptu_cli.specs.Behaviours.{Work, Behaviour, NoCommand, Alone, OnFile, ByPlan}
+use Rattle.ptu_cli.specs.Endings.{on_file, unless, by_plan, outcome, MayBeFiles, ForSomeFiles, Tells, EndsWith, Answers}
 
-pub alone-answers : (end : Outcome) (state : InputState) (r : Result (Unit {0}) Fault) (old new : Option (List ℕ)) → IsErrAnd r (λ fault. is_outside fault ≡ true) ⊎ EndsWith end (fault_in r) old new → Answers (Alone end) state r old new
+pub alone-answers : (end : Outcome) (before after : InputState) (r : Result (Unit {0}) Fault) (old new : Option (List ℕ)) → IsErrAnd r (λ fault. is_outside fault ≡ true) ⊎ EndsWith end (fault_in r) old new → Answers (Alone end) before after r old new
 unfolding outcome
-alone-answers end state r old new (inl outside) = inl outside
-alone-answers end state r old new (inr ends) = inr (None, tt, λ data_file known. ends)
+alone-answers end before after r old new (inl outside) = inl outside
+alone-answers end before after r old new (inr ends) = inr (record { plan_file = None; data_file = None; may_be = tt; holds = ends })
 
--- a command that ends by a file that may be that of PLAN ends so by the one that is told
-by-told : (does : Behaviour) (state : InputState) (fault : Option Fault) (old new : Option (List ℕ)) (some plan_file data_file : File) → PlanMayBe state does some → TellsPlan state does plan_file
-    → EndsWith (outcome does some data_file) fault old new → EndsWith (outcome does plan_file data_file) fault old new
+-- what a fact about the outcome implies holds over the same files
+pub files-map : (does : Behaviour) (before after : InputState) (p q : Outcome → Type 0) → ((end : Outcome) → p end → q end) → ForSomeFiles does before after p → ForSomeFiles does before after q
+files-map does before after p q f some = record { plan_file = some.plan_file; data_file = some.data_file; may_be = some.may_be; holds = f (outcome does some.plan_file some.data_file) some.holds }
+
+unless-same : (lack : Option Fault) (end : File → Outcome) (some data_file : File) → (lack ≡ None → some ≡ data_file) → unless lack (end some) ≡ unless lack (end data_file)
+unless-same None end some data_file same = ap end (same refl)
+unless-same (Some fault) end some data_file same = refl
+
+by_plan-same : (lacks : PlanView → Option Fault) (work : PlanView → Work) (answer : Result PlanView Fault) (some data_file : File) → ((view : PlanView) → answer ≡ Ok view → lacks view ≡ None → some ≡ data_file) → by_plan lacks work answer some ≡ by_plan lacks work answer data_file
+by_plan-same lacks work (Err fault) some data_file same = refl
+by_plan-same lacks work (Ok view) some data_file same = unless-same (lacks view) (on_file (work view)) some data_file (same view refl)
+
+-- files that may be those of the words end a command as those that are told do
+pub outcome-told : (does : Behaviour) (before after : InputState) (some_plan some_data plan_file data_file : File) → MayBeFiles does before after some_plan some_data → Tells before does plan_file data_file → outcome does some_plan some_data ≡ outcome does plan_file data_file
 unfolding outcome
-by-told NoCommand state fault old new some plan_file data_file may_be told ends = ends
-by-told (Alone end) state fault old new some plan_file data_file may_be told ends = ends
-by-told (OnFile file writing work) state fault old new some plan_file data_file may_be told ends = ends
-by-told (ByPlan plan file writing memory lacks work) state fault old new some plan_file data_file may_be told ends =
-    subst (λ (f : File). EndsWith (outcome (ByPlan plan file writing memory lacks work) f data_file) fault old new) (may_be plan_file told) ends
+outcome-told NoCommand before after some_plan some_data plan_file data_file may_be tells = refl
+outcome-told (Alone end) before after some_plan some_data plan_file data_file may_be tells = refl
+outcome-told (OnFile file writing work) before after some_plan some_data plan_file data_file may_be tells = ap (on_file work) (may_be.may_be data_file tells.1)
+outcome-told (ByPlan plan file writing memory lacks work) before after some_plan some_data None data_file may_be tells =
+    ap (λ (f : File). outcome (ByPlan plan file writing memory lacks work) f some_data) (may_be.0 None tells.0)
+outcome-told (ByPlan plan file writing memory lacks work) before after some_plan some_data (Some text) data_file may_be tells =
+    let there : some_plan ≡ Some text = may_be.0 (Some text) tells.0 in
+    ap (λ (f : File). outcome (ByPlan plan file writing memory lacks work) f some_data) there
+    ∙ by_plan-same lacks work (plan_answer text) some_data data_file
+    (λ view answer whole.
+    let read = may_be.1 view (record { text = text; present = there; answer = answer }) whole in
+    read.may_be data_file (tells.1 view (record { text = text; present = refl; answer = answer }) whole))
 
-data-told : (does : Behaviour) (state : InputState) (some plan_file data_file : File) → PlanMayBe state does some → TellsPlan state does plan_file → TellsData state does plan_file data_file → TellsData state does some data_file
-data-told NoCommand state some plan_file data_file may_be told known = known
-data-told (Alone end) state some plan_file data_file may_be told known = known
-data-told (OnFile file writing work) state some plan_file data_file may_be told known = known
-data-told (ByPlan plan file writing memory lacks work) state some plan_file data_file may_be told known = rw (may_be plan_file told) known
-
-pub answers-told : (does : Behaviour) (state : InputState) (r : Result (Unit {0}) Fault) (old new : Option (List ℕ)) (plan_file data_file : File) → Answers does state r old new → Tells state does plan_file data_file
-    → IsErrAnd r (λ fault. is_outside fault ≡ true) ⊎ EndsWith (outcome does plan_file data_file) (fault_in r) old new
-answers-told does state r old new plan_file data_file (inl outside) tells = inl outside
-answers-told does state r old new plan_file data_file (inr ends) tells =
-    inr (by-told does state _ old new ends.0 plan_file data_file ends.1 tells.0 (ends.2 data_file (data-told does state ends.0 plan_file data_file ends.1 tells.0 tells.1)))
-
--- what the top call leaves over some file of PLAN, it leaves over the one that is told
-outcome-by : (does : Behaviour) (state : InputState) (some plan_file data_file : File) → PlanMayBe state does some → TellsPlan state does plan_file → outcome does some data_file ≡ outcome does plan_file data_file
-unfolding outcome
-outcome-by NoCommand state some plan_file data_file may_be told = refl
-outcome-by (Alone end) state some plan_file data_file may_be told = refl
-outcome-by (OnFile file writing work) state some plan_file data_file may_be told = refl
-outcome-by (ByPlan plan file writing memory lacks work) state some plan_file data_file may_be told = ap (λ (f : File). outcome (ByPlan plan file writing memory lacks work) f data_file) (may_be plan_file told)
-
-pub as-told : (does : Behaviour) (state : InputState) (result : ℕ) (old new err_old err_new : Option (List ℕ)) (before now : ℕ) (plan_file data_file : File)
-    → ((some : File) × PlanMayBe state does some × ((data_file : File) → TellsData state does some data_file → EndsBy (outcome does some data_file) result old new err_old err_new before now))
-    → Tells state does plan_file data_file → EndsBy (outcome does plan_file data_file) result old new err_old err_new before now
-as-told does state result old new err_old err_new before now plan_file data_file h tells =
-    subst (λ (end : Outcome). EndsBy end result old new err_old err_new before now) (outcome-by does state h.0 plan_file data_file h.1 tells.0)
-    (h.2 data_file (data-told does state h.0 plan_file data_file h.1 tells.0 tells.1))
+-- so what holds over the former holds over the latter
+pub holds-told : (does : Behaviour) (before after : InputState) (p : Outcome → Type 0) (plan_file data_file : File) → ForSomeFiles does before after p → Tells before does plan_file data_file → p (outcome does plan_file data_file)
+holds-told does before after p plan_file data_file some tells =
+    subst p (outcome-told does before after some.plan_file some.data_file plan_file data_file some.may_be tells) some.holds

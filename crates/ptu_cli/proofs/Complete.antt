@@ -1,5 +1,5 @@
 -- Good words and files end well, and only words that are no command end as a bad command line.
-use Rattle.std.proofs.Common.{◌≡◌, ℕ, List, true, None, Some, Ok, Err, refl, sym, ap, ◌∙◌, subst, arith, inl, inr}
+use Rattle.std.proofs.Common.{◌≡◌, ◌≤◌, ◌<◌, ℕ, List, true, None, Some, Ok, Err, refl, sym, ap, ◌∙◌, subst, arith, inl, inr}
 use Rattle.std.specs.Prelude.{◌≢◌, ◌⊎◌, Result}
 use Rattle.std.specs.declared.option.Option.{Option}
 use Rattle.tally_base.specs.declared.slot.Slot.{Slot}
@@ -13,11 +13,11 @@ use Rattle.plan_text.specs.Reading.{plan_answer}
 use Rattle.ptu_cli.specs.Commands.{Request}
 use Rattle.ptu_cli.specs.Outcomes.{Outcome, status}
 use Rattle.ptu_cli.specs.Behaviours.{Work, Behaviour, NoCommand, Alone, OnFile, ByPlan, behaviour}
-use Rattle.ptu_cli.specs.Endings.{on_file, unless, by_plan, outcome, Span, HasCauses, NoneRose, IsGood, IsGoodFor, EndsWith, Answers, Tells, RunsOut, MeansStatus}
+use Rattle.ptu_cli.specs.Endings.{on_file, unless, by_plan, outcome, Span, HasCauses, NoneRose, IsGood, IsGoodFor, ForSomeFiles, Answers, Tells, TellsFault, EndsBy, RunsOut, LacksMemory}
 use Rattle.ptu_cli.proofs.ByteFaults.{IsOfBytes}
 use Rattle.ptu_cli.proofs.RunFaults.{plan_answer-bytes}
 use Rattle.ptu_cli.proofs.PlanTold.{outcome-planned}
-use Rattle.ptu_cli.proofs.Answers.{answers-told}
+use Rattle.ptu_cli.proofs.Answers.{files-map, holds-told}
 use Rattle.ptu_cli.proofs.Sound.{WorkIsSound, IsSound, sound}
 
 -- ## Good files
@@ -70,11 +70,29 @@ outside-status OutOfMemory e = λ one. omega arith
 outside-status _ e = cc
 
 -- A run that ends so had words that are no command.
-pub bad-words : (request : Option Request) (fault : Fault) (plan_file data_file : File) (old new : Option (List ℕ))
-    → ((is_outside fault ≡ true) ⊎ EndsWith (outcome (behaviour request) plan_file data_file) (Some fault) old new) → status_of fault ≡ 1 → request ≡ None
-bad-words None fault plan_file data_file old new ends one = refl
-bad-words (Some request) fault plan_file data_file old new (inl outside) one = absurd (outside-status fault outside one)
-bad-words (Some request) fault plan_file data_file old new (inr ends) one = absurd (outcome-words (behaviour (Some request)) plan_file data_file (sound request) (sym (ap status ends.same) ∙ one))
+pub bad-words : (request : Option Request) (fault : Fault) (before after : InputState) (old new : Option (List ℕ)) → Answers (behaviour request) before after (Err fault) old new → status_of fault ≡ 1 → request ≡ None
+bad-words None fault before after old new answers one = refl
+bad-words (Some request) fault before after old new (inl outside) one = absurd (outside-status fault outside one)
+bad-words (Some request) fault before after old new (inr some) one = absurd (outcome-words (behaviour (Some request)) some.plan_file some.data_file (sound request) (sym (ap status some.holds.same) ∙ one))
+
+-- ## The end that the files call for
+
+outside-answered : (fault : Fault) → is_outside fault ≡ true → (2 ≤ status_of fault → 5 < status_of fault) → ⊥
+outside-answered Usage e own = cc
+outside-answered (OpenFault slot) e own = omega arith
+outside-answered (ReadFault slot) e own = omega arith
+outside-answered WriteFault e own = omega arith
+outside-answered OutOfMemory e own = omega arith
+outside-answered _ e own = cc
+
+-- a run whose status is none of a fault from outside ends by its files
+pub ends-answered : (does : Behaviour) (before after : InputState) (fault : Fault) (result : ℕ) (old new err_old err_new : Option (List ℕ)) (faults now : ℕ) → result ≡ status_of fault → Answers does before after (Err fault) old new
+    → TellsFault err_old err_new faults now (Some fault) → (2 ≤ result → 5 < result) → ForSomeFiles does before after (λ end. EndsBy end result old new err_old err_new faults now)
+ends-answered does before after fault result old new err_old err_new faults now is (inl outside) told own =
+    absurd (outside-answered fault outside (subst (λ (n : ℕ). 2 ≤ n → 5 < n) is own))
+ends-answered does before after fault result old new err_old err_new faults now is (inr some) told own =
+    files-map does before after _ (λ (end : Outcome). EndsBy end result old new err_old err_new faults now)
+    (λ end ends. (is ∙ ap status ends.same, ends.text, subst (λ (o : Option Fault). TellsFault err_old err_new faults now o) ends.same told)) some
 
 -- ## Nothing but memory is wanting
 
@@ -87,37 +105,36 @@ only_memory o r w m WriteFault e no_o no_r no_w h = absurd (no_w h)
 only_memory o r w m OutOfMemory e no_o no_r no_w h = (refl, h)
 only_memory o r w m _ e no_o no_r no_w h = cc
 
-may_want : (does : Behaviour) (span : Span) (fault : Fault) (wanted : ℕ) → fault ≡ OutOfMemory → RunsOut does span.before span.after span.old span.new → MeansStatus does (status_of fault) wanted
-may_want NoCommand span fault wanted is h = absurd h
-may_want (Alone end) span fault wanted is h = inr (ap status_of is)
-may_want (OnFile file writing work) span fault wanted is h = absurd h
-may_want (ByPlan plan file writing memory lacks work) span fault wanted is h = inr (ap status_of is)
+may_want : (does : Behaviour) (span : Span) (fault : Fault) → fault ≡ OutOfMemory → RunsOut does span.before span.after span.old span.new → LacksMemory does (status_of fault)
+may_want NoCommand span fault is h = absurd h
+may_want (Alone end) span fault is h = ap status_of is
+may_want (OnFile file writing work) span fault is h = absurd h
+may_want (ByPlan plan file writing memory lacks work) span fault is h = ap status_of is
 
-pub means_same : (does : Behaviour) (result wanted : ℕ) → result ≡ wanted → MeansStatus does result wanted
-means_same NoCommand result wanted e = e
-means_same (Alone end) result wanted e = inl e
-means_same (OnFile file writing work) result wanted e = e
-means_same (ByPlan plan file writing memory lacks work) result wanted e = inl e
+-- The status is that of want of memory, or the one that the files call for.
+abbrev pub Completes : Behaviour → InputState → InputState → ℕ → Type 0
+Completes does before after result = LacksMemory does result ⊎ ForSomeFiles does before after (λ end. result ≡ status end.fault)
 
-pub means_as : (does : Behaviour) (result now wanted : ℕ) → result ≡ now → MeansStatus does now wanted → MeansStatus does result wanted
-means_as does result now wanted e h = subst (λ (n : ℕ). MeansStatus does n wanted) (sym e) h
-
-pub means_good : (does : Behaviour) (result wanted : ℕ) (fault : Option Fault) → fault ≡ None → MeansStatus does result (status fault) → MeansStatus does result 0
-means_good does result wanted fault none h = subst (λ (o : Option Fault). MeansStatus does result (status o)) none h
+pub completes_as : (does : Behaviour) (before after : InputState) (result now : ℕ) → result ≡ now → Completes does before after now → Completes does before after result
+completes_as does before after result now e h = subst (λ (n : ℕ). Completes does before after n) (sym e) h
 
 -- a fault without a cause is that of the outcome, or want of memory
-pub inside-ends : (does : Behaviour) (span : Span) (fault : Fault) (plan_file data_file : File) → NoneRose span.before span.after → ¬ (Rose span.faults_before span.faults_after) → HasCauses does span fault
-    → ((is_outside fault ≡ true) ⊎ EndsWith (outcome does plan_file data_file) (Some fault) span.old span.new) → MeansStatus does (status_of fault) (status (outcome does plan_file data_file).fault)
+pub inside-ends : (does : Behaviour) (span : Span) (fault : Fault) → NoneRose span.before span.after → ¬ (Rose span.faults_before span.faults_after) → HasCauses does span fault
+    → Answers does span.before span.after (Err fault) span.old span.new → Completes does span.before span.after (status_of fault)
 unfolding HasCauses
-inside-ends does span fault plan_file data_file none quiet causes (inr ends) = means_same does _ _ (ap status ends.same)
-inside-ends does span fault plan_file data_file none quiet causes (inl outside) =
+inside-ends does span fault none quiet causes (inr some) = inr (files-map does span.before span.after _ (λ (end : Outcome). status_of fault ≡ status end.fault) (λ end ends. ap status ends.same) some)
+inside-ends does span fault none quiet causes (inl outside) =
     let want = only_memory _ _ _ _ fault outside (λ slot h. (none slot).0 h.1) (λ slot h. (none slot).1 h.1) (λ h. quiet h.0) causes in
-    may_want does span fault _ want.0 want.1
+    inl (may_want does span fault want.0 want.1)
 
 -- a run without a fault is one that is called for
-pub ok-ends : (does : Behaviour) (state : InputState) (old new : Option (List ℕ)) (plan_file data_file : File) → Answers does state (Ok tt) old new → Tells state does plan_file data_file → MeansStatus does 0 (status (outcome does plan_file data_file).fault)
-ok-ends does state old new plan_file data_file answers tells = of_end (answers-told does state (Ok tt) old new plan_file data_file answers tells)
-  where
-    of_end : (⊥ ⊎ EndsWith (outcome does plan_file data_file) None old new) → MeansStatus does 0 (status (outcome does plan_file data_file).fault)
-    of_end (inl none) = absurd none
-    of_end (inr ends) = means_same does 0 _ (ap status ends.same)
+pub ok-ends : (does : Behaviour) (before after : InputState) (old new : Option (List ℕ)) → Answers does before after (Ok tt) old new → Completes does before after 0
+ok-ends does before after old new (inl none) = absurd none
+ok-ends does before after old new (inr some) = inr (files-map does before after _ (λ (end : Outcome). 0 ≡ status end.fault) (λ end ends. ap status ends.same) some)
+
+-- where the files are told and good, the run ends well
+pub good-told : (request : Option Request) (before after : InputState) (result : ℕ) (plan_file data_file : File) → Completes (behaviour request) before after result → Tells before (behaviour request) plan_file data_file → IsGood (behaviour request) plan_file data_file
+    → LacksMemory (behaviour request) result ⊎ (result ≡ 0)
+good-told request before after result plan_file data_file (inl lacks) tells good = inl lacks
+good-told request before after result plan_file data_file (inr some) tells good =
+    inr (holds-told (behaviour request) before after (λ (end : Outcome). result ≡ status end.fault) plan_file data_file some tells ∙ ap status (good-ends request plan_file data_file good))

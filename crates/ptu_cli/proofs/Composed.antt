@@ -1,15 +1,18 @@
 -- A header and the counts behind it are the counts of the file.
-use Rattle.std.proofs.Common.{◌≡◌, ℕ, List, ◌++◌, Ok, Err, sym, ap, ◌∙◌, append_assoc, inl, inr}
+use Rattle.std.proofs.Common.{◌≡◌, ◌⊎◌, ℕ, List, ◌++◌, true, Ok, Err, sym, ap, ◌∙◌, append_assoc, inl, inr}
 use Rattle.std.specs.declared.option.Option.{Option}
 use Rattle.std.specs.declared.result.Result.{Result}
 use Rattle.tally_base.specs.declared.fault.Fault.{Fault}
 use Rattle.tally_base.specs.declared.header.Header.{Header}
+use Rattle.tally_base.specs.Faults.{is_outside}
 use Rattle.ptu_definitions.specs.declared.records.KindCounts.{KindCounts}
 use Rattle.ptu_definitions.specs.Headers.{header_answer}
 use Rattle.ptu_definitions.specs.Counted.{counted}
 use Rattle.ptu_cli.specs.Outcomes.{file_counts, counts_behind, with_counts}
-use Rattle.ptu_definitions.specs.Shown.{Says, Shows}
+use Rattle.ptu_definitions.specs.Shown.{Shows}
+use Rattle.ptu_cli.specs.Told.{Says}
 use Rattle.ptu_cli.specs.Pieces.{AnswersAs}
+use Rattle.ptu_cli.proofs.Told.{Says-shown, Says-map}
 
 -- the bytes taken are a header with these bytes behind it, whatever comes next
 abbrev pub ShowsHeader : List ℕ → Header → List ℕ → Type 0
@@ -17,8 +20,13 @@ ShowsHeader taken header behind = (more : List ℕ) → header_answer (taken ++ 
 
 Says-behind : (header : Header) (taken behind next : List ℕ) (left : Option (List ℕ)) (r : Result KindCounts Fault) → ShowsHeader taken header behind → Says (counted header.record_type) (behind ++ next) left r
     → Says file_counts (taken ++ next) left (with_counts header r)
-Says-behind header taken behind next left r h says = λ more known.
-    ap file_counts (append_assoc taken next more) ∙ ap counts_behind (h (next ++ more)) ∙ ap (with_counts header) (ap (counted header.record_type) (sym (append_assoc behind next more)) ∙ says more known)
+Says-behind header taken behind next left r h says = record {
+  more = says.more;
+  may_be = says.may_be;
+  means =
+      ap file_counts (append_assoc taken next says.more) ∙ ap counts_behind (h (next ++ says.more))
+      ∙ ap (with_counts header) (ap (counted header.record_type) (sym (append_assoc behind next says.more)) ∙ says.means);
+}
 
 pub AnswersAs-behind : (header : Header) (taken behind next : List ℕ) (left : Option (List ℕ)) (r : Result KindCounts Fault) → ShowsHeader taken header behind → AnswersAs (counted header.record_type) (behind ++ next) left r
     → AnswersAs file_counts (taken ++ next) left (with_counts header r)
@@ -27,7 +35,12 @@ AnswersAs-behind header taken behind next left (Ok counts) h (inr says) = inr (S
 AnswersAs-behind header taken behind next left (Err fault) h (inl outside) = inl outside
 AnswersAs-behind header taken behind next left (Err fault) h (inr says) = inr (Says-behind header taken behind next left (Err fault) h says)
 
+-- there is no header
+pub AnswersAs-unheaded : (taken : List ℕ) (left : Option (List ℕ)) (fault : Fault) → (is_outside fault ≡ true) ⊎ Says header_answer taken left (Err fault) → AnswersAs file_counts taken left (Err fault)
+AnswersAs-unheaded taken left fault (inl outside) = inl outside
+AnswersAs-unheaded taken left fault (inr says) = inr (Says-map counts_behind header_answer taken left (Err fault) says)
+
 -- the bytes behind the header are refused already
-pub Says-shown : (header : Header) (taken behind : List ℕ) (left : Option (List ℕ)) (fault : Fault) → ShowsHeader taken header behind → Shows (counted header.record_type) behind (Err fault)
+pub Says-refused : (header : Header) (taken behind : List ℕ) (left : Option (List ℕ)) (fault : Fault) → ShowsHeader taken header behind → Shows (counted header.record_type) behind (Err fault)
     → Says file_counts taken left (Err fault)
-Says-shown header taken behind left fault h shown = λ more known. ap counts_behind (h more) ∙ ap (with_counts header) (shown more)
+Says-refused header taken behind left fault h shown = Says-shown file_counts taken left (Err fault) (λ more. ap counts_behind (h more) ∙ ap (with_counts header) (shown more))

@@ -14,7 +14,6 @@ use Rattle.bench_io.specs.Inputs.{InputState}
 use Rattle.bench_io.specs.Sinks.{AppendsShort}
 use Rattle.bench_io.proofs.Bytes.{Appends-nil, Keeps-from_none}
 use Rattle.ptu_definitions.specs.Headers.{header_answer}
-use Rattle.ptu_definitions.specs.Shown.{Says}
 use Rattle.ptu_definitions.specs.Words.{words_of}
 use Rattle.ptu_definitions.specs.Streams.{record_refusal, streamed, summary}
 use Rattle.plan_text.specs.declared.plan.Plan.{Plan}
@@ -38,11 +37,12 @@ use Rattle.ptu_made.specs.Generator.{photon_limit}
 use Rattle.ptu_cli.specs.Commands.{Run, Demo}
 use Rattle.ptu_cli.specs.Demo.{demo_text, demo_plan, demo_reading, demo_report}
 use Rattle.ptu_cli.specs.Reports.{file_report}
-use Rattle.ptu_cli.specs.Outcomes.{Outcome, written, report_outcome}
-use Rattle.ptu_cli.specs.Behaviours.{behaviour, reporting}
+use Rattle.ptu_cli.specs.Told.{Says}
+use Rattle.ptu_cli.specs.Outcomes.{written}
+use Rattle.ptu_cli.specs.Behaviours.{behaviour}
 use Rattle.ptu_cli.specs.RunPieces.{IsReport, AnswersReport, RunReason}
-use Rattle.ptu_cli.specs.Endings.{EndsWith, HasCauses, on_file, outcome}
-use Rattle.ptu_cli.proofs.WorkTold.{file-told}
+use Rattle.ptu_cli.specs.Endings.{EndsWith, HasCauses, outcome}
+use Rattle.ptu_cli.proofs.Told.{file-parts}
 
 -- ## The plan
 
@@ -86,19 +86,14 @@ pub demo-run : (plan_name name : List ℕ) (seed count : ℕ) → count ≤ phot
 unfolding outcome
 demo-run plan_name name seed count few = rw (demo-plan, made-report seed count few) refl
 
--- an outcome that is a text tells its answer
-same-answer : (answer : Result (List ℕ) Fault) (text : List ℕ) → report_outcome answer ≡ report_outcome (Ok text) → answer ≡ Ok text
-same-answer (Ok bytes) text e = ap Ok (ap (λ (o : Outcome). o.text) e)
-same-answer (Err fault) text e = let none : Some fault ≡ None = ap (λ (o : Outcome). o.fault) e in cc
-
 -- what is said of the made file is its report
 pub demo-told : (seed count : ℕ) (plan : PlanView) (rest left : Option (List ℕ)) (taken : List ℕ) (answer : Result (List ℕ) Fault) → count ≤ photon_limit → plan ≡ demo_plan → rest ≡ Some (made_file seed count) → Consumes rest left taken
     → Says (file_report plan) taken left answer → answer ≡ Ok (demo_report seed count)
 demo-told seed count plan rest left taken answer few is opened took says =
     let file = made_file seed count in
-    let told : on_file (reporting plan) (Some file) ≡ report_outcome answer = file-told (reporting plan) (Some (Some file)) rest left taken (Some file) (report_outcome answer) (opened, search rules) refl took (λ more l. ap report_outcome (says more l)) in
-    let made : report_outcome (file_report plan file) ≡ report_outcome (Ok (demo_report seed count)) = ap report_outcome (ap (λ (view : PlanView). file_report view file) is ∙ made-report seed count few) in
-    same-answer answer (demo_report seed count) (sym told ∙ made)
+    let parts : Some (taken ++ says.more) ≡ Some file = file-parts (Some (Some file)) rest left taken says.more (opened, search rules) took says.may_be (Some file) refl in
+    let whole : taken ++ says.more ≡ file = cc in
+    sym says.means ∙ ap (file_report plan) whole ∙ ap (λ (view : PlanView). file_report view file) is ∙ made-report seed count few
 
 -- a fault is from outside
 pub demo-outside : (seed count : ℕ) (plan : PlanView) (rest left : Option (List ℕ)) (taken : List ℕ) (fault : Fault) → count ≤ photon_limit → plan ≡ demo_plan → rest ≡ Some (made_file seed count) → Consumes rest left taken
@@ -140,4 +135,4 @@ untold-causes seed count plan rest left taken results state (Ok done) old new fa
 untold-causes seed count plan rest left taken results state (Err fault) old new faults now few is opened took counted write rose short =
     let told = demo-told seed count plan rest left taken _ few is opened took counted.says in
     let same : report results.header results.summary counted.tables ≡ demo_report seed count = cc in
-    rw write (rose, λ plan_file data_file tells. (refl, subst (λ (bytes : List ℕ). AppendsShort old new bytes) same (short counted.tables counted.counts)))
+    rw write (rose, record { plan_file = None; data_file = None; may_be = tt; holds = (refl, subst (λ (bytes : List ℕ). AppendsShort old new bytes) same (short counted.tables counted.counts)) })

@@ -9,7 +9,7 @@ use Rattle.tally_base.specs.declared.header.Header.{Header}
 use Rattle.bench_io.proofs.Bytes.{Appends-nil, Appends-trans, Consumes-trans}
 use Rattle.tally_base.specs.Faults.{is_outside}
 use Rattle.ptu_definitions.specs.Headers.{header_answer}
-use Rattle.ptu_definitions.specs.Shown.{Says}
+use Rattle.ptu_cli.specs.Told.{Says}
 use Rattle.ptu_definitions.specs.Words.{words_of}
 use Rattle.ptu_definitions.specs.Times.{events}
 use Rattle.ptu_definitions.specs.Kept.{marked}
@@ -21,6 +21,7 @@ use Rattle.ptu_cli.specs.EventRuns.{SaysLines, AnswersLines}
 use Rattle.ptu_cli.specs.Behaviours.{listing_all}
 use Rattle.ptu_cli.specs.Works.{AnswersWork}
 use Rattle.ptu_cli.specs.Outcomes.{listing, listed, events_outcome, events_behind}
+use Rattle.ptu_cli.proofs.Told.{Says-shown, Says-map}
 use Rattle.ptu_cli.proofs.Composed.{ShowsHeader}
 use Rattle.ptu_cli.proofs.EventEnds.{says-refused}
 
@@ -42,7 +43,7 @@ answers-first header front behind before after a b faults now fault consumes sho
       consumes = consumes;
       text = r.1.more;
       written = r.1.text;
-      says = λ more left. ap events_behind (shows more) ∙ listed-says (listing header) (behind ++ more) r.1.more (Some fault) (says-refused (listing header) [] behind more r.1.more fault r.1.adds r.0);
+      says = Says-shown events_outcome front after _ (λ more. ap events_behind (shows more) ∙ listed-says (listing header) (behind ++ more) r.1.more (Some fault) (says-refused (listing header) [] behind more r.1.more fault r.1.adds r.0));
     }))
     (λ (r : (fault ≡ WriteFault) × WroteShort (listing header) a b faults now (words_of []) (words_of behind)). inl (rw r.0 refl))
     writes
@@ -56,10 +57,16 @@ answers-behind header front behind before mid after a b c r consumes shows wrote
   consumes = Consumes-trans before mid after front ends.taken consumes ends.consumes;
   text = wrote.more ++ ends.text;
   written = Appends-trans a b c wrote.more ends.text wrote.text ends.written;
-  says = λ more left.
-      let says = ends.says more left in
-      ap events_outcome (append_assoc front ends.taken more) ∙ ap events_behind (shows (ends.taken ++ more)) ∙ ap (listed (listing header)) (sym (append_assoc behind ends.taken more))
-      ∙ listed-says (listing header) ((behind ++ ends.taken) ++ more) (wrote.more ++ ends.text) (fault_in r) (record { lines = says.lines ∙ ap (λ l. l ++ ends.text) wrote.adds ∙ append_assoc (lines_of (listing header) (words_of [])) wrote.more ends.text; ends = says.ends });
+  says =
+      let more = ends.more in
+      let says = ends.says in
+      record {
+        more = more;
+        may_be = ends.may_be;
+        means =
+            ap events_outcome (append_assoc front ends.taken more) ∙ ap events_behind (shows (ends.taken ++ more)) ∙ ap (listed (listing header)) (sym (append_assoc behind ends.taken more))
+            ∙ listed-says (listing header) ((behind ++ ends.taken) ++ more) (wrote.more ++ ends.text) (fault_in r) (record { lines = says.lines ∙ ap (λ l. l ++ ends.text) wrote.adds ∙ append_assoc (lines_of (listing header) (words_of [])) wrote.more ends.text; ends = says.ends });
+      };
 })
 
 -- there is no header
@@ -70,5 +77,5 @@ answers-header taken before after a fault consumes (inr says) = inr (record {
   consumes = consumes;
   text = [];
   written = Appends-nil a;
-  says = λ more left. ap events_behind (says more left);
+  says = Says-map events_behind header_answer taken after (Err fault) says;
 })

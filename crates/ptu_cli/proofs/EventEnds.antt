@@ -24,6 +24,7 @@ use Rattle.table_out.specs.EventText.{events_text}
 use Rattle.ptu_cli.specs.EventPieces.{Wrote, WroteShort, Writes}
 use Rattle.table_out.specs.EventText.{lines_of}
 use Rattle.ptu_cli.specs.EventRuns.{SaysLines, AnswersLines, CutsLines}
+use Rattle.ptu_cli.proofs.Told.{some_left, none_left}
 
 pub Wrote-none : (how : Reading) (a : Option (List ℕ)) (words : List ℕ) → Wrote how a a words words
 Wrote-none how a words = record { more = []; adds = sym (append-nil (lines_of how words)); text = Appends-nil a }
@@ -49,12 +50,15 @@ module _ (how : Reading) (bytes so_far piece : List ℕ) (before after a b c : O
       ⊎_elim
       (λ (r : (record_refusal how (words_of ((bytes ++ so_far) ++ piece)) ≡ Some fault) × Wrote how b c (words_of (bytes ++ so_far)) (words_of ((bytes ++ so_far) ++ piece))).
       let all = Wrote-trans how a b c _ _ _ wrote r.1 in
+      let some = some_left after in
       inr (record {
         taken = so_far ++ piece;
         consumes = consumes;
         text = all.more;
         written = all.text;
-        says = λ more left. rw (← append_assoc bytes so_far piece) (says-refused how bytes ((bytes ++ so_far) ++ piece) more all.more fault all.adds r.0);
+        more = some.0;
+        may_be = some.1;
+        says = rw (← append_assoc bytes so_far piece) (says-refused how bytes ((bytes ++ so_far) ++ piece) some.0 all.more fault all.adds r.0);
       }))
       (λ (r : (fault ≡ WriteFault) × WroteShort how b c faults now (words_of (bytes ++ so_far)) (words_of ((bytes ++ so_far) ++ piece))). inl (rw r.0 refl))
       writes
@@ -74,12 +78,6 @@ streamed-clear how clock sum count carried None bytes h none = unrefused how (wo
 streamed-clear how clock sum count carried (Some fault) bytes h none = cc
 
 -- the end of the data
-at_end : (how : Reading) (before bytes text : List ℕ) (fault : Option Fault) (after : Option (List ℕ)) → IsAtEnd after → SaysLines how before bytes text fault → (more : List ℕ) → after ≡ Some more → SaysLines how before (bytes ++ more) text fault
-at_end how before bytes text fault None end says more left = cc
-at_end how before bytes text fault (Some rest) end says more left =
-    let none : more ≡ [] = cc in
-    rw (none, append-nil bytes) says
-
 pub answers-end : (how : Reading) (bytes taken : List ℕ) (before after a b : Option (List ℕ)) (answer : Result Summary Fault) (done : Result (Unit {0}) Fault) → Consumes before after taken → IsAtEnd after → Wrote how a b (words_of bytes) (words_of (bytes ++ taken))
     → answer ≡ streamed how (bytes ++ taken) → fault_in answer ≡ fault_in done → AnswersLines how bytes before after a b done
 answers-end how bytes taken before after a b answer done consumes end wrote is same = inr (record {
@@ -87,7 +85,9 @@ answers-end how bytes taken before after a b answer done consumes end wrote is s
   consumes = consumes;
   text = wrote.more;
   written = wrote.text;
-  says = at_end how bytes (bytes ++ taken) wrote.more (fault_in done) after end (record { lines = wrote.adds; ends = ap fault_in (sym is) ∙ same });
+  more = [];
+  may_be = none_left after end;
+  says = rw (append-nil (bytes ++ taken)) (record { lines = wrote.adds; ends = ap fault_in (sym is) ∙ same });
 })
 
 -- the fault of a piece

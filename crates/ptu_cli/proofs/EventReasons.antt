@@ -21,6 +21,7 @@ use Rattle.ptu_cli.specs.Behaviours.{AsItReads, events_so_far, listing_all}
 use Rattle.ptu_cli.specs.Works.{CutsWork, ReadsWork}
 use Rattle.ptu_cli.specs.Outcomes.{MayChange}
 use Rattle.ptu_cli.specs.Outcomes.{listing, listed, events_outcome, events_behind}
+use Rattle.ptu_cli.proofs.Told.{some_left}
 use Rattle.ptu_cli.proofs.Composed.{ShowsHeader}
 use Rattle.ptu_cli.proofs.Listing.{events_text-append}
 use Rattle.ptu_cli.proofs.EventComposed.{lines_of-none}
@@ -70,20 +71,29 @@ cut-text header front behind bytes more text a c is lines cut =
 -- a write failed at the first piece behind the header
 pub cuts-first : (header : Header) (front behind : List ℕ) (before after a b : Option (List ℕ)) (faults now : ℕ) → Consumes before after front → ShowsHeader front header behind
     → WroteShort (listing header) a b faults now (words_of []) (words_of behind) → CutsWork (AsItReads events_so_far) listing_all before after a b
-cuts-first header front behind before after a b faults now consumes shows short = record {
-  taken = front;
-  consumes = consumes;
-  cut = λ more left. cut-text header front behind behind more short.more a b (ap events_behind (shows more)) (sym (short.adds ∙ ap (λ l. l ++ short.more) (lines_of-none (listing header)))) short.text;
-}
+cuts-first header front behind before after a b faults now consumes shows short =
+    let some = some_left after in
+    record {
+      taken = front;
+      consumes = consumes;
+      more = some.0;
+      may_be = some.1;
+      cut = cut-text header front behind behind some.0 short.more a b (ap events_behind (shows some.0)) (sym (short.adds ∙ ap (λ l. l ++ short.more) (lines_of-none (listing header)))) short.text;
+    }
 
 -- or behind it
 pub cuts-behind : (header : Header) (front behind : List ℕ) (before mid after a b c : Option (List ℕ)) → Consumes before mid front → ShowsHeader front header behind
     → Wrote (listing header) a b (words_of []) (words_of behind) → CutsLines (listing header) behind mid after b c → CutsWork (AsItReads events_so_far) listing_all before after a c
-cuts-behind header front behind before mid after a b c consumes shows wrote cuts = record {
-  taken = front ++ cuts.taken;
-  consumes = Consumes-trans before mid after front cuts.taken consumes cuts.consumes;
-  cut = λ more left. cut-text header (front ++ cuts.taken) behind (behind ++ cuts.taken) more (wrote.more ++ cuts.text) a c
-      (ap events_outcome (append_assoc front cuts.taken more) ∙ ap events_behind (shows (cuts.taken ++ more)) ∙ ap (listed (listing header)) (sym (append_assoc behind cuts.taken more)))
-      (all-lines (listing header) behind (behind ++ cuts.taken) wrote.more cuts.text wrote.adds cuts.lines)
-      (AppendsShort-behind a b c wrote.more cuts.text wrote.text cuts.cut);
-}
+cuts-behind header front behind before mid after a b c consumes shows wrote cuts =
+    let some = some_left after in
+    let more = some.0 in
+    record {
+      taken = front ++ cuts.taken;
+      consumes = Consumes-trans before mid after front cuts.taken consumes cuts.consumes;
+      more = more;
+      may_be = some.1;
+      cut = cut-text header (front ++ cuts.taken) behind (behind ++ cuts.taken) more (wrote.more ++ cuts.text) a c
+          (ap events_outcome (append_assoc front cuts.taken more) ∙ ap events_behind (shows (cuts.taken ++ more)) ∙ ap (listed (listing header)) (sym (append_assoc behind cuts.taken more)))
+          (all-lines (listing header) behind (behind ++ cuts.taken) wrote.more cuts.text wrote.adds cuts.lines)
+          (AppendsShort-behind a b c wrote.more cuts.text wrote.text cuts.cut);
+    }

@@ -32,3 +32,7 @@ outcome-done bytes more behind header h = outcome-at (bytes ++ more) (header_tex
 
 pub outcome-refused : (bytes more : List ℕ) (fault : Fault) → Shows header_answer bytes (Err fault) → header_outcome (bytes ++ more) ≡ record { text = header_text bytes; fault = Some fault }
 outcome-refused bytes more fault h = outcome-at (bytes ++ more) (header_text bytes) (Some fault) (header_text-refused bytes more fault h) (ap fault_in (h more))
+
+-- a header that the file ends in
+pub outcome-ended : (bytes : List ℕ) (fault : Fault) → header_answer bytes ≡ Err fault → header_outcome bytes ≡ record { text = header_text bytes; fault = Some fault }
+outcome-ended bytes fault h = outcome-at bytes (header_text bytes) (Some fault) refl (ap fault_in h)

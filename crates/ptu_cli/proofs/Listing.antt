@@ -1,6 +1,6 @@
 -- One line more, and the lines of a piece.
 use Rattle.std.proofs.Common.{◌≡◌, ◌+◌, ◌≤◌, ℕ, List, [], ◌∷◌, ◌++◌, Bool, true, false, Ok, Err, Some, max, refl, sym, ap, subst, ◌∙◌, inl, inr, ⊎_elim, append_assoc, append-nil, arith, length, length-append}
-use Rattle.std.specs.Prelude.{◌&&◌, not, IsTrue, if◌then◌else◌}
+use Rattle.std.specs.Prelude.{◌&&◌, not, IsTrue, OnOk, if◌then◌else◌}
 use Rattle.std.specs.declared.option.Option.{Option}
 use Rattle.std.specs.declared.result.Result.{Result}
 use Rattle.std.specs.Io.KnownBytes.{Appends}
@@ -17,21 +17,17 @@ use Rattle.ptu_definitions.specs.Streams.{Reading, record_refusal, given}
 use Rattle.table_out.specs.EventText.{event_text, events_text}
 use Rattle.record_stream.specs.declared.taker.EventTaker.{Ghosts}
 use Rattle.record_stream.specs.Feeding.{GaveOn, BrokeOn, Fed}
+use Rattle.record_stream.proofs.Floors.{moved_floor-push}
 use Rattle.ptu_cli.specs.EventLines.{Listed, ListedShort}
-use Rattle.ptu_cli.specs.EventPieces.{Writes}
+use Rattle.record_stream.specs.declared.stream.RecordStream.{RecordStream}
+use Rattle.record_stream.specs.Standing.{refused_with, bytes_in}
+use Rattle.tally_base.specs.Faults.{fault_in}
+use Rattle.ptu_cli.specs.EventPieces.{StaysOpen, Writes}
 use Rattle.table_out.specs.EventText.{lines_of}
 
 pub events_text-append : (l m : Marked) → events_text (l ++ m) ≡ events_text l ++ events_text m
 events_text-append [] m = refl
 events_text-append (x ∷ l) m = ap (λ t. event_text x.0 x.1 ++ t) (events_text-append l m) ∙ sym (append_assoc (event_text x.0 x.1) (events_text l) (events_text m))
-
-pub floor_of-push : (mode : Mode) (l : Marked) (e : Event) (late : Bool) → floor_of mode (l ++ (e, late) ∷ []) ≡ max (floor_of mode l) (if is_ordered mode e && not late then e.time else 0)
-floor_of-push mode [] e late = omega arith
-floor_of-push mode (x ∷ l) e late = rw (floor_of-push mode l e late) (omega arith)
-
-moved_on : (b : Bool) (first floor time so_far : ℕ) → floor ≡ max first so_far → (IsTrue b → floor ≤ time) → (if b then time else floor) ≡ max first (max so_far (if b then time else 0))
-moved_on true first floor time so_far is in_order = let h : floor ≤ time = in_order refl in omega arith
-moved_on false first floor time so_far is in_order = omega arith
 
 line_more : (held : List ℕ) (l : Marked) (e : Event) (late : Bool) → (held ++ events_text l) ++ event_text e late ≡ held ++ events_text (l ++ (e, late) ∷ [])
 line_more held l e late = append_assoc held (events_text l) (event_text e late) ∙ ap (λ t. held ++ t) (ap (λ t. events_text l ++ t) (sym (append-nil (event_text e late))) ∙ sym (events_text-append l ((e, late) ∷ [])))
@@ -44,7 +40,7 @@ Listed-more name name' mode mode' taken taken' floor floor' a b c held held' hel
   same_sink = h.same_sink;
   same_mode = h.same_mode;
   counted = omega (arith, h.counted, length-append l ((e, late) ∷ []));
-  moved = moves ∙ moved_on (is_ordered mode' e && not late) floor floor' e.time (floor_of mode l) h.moved in_order ∙ rw (floor_of-push mode l e late, h.same_mode) refl;
+  moved = moves ∙ rw h.same_mode (moved_floor-push mode floor floor' l e late h.moved (rw h.same_mode at in_order));
   text = subst (λ t. PassesOn a c t held'') (ap (λ t. (held ++ events_text l) ++ t) is ∙ line_more held l e late) (PassesOn-trans a b c (held ++ events_text l) held' line held'' h.text p);
 }
 
@@ -99,3 +95,8 @@ module _ {T : Type 0} (g : Ghosts T) (told : T → Option (List ℕ)) (held : T 
       let broken = breaks r.1.front (r.1.broken a [] none) in
       absurd (AppendsShort-none (told b) c (rw broken.1 at short)))
       fed
+
+-- a stream that refused nothing took the whole piece
+pub stays-open : {A : Type 0} (old new : RecordStream) (piece : List ℕ) (r : Result A Fault) → refused_with new ≡ fault_in r → OnOk r (bytes_in new ≡ bytes_in old + length piece) → OnOk r (StaysOpen old new piece)
+stays-open old new piece (Ok value) refused counted = record { going = refused; counted = counted }
+stays-open old new piece (Err fault) refused counted = tt

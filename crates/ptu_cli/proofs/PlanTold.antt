@@ -1,34 +1,48 @@
 -- What a command by a plan leaves, whatever its work is.
-use Rattle.std.proofs.Common.{◌≡◌, ℕ, List, false, None, Some, Ok, Err, refl, sym, ◌∙◌, subst, inl, inr}
+use Rattle.std.proofs.Common.{◌≡◌, ℕ, List, ◌++◌, false, None, Some, Ok, Err, refl, sym, ap, ◌∙◌, subst, inl, inr}
 use Rattle.std.specs.Prelude.{Result}
 use Rattle.std.specs.declared.option.Option.{Option}
 use Rattle.std.specs.Io.KnownBytes.{Consumes}
 use Rattle.tally_base.specs.declared.fault.Fault.{Fault}
 use Rattle.tally_base.specs.declared.slot.Slot.TheVariants.{Plan as PlanSlot, Data}
-use Rattle.tally_base.specs.Faults.{is_outside}
+use Rattle.tally_base.specs.Faults.{is_outside, fault_in}
 use Rattle.tally_base.proofs.Reasons.{HasReason-follows, HasReason-inside}
 use Rattle.bench_io.specs.Inputs.{File, InputState, IsOpened, KeepsOther, NoneFalls}
 use Rattle.bench_io.proofs.Bytes.{Appends-nil, Keeps-from_none}
 use Rattle.bench_io.proofs.Rises.{Rose-behind}
-use Rattle.ptu_definitions.specs.Shown.{Says}
 use Rattle.plan_text.specs.declared.plan.Plan.{Plan}
 use Rattle.plan_text.specs.Plan.{PlanView}
-use Rattle.plan_text.specs.Reading.{plan_view}
+use Rattle.plan_text.specs.Reading.{plan_view, plan_answer, plan_seen}
 use Rattle.ptu_cli.specs.Outcomes.{Outcome, refused}
 use Rattle.ptu_cli.specs.PlanPieces.{IsRead, AnswersPlan, PlanReason}
 use Rattle.ptu_cli.specs.Behaviours.{Work, Writing, AtEnd, AsItReads, under, Memory, Behaviour, ByPlan}
 use Rattle.ptu_cli.specs.Works.{AnswersWork, WorkReason}
-use Rattle.ptu_cli.specs.Endings.{IsPlan, HasPlan, TakesPlan, Answers, Cuts, WantsBehind, Span, HasCauses, on_file, outcome}
-use Rattle.ptu_cli.proofs.WorkTold.{taken-told, file-told, stops-told, cut-told}
+use Rattle.ptu_cli.specs.Endings.{IsPlan, HasPlan, TakesPlan, EndsWith, Answers, Cuts, WantsBehind, Span, HasCauses, on_file, outcome}
+use Rattle.ptu_cli.proofs.WorkTold.{taken-told, may_be_read, stops-told}
 
 -- a plan that was read is that of a file
 pub has-plan : (state : InputState) (name : List ℕ) (lacks : PlanView → Option Fault) (plan : Plan) → AnswersPlan state name (Ok plan) → lacks (plan_view plan) ≡ None → HasPlan state name lacks (plan_view plan)
 has-plan state name lacks plan (inl outside) whole = absurd outside
 has-plan state name lacks plan (inr read) whole = record { plan_file = read.0; may_be = read.1; is_plan = record { text = read.2.text; present = read.2.present; answer = read.2.answer }; whole = whole }
 
--- the plan of a file that is told
-pub told-plan : (state : InputState) (name : List ℕ) (lacks : PlanView → Option Fault) (view : PlanView) (plan_file : File) → HasPlan state name lacks view → state.contents name ≡ Some plan_file → IsPlan plan_file view
-told-plan state name lacks view plan_file has known = subst (λ (f : File). IsPlan f view) (has.may_be plan_file known) has.is_plan
+-- a file is one plan
+one-plan : (plan_file : File) (view : PlanView) (r : Result Plan Fault) → IsPlan plan_file view → IsRead plan_file r → plan_seen r ≡ Ok view
+one-plan plan_file view r is read =
+    let present = is.present in
+    let there = read.present in
+    let same : read.text ≡ is.text = cc in
+    sym read.answer ∙ ap plan_answer same ∙ is.answer
+
+not-plan : (plan_file : File) (view : PlanView) (fault : Fault) → IsRead plan_file (Err fault) → IsPlan plan_file view → ⊥
+not-plan plan_file view fault read is = let bad = one-plan plan_file view (Err fault) is read in cc
+
+-- a plan that lacks something is none that lacks nothing
+not-whole : (lacks : PlanView → Option Fault) (plan_file : File) (view : PlanView) (plan : Plan) (fault : Fault) → IsRead plan_file (Ok plan) → lacks (plan_view plan) ≡ Some fault → IsPlan plan_file view → lacks view ≡ None → ⊥
+not-whole lacks plan_file view plan fault read lacking is whole =
+    let seen = one-plan plan_file view (Ok plan) is read in
+    let same : plan_view plan ≡ view = cc in
+    let bad : Some fault ≡ None = sym lacking ∙ ap lacks same ∙ whole in
+    cc
 
 -- an answer that is no fault is none
 pub none-lacking : (lack told : Option Fault) → told ≡ lack → ((fault : Fault) → told ≡ Some fault → ⊥) → lack ≡ None
@@ -53,9 +67,14 @@ module _ (plan_name name : List ℕ) (writing : Writing (PlanView → List ℕ �
       rw (same, read.answer) refl
 
   -- a plan that is refused ends the run
-  pub answers-unplanned : (state : InputState) (fault : Fault) (old : Option (List ℕ)) → AnswersPlan state plan_name (Err fault) → Answers does state (Err fault) old old
-  answers-unplanned state fault old (inl outside) = inl outside
-  answers-unplanned state fault old (inr read) = inr (read.0, read.1, λ data_file known. rw (outcome-read read.0 data_file fault read.2) (record { same = refl; text = Appends-nil old }))
+  pub answers-unplanned : (before after : InputState) (fault : Fault) (old : Option (List ℕ)) → AnswersPlan before plan_name (Err fault) → Answers does before after (Err fault) old old
+  answers-unplanned before after fault old (inl outside) = inl outside
+  answers-unplanned before after fault old (inr read) = inr (record {
+    plan_file = read.0;
+    data_file = None;
+    may_be = (read.1, λ view is whole. absurd (not-plan read.0 view fault read.2 is));
+    holds = subst (λ (end : Outcome). EndsWith end (Some fault) old old) (sym (outcome-read read.0 None fault read.2)) (record { same = refl; text = Appends-nil old });
+  })
 
   -- why there is no plan
   pub unplanned-causes : (before after : InputState) (old : Option (List ℕ)) (faults : ℕ) (fault : Fault) → KeepsOther PlanSlot before after → before.asked Data ≡ false → PlanReason before after plan_name fault
@@ -78,15 +97,16 @@ module _ (plan_name name : List ℕ) (writing : Writing (PlanView → List ℕ �
       let same : text ≡ is.text = let e = is.present in cc in
       rw (same, is.answer, lacking) refl
 
-  pub answers-lacking : (state : InputState) (plan : Plan) (fault : Fault) (old : Option (List ℕ)) → AnswersPlan state plan_name (Ok plan) → lacks (plan_view plan) ≡ Some fault → Answers does state (Err fault) old old
-  answers-lacking state plan fault old (inl outside) lacking = absurd outside
-  answers-lacking state plan fault old (inr read) lacking = inr (
-    read.0,
-    read.1,
-    λ data_file known.
-        let is : IsPlan read.0 (plan_view plan) = record { text = read.2.text; present = read.2.present; answer = read.2.answer } in
-        rw (outcome-lacking read.0 data_file (plan_view plan) fault is lacking) (record { same = refl; text = Appends-nil old }),
-  )
+  pub answers-lacking : (before after : InputState) (plan : Plan) (fault : Fault) (old : Option (List ℕ)) → AnswersPlan before plan_name (Ok plan) → lacks (plan_view plan) ≡ Some fault → Answers does before after (Err fault) old old
+  answers-lacking before after plan fault old (inl outside) lacking = absurd outside
+  answers-lacking before after plan fault old (inr read) lacking =
+      let is_plan : IsPlan read.0 (plan_view plan) = record { text = read.2.text; present = read.2.present; answer = read.2.answer } in
+      inr (record {
+        plan_file = read.0;
+        data_file = None;
+        may_be = (read.1, λ view is whole. absurd (not-whole lacks read.0 view plan fault read.2 lacking is whole));
+        holds = subst (λ (end : Outcome). EndsWith end (Some fault) old old) (sym (outcome-lacking read.0 None (plan_view plan) fault is_plan lacking)) (record { same = refl; text = Appends-nil old });
+      })
 
   -- a plan that lacks nothing leaves the end to the data
   pub outcome-planned : (plan_file data_file : File) (view : PlanView) → IsPlan plan_file view → lacks view ≡ None → outcome does plan_file data_file ≡ on_file (work view) data_file
@@ -96,22 +116,18 @@ module _ (plan_name name : List ℕ) (writing : Writing (PlanView → List ℕ �
       let same : text ≡ is.text = let e = is.present in cc in
       rw (same, is.answer, whole) refl
 
-  -- the outcome of a run by a plan over a file that is told
-  pub outcome-told : (view : PlanView) (contents : Option File) (rest left : Option (List ℕ)) (taken : List ℕ) (plan_file data_file : File) (end : Outcome) → IsPlan plan_file view → lacks view ≡ None → IsOpened contents rest → contents ≡ Some data_file
-      → Consumes rest left taken → Says (work view).outcome taken left end → outcome does plan_file data_file ≡ end
-  outcome-told view contents rest left taken plan_file data_file end is whole opened known took says =
-      outcome-planned plan_file data_file view is whole ∙ file-told (work view) contents rest left taken data_file end opened known took says
-
   -- work that ended is that of the file
-  pub plan-answers : (state : InputState) (view : PlanView) (contents : Option File) (rest left old new : Option (List ℕ)) (r : Result (Unit {0}) Fault) → HasPlan state plan_name lacks view → state.contents name ≡ contents → IsOpened contents rest
-      → AnswersWork (work view) rest left old new r → Answers does state r old new
-  plan-answers state view contents rest left old new r has same opened (inl outside) = inl outside
-  plan-answers state view contents rest left old new r has same opened (inr ends) = inr (
-    has.plan_file,
-    has.may_be,
-    λ data_file known.
-        rw (outcome-told view contents rest left ends.taken has.plan_file data_file _ has.is_plan has.whole opened (sym same ∙ known view has.is_plan has.whole) ends.consumes ends.says) (record { same = refl; text = ends.written }),
-  )
+  pub plan-answers : (before after : InputState) (view : PlanView) (contents : Option File) (rest old new : Option (List ℕ)) (r : Result (Unit {0}) Fault) → HasPlan before plan_name lacks view → before.contents name ≡ contents → IsOpened contents rest
+      → AnswersWork (work view) rest (after.rest Data) old new r → Answers does before after r old new
+  plan-answers before after view contents rest old new r has same opened (inl outside) = inl outside
+  plan-answers before after view contents rest old new r has same opened (inr ends) =
+      let data_file : File = Some (ends.taken ++ ends.says.more) in
+      inr (record {
+        plan_file = has.plan_file;
+        data_file = data_file;
+        may_be = (has.may_be, λ other is whole. may_be_read contents before after name rest ends.taken ends.says.more same opened ends.consumes ends.says.may_be);
+        holds = subst (λ (end : Outcome). EndsWith end (fault_in r) old new) (sym (outcome-planned has.plan_file data_file view has.is_plan has.whole ∙ ends.says.means)) (record { same = refl; text = ends.written });
+      })
 
 -- a text that is cut by a plan is cut
 cuts-under : (writing : Writing (PlanView → List ℕ → List ℕ)) (view : PlanView) (end : Outcome) (old new : Option (List ℕ)) → Cuts (under view writing) end old new → Cuts writing end old new
@@ -131,12 +147,16 @@ plan-causes plan_name name writing memory lacks work view contents before span f
       Rose-behind _ _ _ (later slot) r.1,
       rw r.0 (view, has, stops-told (under view writing) (work view) contents before span.before span.after name span.old span.new same is_opened r.2),
     ))
-    (λ w. (
+    (λ w.
+    let bytes = w.1.taken ++ w.1.more in (
       w.0,
-      λ plan_file data_file tells.
-          let is_plan = told-plan before plan_name lacks view plan_file has tells.0 in
-          rw (outcome-planned plan_name name writing memory lacks work plan_file data_file view is_plan has.whole)
-          (cuts-under writing view (on_file (work view) data_file) span.old span.new (cut-told (under view writing) (work view) contents _ _ _ _ data_file is_opened (sym same ∙ tells.1 view is_plan has.whole) w.1)),
+      record {
+        plan_file = has.plan_file;
+        data_file = Some bytes;
+        may_be = (has.may_be, λ other is whole. may_be_read contents before span.after name _ w.1.taken w.1.more same is_opened w.1.consumes w.1.may_be);
+        holds = subst (λ (end : Outcome). Cuts writing end span.old span.new) (sym (outcome-planned plan_name name writing memory lacks work has.plan_file (Some bytes) view has.is_plan has.whole))
+            (cuts-under writing view ((work view).outcome bytes) span.old span.new w.1.cut);
+      },
     ))
     (λ want. (want.keeps, inr (view, has, record { taken = want.taken; is_taken = λ bytes told. taken-told contents _ _ want.taken bytes is_opened want.consumes (sym same ∙ told); wants = want.wants })))
     reason

@@ -9,11 +9,13 @@ use Rattle.tally_base.specs.declared.fault.Fault.{Fault}
 use Rattle.tally_base.specs.declared.fault.Fault.TheVariants.{OpenFault, ReadFault, WriteFault, OutOfMemory}
 use Rattle.tally_base.specs.declared.slot.Slot.{Slot}
 use Rattle.tally_base.specs.Faults.{is_outside, HasReason}
-use Rattle.bench_io.specs.Inputs.{File, IsOpened}
+use Rattle.bench_io.specs.Inputs.{File, InputState, IsOpened, Keeps, KeepsOther, OnlyReads}
+use Rattle.bench_io.proofs.States.{Keeps-trans}
 use Rattle.plan_text.specs.declared.plan.Plan.{Plan}
 use Rattle.plan_text.specs.Reading.{plan_answer, plan_seen}
 use Rattle.plan_text.proofs.Documents.{plan_answer_long}
-use Rattle.ptu_cli.specs.PlanPieces.{IsRead}
+use Rattle.ptu_cli.specs.Told.{MayBe}
+use Rattle.ptu_cli.specs.PlanPieces.{IsRead, OnlyUses}
 use Rattle.ptu_cli.proofs.WorkTold.{taken-told}
 
 -- bytes that end the file, or are too many for a plan by themselves
@@ -35,13 +37,13 @@ answers plan_file text (Err fault) present answer = elim (cases_Bool (is_outside
 ]
 
 -- what a file answers that may be the one read
-read_of : (contents : Option File) (plan_file : File) (r : Result Plan Fault) → ((told : File) → contents ≡ Some told → plan_file ≡ told) → IsErrAnd r (λ fault. is_outside fault ≡ true) ⊎ IsRead plan_file r
-    → IsErrAnd r (λ fault. is_outside fault ≡ true) ⊎ ((file : File) × ((told : File) → contents ≡ Some told → file ≡ told) × IsRead file r)
+read_of : (contents : Option File) (plan_file : File) (r : Result Plan Fault) → MayBe contents plan_file → IsErrAnd r (λ fault. is_outside fault ≡ true) ⊎ IsRead plan_file r
+    → IsErrAnd r (λ fault. is_outside fault ≡ true) ⊎ ((file : File) × MayBe contents file × IsRead file r)
 read_of contents plan_file r may_be (inl outside) = inl outside
 read_of contents plan_file r may_be (inr read) = inr (plan_file, may_be, read)
 
 pub plan_told : (contents : Option File) (rest new : Option (List ℕ)) (taken : List ℕ) (r : Result Plan Fault) → IsOpened contents rest → Consumes rest new taken → (length taken < 65537 → IsAtEnd new)
-    → (r ≢ Err OutOfMemory → plan_seen r ≡ plan_answer taken) → IsErrAnd r (λ fault. is_outside fault ≡ true) ⊎ ((file : File) × ((told : File) → contents ≡ Some told → file ≡ told) × IsRead file r)
+    → (r ≢ Err OutOfMemory → plan_seen r ≡ plan_answer taken) → IsErrAnd r (λ fault. is_outside fault ≡ true) ⊎ ((file : File) × MayBe contents file × IsRead file r)
 plan_told None rest new taken r opened took ended answer =
     read_of None (Some taken) r (λ told e. cc) (answers (Some taken) taken r refl (λ enough. sym (answer enough)))
 plan_told (Some None) rest new taken r opened took ended answer = let none = opened.1 in cc
@@ -60,3 +62,14 @@ pub ended_short : (size len : ℕ) (text : List ℕ) (rest : Option (List ℕ)) 
 ended_short size len text rest whole room ended short =
     let count : length (take len text) ≡ len = length-take-le len text room in
     ended (omega arith)
+
+-- an opening and reads behind it
+pub uses-read : (slot : Slot) (before mid after : InputState) → Keeps before mid → KeepsOther slot before mid → OnlyReads slot mid after → OnlyUses slot before after
+uses-read slot before mid after keeps other reads = record {
+  keeps = Keeps-trans before mid after keeps reads.keeps;
+  keeps_other = record {
+    rest = reads.keeps_other.rest ∙ other.rest;
+    asked = reads.keeps_other.asked ∙ other.asked;
+    opened = reads.keeps_other.opened ∙ other.opened;
+  };
+}

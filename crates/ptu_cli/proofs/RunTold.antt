@@ -1,5 +1,5 @@
 -- How `run` ends.
-use Rattle.std.proofs.Common.{◌≡◌, ℕ, List, ap, inl, inr, Ok, Err}
+use Rattle.std.proofs.Common.{◌≡◌, ℕ, List, inl, inr, Ok, Err}
 use Rattle.std.specs.Prelude.{Result, OnOk, OnErr, IfErr}
 use Rattle.std.specs.declared.option.Option.{Option}
 use Rattle.std.specs.Io.KnownBytes.{Appends, Consumes}
@@ -13,24 +13,26 @@ use Rattle.plan_text.specs.Plan.{PlanView}
 use Rattle.tally_engine.specs.declared.engine.Results.{Results}
 use Rattle.table_out.specs.Report.{Table, report, EachHolds}
 use Rattle.ptu_cli.specs.Outcomes.{report_outcome}
+use Rattle.ptu_cli.specs.Reports.{file_report}
 use Rattle.ptu_cli.specs.RunPieces.{IsReport, AnswersReport, RunReason}
 use Rattle.ptu_cli.specs.Behaviours.{AtEnd, reporting}
 use Rattle.ptu_cli.specs.Endings.{StopsAtHeader, Span}
 use Rattle.ptu_cli.specs.Works.{AnswersWork, WorkReason}
+use Rattle.ptu_cli.proofs.Told.{Says-map}
 use Rattle.ptu_cli.proofs.WorkTold.{refused-answers, written-answers, unwritten-reason, unread-reason}
 
 -- data that are refused end the work
 pub ends-uncounted : (plan : PlanView) (rest left : Option (List ℕ)) (taken : List ℕ) (fault : Fault) (old : Option (List ℕ)) → Consumes rest left taken → AnswersReport plan taken left (Err fault) → AnswersWork (reporting plan) rest left old old (Err fault)
 ends-uncounted plan rest left taken fault old took (inl outside) = inl outside
-ends-uncounted plan rest left taken fault old took (inr says) = refused-answers (reporting plan) rest left old taken fault took (inr (λ more l. ap report_outcome (says more l)))
+ends-uncounted plan rest left taken fault old took (inr says) = refused-answers (reporting plan) rest left old taken fault took (inr (Says-map report_outcome (file_report plan) taken left (Err fault) says))
 
 -- a report that was written, or cut short
 pub ends-reported : (plan : PlanView) (rest left : Option (List ℕ)) (taken : List ℕ) (results : Results) (r : Result (Unit {0}) Fault) (old new : Option (List ℕ)) → Consumes rest left taken → IsReport plan taken left results → IfErr r (λ fault. fault ≡ WriteFault)
     → OnOk r ((tables : List Table) → EachHolds results.parts.items tables → Appends old new (report results.header results.summary tables)) → AnswersWork (reporting plan) rest left old new r
 ends-reported plan rest left taken results (Ok done) old new took counted write text =
-    written-answers (reporting plan) rest left old new taken (report results.header results.summary counted.tables) (Ok done) took (λ more l. ap report_outcome (counted.says more l)) write (text counted.tables counted.counts)
+    written-answers (reporting plan) rest left old new taken (report results.header results.summary counted.tables) (Ok done) took (Says-map report_outcome (file_report plan) taken left _ counted.says) write (text counted.tables counted.counts)
 ends-reported plan rest left taken results (Err fault) old new took counted write text =
-    written-answers (reporting plan) rest left old new taken (report results.header results.summary counted.tables) (Err fault) took (λ more l. ap report_outcome (counted.says more l)) write tt
+    written-answers (reporting plan) rest left old new taken (report results.header results.summary counted.tables) (Err fault) took (Says-map report_outcome (file_report plan) taken left _ counted.says) write tt
 
 -- why the data were not counted
 pub uncounted-reason : (plan : PlanView) (before after : InputState) (old : Option (List ℕ)) (faults : ℕ) (fault : Fault) → RunReason plan before after fault
@@ -43,4 +45,4 @@ pub unreported-reason : (plan : PlanView) (span : Span) (taken : List ℕ) (resu
     → IfErr r (WorkReason AtEnd (StopsAtHeader plan) (reporting plan) span)
 unreported-reason plan span taken results (Ok done) took counted write rose short = tt
 unreported-reason plan span taken results (Err fault) took counted write rose short =
-    unwritten-reason (StopsAtHeader plan) (reporting plan) span taken (report results.header results.summary counted.tables) (Err fault) took (λ more l. ap report_outcome (counted.says more l)) write rose (short counted.tables counted.counts)
+    unwritten-reason (StopsAtHeader plan) (reporting plan) span taken (report results.header results.summary counted.tables) (Err fault) took (Says-map report_outcome (file_report plan) taken (span.after.rest Data) _ counted.says) write rose (short counted.tables counted.counts)

@@ -1,6 +1,6 @@
 -- A header and the records behind it give the report of the file.
 use Rattle.std.proofs.Common.{◌≡◌, ◌<◌, ℕ, List, [], ◌++◌, length, None, Ok, Err, true, false, append-nil, refl, sym, ap, ◌∙◌, append_assoc, inl, inr}
-use Rattle.std.specs.Prelude.{◌⊎◌, Result, IfErr}
+use Rattle.std.specs.Prelude.{◌⊎◌, Result, IfErr, IsErrAnd}
 use Rattle.std.specs.declared.option.Option.{Option}
 use Rattle.std.specs.Io.KnownBytes.{Consumes, IsAtEnd}
 use Rattle.tally_base.specs.declared.fault.Fault.{Fault}
@@ -15,9 +15,8 @@ use Rattle.bench_io.proofs.Bytes.{Consumes-trans}
 use Rattle.bench_io.proofs.Rises.{Rose-behind}
 use Rattle.ptu_definitions.specs.declared.records.Summary.{Summary}
 use Rattle.ptu_definitions.specs.Headers.{header_answer}
-use Rattle.ptu_definitions.specs.Shown.{Says, Shows}
+use Rattle.ptu_definitions.specs.Shown.{Shows}
 use Rattle.ptu_definitions.specs.Streams.{record_refusal, streamed}
-use Rattle.ptu_definitions.proofs.ShownLemmas.{Says-at_end}
 use Rattle.plan_text.specs.Plan.{PlanView}
 use Rattle.plan_text.specs.Fits.{fits, IsMisfit}
 use Rattle.plan_text.proofs.Misfits.{misfit_named}
@@ -30,11 +29,14 @@ use Rattle.tally_engine.specs.Parts.{settings_in}
 use Rattle.ptu_definitions.specs.Words.{words_of}
 use Rattle.table_out.specs.Report.{with_events}
 use Rattle.table_out.proofs.Tables.{each_holds_all}
+use Rattle.ptu_cli.specs.Told.{Says}
 use Rattle.ptu_cli.specs.Outcomes.{IsCut}
 use Rattle.ptu_cli.specs.Outcomes.{MayChange}
-use Rattle.ptu_cli.specs.Pieces.{ReadReason, TakesOpen}
+use Rattle.ptu_cli.specs.Behaviours.{piece_limit}
+use Rattle.ptu_cli.specs.Pieces.{ReadReason, TakesOpen, StopsSoon}
 use Rattle.ptu_cli.specs.Reports.{report_of, if_fits, report_behind, file_report}
 use Rattle.ptu_cli.specs.RunPieces.{EndsEngine, IsReport, AnswersReport, RunReason}
+use Rattle.ptu_cli.proofs.Told.{Says-at_end, Says-shown, Says-map}
 use Rattle.ptu_cli.proofs.Composed.{ShowsHeader}
 use Rattle.ptu_cli.proofs.EventReasons.{streamed-open}
 
@@ -48,11 +50,15 @@ file-behind plan header taken behind shows fit next = ap (report_behind plan) (s
 -- a stream that was refused has no report
 says-refused : (plan : PlanView) (header : Header) (taken behind next : List ℕ) (left : Option (List ℕ)) (fault : Fault) → ShowsHeader taken header behind → fits (mode_of header.record_type) plan ≡ Ok tt
     → Says (streamed (reading_by plan header)) (behind ++ next) left (Err fault) → Says (file_report plan) (taken ++ next) left (Err fault)
-says-refused plan header taken behind next left fault shows fit says = λ more known.
-    ap (file_report plan) (append_assoc taken next more)
-    ∙ file-behind plan header taken behind shows fit (next ++ more)
-    ∙ ap (report_from plan header) (sym (append_assoc behind next more))
-    ∙ ap (report_of plan header ((behind ++ next) ++ more)) (says more known)
+says-refused plan header taken behind next left fault shows fit says = record {
+  more = says.more;
+  may_be = says.may_be;
+  means =
+      ap (file_report plan) (append_assoc taken next says.more)
+      ∙ file-behind plan header taken behind shows fit (next ++ says.more)
+      ∙ ap (report_from plan header) (sym (append_assoc behind next says.more))
+      ∙ ap (report_of plan header ((behind ++ next) ++ says.more)) says.means;
+}
 
 -- what an engine of the plan counted is the report
 counted-report : (plan : PlanView) (header : Header) (engine : Engine) (taken behind next : List ℕ) (left : Option (List ℕ)) (results : Results) → ShowsHeader taken header behind → fits (mode_of header.record_type) plan ≡ Ok tt
@@ -81,12 +87,12 @@ answers-run plan header engine taken behind next left (Err fault) shows fit is (
 -- there is no header
 pub answers-unheaded : (plan : PlanView) (taken : List ℕ) (left : Option (List ℕ)) (fault : Fault) → (is_outside fault ≡ true) ⊎ Says header_answer taken left (Err fault) → AnswersReport plan taken left (Err fault)
 answers-unheaded plan taken left fault (inl outside) = inl outside
-answers-unheaded plan taken left fault (inr says) = inr (λ more known. ap (report_behind plan) (says more known))
+answers-unheaded plan taken left fault (inr says) = inr (Says-map (report_behind plan) header_answer taken left (Err fault) says)
 
 -- the plan does not suit the file, or memory was refused
 pub answers-unopened : (plan : PlanView) (header : Header) (taken behind : List ℕ) (left : Option (List ℕ)) (fault : Fault) → ShowsHeader taken header behind → OpensAs {A = Engine} (fits (mode_of header.record_type) plan) (Err fault)
     → AnswersReport plan taken left (Err fault)
-answers-unopened plan header taken behind left fault shows (inl misfit) = inr (λ more known. ap (report_behind plan) (shows more) ∙ ap (if_fits plan header (behind ++ more)) misfit)
+answers-unopened plan header taken behind left fault shows (inl misfit) = inr (Says-shown (file_report plan) taken left (Err fault) (λ more. ap (report_behind plan) (shows more) ∙ ap (if_fits plan header (behind ++ more)) misfit))
 answers-unopened plan header taken behind left fault shows (inr want) = inl (rw want.1 refl)
 
 -- a header that is cut may go on
@@ -135,7 +141,7 @@ ends-finished old new bytes left (Err fault) same end answer = inr (Says-at_end 
 
 -- an engine that refused a piece
 pub ends-refused : (old new : Engine) (bytes : List ℕ) (left : Option (List ℕ)) (fault : Fault) → SameEngine old new → Shows (streamed (reading_of new)) bytes (Err fault) → EndsEngine old bytes left (Err fault)
-ends-refused old new bytes left fault same shown = inr (λ more known. rw same.same_reading at (shown more))
+ends-refused old new bytes left fault same shown = inr (Says-shown (streamed (reading_of old)) bytes left (Err fault) (λ more. rw same.same_reading at (shown more)))
 
 -- what an engine was given that goes on may change
 pub fed-open : (old new : Engine) (bytes : List ℕ) → SameEngine old new → record_refusal (reading_of new) (words_of bytes) ≡ None → MayChange (fault_in (streamed (reading_of old) bytes))
@@ -145,16 +151,12 @@ fed-open old new bytes same none = streamed-open (reading_of old) bytes (rw same
 pub report-open : (plan : PlanView) (header : Header) (taken behind next : List ℕ) → ShowsHeader taken header behind → fits (mode_of header.record_type) plan ≡ Ok tt → MayChange (fault_in (streamed (reading_by plan header) (behind ++ next))) → MayChange (fault_in (file_report plan (taken ++ next)))
 report-open plan header taken behind next shows fit goes = rw (file-behind plan header taken behind shows fit next) (report_of-open plan header (behind ++ next) (streamed (reading_by plan header) (behind ++ next)) goes)
 
--- an engine that goes on
-pub takes-on : (old new : Engine) (bytes taken : List ℕ) (before after : Option (List ℕ)) → SameEngine old new → Consumes before after taken → record_refusal (reading_of new) (words_of (bytes ++ taken)) ≡ None → TakesOpen (streamed (reading_of old)) bytes before after
-takes-on old new bytes taken before after same took none = (taken, took, streamed-open (reading_of old) (bytes ++ taken) (rw same.same_reading at none))
-
 fits-inside : (mode : Mode) (plan : PlanView) (fault : Fault) → IsMisfit mode plan fault → is_outside fault ≡ false
 fits-inside mode plan fault (inl (number, is, first)) = rw is refl
 fits-inside mode plan fault (inr (kind, is, first, none)) = rw is refl
 
 -- why no engine was opened: the plan does not suit the file, or memory was refused behind the header
-pub unopened-reason : (plan : PlanView) (header : Header) (taken behind : List ℕ) (before after : InputState) (fault : Fault) → ShowsHeader taken header behind → length behind < 8192 → Consumes (before.rest Data) (after.rest Data) taken
+pub unopened-reason : (plan : PlanView) (header : Header) (taken behind : List ℕ) (before after : InputState) (fault : Fault) → ShowsHeader taken header behind → length behind < piece_limit → Consumes (before.rest Data) (after.rest Data) taken
     → OpensAs {A = Engine} (fits (mode_of header.record_type) plan) (Err fault) → RunReason plan before after fault
 unopened-reason plan header taken behind before after fault shows few took (inl fit) =
     HasReason-inside _ _ _ _ fault (fits-inside (mode_of header.record_type) plan fault (misfit_named (mode_of header.record_type) plan fault fit))
@@ -167,6 +169,13 @@ pub unheaded-reason : (plan : PlanView) (before after : InputState) (fault : Fau
 unheaded-reason plan before after fault unread reason =
     HasReason-follows _ _ _ _ _ _ _ _ fault (λ slot h. h) (λ slot h. (h.0.0, h.0.1, (h.1.0, h.1.1, report-cut plan h.1.0 h.1.2))) (λ h. absurd h) (λ h. absurd h)
     (HasReason-with _ _ _ _ _ fault unread reason)
+
+-- bytes behind which a read failed
+pub unread-data : {A : Type 0} (goes_on : List ℕ → Type 0) (before after : Option (List ℕ)) (r : Result A Fault) → ((after ≡ before) × IsErrAnd r (λ fault. is_outside fault ≡ false)) ⊎ StopsSoon goes_on before after r
+    → IfErr r (λ fault. is_outside fault ≡ true → (taken : List ℕ) × Consumes before after taken × goes_on taken)
+unread-data goes_on before after (Ok value) h = tt
+unread-data goes_on before after (Err fault) (inl refused) = λ outside. let inside = refused.1 in cc
+unread-data goes_on before after (Err fault) (inr stops) = stops.unread
 
 -- why the records were not read
 pub unfed-reason : (plan : PlanView) (header : Header) (taken behind : List ℕ) (before mid after : InputState) (r : Result Results Fault) → ShowsHeader taken header behind → fits (mode_of header.record_type) plan ≡ Ok tt

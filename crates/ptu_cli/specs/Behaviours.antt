@@ -18,6 +18,10 @@ use Rattle.ptu_cli.specs.Demo.{demo_report}
 use Rattle.ptu_cli.specs.Reports.{file_report}
 use Rattle.ptu_cli.specs.Outcomes.{Outcome, written, MayChange, IsCut, count_outcome, file_counts, header_outcome, events_outcome, listing, report_outcome}
 
+-- the bytes that one read of FILE takes at most
+abbrev pub piece_limit : ℕ
+piece_limit = 8192
+
 -- What a command does with the bytes of FILE.
 pub record Work : Type 1 where
   -- what it ends with, where these are all bytes

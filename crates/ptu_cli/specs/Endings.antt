@@ -16,8 +16,9 @@ use Rattle.tally_base.specs.RecordTypes.{mode_of}
 use Rattle.plan_text.specs.Plan.{PlanView}
 use Rattle.plan_text.specs.Reading.{text_limit, plan_answer}
 use Rattle.plan_text.specs.Fits.{fits}
+use Rattle.ptu_cli.specs.Told.{MayBe}
 use Rattle.ptu_cli.specs.Outcomes.{Outcome, refused, status}
-use Rattle.ptu_cli.specs.Behaviours.{Work, Writing, AtEnd, AsItReads, so_far, under, Memory, ForPlan, ForTables, Behaviour, NoCommand, Alone, OnFile, ByPlan}
+use Rattle.ptu_cli.specs.Behaviours.{piece_limit, Work, Writing, AtEnd, AsItReads, so_far, under, Memory, ForPlan, ForTables, Behaviour, NoCommand, Alone, OnFile, ByPlan}
 
 -- ## What the files call for
 
@@ -55,23 +56,43 @@ pub record IsPlan (plan_file : File) (plan : PlanView) : Type 0 where
   pub present : plan_file ≡ Some text
   pub answer : plan_answer text ≡ Ok plan
 
--- This may be the file of a name: it is the one that the inputs tell, where they tell one.
-abbrev pub MayBe : InputState → List ℕ → File → Type 0
-MayBe state name file = (told : File) → state.contents name ≡ Some told → file ≡ told
-
 -- A file that may be that of a name is this plan, and it lacks nothing.
 pub record HasPlan (state : InputState) (name : List ℕ) (lacks : PlanView → Option Fault) (plan : PlanView) : Type 0 where
   pub plan_file : File
-  pub may_be : MayBe state name plan_file
+  pub may_be : MayBe (state.contents name) plan_file
   pub is_plan : IsPlan plan_file plan
   pub whole : lacks plan ≡ None
 
--- This may be the file of the word PLAN.
-abbrev pub PlanMayBe : InputState → Behaviour → File → Type 0
-PlanMayBe state NoCommand plan_file = Unit {0}
-PlanMayBe state (Alone end) plan_file = Unit {0}
-PlanMayBe state (OnFile file writing work) plan_file = Unit {0}
-PlanMayBe state (ByPlan plan file writing memory lacks work) plan_file = MayBe state plan plan_file
+-- These are the bytes that were taken from the file of a name, where the inputs tell it.
+abbrev pub IsTakenFrom : Slot → InputState → InputState → List ℕ → List ℕ → Type 0
+IsTakenFrom slot before after name taken = (bytes : List ℕ) → before.contents name ≡ Some (Some bytes) → Consumes (Some bytes) (after.rest slot) taken
+
+abbrev pub IsTaken : InputState → InputState → List ℕ → List ℕ → Type 0
+IsTaken = IsTakenFrom Data
+
+-- This may be the file of the word FILE, which was opened: it is the one that the inputs tell, where they tell one. It is the bytes that were taken from it and some behind them, which are those that are left, where the inputs tell these.
+pub record MayBeRead (before after : InputState) (name : List ℕ) (file : File) : Type 0 where
+  pub may_be : MayBe (before.contents name) file
+  pub taken : List ℕ
+  pub is_taken : IsTaken before after name taken
+  pub more : List ℕ
+  pub is_left : MayBe (after.rest Data) more
+  pub parts : file ≡ Some (taken ++ more)
+
+-- These may be the files of the words PLAN and FILE. Behind a plan that is refused or lacks something FILE is not looked at.
+abbrev pub MayBeFiles : Behaviour → InputState → InputState → File → File → Type 0
+MayBeFiles NoCommand before after plan_file data_file = Unit {0}
+MayBeFiles (Alone end) before after plan_file data_file = Unit {0}
+MayBeFiles (OnFile file writing work) before after plan_file data_file = MayBeRead before after file data_file
+MayBeFiles (ByPlan plan file writing memory lacks work) before after plan_file data_file =
+    MayBe (before.contents plan) plan_file × ((view : PlanView) → IsPlan plan_file view → lacks view ≡ None → MayBeRead before after file data_file)
+
+-- This holds of the outcome over some files that may be those of the words. Where the inputs tell the files, it is the outcome over these.
+pub record ForSomeFiles (does : Behaviour) (before after : InputState) (holds_of : Outcome → Type 0) : Type 0 where
+  pub plan_file : File
+  pub data_file : File
+  pub may_be : MayBeFiles does before after plan_file data_file
+  pub holds : holds_of (outcome does plan_file data_file)
 
 -- The inputs tell this file for the word FILE, if the command comes to it by such a file of PLAN: that of a plan that is refused or lacks something never does.
 abbrev pub TellsData : InputState → Behaviour → File → File → Type 0
@@ -98,11 +119,11 @@ pub record EndsWith (outcome : Outcome) (fault : Option Fault) (old new : Option
   pub same : fault ≡ outcome.fault
   pub text : Appends old new outcome.text
 
--- what a command leaves where the fault is not from outside: it ends as some file of PLAN calls for, which is the one told, if one is told
-abbrev pub Answers : Behaviour → InputState → Result (Unit {0}) Fault → Option (List ℕ) → Option (List ℕ) → Type 0
-Answers does state result old new =
+-- what a command leaves where the fault is not from outside: it ends as its files call for
+abbrev pub Answers : Behaviour → InputState → InputState → Result (Unit {0}) Fault → Option (List ℕ) → Option (List ℕ) → Type 0
+Answers does before after result old new =
     IsErrAnd result (λ fault. is_outside fault ≡ true)
-    ⊎ ((plan_file : File) × PlanMayBe state does plan_file × ((data_file : File) → TellsData state does plan_file data_file → EndsWith (outcome does plan_file data_file) (fault_in result) old new))
+    ⊎ ForSomeFiles does before after (λ end. EndsWith end (fault_in result) old new)
 
 -- The command asks for this slot, and no earlier case ends the run.
 abbrev pub Reaches : Behaviour → InputState → Slot → Type 0
@@ -112,13 +133,6 @@ Reaches (OnFile file writing work) state Plan = ⊥
 Reaches (OnFile file writing work) state Data = Unit {0}
 Reaches (ByPlan plan file writing memory lacks work) state Plan = Unit {0}
 Reaches (ByPlan plan file writing memory lacks work) state Data = (view : PlanView) × HasPlan state plan lacks view
-
--- These are the bytes that were taken from the file of a name, where the inputs tell it.
-abbrev pub IsTakenFrom : Slot → InputState → InputState → List ℕ → List ℕ → Type 0
-IsTakenFrom slot before after name taken = (bytes : List ℕ) → before.contents name ≡ Some (Some bytes) → Consumes (Some bytes) (after.rest slot) taken
-
-abbrev pub IsTaken : InputState → InputState → List ℕ → List ℕ → Type 0
-IsTaken = IsTakenFrom Data
 
 -- The bytes taken from FILE call for no end by themselves, and what the command writes of them meanwhile was written.
 pub record StopsIn (writing : Writing (List ℕ → List ℕ)) (work : Work) (before after : InputState) (file : List ℕ) (old new : Option (List ℕ)) : Type 0 where
@@ -152,7 +166,7 @@ pub record StopsAtHeader (plan : PlanView) (taken : List ℕ) : Type 0 where
   pub behind : List ℕ
   pub answer : header_answer taken ≡ Ok (header, behind)
   pub suits : fits (mode_of header.record_type) plan ≡ Ok (tt {0})
-  pub few : length behind < 8192
+  pub few : length behind < piece_limit
 
 -- Memory may be wanting behind these bytes of FILE: for tables, behind the data's header.
 abbrev pub WantsBehind : Memory → PlanView → List ℕ → Type 0
@@ -183,7 +197,7 @@ pub record TakesData (work : Work) (before after : InputState) (file : List ℕ)
   pub last : List ℕ
   pub is_taken : IsTaken before after file (front ++ last)
   pub goes_on : work.goes_on front
-  pub few : length last ≤ 8192
+  pub few : length last ≤ piece_limit
 
 -- What a command asks for and takes, however it ends. Without a word PLAN it never asks for a plan, and without a word FILE it leaves the inputs as they were.
 -- The data are asked for only behind a plan that lacks nothing.
@@ -220,32 +234,32 @@ FailsOpening does slot before after old new = Reaches does before slot × Rose (
 abbrev pub FailsReading : Behaviour → Slot → InputState → InputState → Option (List ℕ) → Option (List ℕ) → Type 0
 FailsReading does slot before after old new = Reaches does before slot × Rose (before.read_faults slot) (after.read_faults slot) × LeavesUnread does slot before after old new
 
--- The text of the outcome was cut short, over any files that the inputs tell.
-abbrev pub CutsOutcome : Behaviour → InputState → Option (List ℕ) → Option (List ℕ) → Type 0
-CutsOutcome does before old new = (plan_file data_file : File) → Tells before does plan_file data_file → CutsShort does (outcome does plan_file data_file) old new
+-- The text that the files call for was cut short.
+abbrev pub CutsOutcome : Behaviour → InputState → InputState → Option (List ℕ) → Option (List ℕ) → Type 0
+CutsOutcome does before after old new = ForSomeFiles does before after (λ end. CutsShort does end old new)
 
 -- what a command's fault from outside says: which count rose, and what was written
 unfoldable pub HasCauses : Behaviour → Span → Fault → Type 0
 HasCauses does span = HasReason
     (λ slot. FailsOpening does slot span.before span.after span.old span.new)
     (λ slot. FailsReading does slot span.before span.after span.old span.new)
-    (Rose span.faults_before span.faults_after × CutsOutcome does span.before span.old span.new)
+    (Rose span.faults_before span.faults_after × CutsOutcome does span.before span.after span.old span.new)
     (RunsOut does span.before span.after span.old span.new)
 
 -- all that a command does
 pub record Does (behaves : Behaviour) (span : Span) (result : Result (Unit {0}) Fault) : Type 0 where
-  pub answer : Answers behaves span.before result span.old span.new
+  pub answer : Answers behaves span.before span.after result span.old span.new
   pub causes : IfErr result (HasCauses behaves span)
   pub asks : Asks behaves span.before span.after
 
 -- ## Good words and files
 
--- The status is the one that is called for. A command that takes memory may end with that of want of memory instead.
-abbrev pub MeansStatus : Behaviour → ℕ → ℕ → Type 0
-MeansStatus NoCommand result wanted = result ≡ wanted
-MeansStatus (Alone end) result wanted = (result ≡ wanted) ⊎ (result ≡ 5)
-MeansStatus (OnFile file writing work) result wanted = result ≡ wanted
-MeansStatus (ByPlan plan file writing memory lacks work) result wanted = (result ≡ wanted) ⊎ (result ≡ 5)
+-- The status is that of want of memory, and the command takes memory.
+abbrev pub LacksMemory : Behaviour → ℕ → Type 0
+LacksMemory NoCommand result = ⊥
+LacksMemory (Alone end) result = result ≡ 5
+LacksMemory (OnFile file writing work) result = ⊥
+LacksMemory (ByPlan plan file writing memory lacks work) result = result ≡ 5
 
 -- No opening and no read has failed in a run.
 abbrev pub NoneRose : InputState → InputState → Type 0

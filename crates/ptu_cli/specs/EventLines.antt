@@ -8,6 +8,12 @@ use Rattle.bench_io.proofs.Bytes.{PassesOn-held}
 use Rattle.ptu_definitions.specs.Kept.{Marked, floor_of}
 use Rattle.table_out.specs.EventText.{events_text}
 
+-- Nothing was listed yet: no event was taken, and the block is empty.
+pub record ListsNone (taken floor : ℕ) (held : List ℕ) : Type 0 where
+  pub none_taken : taken ≡ 0
+  pub none_before : floor ≡ 0
+  pub empty : held ≡ []
+
 -- The lines of these events were put behind what a block held, for the same sink.
 pub record Listed (name name' : ℕ) (mode mode' : Mode) (taken taken' floor floor' : ℕ) (old new : Option (List ℕ)) (held held' : List ℕ) (l : Marked) : Type 0 where
   pub same_sink : name' ≡ name

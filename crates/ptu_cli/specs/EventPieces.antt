@@ -1,13 +1,33 @@
 -- What the events of words write that come behind others.
-use Rattle.std.specs.Prelude.{ℕ, ◌≡◌, ◌⊎◌, List, ◌++◌, None, Some, Result, Ok, Err}
+use Rattle.std.specs.Prelude.{ℕ, ◌≡◌, ◌⊎◌, ◌+◌, ◌*◌, ◌≤◌, List, ◌++◌, length, None, Some, Result, Ok, Err}
 use Rattle.std.specs.declared.option.Option.{Option}
 use Rattle.std.specs.Io.KnownBytes.{Appends}
+use Rattle.tally_base.specs.declared.header.Mode.{Mode}
 use Rattle.tally_base.specs.declared.fault.Fault.{Fault}
 use Rattle.tally_base.specs.declared.fault.Fault.TheVariants.{WriteFault}
 use Rattle.bench_io.specs.Sinks.{AppendsShort}
 use Rattle.tally_base.specs.FaultCounts.{Rose}
+use Rattle.ptu_definitions.specs.Counted.{record_limit}
+use Rattle.record_stream.specs.declared.stream.RecordStream.{RecordStream}
+use Rattle.record_stream.specs.Standing.{how_of, refused_with, bytes_in, HasStreamed}
 use Rattle.ptu_definitions.specs.Streams.{Reading, record_refusal}
 use Rattle.table_out.specs.EventText.{lines_of}
+
+-- The stream is read in this mode, and has refused nothing.
+pub record IsOpenIn (mode : Mode) (stream : RecordStream) : Type 0 where
+  pub same_mode : mode ≡ (how_of stream).mode
+  pub going : refused_with stream ≡ None
+
+-- A stream was given a piece, whatever it answered: it is read as before, and stands for the bytes with the piece behind them. It never takes more than the greatest number of records and a begun one.
+pub record TakesOn (old new : RecordStream) (piece : List ℕ) : Type 0 where
+  pub same_how : how_of new ≡ how_of old
+  pub taken : (bytes : List ℕ) → HasStreamed old bytes → HasStreamed new (bytes ++ piece)
+  pub limit : bytes_in new ≤ 4 * record_limit + 3
+
+-- It refused nothing, and took the whole piece.
+pub record StaysOpen (old new : RecordStream) (piece : List ℕ) : Type 0 where
+  pub going : refused_with new ≡ None
+  pub counted : bytes_in new ≡ bytes_in old + length piece
 
 -- The lines of words that came behind others were written.
 pub record Wrote (how : Reading) (old new : Option (List ℕ)) (words now : List ℕ) : Type 0 where

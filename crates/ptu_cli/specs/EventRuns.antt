@@ -1,5 +1,5 @@
 -- What writing the lines of the events of a file leaves.
-use Rattle.std.specs.Prelude.{ℕ, ◌≡◌, ◌⊎◌, List, ◌++◌, true, None, Some, Result, IsErrAnd}
+use Rattle.std.specs.Prelude.{ℕ, ◌≡◌, ◌⊎◌, List, ◌++◌, true, None, Result, IsErrAnd}
 use Rattle.std.specs.declared.option.Option.{Option}
 use Rattle.std.specs.Io.KnownBytes.{Appends, Consumes}
 use Rattle.tally_base.specs.declared.fault.Fault.{Fault}
@@ -10,6 +10,7 @@ use Rattle.bench_io.specs.Sinks.{AppendsShort}
 use Rattle.ptu_definitions.specs.Words.{words_of}
 use Rattle.ptu_definitions.specs.Streams.{Reading, record_refusal, streamed}
 use Rattle.table_out.specs.EventText.{lines_of}
+use Rattle.ptu_cli.specs.Told.{MayBe}
 use Rattle.ptu_cli.specs.Endings.{Span}
 
 -- The text is what is written of the lines of some bytes behind those of others, and the bytes have this fault.
@@ -17,13 +18,15 @@ pub record SaysLines (how : Reading) (before bytes text : List ℕ) (fault : Opt
   pub lines : lines_of how (words_of bytes) ≡ lines_of how (words_of before) ++ text
   pub ends : fault_in (streamed how bytes) ≡ fault
 
--- The bytes taken and those left end so, and the lines behind those of the bytes before were written.
+-- The bytes taken end so with some behind them, which may be those that are left, and the lines behind those of the bytes before were written.
 pub record EndsLines (how : Reading) (bytes : List ℕ) (rest_before rest_after old new : Option (List ℕ)) (fault : Option Fault) : Type 0 where
   pub taken : List ℕ
   pub consumes : Consumes rest_before rest_after taken
   pub text : List ℕ
   pub written : Appends old new text
-  pub says : (more : List ℕ) → rest_after ≡ Some more → SaysLines how bytes ((bytes ++ taken) ++ more) text fault
+  pub more : List ℕ
+  pub may_be : MayBe rest_after more
+  pub says : SaysLines how bytes ((bytes ++ taken) ++ more) text fault
 
 -- A fault from outside, or the end that the bytes call for.
 abbrev pub AnswersLines : Reading → List ℕ → Option (List ℕ) → Option (List ℕ) → Option (List ℕ) → Option (List ℕ) → Result (Unit {0}) Fault → Type 0

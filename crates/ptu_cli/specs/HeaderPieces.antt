@@ -1,12 +1,13 @@
 -- What reading the header in pieces leaves.
-use Rattle.std.specs.Prelude.{ℕ, ◌≡◌, ◌⊎◌, ◌+◌, ◌≤◌, List, [], ◌++◌, take, drop, length, slice_range, true, false, Result, Ok, Err}
+use Rattle.std.specs.Prelude.{ℕ, ◌≡◌, ◌⊎◌, ◌+◌, ◌≤◌, ◌<◌, List, [], ◌++◌, take, drop, length, slice_range, true, false, Result, Ok, Err}
 use Rattle.std.specs.declared.option.Option.{Option}
 use Rattle.tally_base.specs.declared.fault.Fault.{Fault}
 use Rattle.tally_base.specs.Faults.{is_outside}
 use Rattle.ptu_definitions.specs.Headers.{header_answer}
-use Rattle.ptu_definitions.specs.Shown.{Says, Shows}
+use Rattle.ptu_definitions.specs.Shown.{Shows}
 use Rattle.ptu_header.specs.declared.reader.HeaderReader.{HeaderReader}
 use Rattle.ptu_header.specs.Reading.{HasRead, is_open, bytes_taken}
+use Rattle.ptu_cli.specs.Told.{Says}
 use Rattle.ptu_cli.specs.Outcomes.{IsCut}
 use Rattle.ptu_cli.specs.declared.header.Fed.{Fed}
 use Rattle.ptu_cli.specs.declared.header.Fed.TheVariants.{More, Done, Refused}
@@ -30,6 +31,12 @@ abbrev pub RefusesInside : Fed → Type 0
 RefusesInside More = Unit {0}
 RefusesInside (Done used header) = Unit {0}
 RefusesInside (Refused fault) = is_outside fault ≡ false
+
+-- Bytes of the buffer ended the header, and those behind it stand from `used` to `len`.
+pub record EndsIn (buffer : List ℕ) (found : FoundHeader) : Type 0 where
+  pub ended : 0 < found.used
+  pub order : found.used ≤ found.len
+  pub within : found.len ≤ length buffer
 
 -- The header of the bytes taken, with the part of the buffer behind it; or a fault.
 abbrev pub HeaderEnds : List ℕ → List ℕ → Option (List ℕ) → Result FoundHeader Fault → Type 0

@@ -1,4 +1,5 @@
 pub mod Commands
+pub mod Told
 pub mod CountText
 pub mod EventLines
 pub mod EventPieces

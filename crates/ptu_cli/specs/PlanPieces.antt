@@ -1,13 +1,25 @@
 -- What reading a plan leaves.
-use Rattle.std.specs.Prelude.{ℕ, ◌≡◌, ◌⊎◌, ◌≤◌, List, length, true, Some, Result, IsErrAnd}
+use Rattle.std.specs.Prelude.{ℕ, ◌≡◌, ◌⊎◌, ◌≤◌, List, length, true, false, Some, Result, IsErrAnd}
+use Rattle.tally_base.specs.declared.slot.Slot.{Slot}
 use Rattle.tally_base.specs.declared.slot.Slot.TheVariants.{Plan as PlanSlot}
 use Rattle.tally_base.specs.declared.fault.Fault.{Fault}
 use Rattle.tally_base.specs.Faults.{is_outside, HasReason}
 use Rattle.tally_base.specs.FaultCounts.{Rose}
-use Rattle.bench_io.specs.Inputs.{File, InputState}
+use Rattle.bench_io.specs.Inputs.{File, InputState, Keeps, KeepsOther}
 use Rattle.plan_text.specs.declared.plan.Plan.{Plan}
 use Rattle.plan_text.specs.Reading.{text_limit, plan_answer, plan_seen}
-use Rattle.ptu_cli.specs.Endings.{MayBe, IsTakenFrom}
+use Rattle.ptu_cli.specs.Told.{MayBe}
+use Rattle.ptu_cli.specs.Endings.{IsTakenFrom}
+
+-- The name is meant for the slot, which was not asked for yet.
+pub record MayOpen (state : InputState) (slot : Slot) (name : List ℕ) : Type 0 where
+  pub meant : state.meant slot name ≡ true
+  pub first : state.asked slot ≡ false
+
+-- Nothing but calls for this slot lies between.
+pub record OnlyUses (slot : Slot) (old new : InputState) : Type 0 where
+  pub keeps : Keeps old new
+  pub keeps_other : KeepsOther slot old new
 
 -- The file is there, and this is what its bytes answer as a plan.
 pub record IsRead (plan_file : File) (result : Result Plan Fault) : Type 0 where
@@ -17,7 +29,7 @@ pub record IsRead (plan_file : File) (result : Result Plan Fault) : Type 0 where
 
 -- A fault from outside, or what a file answers as a plan that may be that of the name.
 abbrev pub AnswersPlan : InputState → List ℕ → Result Plan Fault → Type 0
-AnswersPlan before name result = IsErrAnd result (λ fault. is_outside fault ≡ true) ⊎ ((plan_file : File) × MayBe before name plan_file × IsRead plan_file result)
+AnswersPlan before name result = IsErrAnd result (λ fault. is_outside fault ≡ true) ⊎ ((plan_file : File) × MayBe (before.contents name) plan_file × IsRead plan_file result)
 
 -- The plan could not be opened, or a read failed where no more bytes were taken than a plan may have, or memory was refused.
 abbrev pub PlanReason : InputState → InputState → List ℕ → Fault → Type 0

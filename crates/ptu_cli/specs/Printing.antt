@@ -39,13 +39,8 @@ AppendsHeader bytes piece = AppendsMore (header_text bytes) (header_text (bytes 
 abbrev pub CutsHeader : List ℕ → List ℕ → Option (List ℕ) → Option (List ℕ) → List ℕ → Type 0
 CutsHeader bytes piece = CutsMore (header_text bytes) (header_text (bytes ++ piece))
 
--- A printer that goes on has taken the whole piece.
-abbrev pub TakesAll : HeaderPrinter → HeaderPrinter → List ℕ → Printed → Type 0
-TakesAll old new piece More = bytes_taken new.reader ≡ bytes_taken old.reader + length piece
-TakesAll old new piece Done = Unit {0}
-TakesAll old new piece (Refused fault) = Unit {0}
-
-abbrev pub PrintsInside : Printed → Type 0
-PrintsInside More = Unit {0}
-PrintsInside Done = Unit {0}
-PrintsInside (Refused fault) = is_outside fault ≡ false
+-- A printer that goes on has taken the whole piece. A refusal is one that the bytes call for.
+abbrev pub EndsPiece : HeaderPrinter → HeaderPrinter → List ℕ → Printed → Type 0
+EndsPiece old new piece More = bytes_taken new.reader ≡ bytes_taken old.reader + length piece
+EndsPiece old new piece Done = Unit {0}
+EndsPiece old new piece (Refused fault) = is_outside fault ≡ false

@@ -1,5 +1,5 @@
 -- What counting the records of a file by a plan leaves.
-use Rattle.std.specs.Prelude.{ℕ, ◌≡◌, ◌⊎◌, List, [], true, Result, Ok, Err}
+use Rattle.std.specs.Prelude.{ℕ, ◌≡◌, ◌⊎◌, ◌<◌, List, [], true, None, Result, Ok, Err}
 use Rattle.std.specs.declared.option.Option.{Option}
 use Rattle.std.specs.Io.KnownBytes.{Consumes, IsAtEnd}
 use Rattle.tally_base.specs.declared.slot.Slot.TheVariants.{Data}
@@ -7,17 +7,28 @@ use Rattle.tally_base.specs.declared.fault.Fault.{Fault}
 use Rattle.tally_base.specs.Faults.{is_outside, HasReason}
 use Rattle.tally_base.specs.FaultCounts.{Rose}
 use Rattle.bench_io.specs.Inputs.{InputState}
-use Rattle.ptu_definitions.specs.Shown.{Says}
 use Rattle.ptu_definitions.specs.Streams.{streamed}
 use Rattle.plan_text.specs.Plan.{PlanView}
 use Rattle.tally_engine.specs.declared.engine.Engine.{Engine}
 use Rattle.tally_engine.specs.declared.engine.Results.{Results}
-use Rattle.tally_engine.specs.Engine.{reading_of, IsCounted}
+use Rattle.tally_engine.specs.Engine.{HasFed, refused_by, reading_of, IsCounted}
 use Rattle.tally_engine.specs.Parts.{AllClosed}
 use Rattle.table_out.specs.Report.{Table, report, EachHolds}
+use Rattle.ptu_cli.specs.Told.{Says}
 use Rattle.ptu_cli.specs.Reports.{file_report}
 use Rattle.ptu_cli.specs.Pieces.{TakesOpen}
 use Rattle.ptu_cli.specs.Endings.{StopsAtHeader}
+
+-- The name and the parts of a blank ledger are those of its type, and it has some parts.
+pub record IsLedger (name parts its_name its_parts : ℕ) : Type 0 where
+  pub same_name : name ≡ its_name
+  pub same_parts : parts ≡ its_parts
+  pub some : 0 < parts
+
+-- The engine was fed nothing yet, and has refused nothing.
+pub record IsFresh (engine : Engine) : Type 0 where
+  pub fed : HasFed engine []
+  pub going : refused_by engine ≡ None
 
 -- The engine counted all of these bytes, and none are left; or a fault from outside, or what the bytes taken and those left call for.
 abbrev pub EndsEngine : Engine → List ℕ → Option (List ℕ) → Result Results Fault → Type 0

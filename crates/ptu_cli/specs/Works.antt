@@ -1,13 +1,13 @@
 -- What a command's work on the bytes of FILE leaves.
-use Rattle.std.specs.Prelude.{ℕ, ◌≡◌, ◌⊎◌, ◌≤◌, List, ◌++◌, length, true, Some, Result, IsErrAnd}
+use Rattle.std.specs.Prelude.{ℕ, ◌≡◌, ◌⊎◌, ◌≤◌, List, ◌++◌, length, true, Result, IsErrAnd}
 use Rattle.std.specs.declared.option.Option.{Option}
 use Rattle.std.specs.Io.KnownBytes.{Keeps, Appends, Consumes}
 use Rattle.tally_base.specs.declared.slot.Slot.TheVariants.{Data}
 use Rattle.tally_base.specs.declared.fault.Fault.{Fault}
 use Rattle.tally_base.specs.FaultCounts.{Rose}
 use Rattle.tally_base.specs.Faults.{is_outside, fault_in, HasReason}
-use Rattle.ptu_definitions.specs.Shown.{Says}
-use Rattle.ptu_cli.specs.Behaviours.{Work, Writing, so_far}
+use Rattle.ptu_cli.specs.Told.{MayBe, Says}
+use Rattle.ptu_cli.specs.Behaviours.{piece_limit, Work, Writing, so_far}
 use Rattle.ptu_cli.specs.Endings.{Cuts, Span}
 
 -- The bytes taken and those left end so, and this text was written.
@@ -29,11 +29,13 @@ pub record ReadsWork (writing : Writing (List ℕ → List ℕ)) (work : Work) (
   pub written : Appends old new (so_far writing taken)
   pub goes_on : work.goes_on taken
 
--- The text of the file was cut short.
+-- The text was cut short of the bytes taken with some behind them, which may be those that are left.
 pub record CutsWork (writing : Writing (List ℕ → List ℕ)) (work : Work) (rest_before rest_after old new : Option (List ℕ)) : Type 0 where
   pub taken : List ℕ
   pub consumes : Consumes rest_before rest_after taken
-  pub cut : (more : List ℕ) → rest_after ≡ Some more → Cuts writing (work.outcome (taken ++ more)) old new
+  pub more : List ℕ
+  pub may_be : MayBe rest_after more
+  pub cut : Cuts writing (work.outcome (taken ++ more)) old new
 
 -- Nothing was written, and the bytes taken are some behind which memory may be wanting.
 pub record WantsWork (wanting : List ℕ → Type 0) (rest_before rest_after old new : Option (List ℕ)) : Type 0 where
@@ -60,4 +62,4 @@ pub record TakesFew (goes_on : List ℕ → Type 0) (rest_before rest_after : Op
   pub last : List ℕ
   pub consumes : Consumes rest_before rest_after (front ++ last)
   pub goes : goes_on front
-  pub few : length last ≤ 8192
+  pub few : length last ≤ piece_limit

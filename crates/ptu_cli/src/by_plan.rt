@@ -62,7 +62,8 @@ pub(crate) trait PlanWork {
             ((I.state inputs.old).rest Data) ((I.state inputs.new).rest Data) };
 }
 
-/// Reads PLAN whole. Where it is a plan and lacks nothing, opens FILE, and does the command's work on it.
+/// Reads PLAN whole. Where it is a plan and lacks nothing, opens FILE, and does the command's work
+/// on it.
 pub(crate) fn by_plan<W: PlanWork, I: Inputs, O: Sink>(
     work: &W,
     alloc: Global,

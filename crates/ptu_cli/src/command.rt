@@ -57,8 +57,8 @@ impl FileWork for Listing {
     }
 }
 
-/// Counts what a plan asks for in a file, and writes the report. Nothing is written before the data are
-/// read to their end.
+/// Counts what a plan asks for in a file, and writes the report. Nothing is written before the data
+/// are read to their end.
 #[derive(Clone, Copy, Debug)]
 pub(crate) struct Reporting;
 

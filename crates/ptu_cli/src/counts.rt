@@ -26,9 +26,9 @@ fn put_counts(header: &Header, counts: &KindCounts, into: &mut ArrayVec<u8, 256>
     put_count(into, b"reserved", counts.reserved);
 }
 
-/// Writes the seven lines of `count`: the record type, the announced number of records, the number of
-/// records, and how many are of each kind. Refuses with `WriteFault` where a write fails; then a beginning
-/// of the lines was written.
+/// Writes the seven lines of `count`: the record type, the announced number of records, the number
+/// of records, and how many are of each kind. Refuses with `WriteFault` where a write fails; then a
+/// beginning of the lines was written.
 pub fn write_counts<O: Sink>(header: &Header, counts: &KindCounts, out: &mut O) -> Result<(), Fault>
     ensures text { OnOk result (Appends (O.written out.old) (O.written out.new)
         (counts_text header.now counts.now)) }

@@ -1,5 +1,5 @@
 // Reads the data of a command in pieces.
-ghost use Rattle.std.specs.Prelude.{◌≡◌, ◌≤◌, ◌<◌, ◌++◌, [], List, ℕ, length, true, IfErr, IfOk};
+ghost use Rattle.std.specs.Prelude.{◌≡◌, ◌≤◌, ◌++◌, List, ℕ, length, true, IfErr, IfOk};
 ghost use Rattle.std.specs.Io.KnownBytes.{Consumes};
 ghost use Rattle.tally_base.specs.declared.slot.Slot.TheVariants.{Data};
 ghost use Rattle.tally_base.specs.declared.header.RecordType.{RecordType};
@@ -10,10 +10,10 @@ ghost use Rattle.table_out.specs.HeaderText.{header_text};
 ghost use Rattle.ptu_cli.specs.Outcomes.{file_counts, MayChange};
 ghost use Rattle.ptu_cli.specs.Behaviours.{AsItReads, counting, printing, events_so_far, listing_all};
 ghost use Rattle.ptu_cli.specs.Works.{AnswersWork, TakesFew, WantsNone, WorkReason};
-ghost use Rattle.ptu_cli.specs.Pieces.{ReadReason, AnswersAs, TakesOpen};
-ghost use Rattle.ptu_cli.specs.HeaderPieces.{HeaderEnds};
+ghost use Rattle.ptu_cli.specs.Pieces.{ReadReason, AnswersAs, IsReady, StopsSoon};
+ghost use Rattle.ptu_cli.specs.HeaderPieces.{EndsIn, HeaderEnds};
 ghost use Rattle.ptu_cli.specs.Outcomes.{IsCut};
-ghost use Rattle.tally_base.specs.Faults.{fault_in, is_outside};
+ghost use Rattle.tally_base.specs.Faults.{fault_in};
 ghost use Rattle.record_layout.specs.Counting.{HasCounted};
 
 use crate::events::{list_piece, list_rest};
@@ -28,11 +28,15 @@ use tally_base::{Failed, Fault, Header, OnReserved, Order, Policy, Slot};
 /// The bytes that one read takes at most.
 pub(crate) const PIECE: usize = 8192;
 
-/// How the records are read that are listed: late events are marked, and reserved records are left out.
+/// The most records of a file.
+const RECORD_LIMIT: u64 = 1 << 40;
+
+/// How the records are read that are listed: late events are marked, and reserved records are left
+/// out.
 const LISTING: Policy = Policy {
     order: Order::Drop,
     reserved: OnReserved::Skip,
-    records: 1 << 40,
+    records: RECORD_LIMIT,
 };
 
 pub(crate) const READ_FAULT: Fault = Fault::ReadFault { slot: Slot::Data };
@@ -43,25 +47,17 @@ fn count_rest<I: Inputs>(
     buffer: &mut [u8],
     mut counter: Counter,
 ) -> Result<KindCounts, Fault>
-    requires opened { (I.state inputs.old).opened Data ≡ true }
-    requires room { 0 < length buffer.old }
-    requires small { length buffer.old ≤ 8192 }
+    requires { IsReady (I.state inputs.old) buffer.old }
     ensures reads { OnlyReads Data (I.state inputs.old) (I.state inputs.new) }
     ensures reason { IfErr result (ReadReason (I.state inputs.old) (I.state inputs.new)) }
     ensures answer { (record_type : RecordType) (bytes : List ℕ)
         → HasCounted counter record_type bytes → (taken : List ℕ)
         × Consumes ((I.state inputs.old).rest Data) ((I.state inputs.new).rest Data) taken
         × AnswersAs (counted record_type) (bytes ++ taken) ((I.state inputs.new).rest Data) result }
-    ensures unread { (record_type : RecordType) (bytes : List ℕ)
+    ensures stops { (record_type : RecordType) (bytes : List ℕ)
         → HasCounted counter record_type bytes → length (words_of bytes) ≤ record_limit
-        → IfErr result (λ fault. is_outside fault ≡ true
-        → TakesOpen (counted record_type) bytes ((I.state inputs.old).rest Data)
-        ((I.state inputs.new).rest Data)) }
-    ensures few { (record_type : RecordType) (bytes : List ℕ)
-        → HasCounted counter record_type bytes → length (words_of bytes) ≤ record_limit
-        → TakesFew (λ front. MayChange (fault_in (counted record_type (bytes ++ front))))
-        ((I.state inputs.old).rest Data)
-        ((I.state inputs.new).rest Data) }
+        → StopsSoon (λ front. MayChange (fault_in (counted record_type (bytes ++ front))))
+        ((I.state inputs.old).rest Data) ((I.state inputs.new).rest Data) result }
 {
     'pieces: loop {
         let Ok(len) = inputs.read(Slot::Data, buffer) else {
@@ -74,7 +70,8 @@ fn count_rest<I: Inputs>(
     }
 }
 
-/// A header, and the bytes behind it that were read with its last ones: those of the buffer from `used` to `len`.
+/// A header, and the bytes behind it that were read with its last ones: those of the buffer from
+/// `used` to `len`.
 #[derive(Clone, Copy, Debug)]
 pub(crate) struct FoundHeader {
     pub(crate) header: Header,
@@ -87,22 +84,15 @@ pub(crate) fn read_header<I: Inputs>(
     inputs: &mut I,
     buffer: &mut [u8],
 ) -> Result<FoundHeader, Fault>
-    requires opened { (I.state inputs.old).opened Data ≡ true }
-    requires room { 0 < length buffer.old }
-    requires small { length buffer.old ≤ 8192 }
+    requires { IsReady (I.state inputs.old) buffer.old }
     ensures reads { OnlyReads Data (I.state inputs.old) (I.state inputs.new) }
     ensures reason { IfErr result (ReadReason (I.state inputs.old) (I.state inputs.new)) }
-    ensures part { IfOk result (λ found. (found.used ≤ found.len)
-        × (found.len ≤ length buffer.new)) }
-    ensures ended { IfOk result (λ found. 0 < found.used) }
+    ensures part { IfOk result (EndsIn buffer.new) }
     ensures answer { (taken : List ℕ)
         × Consumes ((I.state inputs.old).rest Data) ((I.state inputs.new).rest Data) taken
         × HeaderEnds buffer.new taken ((I.state inputs.new).rest Data) result }
-    ensures unread { IfErr result (λ fault. is_outside fault ≡ true → (taken : List ℕ)
-        × Consumes ((I.state inputs.old).rest Data) ((I.state inputs.new).rest Data) taken
-        × IsCut taken) }
-    ensures few { TakesFew IsCut ((I.state inputs.old).rest Data)
-        ((I.state inputs.new).rest Data) }
+    ensures stops { StopsSoon IsCut ((I.state inputs.old).rest Data)
+        ((I.state inputs.new).rest Data) result }
 {
     let mut reader = HeaderReader::new();
     'pieces: loop {
@@ -128,11 +118,8 @@ pub(crate) fn count_data<I: Inputs>(inputs: &mut I) -> Result<(Header, KindCount
     ensures answer { (taken : List ℕ)
         × Consumes ((I.state inputs.old).rest Data) ((I.state inputs.new).rest Data) taken
         × AnswersAs file_counts taken ((I.state inputs.new).rest Data) result }
-    ensures unread { IfErr result (λ fault. is_outside fault ≡ true
-        → TakesOpen file_counts [] ((I.state inputs.old).rest Data)
-        ((I.state inputs.new).rest Data)) }
-    ensures few { TakesFew counting.goes_on ((I.state inputs.old).rest Data)
-        ((I.state inputs.new).rest Data) }
+    ensures stops { StopsSoon counting.goes_on ((I.state inputs.old).rest Data)
+        ((I.state inputs.new).rest Data) result }
 {
     let mut buffer = [0u8; PIECE];
     let found = read_header(inputs, &mut buffer)?;
@@ -146,8 +133,8 @@ pub(crate) fn count_data<I: Inputs>(inputs: &mut I) -> Result<(Header, KindCount
 pub(crate) fn print_data<I: Inputs, O: Sink>(inputs: &mut I, out: &mut O) -> Result<(), Fault>
     requires { (I.state inputs.old).opened Data ≡ true }
     ensures reads { OnlyReads Data (I.state inputs.old) (I.state inputs.new) }
-    ensures answer { AnswersWork printing ((I.state inputs.old).rest Data) ((I.state inputs.new).rest Data)
-        (O.written out.old) (O.written out.new) result }
+    ensures answer { AnswersWork printing ((I.state inputs.old).rest Data)
+        ((I.state inputs.new).rest Data) (O.written out.old) (O.written out.new) result }
     ensures reason { IfErr result (WorkReason (AsItReads header_text) WantsNone printing (record {
       before = I.state inputs.old;
       after = I.state inputs.new;
@@ -184,14 +171,15 @@ pub(crate) fn list_data<I: Inputs, O: Sink>(inputs: &mut I, out: &mut O) -> Resu
     ensures reads { OnlyReads Data (I.state inputs.old) (I.state inputs.new) }
     ensures answer { AnswersWork listing_all ((I.state inputs.old).rest Data)
         ((I.state inputs.new).rest Data) (O.written out.old) (O.written out.new) result }
-    ensures reason { IfErr result (WorkReason (AsItReads events_so_far) WantsNone listing_all (record {
-      before = I.state inputs.old;
-      after = I.state inputs.new;
-      old = O.written out.old;
-      new = O.written out.new;
-      faults_before = O.faults out.old;
-      faults_after = O.faults out.new;
-    })) }
+    ensures reason { IfErr result (WorkReason (AsItReads events_so_far) WantsNone listing_all
+        (record {
+          before = I.state inputs.old;
+          after = I.state inputs.new;
+          old = O.written out.old;
+          new = O.written out.new;
+          faults_before = O.faults out.old;
+          faults_after = O.faults out.new;
+        })) }
     ensures later { O.faults out.old ≤ O.faults out.new }
     ensures few { TakesFew listing_all.goes_on ((I.state inputs.old).rest Data)
         ((I.state inputs.new).rest Data) }

@@ -60,16 +60,17 @@ fn made_data(seed: u64, count: u64) -> Made
 #[tactic(auto, unfolding(crate::specs::Endings::outcome, crate::specs::Endings::HasCauses))]
 pub(crate) fn demo<O: Sink>(alloc: Global, out: &mut O, seed: u64, count: u64) -> Result<(), Fault>
     requires { count ≤ photon_limit }
-    ensures answer { (state : InputState) → Answers (behaviour (Some (Demo seed count))) state result
-        (O.written out.old) (O.written out.new) }
-    ensures causes { (state : InputState) → IfErr result (HasCauses (behaviour (Some (Demo seed count))) (record {
-      before = state;
-      after = state;
-      old = O.written out.old;
-      new = O.written out.new;
-      faults_before = O.faults out.old;
-      faults_after = O.faults out.new;
-    })) }
+    ensures answer { (state : InputState) → Answers (behaviour (Some (Demo seed count))) state state
+        result (O.written out.old) (O.written out.new) }
+    ensures causes { (state : InputState)
+        → IfErr result (HasCauses (behaviour (Some (Demo seed count))) (record {
+          before = state;
+          after = state;
+          old = O.written out.old;
+          new = O.written out.new;
+          faults_before = O.faults out.old;
+          faults_after = O.faults out.new;
+        })) }
 {
     let plan = read_plan(alloc, PLAN)?;
     let mut made = made_data(seed, count);

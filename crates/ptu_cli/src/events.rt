@@ -1,23 +1,23 @@
 // The lines of the events of a file, written while it is read.
-ghost use Rattle.std.specs.Prelude.{◌≡◌, ◌+◌, ◌*◌, ◌≤◌, ◌++◌, ◌&&◌, not, [], List, ℕ, length, None, OnOk, if◌then◌else◌};
-ghost use Rattle.tally_base.specs.Events.{is_ordered};
+ghost use Rattle.std.specs.Prelude.{◌≡◌, ◌≤◌, ◌++◌, List, ℕ, None, OnOk};
 ghost use Rattle.ptu_definitions.specs.Words.{words_of};
-ghost use Rattle.record_stream.specs.Standing.{how_of, refused_with, bytes_in, HasStreamed};
-ghost use Rattle.ptu_cli.specs.EventPieces.{Writes};
-ghost use Rattle.std.specs.Prelude.{◌<◌, true, IfErr};
+ghost use Rattle.record_stream.specs.Standing.{how_of, refused_with, HasStreamed};
+ghost use Rattle.ptu_cli.specs.EventLines.{ListsNone};
+ghost use Rattle.ptu_cli.specs.EventPieces.{IsOpenIn, TakesOn, StaysOpen, Writes};
+ghost use Rattle.ptu_cli.specs.Pieces.{IsReady};
+ghost use Rattle.std.specs.Prelude.{IfErr};
 ghost use Rattle.tally_base.specs.declared.slot.Slot.TheVariants.{Data};
 ghost use Rattle.tally_base.specs.Faults.{fault_in};
 ghost use Rattle.bench_io.specs.Inputs.{OnlyReads};
-ghost use Rattle.ptu_definitions.specs.Counted.{record_limit};
 ghost use Rattle.ptu_definitions.specs.Streams.{streamed};
 ghost use Rattle.ptu_cli.specs.Outcomes.{MayChange};
 ghost use Rattle.ptu_cli.specs.Works.{TakesFew};
 ghost use Rattle.ptu_cli.specs.EventRuns.{AnswersLines, LinesReason};
 
 use bench_io::{Block, Inputs, Sink};
-use record_stream::{EventTaker, RecordStream};
+use record_stream::{EventTaker, RecordStream, moved_floor};
 use table_out::{EVENT_LINE_SIZE, format_event};
-use tally_base::{Event, EventKind, Failed, Fault, Mode, Slot};
+use tally_base::{Event, Failed, Fault, Mode, Slot};
 
 const READ_FAULT: Fault = Fault::ReadFault { slot: Slot::Data };
 
@@ -36,9 +36,11 @@ impl<'o, O: Sink> EventTaker for EventLines<'o, O> {
     ghost use Rattle.std.specs.Prelude.{refl};
     ghost use Rattle.std.proofs.Common.{◌∙◌};
 
-    ghost got = { λ s t l. Listed s.out.ghost_name t.out.ghost_name s.mode t.mode s.taken t.taken s.floor t.floor (O.written s.out.now) (O.written t.out.now) s.block t.block l };
+    ghost got = { λ s t l. Listed s.out.ghost_name t.out.ghost_name s.mode t.mode s.taken t.taken
+        s.floor t.floor (O.written s.out.now) (O.written t.out.now) s.block t.block l };
 
-    ghost broke = { λ s t l. ListedShort (O.written s.out.now) (O.written t.out.now) s.block t.block l };
+    ghost broke = { λ s t l. ListedShort (O.written s.out.now) (O.written t.out.now)
+        s.block t.block l };
 
     ghost same = { λ s t. t.out.ghost_name ≡ s.out.ghost_name };
 
@@ -66,20 +68,8 @@ impl<'o, O: Sink> EventTaker for EventLines<'o, O> {
         let text = format_event(event, late, &mut line);
         self.block.put(self.out, text)?;
         self.taken += 1;
-        self.floor = moved(self.mode, event, late, self.floor);
+        self.floor = moved_floor(self.mode, self.floor, event, late);
         Ok(())
-    }
-}
-
-/// The greatest time of the events in order that were not late, with one event more.
-#[inline(always)]
-fn moved(mode: Mode, event: &Event, late: bool, floor: u64) -> u64
-    ensures { result ≡ (if is_ordered mode event.now && not late then event.now.time else floor) }
-{
-    match (mode, event.kind) {
-        (Mode::T2, EventKind::Marker { .. }) => floor,
-        _ if late => floor,
-        _ => event.time,
     }
 }
 
@@ -90,20 +80,14 @@ fn feed_lines<'o, O: Sink>(
     lines: &mut EventLines<'o, O>,
 ) -> Result<(), Fault>
     requires mode { lines.old.mode ≡ (how_of stream.old).mode }
-    requires taken { lines.old.taken ≡ 0 }
-    requires floor { lines.old.floor ≡ 0 }
-    requires none { lines.old.block ≡ [] }
-    ensures taken { (bytes : List ℕ) → HasStreamed stream.old bytes
-        → HasStreamed stream.new (bytes ++ piece.now) }
+    requires none { ListsNone lines.old.taken lines.old.floor lines.old.block }
+    ensures fed { TakesOn stream.old stream.new piece.now }
     ensures writes { refused_with stream.old ≡ None → (bytes : List ℕ)
         → HasStreamed stream.old bytes
         → Writes (how_of stream.old) (O.written lines.old.out.now) (O.written lines.new.out.now)
         (O.faults lines.old.out.now) (O.faults lines.new.out.now)
         (words_of bytes) (words_of (bytes ++ piece.now)) result }
-    ensures going { OnOk result (refused_with stream.new ≡ None) }
-    ensures counted { OnOk result (bytes_in stream.new ≡ bytes_in stream.old + length piece.now) }
-    ensures limit { bytes_in stream.new ≤ 4 * record_limit + 3 }
-    ensures same_how { how_of stream.new ≡ how_of stream.old }
+    ensures going { OnOk result (StaysOpen stream.old stream.new piece.now) }
     ensures later { O.faults lines.old.out.now ≤ O.faults lines.new.out.now }
     ensures same { lines.new.out.ghost_name ≡ lines.old.out.ghost_name }
 {
@@ -121,18 +105,14 @@ pub(crate) fn list_piece<O: Sink>(
     piece: &[u8],
     out: &mut O,
 ) -> Result<(), Fault>
-    requires mode { mode ≡ (how_of stream.old).mode }
-    ensures taken { (bytes : List ℕ) → HasStreamed stream.old bytes
-        → HasStreamed stream.new (bytes ++ piece.now) }
+    requires { mode ≡ (how_of stream.old).mode }
+    ensures fed { TakesOn stream.old stream.new piece.now }
     ensures writes { refused_with stream.old ≡ None → (bytes : List ℕ)
         → HasStreamed stream.old bytes
         → Writes (how_of stream.old) (O.written out.old) (O.written out.new)
         (O.faults out.old) (O.faults out.new)
         (words_of bytes) (words_of (bytes ++ piece.now)) result }
-    ensures going { OnOk result (refused_with stream.new ≡ None) }
-    ensures counted { OnOk result (bytes_in stream.new ≡ bytes_in stream.old + length piece.now) }
-    ensures limit { bytes_in stream.new ≤ 4 * record_limit + 3 }
-    ensures same_how { how_of stream.new ≡ how_of stream.old }
+    ensures going { OnOk result (StaysOpen stream.old stream.new piece.now) }
     ensures later { O.faults out.old ≤ O.faults out.new }
 {
     let mut lines = EventLines {
@@ -145,7 +125,8 @@ pub(crate) fn list_piece<O: Sink>(
     feed_lines(stream, piece, &mut lines)
 }
 
-/// Writes the lines of the events behind those that the stream was given, up to the end of the data.
+/// Writes the lines of the events behind those that the stream was given, up to the end of the
+/// data.
 pub(crate) fn list_rest<I: Inputs, O: Sink>(
     inputs: &mut I,
     buffer: &mut [u8],
@@ -153,11 +134,8 @@ pub(crate) fn list_rest<I: Inputs, O: Sink>(
     mode: Mode,
     out: &mut O,
 ) -> Result<(), Fault>
-    requires opened { (I.state inputs.old).opened Data ≡ true }
-    requires room { 0 < length buffer.old }
-    requires small { length buffer.old ≤ 8192 }
-    requires mode { mode ≡ (how_of stream).mode }
-    requires going { refused_with stream ≡ None }
+    requires ready { IsReady (I.state inputs.old) buffer.old }
+    requires open_in { IsOpenIn mode stream }
     ensures reads { OnlyReads Data (I.state inputs.old) (I.state inputs.new) }
     ensures answer { (bytes : List ℕ) → HasStreamed stream bytes
         → AnswersLines (how_of stream) bytes ((I.state inputs.old).rest Data)

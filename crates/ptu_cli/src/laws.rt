@@ -10,6 +10,7 @@ ghost use Rattle.ptu_cli.specs.Endings.{outcome};
 /// A `demo` ends as `run` does on the text of its plan and the made file.
 pub fn demo_is_a_run()
     ensures { (plan_name name : List ℕ) (seed count : ℕ) → count ≤ photon_limit
-        → outcome (behaviour (Some (Run plan_name name))) (Some demo_text) (Some (made_file seed count))
+        → outcome (behaviour (Some (Run plan_name name))) (Some demo_text)
+        (Some (made_file seed count))
         ≡ outcome (behaviour (Some (Demo seed count))) None None }
 {}

@@ -1,13 +1,13 @@
 // Reads the plan of a command.
-ghost use Rattle.std.specs.Prelude.{◌≡◌, ◌≤◌, ◌<◌, List, ℕ, length, take, true, false, IfErr, IfOk};
+ghost use Rattle.std.specs.Prelude.{◌≡◌, ◌≤◌, ◌<◌, List, ℕ, length, take, true, IfErr, IfOk};
 ghost use Rattle.std.specs.Io.KnownBytes.{Consumes, IsAtEnd};
 ghost use Rattle.tally_base.specs.declared.slot.Slot.TheVariants.{Plan as PlanSlot};
 ghost use Rattle.tally_base.specs.declared.fault.Fault.TheVariants.{ReadFault};
 ghost use Rattle.tally_base.specs.FaultCounts.{Rose};
-ghost use Rattle.bench_io.specs.Inputs.{OnlyReads, Keeps, KeepsOther};
+ghost use Rattle.bench_io.specs.Inputs.{OnlyReads};
 ghost use Rattle.ptu_definitions.specs.Counted.{record_limit};
 ghost use Rattle.ptu_cli.specs.Endings.{TakesPlan};
-ghost use Rattle.ptu_cli.specs.PlanPieces.{AnswersPlan, PlanReason};
+ghost use Rattle.ptu_cli.specs.PlanPieces.{MayOpen, OnlyUses, AnswersPlan, PlanReason};
 
 use bench_io::Inputs;
 use plan_text::{Plan, TEXT_LIMIT, read_plan};
@@ -58,11 +58,9 @@ fn plan_in<I: Inputs>(
     name: &str,
     text: &mut [u8],
 ) -> Result<Plan, Fault>
-    requires meant { (I.state inputs.old).meant PlanSlot name.now ≡ true }
-    requires first { (I.state inputs.old).asked PlanSlot ≡ false }
+    requires unasked { MayOpen (I.state inputs.old) PlanSlot name.now }
     requires size { length text.old ≡ TEXT_SIZE }
-    ensures keeps { Keeps (I.state inputs.old) (I.state inputs.new) }
-    ensures keeps_other { KeepsOther PlanSlot (I.state inputs.old) (I.state inputs.new) }
+    ensures uses { OnlyUses PlanSlot (I.state inputs.old) (I.state inputs.new) }
     ensures answer { AnswersPlan (I.state inputs.old) name.now result }
     ensures reason { IfErr result (PlanReason (I.state inputs.old) (I.state inputs.new) name.now) }
     ensures takes { TakesPlan (I.state inputs.old) (I.state inputs.new) name.now }
@@ -79,10 +77,8 @@ fn plan_in<I: Inputs>(
 
 /// Reads the plan of a name. Its text takes memory before the plan is opened.
 pub(crate) fn plan_of<I: Inputs>(alloc: Global, inputs: &mut I, name: &str) -> Result<Plan, Fault>
-    requires meant { (I.state inputs.old).meant PlanSlot name.now ≡ true }
-    requires first { (I.state inputs.old).asked PlanSlot ≡ false }
-    ensures keeps { Keeps (I.state inputs.old) (I.state inputs.new) }
-    ensures keeps_other { KeepsOther PlanSlot (I.state inputs.old) (I.state inputs.new) }
+    requires { MayOpen (I.state inputs.old) PlanSlot name.now }
+    ensures uses { OnlyUses PlanSlot (I.state inputs.old) (I.state inputs.new) }
     ensures answer { AnswersPlan (I.state inputs.old) name.now result }
     ensures reason { IfErr result (PlanReason (I.state inputs.old) (I.state inputs.new) name.now) }
     ensures takes { TakesPlan (I.state inputs.old) (I.state inputs.new) name.now }

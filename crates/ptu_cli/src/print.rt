@@ -85,7 +85,7 @@ fn put_end<O: Sink>(last: bool, block: &mut Block, out: &mut O) -> Result<(), Fa
 }
 
 impl HeaderPrinter {
-    ghost use Rattle.ptu_cli.specs.Printing.{Prints, Leaves, PutsHeader, CutsHeader, AppendsHeader, TakesAll, PrintsInside};
+    ghost use Rattle.ptu_cli.specs.Printing.{Prints, Leaves, PutsHeader, CutsHeader, AppendsHeader, EndsPiece};
 
     /// A printer that was given no bytes.
     pub(crate) fn new() -> HeaderPrinter
@@ -109,12 +109,12 @@ impl HeaderPrinter {
         ensures leaves { IfOk result (λ printed. (bytes : List ℕ) → Prints self.old bytes
             → Leaves bytes piece.now self.new printed) }
         ensures text { OnOk result ((bytes : List ℕ) → Prints self.old bytes
-            → PutsHeader bytes piece.now (O.written out.old) (O.written out.new) block.old block.new) }
+            → PutsHeader bytes piece.now (O.written out.old) (O.written out.new)
+            block.old block.new) }
         ensures short { OnErr result ((bytes : List ℕ) → Prints self.old bytes
             → CutsHeader bytes piece.now (O.written out.old) (O.written out.new) block.old) }
-        ensures taken { IfOk result (TakesAll self.old self.new piece.now) }
+        ensures ends { IfOk result (EndsPiece self.old self.new piece.now) }
         ensures limit { IfOk result (λ printed. bytes_taken self.new.reader ≤ 2 ^ 24) }
-        ensures inside { IfOk result PrintsInside }
         ensures cause { HasCause (O.faults out.old) (O.faults out.new) result }
     {
         let mut used = 0;
@@ -165,9 +165,8 @@ impl HeaderPrinter {
             → AppendsHeader bytes piece.now (O.written out.old) (O.written out.new)) }
         ensures short { OnErr result ((bytes : List ℕ) → Prints self.old bytes
             → CutsHeader bytes piece.now (O.written out.old) (O.written out.new) []) }
-        ensures taken { IfOk result (TakesAll self.old self.new piece.now) }
+        ensures ends { IfOk result (EndsPiece self.old self.new piece.now) }
         ensures limit { IfOk result (λ printed. bytes_taken self.new.reader ≤ 2 ^ 24) }
-        ensures inside { IfOk result PrintsInside }
         ensures cause { HasCause (O.faults out.old) (O.faults out.new) result }
     {
         let mut block = Block::new();

@@ -1,5 +1,5 @@
 // Counts the records of a file by a plan.
-ghost use Rattle.std.specs.Prelude.{◌≡◌, ◌⊎◌, ◌≤◌, ◌<◌, ◌++◌, [], List, ℕ, length, slice_range, true, None, IfErr, IfOk};
+ghost use Rattle.std.specs.Prelude.{◌≡◌, ◌⊎◌, ◌≤◌, ◌<◌, ◌++◌, List, ℕ, slice_range, true, false, None, IfErr, IfOk, IsErrAnd};
 ghost use Rattle.std.specs.Io.KnownBytes.{Consumes};
 ghost use Rattle.tally_base.specs.declared.slot.Slot.TheVariants.{Data};
 ghost use Rattle.tally_base.specs.Faults.{fault_in, is_outside};
@@ -8,11 +8,11 @@ ghost use Rattle.ptu_definitions.specs.Counted.{record_limit};
 ghost use Rattle.ptu_definitions.specs.Streams.{streamed};
 ghost use Rattle.plan_text.specs.Reading.{plan_view};
 ghost use Rattle.tally_engine.specs.Engine.{HasFed, reading_of, refused_by};
-ghost use Rattle.ptu_cli.specs.Pieces.{ReadReason, TakesOpen};
+ghost use Rattle.ptu_cli.specs.Pieces.{ReadReason, IsReady, HoldsPart, StopsSoon};
 ghost use Rattle.ptu_cli.specs.Outcomes.{MayChange};
 ghost use Rattle.ptu_cli.specs.Behaviours.{reporting};
 ghost use Rattle.ptu_cli.specs.Works.{TakesFew};
-ghost use Rattle.ptu_cli.specs.RunPieces.{EndsEngine, AnswersReport, RunReason};
+ghost use Rattle.ptu_cli.specs.RunPieces.{IsLedger, IsFresh, EndsEngine, AnswersReport, RunReason};
 
 use crate::data::{PIECE, READ_FAULT, read_header};
 use bench_io::Inputs;
@@ -30,23 +30,16 @@ fn feed_rest<I: Inputs, L: Ledger>(
     mut engine: Engine,
     steps: &mut Steps<L>,
 ) -> Result<Results, Fault>
-    requires opened { (I.state inputs.old).opened Data ≡ true }
-    requires room { 0 < length buffer.old }
-    requires small { length buffer.old ≤ 8192 }
+    requires ready { IsReady (I.state inputs.old) buffer.old }
     requires going { refused_by engine ≡ None }
     ensures reads { OnlyReads Data (I.state inputs.old) (I.state inputs.new) }
     ensures reason { IfErr result (ReadReason (I.state inputs.old) (I.state inputs.new)) }
     ensures answer { (bytes : List ℕ) → HasFed engine bytes → (taken : List ℕ)
         × Consumes ((I.state inputs.old).rest Data) ((I.state inputs.new).rest Data) taken
         × EndsEngine engine (bytes ++ taken) ((I.state inputs.new).rest Data) result }
-    ensures unread { (bytes : List ℕ) → HasFed engine bytes
-        → IfErr result (λ fault. is_outside fault ≡ true
-        → TakesOpen (streamed (reading_of engine)) bytes ((I.state inputs.old).rest Data)
-        ((I.state inputs.new).rest Data)) }
-    ensures few { (bytes : List ℕ) → HasFed engine bytes
-        → TakesFew (λ front. MayChange (fault_in (streamed (reading_of engine) (bytes ++ front))))
-        ((I.state inputs.old).rest Data)
-        ((I.state inputs.new).rest Data) }
+    ensures stops { (bytes : List ℕ) → HasFed engine bytes
+        → StopsSoon (λ front. MayChange (fault_in (streamed (reading_of engine) (bytes ++ front))))
+        ((I.state inputs.old).rest Data) ((I.state inputs.new).rest Data) result }
 {
     'pieces: loop {
         let Ok(len) = inputs.read(Slot::Data, buffer) else {
@@ -59,8 +52,8 @@ fn feed_rest<I: Inputs, L: Ledger>(
     }
 }
 
-/// Feeds an engine all data behind the header. Those that were read with it are the bytes of the buffer
-/// from `used` to `len`. Nobody asks for the number of steps, which is counted from 0.
+/// Feeds an engine all data behind the header. Those that were read with it are the bytes of the
+/// buffer from `used` to `len`. Nobody asks for the number of steps, which is counted from 0.
 fn feed_data<I: Inputs, L: Ledger>(
     blank: Blank,
     inputs: &mut I,
@@ -69,30 +62,21 @@ fn feed_data<I: Inputs, L: Ledger>(
     len: usize,
     mut engine: Engine,
 ) -> Result<Results, Fault>
-    requires name { blank.name ≡ L.name }
-    requires parts { blank.parts ≡ L.parts }
-    requires some { 0 < blank.parts }
-    requires opened { (I.state inputs.old).opened Data ≡ true }
-    requires room { 0 < length buffer.old }
-    requires small { length buffer.old ≤ 8192 }
-    requires part { (used ≤ len) × (len ≤ length buffer.old) }
-    requires fresh { HasFed engine [] }
-    requires going { refused_by engine ≡ None }
+    requires blank { IsLedger blank.name blank.parts L.name L.parts }
+    requires part { HoldsPart (I.state inputs.old) buffer.old used len }
+    requires fresh { IsFresh engine }
     ensures reads { OnlyReads Data (I.state inputs.old) (I.state inputs.new) }
     ensures reason { IfErr result (ReadReason (I.state inputs.old) (I.state inputs.new)) }
     ensures answer { (taken : List ℕ)
         × Consumes ((I.state inputs.old).rest Data) ((I.state inputs.new).rest Data) taken
         × EndsEngine engine (slice_range buffer.old used len ++ taken)
         ((I.state inputs.new).rest Data) result }
-    ensures unread { IfErr result (λ fault. is_outside fault ≡ true
-        → TakesOpen (streamed (reading_of engine)) (slice_range buffer.old used len)
-        ((I.state inputs.old).rest Data) ((I.state inputs.new).rest Data)) }
-    // No piece was read, or few bytes were taken.
-    ensures few { ((I.state inputs.new).rest Data ≡ (I.state inputs.old).rest Data)
-        ⊎ TakesFew (λ front. MayChange (fault_in (streamed (reading_of engine)
+    // What was there is refused and no piece was read; or few bytes were taken.
+    ensures stops { (((I.state inputs.new).rest Data ≡ (I.state inputs.old).rest Data)
+        × IsErrAnd result (λ fault. is_outside fault ≡ false))
+        ⊎ StopsSoon (λ front. MayChange (fault_in (streamed (reading_of engine)
         (slice_range buffer.old used len ++ front))))
-        ((I.state inputs.old).rest Data)
-        ((I.state inputs.new).rest Data) }
+        ((I.state inputs.old).rest Data) ((I.state inputs.new).rest Data) result }
 {
     let mut steps = Steps::<L>::new(blank);
     engine.feed(&buffer[used..len], &mut steps)?;

@@ -1,6 +1,5 @@
 // The top call.
-ghost use Rattle.std.specs.Prelude.{◌≡◌, ◌≢◌, ◌≤◌, ◌<◌, false, None, Some, Err, IfErr};
-ghost use Rattle.std.specs.Io.KnownBytes.{Keeps};
+ghost use Rattle.std.specs.Prelude.{◌≡◌, ◌⊎◌, ◌↔◌, ◌≤◌, ◌<◌, false, None, Some, Err, IfErr};
 ghost use Rattle.std.specs.declared.option.Option.{Option};
 ghost use Rattle.tally_base.specs.declared.slot.Slot.{Slot};
 ghost use Rattle.tally_base.specs.declared.fault.Fault.{Fault};
@@ -9,7 +8,7 @@ ghost use Rattle.tally_base.specs.declared.fault.Fault.TheVariants.{OpenFault, R
 ghost use Rattle.tally_base.specs.FaultCounts.{Rose};
 ghost use Rattle.bench_io.specs.Inputs.{File};
 ghost use Rattle.ptu_cli.specs.Outcomes.{status};
-ghost use Rattle.ptu_cli.specs.Endings.{outcome, IsMeant, PlanMayBe, TellsData, Tells, TellsFault, EndsBy, FailsOpening, FailsReading, CutsOutcome, Does, RunsOut, Asks, MeansStatus, NoneRose, IsGood};
+ghost use Rattle.ptu_cli.specs.Endings.{IsMeant, ForSomeFiles, Tells, TellsFault, EndsBy, FailsOpening, FailsReading, CutsOutcome, Does, RunsOut, Asks, LacksMemory, NoneRose, IsGood};
 ghost use Rattle.ptu_cli.specs.Requests.{request_in, behaviour_of};
 
 use crate::by_plan::by_plan;
@@ -64,12 +63,12 @@ pub fn tell<E: Sink>(fault: &Fault, err: &mut E)
     let _ = write_all(err, line.as_slice());
 }
 
-/// Does all that the program does, and answers its exit status: 0, or that of the one fault whose line
-/// is written to `err`. The words are those behind the program's name.
+/// Does all that the program does, and answers its exit status: 0, or that of the one fault whose
+/// line is written to `err`. The words are those behind the program's name.
 ///
-/// What a command does is told by its shape (`behaviour`): `demo` stands alone, `count`, `header` and
-/// `events` are on FILE, and `run` is by a plan. `outcome` is the end that the contents of PLAN and FILE
-/// call for, after PicoQuant's unified TTTR format: a text, and a fault or none.
+/// What a command does is told by its shape (`behaviour`): `demo` stands alone, `count`, `header`
+/// and `events` are on FILE, and `run` is by a plan. `outcome` is the end that the contents of PLAN
+/// and FILE call for, after PicoQuant's unified TTTR format: a text, and a fault or none.
 ///
 /// | Status | No command | Alone | On FILE | By a plan |
 /// |---|---|---|---|---|
@@ -83,12 +82,12 @@ pub fn tell<E: Sink>(fault: &Fault, err: &mut E)
 /// | 9 | never | never | never | the plan does not suit FILE |
 /// | 10 to 21 | never | never | FILE is refused | FILE is refused |
 ///
-/// After 2 and 5 nothing is written. After 3 nothing is, or, where the text is written while FILE is read
-/// (`header`, `events`), what the bytes read call for. After 4 the text is cut short; one that is written
-/// at the end is written only where the run would have ended with 0.
+/// After 2 and 5 nothing is written. After 3 nothing is, or, where the text is written while FILE
+/// is read (`header`, `events`), what the bytes read call for. After 4 the text is cut short; one
+/// that is written at the end is written only where the run would have ended with 0.
 ///
-/// Nothing may have been asked of the inputs before, and the words FILE and PLAN of the command must be
-/// meant for the slots Data and Plan.
+/// Nothing may have been asked of the inputs before, and the words FILE and PLAN of the command
+/// must be meant for the slots Data and Plan.
 pub fn ptu_main<I: Inputs, O: Sink, E: Sink>(
     alloc: Global,
     words: &[String],
@@ -99,28 +98,21 @@ pub fn ptu_main<I: Inputs, O: Sink, E: Sink>(
     requires meant { IsMeant (I.state inputs.old) (behaviour_of words.now) }
     requires first { (slot : Slot) → (I.state inputs.old).asked slot ≡ false }
 
-    // Where nothing outside failed, the run ends as the words and the files call for.
-    // The file of PLAN is the one told, where one is told; that of FILE counts only where a plan leads to it.
+    // Where nothing outside failed, the run ends as some files of PLAN and FILE call for: those
+    // that are told, where they are told.
     ensures answered { (2 ≤ result → 5 < result)
-        → (plan_file : File) × PlanMayBe (I.state inputs.old) (behaviour_of words.now) plan_file
-        × ((data_file : File)
-        → TellsData (I.state inputs.old) (behaviour_of words.now) plan_file data_file
-        → EndsBy (outcome (behaviour_of words.now) plan_file data_file) result
-        (O.written out.old) (O.written out.new) (E.written err.old) (E.written err.new)
-        (E.faults err.old) (E.faults err.new)) }
+        → ForSomeFiles (behaviour_of words.now) (I.state inputs.old) (I.state inputs.new)
+        (λ end. EndsBy end result (O.written out.old) (O.written out.new)
+        (E.written err.old) (E.written err.new) (E.faults err.old) (E.faults err.new)) }
 
-    // Whatever the inputs tell, the status is 0 or that of one fault, and its line is told.
+    // The status is 0, or that of one fault, whose line is told. With 0 nothing is told.
     ensures told { (fault : Option Fault)
         × (result ≡ status fault)
         × TellsFault (E.written err.old) (E.written err.new)
         (E.faults err.old) (E.faults err.new) fault }
 
     // The command line is bad exactly where the words are no command.
-    ensures usage { request_in words.now ≡ None → result ≡ 1 }
-    ensures words { (plan_file data_file : File)
-        → Tells (I.state inputs.old) (behaviour_of words.now) plan_file data_file
-        → result ≡ 1
-        → request_in words.now ≡ None }
+    ensures usage { (result ≡ 1) ↔ (request_in words.now ≡ None) }
 
     // An opening failed.
     ensures unopened { result ≡ 2
@@ -141,7 +133,7 @@ pub fn ptu_main<I: Inputs, O: Sink, E: Sink>(
     // A write failed.
     ensures unwritten { result ≡ 4
         → Rose (O.faults out.old) (O.faults out.new)
-        × CutsOutcome (behaviour_of words.now) (I.state inputs.old)
+        × CutsOutcome (behaviour_of words.now) (I.state inputs.old) (I.state inputs.new)
         (O.written out.old) (O.written out.new)
         × TellsFault (E.written err.old) (E.written err.new)
         (E.faults err.old) (E.faults err.new) (Some WriteFault) }
@@ -153,25 +145,22 @@ pub fn ptu_main<I: Inputs, O: Sink, E: Sink>(
         × TellsFault (E.written err.old) (E.written err.new)
         (E.faults err.old) (E.faults err.new) (Some OutOfMemory) }
 
-    ensures quiet { result ≡ 0 → Keeps (E.written err.old) (E.written err.new) }
-
     // What the run asked for and took, whatever its status is.
     ensures asks { Asks (behaviour_of words.now) (I.state inputs.old) (I.state inputs.new) }
 
-    // Where no count of the inputs and of `out` rose, the run ends as the words and the files call
-    // for, and well where they are good.
-    ensures complete { (plan_file data_file : File)
-        → Tells (I.state inputs.old) (behaviour_of words.now) plan_file data_file
-        → NoneRose (I.state inputs.old) (I.state inputs.new)
+    // Where no count of the inputs and of `out` rose, the run ends as the files call for or for
+    // want of memory, and well where they are told and good.
+    ensures complete { NoneRose (I.state inputs.old) (I.state inputs.new)
         → ¬ (Rose (O.faults out.old) (O.faults out.new))
-        → MeansStatus (behaviour_of words.now) result
-        (status (outcome (behaviour_of words.now) plan_file data_file).fault) }
+        → LacksMemory (behaviour_of words.now) result
+        ⊎ ForSomeFiles (behaviour_of words.now) (I.state inputs.old) (I.state inputs.new)
+        (λ end. result ≡ status end.fault) }
     ensures good { (plan_file data_file : File)
         → Tells (I.state inputs.old) (behaviour_of words.now) plan_file data_file
         → IsGood (behaviour_of words.now) plan_file data_file
         → NoneRose (I.state inputs.old) (I.state inputs.new)
         → ¬ (Rose (O.faults out.old) (O.faults out.new))
-        → MeansStatus (behaviour_of words.now) result 0 }
+        → LacksMemory (behaviour_of words.now) result ⊎ (result ≡ 0) }
 {
     match obey(alloc, words, inputs, out) {
         Ok(()) => 0,

@@ -18,8 +18,8 @@ pub enum Command<'a> {
     Events { file: &'a str },
     /// Counts what a plan asks for in a file, and prints the report.
     Run { plan: &'a str, file: &'a str },
-    /// Counts the photons that a seed gives, and prints the report of a fixed plan. `read_words` gives
-    /// at most 10,000,000 of them.
+    /// Counts the photons that a seed gives, and prints the report of a fixed plan. `read_words`
+    /// gives at most 10,000,000 of them.
     Demo { seed: u64, count: u64 },
 }
 

@@ -20,6 +20,8 @@ mod headers;
 #[cfg(test)]
 mod images;
 #[cfg(test)]
+mod pieces;
+#[cfg(test)]
 mod refusals;
 #[cfg(test)]
 mod reports;

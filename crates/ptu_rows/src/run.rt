@@ -119,7 +119,7 @@ impl<'a> Run<'a> {
     }
 
     /// Runs it.
-    fn left(&self, alloc: Global) -> Result<Left, AllocError> {
+    pub(crate) fn left(&self, alloc: Global) -> Result<Left, AllocError> {
         let mut files = Vec::new(alloc);
         files.push(MemoryFile::new(String::from_str(alloc, "p")?, self.plan.to_vec(alloc)?))?;
         files.push(MemoryFile::new(String::from_str(alloc, "f")?, self.file.to_vec(alloc)?))?;

@@ -19,9 +19,9 @@ returns-in_err-plan g c =
     let fault = c.in_err-plan.field-0.0 in
     let p = err_from_is_err_and c.from_residual.result c.from_residual.ensures.1 in
     rw (p.1, p.2) (record {
-      answer = answers-unplanned c.args.plan_name.now c.args.data_name.now (does.writing it) does.memory (does.lacking it) (does.work it) before fault _ c.in_err-plan.ensures.answer;
-      causes = unplanned-causes c.args.plan_name.now c.args.data_name.now (does.writing it) does.memory (does.lacking it) (does.work it) before after _ _ fault c.plan_of.ensures.keeps_other (c.requires.first Data) c.in_err-plan.ensures.reason;
-      asks = (c.plan_of.ensures.takes, λ asked. let same = c.plan_of.ensures.keeps_other.asked in let first = c.requires.first Data in cc);
+      answer = answers-unplanned c.args.plan_name.now c.args.data_name.now (does.writing it) does.memory (does.lacking it) (does.work it) before after fault _ c.in_err-plan.ensures.answer;
+      causes = unplanned-causes c.args.plan_name.now c.args.data_name.now (does.writing it) does.memory (does.lacking it) (does.work it) before after _ _ fault c.plan_of.ensures.uses.keeps_other (c.requires.first Data) c.in_err-plan.ensures.reason;
+      asks = (c.plan_of.ensures.takes, λ asked. let same = c.plan_of.ensures.uses.keeps_other.asked in let first = c.requires.first Data in cc);
     })
 
 pub returns-in-Some : goal.returns-in-Some
@@ -30,9 +30,9 @@ returns-in-Some g c =
     let it = c.args.work.now in
     let does = g.W.PlanWork in
     record {
-      answer = answers-lacking c.args.plan_name.now c.args.data_name.now (does.writing it) does.memory (does.lacking it) (does.work it) before c.in_ok-plan.plan c.in-Some.fault _ c.in_ok-plan.ensures.answer (sym c.in-Some.ensures.answer);
+      answer = answers-lacking c.args.plan_name.now c.args.data_name.now (does.writing it) does.memory (does.lacking it) (does.work it) before (g.I.Inputs.state c.plan_of.new.inputs) c.in_ok-plan.plan c.in-Some.fault _ c.in_ok-plan.ensures.answer (sym c.in-Some.ensures.answer);
       causes = lacking-causes c.args.plan_name.now c.args.data_name.now (does.writing it) does.memory (does.lacking it) (does.work it) _ c.in-Some.fault c.in-Some.ensures.inside;
-      asks = (c.plan_of.ensures.takes, λ asked. let same = c.plan_of.ensures.keeps_other.asked in let first = c.requires.first Data in cc);
+      asks = (c.plan_of.ensures.takes, λ asked. let same = c.plan_of.ensures.uses.keeps_other.asked in let first = c.requires.first Data in cc);
     }
 
 pub returns-in-Err : goal.returns-in-Err
@@ -43,7 +43,7 @@ returns-in-Err g c =
     let has = has-plan before c.args.plan_name.now (g.W.PlanWork.lacking c.args.work.now) c.in_ok-plan.plan c.in_ok-plan.ensures.answer (none-lacking _ c.lacks.result c.lacks.ensures.answer c.in_default.not-Some) in
     record {
       answer = inl refl;
-      causes = ((view, has), Rose-behind _ _ _ (c.plan_of.ensures.keeps.open_faults Data) c.in-Err.ensures.cause.failed, Keeps-from_none _ _ (Appends-nil _));
+      causes = ((view, has), Rose-behind _ _ _ (c.plan_of.ensures.uses.keeps.open_faults Data) c.in-Err.ensures.cause.failed, Keeps-from_none _ _ (Appends-nil _));
       asks = (
         takes-later before (g.I.Inputs.state c.plan_of.new.inputs) _ c.args.plan_name.now c.plan_of.ensures.takes c.open.ensures.keeps_other,
         λ asked. (
@@ -51,7 +51,7 @@ returns-in-Err g c =
           has,
           λ opened.
               let was = g.met.I.Inputs.asked_first c.plan_of.new.inputs Data (sym c.in-Err.ensures.unopened ∙ opened) in
-              let same = c.plan_of.ensures.keeps_other.asked in
+              let same = c.plan_of.ensures.uses.keeps_other.asked in
               let first = c.requires.first Data in
               cc,
         ),
@@ -67,7 +67,7 @@ returns-in-Ok g c =
     let does = g.W.PlanWork in
     let view = plan_view c.in_ok-plan.plan in
     let has = has-plan before c.args.plan_name.now (does.lacking it) c.in_ok-plan.plan c.in_ok-plan.ensures.answer (none-lacking _ c.lacks.result c.lacks.ensures.answer c.in_default.not-Some) in
-    let same = ap (λ f. f c.args.data_name.now) (sym c.plan_of.ensures.keeps.contents) in
+    let same = ap (λ f. f c.args.data_name.now) (sym c.plan_of.ensures.uses.keeps.contents) in
     let span : Span = record {
       before = opened;
       after = g.I.Inputs.state c.read.new.inputs;
@@ -77,10 +77,10 @@ returns-in-Ok g c =
       faults_after = g.O.Sink.faults c.read.new.out;
     } in
     record {
-      answer = plan-answers c.args.plan_name.now c.args.data_name.now (does.writing it) does.memory (does.lacking it) (does.work it) before view _ _ _ _ _ c.read.result has same c.in-Ok.ensures.file c.read.ensures.answer;
+      answer = plan-answers c.args.plan_name.now c.args.data_name.now (does.writing it) does.memory (does.lacking it) (does.work it) before (g.I.Inputs.state c.read.new.inputs) view _ _ _ _ c.read.result has same c.in-Ok.ensures.file c.read.ensures.answer;
       causes = IfErr-weaker c.read.result _ _
           (λ fault h. plan-causes c.args.plan_name.now c.args.data_name.now (does.writing it) does.memory (does.lacking it) (does.work it) view _ before span fault has same c.in-Ok.ensures.file
-          (Keeps-trans before planned opened c.plan_of.ensures.keeps c.in-Ok.ensures.keeps).read_faults h)
+          (Keeps-trans before planned opened c.plan_of.ensures.uses.keeps c.in-Ok.ensures.keeps).read_faults h)
           c.read.ensures.reason;
       asks = (
         takes-later before opened _ c.args.plan_name.now (takes-later before planned opened c.args.plan_name.now c.plan_of.ensures.takes c.open.ensures.keeps_other) c.read.ensures.reads.keeps_other,

@@ -7,11 +7,11 @@ use Rattle.ptu_definitions.specs.Words.{words_of}
 use Rattle.ptu_definitions.specs.Counted.{counted, record_limit}
 use Rattle.ptu_definitions.specs.Shown.{Shows}
 use Rattle.record_layout.specs.Counting.{HasCounted}
-use Rattle.ptu_definitions.proofs.ShownLemmas.{Says-at_end}
+use Rattle.ptu_cli.proofs.Told.{Says-at_end, Says-shown}
 use Rattle.ptu_cli.proofs.Pieces.{counted-open, within_limit}
 use Rattle.tally_base.specs.Faults.{fault_in}
 use Rattle.ptu_cli.specs.Outcomes.{MayChange}
-use Rattle.ptu_cli.proofs.Few.{few-none, few-piece}
+use Rattle.ptu_cli.proofs.Few.{stops-unread, stops-piece}
 use Rattle.ptu_cli.proofs.data.count_rest.Goals as goal
 
 pub returns-then-len-eq0-clause-reason : goal.returns-then-len-eq0-clause-reason
@@ -46,13 +46,8 @@ returns-in_err-feed-clause-answer g c = λ record_type bytes h.
     rw (← append_assoc bytes so_far.0 piece) (c.in_err-feed.ensures.shown record_type (bytes ++ so_far.0) (so_far.2 record_type bytes h)) in (
       so_far.0 ++ piece,
       Consumes-trans _ _ _ so_far.0 piece so_far.1 c.in-Ok.ensures.bytes.0,
-      inr (λ more left. rw (p.1, p.2) (shown more)),
+      inr (rw (p.1, p.2) (Says-shown (counted record_type) (bytes ++ (so_far.0 ++ piece)) _ (Err c.in_err-feed.field-0.0) shown)),
     )
-
-pub returns-in_default-clause-unread : goal.returns-in_default-clause-unread
-returns-in_default-clause-unread g c = λ record_type bytes h few outside.
-    let so_far = c.pieces.invariant.taken in
-    (so_far.0, Consumes-kept _ _ _ so_far.0 so_far.1 c.in_default.ensures.bytes, counted-open record_type (bytes ++ so_far.0) (so_far.3 record_type bytes h few))
 
 pub returns-then-len-eq0-clause-answer : goal.returns-then-len-eq0-clause-answer
 returns-then-len-eq0-clause-answer g c = λ record_type bytes h.
@@ -66,17 +61,21 @@ returns-then-len-eq0-clause-answer g c = λ record_type bytes h.
           (ap (counted record_type) all ∙ sym (c.finish.ensures.answer record_type (bytes ++ so_far.0) (so_far.2 record_type bytes h)))),
     )
 
-pub returns-in_default-clause-few : goal.returns-in_default-clause-few
-returns-in_default-clause-few g c = λ record_type bytes h few.
+pub returns-in_default-clause-stops : goal.returns-in_default-clause-stops
+returns-in_default-clause-stops g c = λ record_type bytes h few.
     let so_far = c.pieces.invariant.taken in
-    few-none (λ (l : List ℕ). MayChange (fault_in (counted record_type (bytes ++ l)))) so_far.0 _ _ (Consumes-kept _ _ _ so_far.0 so_far.1 c.in_default.ensures.bytes) (counted-open record_type (bytes ++ so_far.0) (so_far.3 record_type bytes h few))
+    stops-unread _ so_far.0 _ _ _ (Consumes-kept _ _ _ so_far.0 so_far.1 c.in_default.ensures.bytes) (counted-open record_type (bytes ++ so_far.0) (so_far.3 record_type bytes h few))
 
-pub returns-then-len-eq0-clause-few : goal.returns-then-len-eq0-clause-few
-returns-then-len-eq0-clause-few g c = λ record_type bytes h few.
+pub returns-then-len-eq0-clause-stops : goal.returns-then-len-eq0-clause-stops
+returns-then-len-eq0-clause-stops g c = λ record_type bytes h few.
     let so_far = c.pieces.invariant.taken in
-    few-piece (λ (l : List ℕ). MayChange (fault_in (counted record_type (bytes ++ l)))) so_far.0 c.in-Ok.len c.read.new.into _ _ (Consumes-trans _ _ _ so_far.0 (take c.in-Ok.len c.read.new.into) so_far.1 c.in-Ok.ensures.bytes.0) (counted-open record_type (bytes ++ so_far.0) (so_far.3 record_type bytes h few)) (omega (arith, c.requires.small, c.pieces.auto.buffer, c.read.auto.into))
+    stops-piece (λ (l : List ℕ). MayChange (fault_in (counted record_type (bytes ++ l)))) so_far.0 c.in-Ok.len c.read.new.into _ _ c.finish.result (Consumes-trans _ _ _ so_far.0 (take c.in-Ok.len c.read.new.into) so_far.1 c.in-Ok.ensures.bytes.0)
+    (counted-open record_type (bytes ++ so_far.0) (so_far.3 record_type bytes h few)) (omega (arith, c.requires.small, c.pieces.auto.buffer, c.read.auto.into)) c.finish.ensures.inside
 
-pub returns-in_err-feed-clause-few : goal.returns-in_err-feed-clause-few
-returns-in_err-feed-clause-few g c = λ record_type bytes h few.
+pub returns-in_err-feed-clause-stops : goal.returns-in_err-feed-clause-stops
+returns-in_err-feed-clause-stops g c = λ record_type bytes h few.
     let so_far = c.pieces.invariant.taken in
-    few-piece (λ (l : List ℕ). MayChange (fault_in (counted record_type (bytes ++ l)))) so_far.0 c.in-Ok.len c.read.new.into _ _ (Consumes-trans _ _ _ so_far.0 (take c.in-Ok.len c.read.new.into) so_far.1 c.in-Ok.ensures.bytes.0) (counted-open record_type (bytes ++ so_far.0) (so_far.3 record_type bytes h few)) (omega (arith, c.requires.small, c.pieces.auto.buffer, c.read.auto.into))
+    let p = err_from_is_err_and c.from_residual.result c.from_residual.ensures.1 in
+    rw (p.1, p.2)
+    (stops-piece (λ (l : List ℕ). MayChange (fault_in (counted record_type (bytes ++ l)))) so_far.0 c.in-Ok.len c.read.new.into _ _ (Err c.in_err-feed.field-0.0) (Consumes-trans _ _ _ so_far.0 (take c.in-Ok.len c.read.new.into) so_far.1 c.in-Ok.ensures.bytes.0)
+    (counted-open record_type (bytes ++ so_far.0) (so_far.3 record_type bytes h few)) (omega (arith, c.requires.small, c.pieces.auto.buffer, c.read.auto.into)) c.in_err-feed.ensures.inside)

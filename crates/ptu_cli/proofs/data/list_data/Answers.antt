@@ -29,7 +29,7 @@ returns-clause-answer g c =
     let front = c.in_ok-found.ensures.answer in
     let how = c.new-stream.ensures.how in
     let writes = rw how at (c.in_ok-list_piece.ensures.writes c.new-stream.ensures.unrefused [] c.new-stream.ensures.empty) in
-    let rest = rw (c.list_piece.ensures.same_how, how) at (c.list_rest.ensures.answer _ (c.list_piece.ensures.taken [] c.new-stream.ensures.empty)) in
+    let rest = rw (c.list_piece.ensures.fed.same_how, how) at (c.list_rest.ensures.answer _ (c.list_piece.ensures.fed.taken [] c.new-stream.ensures.empty)) in
     answers-behind c.in_ok-found.found.header front.0 _ _ _ _ _ _ _ _ front.1 front.2 writes.1 rest
 
 pub returns-in_err-found-clause-reason : goal.returns-in_err-found-clause-reason
@@ -37,7 +37,7 @@ returns-in_err-found-clause-reason g c =
     let p = err_from_is_err_and c.from_residual.result c.from_residual.ensures.1 in
     rw (p.1, p.2)
     (HasReason-follows _ _ _ _ _ _ _ _ c.in_err-found.field-0.0 (λ slot h. h) (λ slot h. (h.0.0, h.0.1, reads-header h.1.0 _ _ _ h.1.1 h.1.2)) (λ h. absurd h) (λ h. absurd h)
-    (HasReason-with _ _ _ _ _ c.in_err-found.field-0.0 c.in_err-found.ensures.unread c.in_err-found.ensures.reason))
+    (HasReason-with _ _ _ _ _ c.in_err-found.field-0.0 c.in_err-found.ensures.stops.unread c.in_err-found.ensures.reason))
 
 pub returns-in_err-list_piece-clause-reason : goal.returns-in_err-list_piece-clause-reason
 returns-in_err-list_piece-clause-reason g c =
@@ -54,7 +54,7 @@ returns-clause-reason g c =
     let header = c.in_ok-found.found.header in
     let how = c.new-stream.ensures.how in
     let writes = rw how at (c.in_ok-list_piece.ensures.writes c.new-stream.ensures.unrefused [] c.new-stream.ensures.empty) in
-    let rest = rw (c.list_piece.ensures.same_how, how) at (c.list_rest.ensures.reason _ (c.list_piece.ensures.taken [] c.new-stream.ensures.empty)) in
+    let rest = rw (c.list_piece.ensures.fed.same_how, how) at (c.list_rest.ensures.reason _ (c.list_piece.ensures.fed.taken [] c.new-stream.ensures.empty)) in
     IfErr-weaker c.list_rest.result _ _
     (λ fault h.
     HasReason-follows _ _ _ _ _ _ _ _ fault (λ slot no. no)
@@ -65,14 +65,14 @@ returns-clause-reason g c =
     rest
 
 pub returns-in_err-found-clause-few : goal.returns-in_err-found-clause-few
-returns-in_err-found-clause-few g c = few-map IsCut listing_all.goes_on _ _ (λ l cut. rw cut refl) c.read_header.ensures.few
+returns-in_err-found-clause-few g c = few-map IsCut listing_all.goes_on _ _ (λ l cut. rw cut refl) c.read_header.ensures.stops.few
 
 pub returns-in_err-list_piece-clause-few : goal.returns-in_err-list_piece-clause-few
-returns-in_err-list_piece-clause-few g c = few-map IsCut listing_all.goes_on _ _ (λ l cut. rw cut refl) c.read_header.ensures.few
+returns-in_err-list_piece-clause-few g c = few-map IsCut listing_all.goes_on _ _ (λ l cut. rw cut refl) c.read_header.ensures.stops.few
 
 pub returns-clause-few : goal.returns-clause-few
 returns-clause-few g c =
     let front = c.in_ok-found.ensures.answer in
     let how = c.new-stream.ensures.how in
-    let rest = rw (c.list_piece.ensures.same_how, how) at (c.list_rest.ensures.few _ (c.list_piece.ensures.taken [] c.new-stream.ensures.empty)) in
+    let rest = rw (c.list_piece.ensures.fed.same_how, how) at (c.list_rest.ensures.few _ (c.list_piece.ensures.fed.taken [] c.new-stream.ensures.empty)) in
     few-behind _ listing_all.goes_on front.0 _ _ _ front.1 (λ l h. rw (front.2 l) h) rest

@@ -1,12 +1,14 @@
-use Rattle.std.proofs.Common.{◌≡◌, length, rules, ◌++◌, [], take, sym, arith, inr}
+use Rattle.std.proofs.Common.{◌≡◌, length, rules, ◌++◌, [], take, refl, sym, ap, ◌∙◌, append-nil, arith, inr}
 use Rattle.bench_io.proofs.Bytes.{Appends-nil, Appends-same, Consumes-nil, Consumes-kept, Consumes-trans}
 use Rattle.bench_io.proofs.Rises.{Rose-behind}
 use Rattle.bench_io.proofs.States.{OnlyReads-refl, OnlyReads-trans}
 use Rattle.table_out.specs.HeaderText.{header_text}
 use Rattle.table_out.proofs.StepTexts.{header_text-nil}
 use Rattle.ptu_cli.proofs.Pieces.{IsCut-nil}
-use Rattle.ptu_cli.proofs.HeaderEnds.{text-appended, text-cut, outcome-done, outcome-refused}
-use Rattle.ptu_cli.specs.Outcomes.{IsCut}
+use Rattle.ptu_cli.proofs.HeaderEnds.{text-appended, text-cut, outcome-done, outcome-refused, outcome-ended}
+use Rattle.tally_base.specs.declared.slot.Slot.TheVariants.{Data}
+use Rattle.ptu_cli.specs.Outcomes.{IsCut, header_outcome}
+use Rattle.ptu_cli.proofs.Told.{some_left, Says-at_end, Says-shown}
 use Rattle.ptu_cli.proofs.Few.{few-none, few-piece}
 use Rattle.ptu_cli.proofs.data.print_data.Goals as goal
 
@@ -21,12 +23,15 @@ pieces-init g c = record {
 pub returns-in-Err-clause-reason : goal.returns-in-Err-clause-reason
 returns-in-Err-clause-reason g c =
     let so_far = c.pieces.invariant.taken in
-    let piece = take c.in-Ok.len c.read.new.into in (
+    let piece = take c.in-Ok.len c.read.new.into in
+    let some = some_left ((g.I.Inputs.state c.read.new.self).rest Data) in (
       Rose-behind _ _ _ c.pieces.invariant.later c.in-Err.ensures.cause.failed,
       record {
         taken = so_far.0 ++ piece;
         consumes = Consumes-trans _ _ _ so_far.0 piece so_far.1 c.in-Ok.ensures.bytes.0;
-        cut = λ more left. text-cut so_far.0 piece more _ _ _ so_far.3 (c.in-Err.ensures.short so_far.0 so_far.2);
+        more = some.0;
+        may_be = some.1;
+        cut = text-cut so_far.0 piece some.0 _ _ _ so_far.3 (c.in-Err.ensures.short so_far.0 so_far.2);
       },
     )
 
@@ -48,6 +53,22 @@ pieces-preserved g c =
       later = omega (arith, c.pieces.invariant.later, c.print_piece.ensures.cause.later);
     }
 
+pub returns-then-len-eq0-clause-answer : goal.returns-then-len-eq0-clause-answer
+returns-then-len-eq0-clause-answer g c =
+    let so_far = c.pieces.invariant.taken in
+    let piece = take c.in-Ok.len c.read.new.into in
+    let none : piece ≡ [] = rw c.if-len-eq0.true refl in
+    let all : so_far.0 ++ piece ≡ so_far.0 = ap (λ l. so_far.0 ++ l) none ∙ append-nil so_far.0 in
+    let size : length c.read.new.into ≡ 8192 = Prim.search rules in
+    inr (record {
+      taken = so_far.0 ++ piece;
+      consumes = Consumes-trans _ _ _ so_far.0 piece so_far.1 c.in-Ok.ensures.bytes.0;
+      text = header_text so_far.0;
+      written = so_far.3;
+      says = Says-at_end header_outcome (so_far.0 ++ piece) _ _ (c.in-Ok.ensures.bytes.1 c.if-len-eq0.true (omega (arith, size)))
+          (ap header_outcome all ∙ outcome-ended so_far.0 c.finish.result (c.finish.ensures.answer so_far.0 so_far.2));
+    })
+
 pub returns-in-Ok-Done-clause-answer : goal.returns-in-Ok-Done-clause-answer
 returns-in-Ok-Done-clause-answer g c =
     let so_far = c.pieces.invariant.taken in
@@ -58,7 +79,7 @@ returns-in-Ok-Done-clause-answer g c =
       consumes = Consumes-trans _ _ _ so_far.0 piece so_far.1 c.in-Ok.ensures.bytes.0;
       text = header_text (so_far.0 ++ piece);
       written = text-appended so_far.0 piece _ _ _ so_far.3 (c.in-Ok-Done.ensures.text so_far.0 so_far.2);
-      says = λ more left. outcome-done (so_far.0 ++ piece) more leaves.1 leaves.0 leaves.2;
+      says = Says-shown header_outcome (so_far.0 ++ piece) _ _ (λ more. outcome-done (so_far.0 ++ piece) more leaves.1 leaves.0 leaves.2);
     })
 
 pub returns-in-Ok-Refused-clause-answer : goal.returns-in-Ok-Refused-clause-answer
@@ -70,7 +91,7 @@ returns-in-Ok-Refused-clause-answer g c =
       consumes = Consumes-trans _ _ _ so_far.0 piece so_far.1 c.in-Ok.ensures.bytes.0;
       text = header_text (so_far.0 ++ piece);
       written = text-appended so_far.0 piece _ _ _ so_far.3 (c.in-Ok-Refused.ensures.text so_far.0 so_far.2);
-      says = λ more left. outcome-refused (so_far.0 ++ piece) more c.in-Ok-Refused.fault (rw c.in-Ok-Refused.field-0-is at (c.in-Ok-Refused.ensures.leaves so_far.0 so_far.2));
+      says = Says-shown header_outcome (so_far.0 ++ piece) _ _ (λ more. outcome-refused (so_far.0 ++ piece) more c.in-Ok-Refused.fault (rw c.in-Ok-Refused.field-0-is at (c.in-Ok-Refused.ensures.leaves so_far.0 so_far.2)));
     })
 
 pub returns-in_default-clause-few : goal.returns-in_default-clause-few

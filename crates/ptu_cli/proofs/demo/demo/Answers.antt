@@ -37,7 +37,7 @@ pub returns-clause-answer : goal.returns-clause-answer
 returns-clause-answer g c = λ state.
     let front = c.in_ok-results.ensures.answer in
     let view : plan_view c.in_ok-plan.plan ≡ demo_plan = demo-view c.in_ok-plan.plan c.in_ok-plan.ensures.answer in
-    alone-answers _ state _ _ _ (ends-demo c.args.seed c.args.count (plan_view c.in_ok-plan.plan) _ _ front.0 c.in_ok-results.results c.write_report.result _ _ c.requires view c.made_data-made.ensures.rest front.1 front.2 c.write_report.ensures.fault c.write_report.ensures.text)
+    alone-answers _ state state _ _ _ (ends-demo c.args.seed c.args.count (plan_view c.in_ok-plan.plan) _ _ front.0 c.in_ok-results.results c.write_report.result _ _ c.requires view c.made_data-made.ensures.rest front.1 front.2 c.write_report.ensures.fault c.write_report.ensures.text)
 
 pub returns-clause-causes : goal.returns-clause-causes
 returns-clause-causes g c = λ state.

@@ -15,7 +15,7 @@ pub pieces-init : goal.pieces-init
 pieces-init g c = record {
   reads = OnlyReads-refl _ _;
   how = refl;
-  going = c.requires.going;
+  going = c.requires.open_in.going;
   taken = ([], Consumes-nil _, λ bytes h. rw append-nil (h, Wrote-none _ _ (words_of bytes)));
   later = omega arith;
 }
@@ -27,15 +27,15 @@ pieces-preserved g c =
     let piece = take c.in-Ok.len c.read.new.into in
     record {
       reads = OnlyReads-trans _ _ _ _ inv.reads (record { keeps = c.read.ensures.keeps; keeps_other = c.read.ensures.keeps_other; opens_none = c.read.ensures.opens_none });
-      how = c.list_piece.ensures.same_how ∙ inv.how;
-      going = c.in_ok-list_piece.ensures.going;
+      how = c.list_piece.ensures.fed.same_how ∙ inv.how;
+      going = c.in_ok-list_piece.ensures.going.going;
       taken = (
         so_far.0 ++ piece,
         Consumes-trans _ _ _ so_far.0 piece so_far.1 c.in-Ok.ensures.bytes.0,
         λ bytes h.
             let at = so_far.2 bytes h in
             let writes = rw inv.how at (c.in_ok-list_piece.ensures.writes inv.going (bytes ++ so_far.0) at.0) in
-            rw (← append_assoc bytes so_far.0 piece) (c.list_piece.ensures.taken (bytes ++ so_far.0) at.0, Wrote-trans _ _ _ _ _ _ _ at.1 writes.1),
+            rw (← append_assoc bytes so_far.0 piece) (c.list_piece.ensures.fed.taken (bytes ++ so_far.0) at.0, Wrote-trans _ _ _ _ _ _ _ at.1 writes.1),
       );
       later = omega (arith, inv.later, c.list_piece.ensures.later);
     }
@@ -84,7 +84,7 @@ returns-in_err-finish-clause-answer g c = λ bytes h.
     let at = so_far.2 bytes h in
     let none : take c.in-Ok.len c.read.new.into ≡ [] = rw c.if-len-eq0.true refl in
     let consumes = rw (none, append-nil) at (Consumes-trans _ _ _ so_far.0 _ so_far.1 c.in-Ok.ensures.bytes.0) in
-    let end = c.in-Ok.ensures.bytes.1 c.if-len-eq0.true (omega (arith, c.requires.room, c.pieces.auto.buffer, c.read.auto.into)) in
+    let end = c.in-Ok.ensures.bytes.1 c.if-len-eq0.true (omega (arith, c.requires.ready.room, c.pieces.auto.buffer, c.read.auto.into)) in
     let p = err_from_is_err_and c.from_residual.result c.from_residual.ensures.1 in
     let is = rw inv.how at (c.finish.ensures.answer (not_written _ inv.going) (bytes ++ so_far.0) at.0) in
     rw (p.1, p.2) (answers-end _ bytes so_far.0 _ _ _ _ _ (Err c.in_err-finish.field-0.0) consumes end at.1 is (ap fault_in c.in_err-finish.was))
@@ -96,7 +96,7 @@ returns-then-len-eq0-clause-answer g c = λ bytes h.
     let at = so_far.2 bytes h in
     let none : take c.in-Ok.len c.read.new.into ≡ [] = rw c.if-len-eq0.true refl in
     let consumes = rw (none, append-nil) at (Consumes-trans _ _ _ so_far.0 _ so_far.1 c.in-Ok.ensures.bytes.0) in
-    let end = c.in-Ok.ensures.bytes.1 c.if-len-eq0.true (omega (arith, c.requires.room, c.pieces.auto.buffer, c.read.auto.into)) in
+    let end = c.in-Ok.ensures.bytes.1 c.if-len-eq0.true (omega (arith, c.requires.ready.room, c.pieces.auto.buffer, c.read.auto.into)) in
     let is = rw inv.how at (c.finish.ensures.answer (not_written _ inv.going) (bytes ++ so_far.0) at.0) in
     answers-end _ bytes so_far.0 _ _ _ _ _ (Ok (tt {0})) consumes end at.1 is (ap fault_in c.in_ok-finish.was)
 
@@ -114,7 +114,7 @@ returns-then-len-eq0-clause-few g c = λ bytes h.
     let so_far = inv.taken in
     let at = so_far.2 bytes h in
     let goes = streamed-open _ (bytes ++ so_far.0) (rw inv.how at (streamed-clear _ _ _ _ _ _ _ at.0 inv.going)) in
-    few-piece _ so_far.0 c.in-Ok.len c.read.new.into _ _ (Consumes-trans _ _ _ so_far.0 (take c.in-Ok.len c.read.new.into) so_far.1 c.in-Ok.ensures.bytes.0) goes (omega (arith, c.requires.small, c.pieces.auto.buffer, c.read.auto.into))
+    few-piece _ so_far.0 c.in-Ok.len c.read.new.into _ _ (Consumes-trans _ _ _ so_far.0 (take c.in-Ok.len c.read.new.into) so_far.1 c.in-Ok.ensures.bytes.0) goes (omega (arith, c.requires.ready.small, c.pieces.auto.buffer, c.read.auto.into))
 
 pub returns-in_err-finish-clause-few : goal.returns-in_err-finish-clause-few
 returns-in_err-finish-clause-few g c = λ bytes h.
@@ -122,7 +122,7 @@ returns-in_err-finish-clause-few g c = λ bytes h.
     let so_far = inv.taken in
     let at = so_far.2 bytes h in
     let goes = streamed-open _ (bytes ++ so_far.0) (rw inv.how at (streamed-clear _ _ _ _ _ _ _ at.0 inv.going)) in
-    few-piece _ so_far.0 c.in-Ok.len c.read.new.into _ _ (Consumes-trans _ _ _ so_far.0 (take c.in-Ok.len c.read.new.into) so_far.1 c.in-Ok.ensures.bytes.0) goes (omega (arith, c.requires.small, c.pieces.auto.buffer, c.read.auto.into))
+    few-piece _ so_far.0 c.in-Ok.len c.read.new.into _ _ (Consumes-trans _ _ _ so_far.0 (take c.in-Ok.len c.read.new.into) so_far.1 c.in-Ok.ensures.bytes.0) goes (omega (arith, c.requires.ready.small, c.pieces.auto.buffer, c.read.auto.into))
 
 pub returns-in_err-list_piece-clause-few : goal.returns-in_err-list_piece-clause-few
 returns-in_err-list_piece-clause-few g c = λ bytes h.
@@ -130,4 +130,4 @@ returns-in_err-list_piece-clause-few g c = λ bytes h.
     let so_far = inv.taken in
     let at = so_far.2 bytes h in
     let goes = streamed-open _ (bytes ++ so_far.0) (rw inv.how at (streamed-clear _ _ _ _ _ _ _ at.0 inv.going)) in
-    few-piece _ so_far.0 c.in-Ok.len c.read.new.into _ _ (Consumes-trans _ _ _ so_far.0 (take c.in-Ok.len c.read.new.into) so_far.1 c.in-Ok.ensures.bytes.0) goes (omega (arith, c.requires.small, c.pieces.auto.buffer, c.read.auto.into))
+    few-piece _ so_far.0 c.in-Ok.len c.read.new.into _ _ (Consumes-trans _ _ _ so_far.0 (take c.in-Ok.len c.read.new.into) so_far.1 c.in-Ok.ensures.bytes.0) goes (omega (arith, c.requires.ready.small, c.pieces.auto.buffer, c.read.auto.into))

@@ -36,7 +36,7 @@ returns-in-Ok g c =
       faults_after = g.O.Sink.faults c.read.new.out;
     } in
     record {
-      answer = file-answers c.args.file.now writing work before _ _ _ _ _ c.in-Ok.ensures.file c.read.ensures.answer;
+      answer = file-answers c.args.file.now writing work before after _ _ _ _ c.in-Ok.ensures.file c.read.ensures.answer;
       causes = IfErr-weaker c.read.result _ _ (λ fault h. file-causes c.args.file.now writing work before span fault c.in-Ok.ensures.file c.in-Ok.ensures.keeps.read_faults h) c.read.ensures.reason;
       asks = (
         ap (λ f. f Plan) c.read.ensures.reads.opens_none.asked ∙ c.open.ensures.keeps_other.asked ∙ c.requires.first Plan,

@@ -2,16 +2,18 @@ use Rattle.std.proofs.Common.{◌≡◌, rules, take, length, arith, sym, ◌∙
 use Rattle.std.proofs.lemmas.Result.{IfErr-weaker}
 use Rattle.std.proofs.lemmas.List.{length-take-le}
 use Rattle.tally_base.specs.declared.slot.Slot.TheVariants.{Plan as PlanSlot}
-use Rattle.bench_io.proofs.States.{Keeps-trans}
-use Rattle.ptu_cli.proofs.Plans.{plan_told, plan_reason, ended_short}
+use Rattle.ptu_cli.proofs.Plans.{uses-read, plan_told, plan_reason, ended_short}
 use Rattle.ptu_cli.proofs.WorkTold.{taken-told}
 use Rattle.ptu_cli.proofs.plan.plan_in.Goals as goal
 
-pub returns-in_err-len-clause-keeps : goal.returns-in_err-len-clause-keeps
-returns-in_err-len-clause-keeps g c = Keeps-trans _ _ _ c.in-Ok.ensures.keeps c.read_text.ensures.reads.keeps
+pub returns-in-Err-clause-uses : goal.returns-in-Err-clause-uses
+returns-in-Err-clause-uses g c = record { keeps = c.in-Err.ensures.keeps; keeps_other = c.in-Err.ensures.keeps_other }
 
-pub returns-clause-keeps : goal.returns-clause-keeps
-returns-clause-keeps g c = Keeps-trans _ _ _ c.in-Ok.ensures.keeps c.read_text.ensures.reads.keeps
+pub returns-in_err-len-clause-uses : goal.returns-in_err-len-clause-uses
+returns-in_err-len-clause-uses g c = uses-read _ _ _ _ c.in-Ok.ensures.keeps c.in-Ok.ensures.keeps_other c.read_text.ensures.reads
+
+pub returns-clause-uses : goal.returns-clause-uses
+returns-clause-uses g c = uses-read _ _ _ _ c.in-Ok.ensures.keeps c.in-Ok.ensures.keeps_other c.read_text.ensures.reads
 
 pub returns-clause-answer : goal.returns-clause-answer
 returns-clause-answer g c =
@@ -25,7 +27,7 @@ returns-clause-reason g c = IfErr-weaker c.read_plan.result _ _ (λ fault h. pla
 pub returns-in-Err-clause-takes : goal.returns-in-Err-clause-takes
 returns-in-Err-clause-takes g c = λ opened.
     let asked = g.met.I.Inputs.asked_first c.args.inputs.now PlanSlot (sym c.in-Err.ensures.unopened ∙ opened) in
-    let first = c.requires.first in
+    let first = c.requires.unasked.first in
     cc
 
 pub returns-in_err-len-clause-takes : goal.returns-in_err-len-clause-takes

@@ -10,11 +10,13 @@ returns-in_err-feed-clause-answer g c =
     let p = err_from_is_err_and c.from_residual.result c.from_residual.ensures.1 in (
       [],
       Consumes-nil _,
-      rw (p.1, p.2, append-nil behind) (ends-refused c.args.engine c.args.engine behind _ c.in_err-feed.field-0.0 (SameEngine-refl c.args.engine) (c.in_err-feed.ensures.shown [] c.requires.fresh)),
+      rw (p.1, p.2, append-nil behind) (ends-refused c.args.engine c.args.engine behind _ c.in_err-feed.field-0.0 (SameEngine-refl c.args.engine) (c.in_err-feed.ensures.shown [] c.requires.fresh.fed)),
     )
 
-pub returns-in_err-feed-clause-few : goal.returns-in_err-feed-clause-few
-returns-in_err-feed-clause-few g c = inl refl
+pub returns-in_err-feed-clause-stops : goal.returns-in_err-feed-clause-stops
+returns-in_err-feed-clause-stops g c =
+    let p = err_from_is_err_and c.from_residual.result c.from_residual.ensures.1 in
+    rw (p.1, p.2) (inl (refl, c.in_err-feed.ensures.inside))
 
-pub returns-clause-few : goal.returns-clause-few
-returns-clause-few g c = inr (rw c.feed.ensures.same.same_reading at (c.feed_rest.ensures.few (slice_range c.args.buffer.now c.args.used c.args.len) (c.feed.ensures.taken [] c.requires.fresh)))
+pub returns-clause-stops : goal.returns-clause-stops
+returns-clause-stops g c = inr (rw c.feed.ensures.same.same_reading at (c.feed_rest.ensures.stops (slice_range c.args.buffer.now c.args.used c.args.len) (c.feed.ensures.taken [] c.requires.fresh.fed)))

@@ -6,8 +6,8 @@ use Rattle.tally_engine.specs.Engine.{HasFed, Finishes, reading_of}
 use Rattle.ptu_definitions.specs.Shown.{Shows}
 use Rattle.ptu_definitions.specs.Streams.{streamed}
 use Rattle.ptu_cli.proofs.EventEnds.{streamed-clear}
-use Rattle.ptu_cli.proofs.Runs.{SameEngine-refl, SameEngine-trans, ends-finished, ends-refused, takes-on, fed-open}
-use Rattle.ptu_cli.proofs.Few.{few-none, few-piece}
+use Rattle.ptu_cli.proofs.Runs.{SameEngine-refl, SameEngine-trans, ends-finished, ends-refused, fed-open}
+use Rattle.ptu_cli.proofs.Few.{stops-unread, stops-piece}
 use Rattle.ptu_cli.proofs.run.feed_rest.Goals as goal
 
 pub pieces-init : goal.pieces-init
@@ -34,13 +34,6 @@ pieces-preserved g c =
       );
     }
 
-pub returns-in_default-clause-unread : goal.returns-in_default-clause-unread
-returns-in_default-clause-unread g c = λ bytes h outside.
-    let inv = c.pieces.invariant in
-    let so_far = inv.taken in
-    takes-on c.args.engine c.pieces.engine bytes so_far.0 _ _ inv.same (Consumes-kept _ _ _ so_far.0 so_far.1 c.in_default.ensures.bytes)
-    (streamed-clear _ _ _ _ _ _ (bytes ++ so_far.0) (so_far.2 bytes h).0 inv.going)
-
 pub returns-then-len-eq0-clause-answer : goal.returns-then-len-eq0-clause-answer
 returns-then-len-eq0-clause-answer g c = λ bytes h.
     let inv = c.pieces.invariant in
@@ -51,7 +44,7 @@ returns-then-len-eq0-clause-answer g c = λ bytes h.
       so_far.0 ++ piece,
       Consumes-trans _ _ _ so_far.0 piece so_far.1 c.in-Ok.ensures.bytes.0,
       ends-finished c.args.engine c.pieces.engine (bytes ++ (so_far.0 ++ piece)) _ c.finish.result inv.same
-          (c.in-Ok.ensures.bytes.1 c.if-len-eq0.true (omega (arith, c.requires.room, c.pieces.auto.buffer, c.read.auto.into)))
+          (c.in-Ok.ensures.bytes.1 c.if-len-eq0.true (omega (arith, c.requires.ready.room, c.pieces.auto.buffer, c.read.auto.into)))
           (subst (λ (l : List ℕ). Finishes c.pieces.engine l c.finish.result) (sym all) (c.finish.ensures.answer (bytes ++ so_far.0) (so_far.2 bytes h))),
     )
 
@@ -68,23 +61,25 @@ returns-in_err-feed-clause-answer g c = λ bytes h.
       rw (p.1, p.2) (ends-refused c.args.engine c.pieces.engine (bytes ++ (so_far.0 ++ piece)) _ c.in_err-feed.field-0.0 inv.same shown),
     )
 
-pub returns-in_default-clause-few : goal.returns-in_default-clause-few
-returns-in_default-clause-few g c = λ bytes h.
+pub returns-in_default-clause-stops : goal.returns-in_default-clause-stops
+returns-in_default-clause-stops g c = λ bytes h.
     let inv = c.pieces.invariant in
     let so_far = inv.taken in
     let goes = fed-open c.args.engine c.pieces.engine (bytes ++ so_far.0) inv.same (streamed-clear _ _ _ _ _ _ (bytes ++ so_far.0) (so_far.2 bytes h).0 inv.going) in
-    few-none _ so_far.0 _ _ (Consumes-kept _ _ _ so_far.0 so_far.1 c.in_default.ensures.bytes) goes
+    stops-unread _ so_far.0 _ _ _ (Consumes-kept _ _ _ so_far.0 so_far.1 c.in_default.ensures.bytes) goes
 
-pub returns-then-len-eq0-clause-few : goal.returns-then-len-eq0-clause-few
-returns-then-len-eq0-clause-few g c = λ bytes h.
+pub returns-then-len-eq0-clause-stops : goal.returns-then-len-eq0-clause-stops
+returns-then-len-eq0-clause-stops g c = λ bytes h.
     let inv = c.pieces.invariant in
     let so_far = inv.taken in
     let goes = fed-open c.args.engine c.pieces.engine (bytes ++ so_far.0) inv.same (streamed-clear _ _ _ _ _ _ (bytes ++ so_far.0) (so_far.2 bytes h).0 inv.going) in
-    few-piece _ so_far.0 c.in-Ok.len c.read.new.into _ _ (Consumes-trans _ _ _ so_far.0 (take c.in-Ok.len c.read.new.into) so_far.1 c.in-Ok.ensures.bytes.0) goes (omega (arith, c.requires.small, c.pieces.auto.buffer, c.read.auto.into))
+    stops-piece _ so_far.0 c.in-Ok.len c.read.new.into _ _ c.finish.result (Consumes-trans _ _ _ so_far.0 (take c.in-Ok.len c.read.new.into) so_far.1 c.in-Ok.ensures.bytes.0) goes (omega (arith, c.requires.ready.small, c.pieces.auto.buffer, c.read.auto.into)) c.finish.ensures.inside
 
-pub returns-in_err-feed-clause-few : goal.returns-in_err-feed-clause-few
-returns-in_err-feed-clause-few g c = λ bytes h.
+pub returns-in_err-feed-clause-stops : goal.returns-in_err-feed-clause-stops
+returns-in_err-feed-clause-stops g c = λ bytes h.
     let inv = c.pieces.invariant in
     let so_far = inv.taken in
+    let p = err_from_is_err_and c.from_residual.result c.from_residual.ensures.1 in
     let goes = fed-open c.args.engine c.pieces.engine (bytes ++ so_far.0) inv.same (streamed-clear _ _ _ _ _ _ (bytes ++ so_far.0) (so_far.2 bytes h).0 inv.going) in
-    few-piece _ so_far.0 c.in-Ok.len c.read.new.into _ _ (Consumes-trans _ _ _ so_far.0 (take c.in-Ok.len c.read.new.into) so_far.1 c.in-Ok.ensures.bytes.0) goes (omega (arith, c.requires.small, c.pieces.auto.buffer, c.read.auto.into))
+    rw (p.1, p.2)
+    (stops-piece _ so_far.0 c.in-Ok.len c.read.new.into _ _ (Err c.in_err-feed.field-0.0) (Consumes-trans _ _ _ so_far.0 (take c.in-Ok.len c.read.new.into) so_far.1 c.in-Ok.ensures.bytes.0) goes (omega (arith, c.requires.ready.small, c.pieces.auto.buffer, c.read.auto.into)) c.in_err-feed.ensures.inside)

@@ -3,7 +3,7 @@ use Rattle.std.proofs.lemmas.Result.{err_from_is_err_and}
 use Rattle.bench_io.proofs.Bytes.{Consumes-trans}
 use Rattle.plan_text.specs.Reading.{plan_view}
 use Rattle.ptu_cli.proofs.Pieces.{few_behind}
-use Rattle.ptu_cli.proofs.Runs.{report-cut, report-open, answers-run, unheaded-reason, unopened-reason, unfed-reason}
+use Rattle.ptu_cli.proofs.Runs.{report-cut, report-open, answers-run, answers-unheaded, answers-unopened, unheaded-reason, unopened-reason, unread-data, unfed-reason}
 use Rattle.std.specs.declared.option.Option.{Option}
 use Rattle.tally_base.specs.declared.slot.Slot.TheVariants.{Data}
 use Rattle.ptu_cli.specs.Outcomes.{IsCut}
@@ -15,19 +15,31 @@ use Rattle.ptu_cli.proofs.run.run_data.Goals as goal
 pub returns-in_err-found-clause-reason : goal.returns-in_err-found-clause-reason
 returns-in_err-found-clause-reason g c =
     let p = err_from_is_err_and c.from_residual.result c.from_residual.ensures.1 in
-    rw (p.1, p.2) (unheaded-reason (plan_view c.args.plan.now) (g.I.Inputs.state c.args.inputs.now) (g.I.Inputs.state c.read_header.new.inputs) c.in_err-found.field-0.0 c.in_err-found.ensures.unread c.in_err-found.ensures.reason)
+    rw (p.1, p.2) (unheaded-reason (plan_view c.args.plan.now) (g.I.Inputs.state c.args.inputs.now) (g.I.Inputs.state c.read_header.new.inputs) c.in_err-found.field-0.0 c.in_err-found.ensures.stops.unread c.in_err-found.ensures.reason)
 
 pub returns-in_err-engine-clause-reason : goal.returns-in_err-engine-clause-reason
 returns-in_err-engine-clause-reason g c =
     let front = c.in_ok-found.ensures.answer in
     let p = err_from_is_err_and c.from_residual-in_err-engine.result c.from_residual-in_err-engine.ensures.1 in
-    rw (p.1, p.2) (unopened-reason (plan_view c.args.plan.now) c.in_ok-found.found.header front.0 _ (g.I.Inputs.state c.args.inputs.now) (g.I.Inputs.state c.read_header.new.inputs) c.in_err-engine.field-0.0 front.2 (few_behind c.read_header.new.buffer c.in_ok-found.found.used c.in_ok-found.found.len 8192 (Prim.search rules) c.in_ok-found.ensures.ended c.in_ok-found.ensures.part.0 c.in_ok-found.ensures.part.1) front.1 c.in_err-engine.ensures.answer)
+    rw (p.1, p.2) (unopened-reason (plan_view c.args.plan.now) c.in_ok-found.found.header front.0 _ (g.I.Inputs.state c.args.inputs.now) (g.I.Inputs.state c.read_header.new.inputs) c.in_err-engine.field-0.0 front.2 (few_behind c.read_header.new.buffer c.in_ok-found.found.used c.in_ok-found.found.len 8192 (Prim.search rules) c.in_ok-found.ensures.part.ended c.in_ok-found.ensures.part.order c.in_ok-found.ensures.part.within) front.1 c.in_err-engine.ensures.answer)
 
 pub returns-clause-reason : goal.returns-clause-reason
 returns-clause-reason g c =
     let front = c.in_ok-found.ensures.answer in
     unfed-reason (plan_view c.args.plan.now) c.in_ok-found.found.header front.0 _ (g.I.Inputs.state c.args.inputs.now) (g.I.Inputs.state c.read_header.new.inputs) (g.I.Inputs.state c.feed_data.new.inputs) c.feed_data.result front.2 c.in_ok-engine.ensures.answer front.1 c.read_header.ensures.reads.keeps.read_faults
-    (rw c.in_ok-engine.ensures.made.reads at c.feed_data.ensures.unread) c.feed_data.ensures.reason
+    (rw c.in_ok-engine.ensures.made.reads at (unread-data _ _ _ c.feed_data.result c.feed_data.ensures.stops)) c.feed_data.ensures.reason
+
+pub returns-in_err-found-clause-answer : goal.returns-in_err-found-clause-answer
+returns-in_err-found-clause-answer g c =
+    let front = c.in_err-found.ensures.answer in
+    let p = err_from_is_err_and c.from_residual.result c.from_residual.ensures.1 in
+    (front.0, front.1, rw (p.1, p.2) (answers-unheaded (plan_view c.args.plan.now) front.0 _ c.in_err-found.field-0.0 front.2))
+
+pub returns-in_err-engine-clause-answer : goal.returns-in_err-engine-clause-answer
+returns-in_err-engine-clause-answer g c =
+    let front = c.in_ok-found.ensures.answer in
+    let p = err_from_is_err_and c.from_residual-in_err-engine.result c.from_residual-in_err-engine.ensures.1 in
+    (front.0, front.1, rw (p.1, p.2) (answers-unopened (plan_view c.args.plan.now) c.in_ok-found.found.header front.0 _ _ c.in_err-engine.field-0.0 front.2 c.in_err-engine.ensures.answer))
 
 pub returns-clause-answer : goal.returns-clause-answer
 returns-clause-answer g c =
@@ -39,17 +51,17 @@ returns-clause-answer g c =
     )
 
 pub returns-in_err-found-clause-few : goal.returns-in_err-found-clause-few
-returns-in_err-found-clause-few g c = few-map IsCut (reporting (plan_view c.args.plan.now)).goes_on _ _ (λ l cut. report-cut (plan_view c.args.plan.now) l cut) c.read_header.ensures.few
+returns-in_err-found-clause-few g c = few-map IsCut (reporting (plan_view c.args.plan.now)).goes_on _ _ (λ l cut. report-cut (plan_view c.args.plan.now) l cut) c.read_header.ensures.stops.few
 
 pub returns-in_err-engine-clause-few : goal.returns-in_err-engine-clause-few
-returns-in_err-engine-clause-few g c = few-map IsCut (reporting (plan_view c.args.plan.now)).goes_on _ _ (λ l cut. report-cut (plan_view c.args.plan.now) l cut) c.read_header.ensures.few
+returns-in_err-engine-clause-few g c = few-map IsCut (reporting (plan_view c.args.plan.now)).goes_on _ _ (λ l cut. report-cut (plan_view c.args.plan.now) l cut) c.read_header.ensures.stops.few
 
 pub returns-clause-few : goal.returns-clause-few
 returns-clause-few g c =
     let plan = plan_view c.args.plan.now in
     let header = c.in_ok-found.found.header in
     let front = c.in_ok-found.ensures.answer in
-    elim c.feed_data.ensures.few [
-      | inl same ↦ subst (λ (rest : Option (List ℕ)). TakesFew (reporting plan).goes_on ((g.I.Inputs.state c.args.inputs.now).rest Data) rest) (sym same) (few-map IsCut (reporting (plan_view c.args.plan.now)).goes_on _ _ (λ l cut. report-cut (plan_view c.args.plan.now) l cut) c.read_header.ensures.few)
-      | inr few ↦ few-behind _ (reporting plan).goes_on front.0 _ _ _ front.1 (λ l h. report-open plan header front.0 _ l front.2 c.in_ok-engine.ensures.answer (rw c.in_ok-engine.ensures.made.reads at h)) few
+    elim c.feed_data.ensures.stops [
+      | inl same ↦ subst (λ (rest : Option (List ℕ)). TakesFew (reporting plan).goes_on ((g.I.Inputs.state c.args.inputs.now).rest Data) rest) (sym same.0) (few-map IsCut (reporting (plan_view c.args.plan.now)).goes_on _ _ (λ l cut. report-cut (plan_view c.args.plan.now) l cut) c.read_header.ensures.stops.few)
+      | inr stops ↦ few-behind _ (reporting plan).goes_on front.0 _ _ _ front.1 (λ l h. report-open plan header front.0 _ l front.2 c.in_ok-engine.ensures.answer (rw c.in_ok-engine.ensures.made.reads at h)) stops.few
     ]

@@ -1,11 +1,15 @@
-use Rattle.std.proofs.Common.{Err, Some, sym, ◌∙◌}
+use Rattle.std.proofs.Common.{◌≡◌, Some, sym, ap, ◌∙◌, arith}
+use Rattle.tally_base.specs.declared.fault.Fault.TheVariants.{Usage}
+use Rattle.tally_base.specs.Faults.{status_of}
 use Rattle.ptu_cli.specs.Endings.{HasCauses}
-use Rattle.ptu_cli.specs.Requests.{behaviour_of}
-use Rattle.ptu_cli.proofs.Answers.{answers-told}
-use Rattle.ptu_cli.proofs.Complete.{bad-words, good-ends, ok-ends, inside-ends, means_as, means_good}
+use Rattle.ptu_cli.specs.Requests.{request_in, behaviour_of}
+use Rattle.ptu_cli.proofs.Complete.{bad-words, ends-answered, ok-ends, inside-ends, completes_as, good-told}
 use Rattle.ptu_cli.proofs.Asked.{tells_as}
 use Rattle.ptu_cli.proofs.ByStatus.{opening-from_status, reading-from_status, writing-from_status, memory-from_status}
 use Rattle.ptu_cli.proofs.top.ptu_main.Goals as goal
+
+pub returns-in-Err-clause-answered : goal.returns-in-Err-clause-answered
+returns-in-Err-clause-answered g c = ends-answered _ _ _ c.in-Err.fault _ _ _ _ _ _ _ c.status.ensures c.in-Err.ensures.does.answer c.tell.ensures
 
 pub returns-in-Err-clause-told : goal.returns-in-Err-clause-told
 returns-in-Err-clause-told g c = (Some c.in-Err.fault, c.status.ensures, c.tell.ensures)
@@ -35,18 +39,21 @@ returns-in-Err-clause-unwritten g c = λ four.
     (h.1.0, h.1.1, tells_as _ _ _ _ _ _ h.0 c.tell.ensures)
 
 pub returns-in-Err-clause-complete : goal.returns-in-Err-clause-complete
-returns-in-Err-clause-complete g c = λ plan_file data_file tells none quiet.
-    means_as _ _ _ _ c.status.ensures (inside-ends _ _ c.in-Err.fault plan_file data_file none quiet c.in-Err.ensures.does.causes (answers-told (behaviour_of c.args.words.now) (g.I.Inputs.state c.args.inputs.now) (Err c.in-Err.fault) _ _ plan_file data_file c.in-Err.ensures.does.answer tells))
+returns-in-Err-clause-complete g c = λ none quiet. completes_as (behaviour_of c.args.words.now) _ _ _ _ c.status.ensures (inside-ends _ _ c.in-Err.fault none quiet c.in-Err.ensures.does.causes c.in-Err.ensures.does.answer)
 
 pub returns-in-Err-clause-good : goal.returns-in-Err-clause-good
 returns-in-Err-clause-good g c = λ plan_file data_file tells good none quiet.
-    means_good _ _ 0 _ (good-ends _ plan_file data_file good)
-    (means_as _ _ _ _ c.status.ensures (inside-ends _ _ c.in-Err.fault plan_file data_file none quiet c.in-Err.ensures.does.causes (answers-told (behaviour_of c.args.words.now) (g.I.Inputs.state c.args.inputs.now) (Err c.in-Err.fault) _ _ plan_file data_file c.in-Err.ensures.does.answer tells)))
+    good-told _ _ _ _ plan_file data_file
+    (completes_as (behaviour_of c.args.words.now) _ _ _ _ c.status.ensures (inside-ends _ _ c.in-Err.fault none quiet c.in-Err.ensures.does.causes c.in-Err.ensures.does.answer)) tells good
 
-pub returns-in-Err-clause-words : goal.returns-in-Err-clause-words
-returns-in-Err-clause-words g c = λ plan_file data_file tells one.
-    bad-words _ c.in-Err.fault plan_file data_file _ _ (answers-told (behaviour_of c.args.words.now) (g.I.Inputs.state c.args.inputs.now) (Err c.in-Err.fault) _ _ plan_file data_file c.in-Err.ensures.does.answer tells) (sym c.status.ensures ∙ one)
+pub returns-in-Err-clause-usage : goal.returns-in-Err-clause-usage
+returns-in-Err-clause-usage g c = (
+  λ one. bad-words (request_in c.args.words.now) c.in-Err.fault _ _ _ _ c.in-Err.ensures.does.answer (sym c.status.ensures ∙ one),
+  λ none. let usage = c.in-Err.ensures.usage none in let is : c.in-Err.fault ≡ Usage = cc in c.status.ensures ∙ ap status_of is,
+)
+
+pub returns-in-Ok-clause-usage : goal.returns-in-Ok-clause-usage
+returns-in-Ok-clause-usage g c = (λ one. absurd (omega arith), λ none. let usage = c.in-Ok.ensures.usage none in cc)
 
 pub returns-in-Ok-clause-complete : goal.returns-in-Ok-clause-complete
-returns-in-Ok-clause-complete g c = λ plan_file data_file tells none quiet.
-    ok-ends (behaviour_of c.args.words.now) (g.I.Inputs.state c.args.inputs.now) _ _ plan_file data_file (c.in-Ok.ensures.does.answer) tells
+returns-in-Ok-clause-complete g c = λ none quiet. ok-ends (behaviour_of c.args.words.now) _ _ _ _ c.in-Ok.ensures.does.answer

@@ -12,7 +12,7 @@ returns-in_err-header-clause-answer g c =
 pub returns-in_err-header-clause-reason : goal.returns-in_err-header-clause-reason
 returns-in_err-header-clause-reason g c =
     let p = err_from_is_err_and c.from_residual.result c.from_residual.ensures.1 in
-    rw (p.1, p.2) (uncounted-reason (g.I.Inputs.state c.args.inputs.now) (g.I.Inputs.state c.count_data.new.inputs) (g.O.Sink.written c.args.out.now) (g.O.Sink.faults c.args.out.now) c.in_err-header.field-0.0 c.in_err-header.ensures.unread c.in_err-header.ensures.reason)
+    rw (p.1, p.2) (uncounted-reason (g.I.Inputs.state c.args.inputs.now) (g.I.Inputs.state c.count_data.new.inputs) (g.O.Sink.written c.args.out.now) (g.O.Sink.faults c.args.out.now) c.in_err-header.field-0.0 c.in_err-header.ensures.stops.unread c.in_err-header.ensures.reason)
 
 pub returns-clause-answer : goal.returns-clause-answer
 returns-clause-answer g c =

@@ -8,4 +8,4 @@ returns-in_err-put-clause-broken g c =
     rw p.1 (λ start l h. ListedShort-more _ _ _ _ _ _ _ _ _ _ _ _ _ _ l _ _ _ h c.format_event-text.ensures.text c.in_err-put.ensures.short c.in_err-put.ensures.empty)
 
 pub returns-clause-follows : goal.returns-clause-follows
-returns-clause-follows g c = λ start l h. Listed-more _ _ _ _ _ _ _ _ _ _ _ _ _ _ l _ _ _ _ h c.format_event-text.ensures.text c.in_ok-put.ensures.all c.requires.in_order c.moved-self.ensures
+returns-clause-follows g c = λ start l h. Listed-more _ _ _ _ _ _ _ _ _ _ _ _ _ _ l _ _ _ _ h c.format_event-text.ensures.text c.in_ok-put.ensures.all c.requires.in_order c.moved_floor-self.ensures
