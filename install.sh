@@ -1,9 +1,9 @@
 #!/bin/sh
 # Copies the built program, its man page and its completion: PREFIX=/usr/local ./install.sh
 #
-# It builds the program first where it must, for the common level of processors, so that it runs on every x86-64
+# It builds the program first where it must, for the common level of processors, so that it runs on nearly every x86-64
 # machine of the last fifteen years; LEVEL=x86-64-v3 builds for processors with AVX2. The program stands alone: a file
-# of some 200 KB that needs the C library and nothing else of this folder.
+# of some 300 KB that needs the C library and nothing of this folder.
 
 set -eu
 root=$(cd -- "$(dirname -- "$0")" && pwd -P)

@@ -11,6 +11,7 @@ import re
 import sys
 
 DOCS = os.path.dirname(os.path.abspath(__file__))
+COMMANDS = ["count", "header", "events", "run", "demo"]  # the columns behind a status, its line and when it comes
 
 
 def read(name):
@@ -22,7 +23,7 @@ def table(name, title):
     """The rows of the first table under a title."""
     text = read(name).split(f"## {title}\n", 1)[1]
     lines = text[text.index("|") :].split("\n\n", 1)[0].split("\n")[2:]
-    return [[cell.strip() for cell in line.strip("|").split(" | ")] for line in lines]
+    return [[cell.strip() for cell in line.strip()[1:-1].split("|")] for line in lines]
 
 
 def roff(text):
@@ -37,9 +38,11 @@ def rules():
 
 
 def statuses():
-    for number, line, when in table("formats.md", "How the program ends"):
+    for number, line, when, *marks in table("formats.md", "How the program ends"):
         said = "" if line == "none" else f".B {roff(line)}\n.br\n"
-        yield f".TP 6\n.B {number}\n{said}{roff(when[0].upper() + when[1:])}.\n"
+        ends = [command for command, mark in zip(COMMANDS, marks, strict=True) if mark == "x"]
+        whose = "every command" if ends == COMMANDS else ", ".join(ends)
+        yield f".TP 6\n.B {number}\n{said}{roff(when[0].upper() + when[1:])} ({whose}).\n"
 
 
 def replaced(page, name, lines):

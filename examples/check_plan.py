@@ -1,9 +1,10 @@
 #!/usr/bin/env python3
 """Says in words what is wrong with a plan: check_plan.py PLAN [PROGRAM]
 
-For a document that is no TOML it says the line and the column. For a plan that breaks a rule it says the rule, in
-the words of docs/plan.md, the part of the plan that breaks it, and the keys that are not known there. PROGRAM is
-the ptu that judges, by default ./ptu of this folder's tree. It ends with 0 where the plan is good, and else with 1.
+For a document that is no TOML it says the line and the column, in the words of Python's own reader of TOML. For a
+plan that breaks a rule it says the rule, in the words of docs/plan.md, the part of the plan that breaks it, and each
+key that is not known where it stands. PROGRAM is the ptu that judges, by default ./ptu of this folder's tree. It ends
+with 0 where the plan is good, and else with 1. It needs Python 3.11.
 """
 
 import os
@@ -67,26 +68,35 @@ def part(plan, rule, index, kinds_of_rules):
 
 
 def main():
+    if len(sys.argv) < 2:
+        sys.exit(__doc__)
     path = sys.argv[1]
     program = sys.argv[2] if len(sys.argv) > 2 else os.path.join(ROOT, "ptu")
-    with open(path, "rb") as file:
-        text = file.read()
     run = subprocess.run([program, "run", path, os.devnull], capture_output=True, text=True)
     if run.returncode == 11:  # the plan was read, and the empty file refused
         print(f"{path}: good")
         return
     print(f"{path}: {run.stderr.strip()}")
-    if run.returncode == 7:
-        try:
-            tomllib.loads(text.decode())
-        except (tomllib.TOMLDecodeError, UnicodeDecodeError) as error:
-            print(error)
-    if run.returncode == 8:
-        explain(tomllib.loads(text.decode()), *map(int, re.findall(r"\d+", run.stderr)))
+    if run.returncode in (7, 8):
+        explain(path, run)
     sys.exit(1)
 
 
-def explain(plan, rule, index):
+def explain(path, run):
+    """Says more of a plan that is no TOML or breaks a rule."""
+    try:
+        with open(path, "rb") as file:
+            plan = tomllib.load(file)
+    except (tomllib.TOMLDecodeError, UnicodeDecodeError) as error:
+        print(f"line and column: {error}")
+        return
+    if run.returncode == 8:
+        explain_rule(plan, *map(int, re.findall(r"\d+", run.stderr)))
+    else:
+        print("Python reads it as TOML: look for an integer of more than 64 bits, or for tables nested too deeply")
+
+
+def explain_rule(plan, rule, index):
     pages = sections()
     words, counted = rules(pages["The rules"])[rule]
     kinds = {n: next((k for k in KINDS if k in i.replace("-", "")), None) for n, (_, i) in rules(pages["The rules"]).items()}

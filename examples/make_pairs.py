@@ -1,9 +1,10 @@
 #!/usr/bin/env python3
 """Makes a sample of two detectors behind a beam splitter: make_pairs.py FILE
 
-The file is of type HydraHarp2T2 with ticks of 100 ps, and has 300,000 photons of the inputs 1 and 2. They come from a
-single emitter, which cannot give two photons at once (antibunching), and which goes dark at random for some
-microseconds (blinking). On top comes a tenth of even background. The same photons come each time.
+The file is of type HydraHarp2T2 with ticks of 100 ps, and has 360,627 photons of the inputs 1 and 2. 300,001 of them
+come from a single emitter, which cannot give two photons at once (antibunching), and which goes dark at random for some
+microseconds (blinking). The others are an even background, a tenth as bright as the emitter while it shines. The same
+photons come each time.
 """
 
 import random

@@ -6,7 +6,8 @@ It asks 'ptu header' for the tags and 'ptu events' for the first million events,
 - a group for each input that occurs, and one of all of them, which has the last number;
 - of a T3 file a histogram of each input over the whole sync period, a trace, and where the header tells of a scan,
   an image of all inputs by its numbers of pixels, its marker bits and its pixel time;
-- of a T2 file with two inputs or more a trace, a start-stop, a coincidence and a correlation of the first two.
+- of a T2 file with two inputs or more a trace, and of the first two their numbers of photons, a start-stop, a
+  coincidence and a correlation.
 
 Read it before you use it: what a header doesn't tell is a guess, and is marked so. PROGRAM is the ptu that reads the
 file, by default ./ptu of this folder's tree.
@@ -26,10 +27,18 @@ EVENTS = 1_000_000  # that are looked at
 BINS = 512  # of a trace over the events that were looked at
 
 
+def said_by(program, command, path):
+    """The lines of a command over a file that it doesn't refuse."""
+    run = subprocess.run([program, command, path], capture_output=True, text=True)
+    if run.returncode != 0:
+        sys.exit(f"{path}: {run.stderr.strip()}")
+    return run.stdout.splitlines()
+
+
 def tags(program, path):
     """The first value of each tag: whole numbers, and floating-point numbers from their bits."""
     values = {}
-    lines = subprocess.run([program, "header", path], check=True, capture_output=True, text=True).stdout.splitlines()
+    lines = said_by(program, "header", path)
     for words in (line.split(" ") for line in lines if line.startswith("tag ")):
         name, _, kind, *value = words[1:]
         if name in values or not value:
@@ -111,6 +120,8 @@ def plan(header, seen):
         parts += [table("histogram", group=n, width=1, bins=depth) for n in range(1, len(inputs) + 1)]
         parts.append(image(header, marks, every))
     elif len(inputs) > 1:
+        parts.append("# the photons of each group, for the normalised curve\n" + table("trace", group=1, width=1 << 62, bins=1))
+        parts.append(table("trace", group=2, width=1 << 62, bins=1))
         parts.append("# a guess: how far apart photons are interesting, by the ticks of this device\n")
         parts.append(table("startstop", start=1, stop=2, width=64, bins=1024))
         parts.append(table("coincidence", first=1, second=2, reach=32 * 129 + 64, width=129))
@@ -119,11 +130,12 @@ def plan(header, seen):
 
 
 def main():
+    if len(sys.argv) < 2:
+        sys.exit(__doc__)
     path = sys.argv[1]
     program = sys.argv[2] if len(sys.argv) > 2 else os.path.join(ROOT, "ptu")
     header = tags(program, path)
-    count = subprocess.run([program, "count", path], check=True, capture_output=True, text=True).stdout
-    header["T3"] = count.splitlines()[0].endswith("T3")
+    header["T3"] = said_by(program, "count", path)[0].endswith("T3")
     sys.stdout.write(plan(header, list(events(program, path))))
 
 

@@ -10,13 +10,18 @@
     decay.rest["over"]                          # what is in no cell
     report.table("correlation", 1).normalised(n1, n2)   # a curve that is 1 without correlation
 
+    report = read_report("report.txt", "plan.toml")     # with its plan, which says what the groups are
+    report.table("correlation", 1).normalised()         # so the photons of the groups are known
+
 From the command line it makes other files of a report, which it reads from a path or, for -, from standard input:
 
     ptu_report.py REPORT --csv FOLDER           # a table of each kind and number, one file each
     ptu_report.py REPORT --json OUT
     ptu_report.py REPORT --page OUT.html        # one page with the head and a plot of every table
+    ptu_report.py REPORT --plan PLAN ..         # the same with normalised correlations
 
-It needs NumPy. Photons and markers as 'ptu events' prints them are read by load_events(path).
+It needs NumPy, and with a plan Python 3.11. Photons and markers as 'ptu events' prints them are read by
+load_events(path).
 """
 
 import argparse
@@ -47,17 +52,25 @@ class Table:
     rest: dict = field(default_factory=dict)  # what is in no cell, as over
     levels: np.ndarray | None = None  # of a correlation, the level of each cell
     length: int | None = None  # of the measurement, from the first event to the last
+    photons: tuple | None = None  # of a correlation, the photons of its two groups, where a plan told them
 
-    def normalised(self, first_photons, second_photons):
-        """A correlation as a curve that is 1 without correlation, by the numbers of photons of its two groups.
+    def expected(self, first_photons=None, second_photons=None):
+        """How many pairs each cell of a correlation would have without correlation, by the photons of its two groups.
 
-        Where the measurement is shorter than a delay there is no pair to expect, and the curve is nan.
+        Where a delay is longer than the measurement there are none.
         """
-        if self.kind != "correlation":
-            raise ValueError(f"a {self.kind} is not normalised")
-        free = self.length - self.ticks.astype(float)
-        expected = first_photons * second_photons * 2.0**self.levels * free / float(self.length) ** 2
-        return np.where(free > 0, self.counts / np.where(free > 0, expected, 1), np.nan)
+        if self.kind != "correlation" or self.length is None:
+            raise ValueError(f"this {self.kind} can't be normalised: it is of no single measurement")
+        if first_photons is None and self.photons is None:
+            raise ValueError("the photons of the two groups are not known: give them, or read the report with its plan")
+        first, second = self.photons if first_photons is None else (first_photons, second_photons)
+        free = np.maximum(self.length - self.ticks.astype(float), 0)
+        return first * second * 2.0**self.levels * free / float(max(self.length, 1)) ** 2
+
+    def normalised(self, first_photons=None, second_photons=None):
+        """A correlation as a curve that is 1 without correlation, and nan where no pair is expected."""
+        expected = self.expected(first_photons, second_photons)
+        return np.where(expected > 0, self.counts.astype(float) / np.where(expected > 0, expected, 1), np.nan)
 
 
 @dataclass
@@ -73,8 +86,9 @@ class Report:
         raise KeyError(f"the report has no {kind} {number}")
 
 
-def read_report(source):
-    """The report in a file, or in a text of more than one line."""
+def read_report(source, plan=None):
+    """The report in a file, or in a text of more than one line. With the path of its plan the photons of the groups
+    of a correlation are known, where the plan also has a histogram, a trace or an image of each of them."""
     if "\n" not in source:
         with open(source, encoding="ascii") as file:
             source = file.read()
@@ -88,7 +102,27 @@ def read_report(source):
             blocks.append((words, []))
         else:
             blocks[-1][1].append(words)
-    return Report(head, [read_table(head, first, rest) for first, rest in blocks])
+    report = Report(head, [read_table(head, first, rest) for first, rest in blocks])
+    if plan is not None:
+        tell_photons(report, plan)
+    return report
+
+
+def tell_photons(report, path):
+    """Gives each correlation the photons of its two groups. All cells and what is in none add up to those of a group."""
+    import tomllib
+
+    with open(path, "rb") as file:
+        plan = tomllib.load(file)
+    photons = {}
+    for kind in ("histogram", "trace", "image"):
+        for number, settings in enumerate(plan.get(kind, []), 1):
+            table = report.table(kind, number)
+            photons[settings["group"]] = int(table.counts.sum()) + sum(table.rest.values())
+    for number, settings in enumerate(plan.get("correlation", []), 1):
+        table, groups = report.table("correlation", number), (settings["first"], settings["second"])
+        if table.length is not None and all(group in photons for group in groups):
+            table.photons = tuple(photons[group] for group in groups)
 
 
 def head_value(word, value):
@@ -201,18 +235,20 @@ def rows(table):
         for (y, x), count in np.ndenumerate(table.counts):
             yield [y, x, count]
         return
-    yield ["ticks", *unit, *(["level"] if table.levels is not None else []), "count"]
+    curve = None if table.photons is None else table.normalised()
+    level = [] if table.levels is None else ["level"]
+    yield ["ticks", *unit, *level, "count", *([] if curve is None else ["normalised"])]
     for place, count in enumerate(table.counts):
         beside = [] if table.seconds is None else [float(table.seconds[place])]
         level = [] if table.levels is None else [int(table.levels[place])]
-        yield [table.ticks[place].item(), *beside, *level, int(count)]
+        yield [table.ticks[place].item(), *beside, *level, int(count), *([] if curve is None else [float(curve[place])])]
 
 
 def write_csv(report, folder):
     os.makedirs(folder, exist_ok=True)
     for table in report.tables:
         with open(os.path.join(folder, f"{table.kind}_{table.number}.csv"), "w", newline="") as out:
-            csv.writer(out).writerows(rows(table))
+            csv.writer(out, lineterminator="\n").writerows(rows(table))
 
 
 def write_json(report, path):
@@ -242,6 +278,14 @@ STYLE = (
 )
 
 
+ACROSS = {
+    "histogram": "delay after the sync",
+    "trace": "time",
+    "startstop": "time between photons",
+    "coincidence": "difference of times",
+}
+
+
 def unit_of(seconds):
     """A number to multiply seconds by, and the name of the unit, so that the axis has short numbers."""
     for factor, name in ((1, "s"), (1e3, "ms"), (1e6, "\u00b5s"), (1e9, "ns"), (1e12, "ps")):
@@ -251,7 +295,7 @@ def unit_of(seconds):
 
 
 def axis_of(table):
-    """Where the cells are on the axis of a plot, and its name."""
+    """Where the cells are on the axis of a plot, and its unit."""
     if table.seconds is None or not len(table.seconds):
         return table.ticks.astype(float), "ticks"
     factor, name = unit_of(float(np.abs(table.seconds).max()))
@@ -271,6 +315,9 @@ def steps(least, most):
 
 def plot(xs, ys, name, logarithmic):
     """A curve as an SVG picture. Of more points than there are pixels each pixel has its least and greatest one."""
+    xs, ys = xs[~np.isnan(ys)], ys[~np.isnan(ys)]
+    if not len(xs):
+        return "<p>nothing to draw</p>"
     if logarithmic:
         xs = np.log10(xs)
     least, most, top = float(xs.min()), float(xs.max()), float(ys.max()) or 1.0
@@ -314,13 +361,23 @@ def picture(counts):
     return f'<img width="{wide * times}" height="{high * times}" alt="image" src="{address}">'
 
 
+def drawn_correlation(table):
+    """A correlation over its delays, normalised where the photons of its groups are known."""
+    delays, unit = (table.ticks.astype(float), "ticks") if table.seconds is None else (table.seconds, "s")
+    if table.photons is None:
+        return plot(delays, table.counts.astype(float) / 2.0**table.levels, f"delay in {unit}; pairs over 2^level", True)
+    return plot(delays, table.normalised(), f"delay in {unit}; 1 is no correlation", True)
+
+
 def drawn(table):
     if table.kind == "image":
         return picture(table.counts)
-    xs, name = axis_of(table)
     if table.kind == "correlation":
-        return plot(xs, table.counts.astype(float) / 2.0**table.levels, f"delay in {name}; pairs over 2^level", True)
-    return plot(xs, table.counts.astype(float), name, False)
+        return drawn_correlation(table)
+    if len(table.counts) == 1:
+        return f"<p>cell 0: {table.counts[0]}</p>"
+    xs, unit = axis_of(table)
+    return plot(xs, table.counts.astype(float), f"{ACROSS[table.kind]} in {unit}", False)
 
 
 def write_page(report, path):
@@ -336,11 +393,12 @@ def write_page(report, path):
 def main():
     parser = argparse.ArgumentParser(description="Makes other files of a report of ptu run.")
     parser.add_argument("report", help="a file, or - for standard input")
+    parser.add_argument("--plan", metavar="PLAN", help="the report's plan: correlations are normalised")
     parser.add_argument("--csv", metavar="FOLDER", help="a file of each table")
     parser.add_argument("--json", metavar="OUT")
     parser.add_argument("--page", metavar="OUT.html", help="a page with the head and a plot of every table")
     given = parser.parse_args()
-    report = read_report(sys.stdin.read() if given.report == "-" else given.report)
+    report = read_report(sys.stdin.read() if given.report == "-" else given.report, given.plan)
     if given.csv:
         write_csv(report, given.csv)
     if given.json:

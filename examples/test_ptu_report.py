@@ -7,7 +7,7 @@ import numpy as np
 import pytest
 
 from made_file import t2_words, write
-from ptu_report import load_events, read_report, rows
+from ptu_report import load_events, read_report, rows, write_page
 
 ROOT = os.path.dirname(os.path.dirname(os.path.abspath(__file__)))
 PTU = os.environ.get("PTU", os.path.join(ROOT, "ptu"))
@@ -119,3 +119,28 @@ def test_rows_of_a_table(tmp_path):
 def test_a_text_that_is_no_report():
     with pytest.raises(ValueError):
         read_report("ptu: plan is not TOML\n")
+
+
+def test_a_curve_by_its_plan(tmp_path):
+    by_hand = report_of(tmp_path, PAIRS, [0, 1], [3, 4, 6, 7, 8])
+    (tmp_path / "report.txt").write_text(run("run", str(tmp_path / "plan.toml"), str(tmp_path / "data.ptu")))
+    report = read_report(str(tmp_path / "report.txt"), str(tmp_path / "plan.toml"))
+    curve = report.table("correlation")
+    assert curve.photons == (2, 5)
+    assert np.array_equal(curve.normalised(), by_hand.table("correlation").normalised(2, 5), equal_nan=True)
+    # the cell of level 1 and lag 3 has 4 pairs, and T is 8: 4 * 8 * 8 / (2 * 5 * 2 * (8 - 6))
+    assert curve.normalised()[4] == pytest.approx(4 * 64 / 40)
+    assert list(rows(curve))[5][:4] == [6, 6e-12, 1, 4]
+    with pytest.raises(ValueError):
+        by_hand.table("correlation").normalised()
+
+
+def test_a_page_of_each_report(tmp_path):
+    report_of(tmp_path, PAIRS, [0, 1], [3, 4, 6, 7, 8])
+    text = run("run", str(tmp_path / "plan.toml"), str(tmp_path / "data.ptu"))
+    (tmp_path / "report.txt").write_text(text)
+    write_page(read_report(text, str(tmp_path / "plan.toml")), str(tmp_path / "page.html"))
+    page = (tmp_path / "page.html").read_text(encoding="utf-8")
+    assert page.count("<h2>") == 5 and page.count("<svg") == 3
+    assert page.count("<p>cell 0: 2</p>") == page.count("<p>cell 0: 5</p>") == 1
+    assert "1 is no correlation" in page

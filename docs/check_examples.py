@@ -1,0 +1,189 @@
+#!/usr/bin/env python3
+"""Compares the printed examples of the documents with what the program prints: check_examples.py [PROGRAM] [PAGE ..]
+
+A page is README.md, a page of docs/ or examples/README.md, or the man page. Its blocks tell what is tried:
+
+- console: each line that begins with '$ ' is a command, and the lines up to the next one are all that it prints,
+  standard error included, byte by byte. A command goes on where its line ends with a backslash or within a text in
+  single quotes. A line '..' stands for any lines, which were left out.
+- sh and python: commands whose output isn't shown. They must end with status 0.
+- toml: a plan, which the program must read. If its first line is a comment that is the name of a file, it is put into
+  that file, for the commands behind it.
+- in the man page the lines between .nf and .fi are console.
+
+The blocks of a page are tried in their order, in a folder of their own that has what the pages speak of: the folders
+examples, docs and bench, ./ptu, FILE and PLAN, which are the sample of a scan and its plan, the same as big.ptu,
+big.ptu.gz and plan.toml, and the folder data with three such files. A block with a program that isn't on this machine is
+left out, and that is said. PROGRAM is ./ptu of this tree by default. What differs is shown, and so is each link to a
+file or a title that isn't there; it ends with 1 if there is any.
+"""
+
+import difflib
+import gzip
+import itertools
+import os
+import re
+import shutil
+import subprocess
+import sys
+import tempfile
+
+ROOT = os.path.dirname(os.path.dirname(os.path.abspath(__file__)))
+SHOWN = 40  # lines of a difference
+BUILTINS = {"if", "for", "do", "done", "then", "fi", "cd", "echo", "export", "source"}
+
+
+def pages():
+    names = [name for name in sorted(os.listdir(os.path.join(ROOT, "docs"))) if name.endswith((".md", ".1"))]
+    return ["README.md", *(f"docs/{name}" for name in names), "examples/README.md"]
+
+
+def blocks(text):
+    """The blocks of a page of Markdown: the line at which one begins, its kind, and its lines."""
+    for found in re.finditer(r"^```(\w*)\n(.*?)^```$", text, flags=re.M | re.S):
+        yield text.count("\n", 0, found.start()) + 1, found[1], found[2]
+
+
+def man_blocks(text):
+    for found in re.finditer(r"^\.nf\n(.*?)^\.fi$", text, flags=re.M | re.S):
+        plain = re.sub(r"\\f[BIRP]", "", found[1]).replace("\\-", "-").replace("\\(aq", "'").replace("\\(dq", '"')
+        yield text.count("\n", 0, found.start()) + 1, "console", plain
+
+
+def commands(text):
+    """Each command of a console block, and what it is said to print."""
+    for part in re.split(r"^\$ ", text, flags=re.M)[1:]:
+        lines = part.split("\n")
+        count = 1
+        while lines[count - 1].endswith("\\") or "\n".join(lines[:count]).count("'") % 2:
+            count += 1
+        yield "\n".join(lines[:count]), "\n".join(lines[count:])
+
+
+def missing(text):
+    """A program that a block calls and that isn't here, or None."""
+    quoted = re.sub(r"'[^']*'|\"[^\"]*\"|#.*", "", text)
+    for name in re.findall(r"(?:^|[|;&(])\s*([a-z][\w.-]*)(?=\s|$)", quoted, flags=re.M):
+        if name not in BUILTINS and not shutil.which(name, path=search_path()):
+            return name
+
+
+def search_path():
+    return os.path.join(os.getcwd(), "bin") + ":" + os.environ["PATH"]
+
+
+def shell(text):
+    """What a command prints, and its status."""
+    places = {"PATH": search_path(), "LC_ALL": "C.UTF-8"}
+    run = subprocess.run(["sh", "-c", text], stdout=subprocess.PIPE, stderr=subprocess.STDOUT, env=os.environ | places)
+    return run.stdout.decode(), run.returncode
+
+
+def agrees(said, printed):
+    """The text that was printed is the one that is said, where a line '..' stands for any lines."""
+    parts = re.split(r"^\.\.\n", said, flags=re.M)
+    return re.fullmatch("(?:.*\n)*?".join(map(re.escape, parts)), printed) is not None
+
+
+def try_block(kind, text):
+    """What is wrong with a block, or nothing."""
+    if kind == "console":
+        for command, said in commands(text):
+            printed, _ = shell(command)
+            if not agrees(said, printed):
+                lines = difflib.unified_diff(said.split("\n"), printed.split("\n"), "said", "printed", lineterm="")
+                yield "\n".join([f"$ {command}", *itertools.islice(lines, SHOWN)])
+    elif kind in ("sh", "python"):
+        with open("block", "w", encoding="utf-8") as out:
+            out.write(text)
+        printed, status = shell("sh -e block" if kind == "sh" else "PYTHONPATH=examples python3 block")
+        if status != 0:
+            yield f"{text}ends with {status}:\n{printed}"
+    elif kind == "toml":
+        named = re.match(r"# ([\w.]+\.toml)\n", text)
+        name = named[1] if named else "some.toml"
+        with open(name, "w", encoding="utf-8") as out:
+            out.write(text)
+        printed, status = shell(f"ptu run {name} /dev/null")
+        if status != 11:  # the plan was read, and the empty file refused
+            yield f"{text}{printed}"
+
+
+def furnish(program):
+    """Puts into this folder what the pages speak of."""
+    for name in ("examples", "docs", "bench", "install.sh"):
+        os.symlink(os.path.join(ROOT, name), name)
+    scan, plan = (os.path.join(ROOT, "examples", name) for name in ("scan.ptu", "scan.toml"))
+    for name, target in (("ptu", program), ("FILE", scan), ("PLAN", plan), ("big.ptu", scan), ("plan.toml", plan)):
+        os.symlink(target, name)
+    with open(scan, "rb") as data, gzip.open("big.ptu.gz", "wb") as out:
+        out.write(data.read())
+    for folder in ("bin", "data", "FOLDER"):
+        os.mkdir(folder)
+    for name in ("a", "b", "c"):
+        shutil.copy(scan, f"data/{name}.ptu")
+    os.symlink(program, "bin/ptu")
+    with open("bin/python3", "w", encoding="utf-8") as out:
+        out.write(f'#!/bin/sh\nexec "{sys.executable}" "$@"\n')
+    os.chmod("bin/python3", 0o755)
+
+
+def prose(page):
+    """A page without its blocks."""
+    with open(os.path.join(ROOT, page), encoding="utf-8") as file:
+        return re.sub(r"^```.*?^```", "", file.read(), flags=re.M | re.S)
+
+
+def anchors(page):
+    """What a link can name behind a '#': the titles of a page in small letters, with hyphens for spaces."""
+    return {re.sub(r"[^\w -]", "", title.lower()).replace(" ", "-") for title in re.findall(r"^#+ (.*)$", prose(page), flags=re.M)}
+
+
+def dead_links(page):
+    """Each link of a page to a file or a title of this tree that isn't there."""
+    for target in re.findall(r"\]\(([^)\s]+)\)", prose(page)):
+        name, _, anchor = target.partition("#")
+        file = os.path.normpath(os.path.join(os.path.dirname(page), name)) if name else page
+        if "://" not in target and not (os.path.exists(os.path.join(ROOT, file)) and (not anchor or anchor in anchors(file))):
+            yield target
+
+
+def try_page(page, program):
+    """How many blocks of a page were tried, and how many of them differ."""
+    with open(os.path.join(ROOT, page), encoding="utf-8") as file:
+        text = file.read()
+    tried = wrong = 0
+    with tempfile.TemporaryDirectory() as folder:
+        os.chdir(folder)
+        furnish(program)
+        for line, kind, block in man_blocks(text) if page.endswith(".1") else blocks(text):
+            if kind not in ("console", "sh", "python", "toml"):
+                continue
+            called = "\n".join(c for c, _ in commands(block)) if kind == "console" else block if kind == "sh" else ""
+            if absent := missing(called):
+                print(f"{page}:{line}: left out, {absent} is not on this machine")
+                continue
+            tried += 1
+            faults = list(try_block(kind, block))
+            wrong += bool(faults)
+            for fault in faults:
+                print(f"{page}:{line}: {fault}")
+        os.chdir("/")
+    return tried, wrong
+
+
+def main():
+    given = sys.argv[1:]
+    program = os.path.abspath(given.pop(0)) if given and not given[0].endswith((".md", ".1")) else os.path.join(ROOT, "ptu")
+    results = [(page, *try_page(page, program)) for page in given or pages()]
+    dead = [f"{page}: {target} leads nowhere" for page, _, _ in results for target in dead_links(page)]
+    for page, tried, wrong in results:
+        if tried:
+            print(f"{page}: {tried} blocks tried, {wrong} differ")
+    for line in dead:
+        print(line)
+    sys.exit(bool(dead) or any(wrong for _, _, wrong in results))
+
+
+if __name__ == "__main__":
+    main()
