@@ -24,7 +24,7 @@ pub inputs_step : (inputs low n : ℕ) (d : Data) (ds : List Data) → integer_i
     → option_map (λ set. inputs + set) (inputs_from low (d ∷ ds)) ≡ option_map (λ set. inputs + 2 ^ n + set) (inputs_from (n + 1) ds)
 inputs_step inputs low n d ds is = rw is (both_added inputs (2 ^ n) (inputs_from (n + 1) ds))
 
-first_of : (vs : List Value) (i : ℕ) (v : Value) → i < length vs → v ≡ get_or vs i v → map view (drop i vs) ≡ view v ∷ map view (drop (i + 1) vs)
+pub first_of : (vs : List Value) (i : ℕ) (v : Value) → i < length vs → v ≡ get_or vs i v → map view (drop i vs) ≡ view v ∷ map view (drop (i + 1) vs)
 first_of vs i v within at = ap (map view) (drop_more vs i v within) ∙ ap (λ w. view w ∷ map view (drop (i + 1) vs)) (sym at)
 
 -- one more input is taken in

@@ -1,5 +1,7 @@
 pub mod OnLiterals
 pub mod Inputs
+pub mod Gates
+pub mod EachShift
 pub mod Documents
 pub mod Rise
 pub mod Rows
@@ -7,3 +9,4 @@ pub mod Whole
 pub mod Misfits
 pub mod Called
 pub mod PartLists
+pub mod Bound

@@ -1,17 +1,19 @@
 -- What `fits` refuses is the first part that doesn't suit the mode.
-use Rattle.std.proofs.Common.{◌≡◌, refl, ap, ◌∙◌, ℕ, List, [], ◌∷◌, ◌++◌, ◌<◌, length, map, Bool, Option, None, Some, Result, Ok, Err, inl, inr, arith, rules}
+use Rattle.std.proofs.Common.{◌≡◌, refl, ap, ◌∙◌, ℕ, ◌+◌, List, [], ◌∷◌, ◌++◌, ◌<◌, length, map, Bool, Option, None, Some, Result, Ok, Err, inl, inr, arith, rules}
 use Rattle.std.specs.List.{AllByRecursion}
 use Rattle.std.proofs.lemmas.Result.{IfErr-at_err}
 use Rattle.tally_base.specs.declared.fault.Fault.{Fault}
 use Rattle.tally_base.specs.declared.fault.Fault.TheVariants.{PlanMode}
 use Rattle.tally_base.specs.declared.header.Mode.{Mode}
+use Rattle.tally_base.specs.declared.header.Mode.TheVariants.{T2, T3}
 use Rattle.tally_base.specs.declared.part.PartKind.{PartKind}
-use Rattle.tally_base.specs.declared.part.PartKind.TheVariants.{Gate}
-use Rattle.tally_base.specs.Settings.{PartSettings}
+use Rattle.tally_base.specs.declared.part.PartKind.TheVariants.{Gate, Shift}
+use Rattle.tally_base.specs.declared.settings.ShiftSet.{ShiftSet}
+use Rattle.tally_base.specs.Settings.{PartSettings, shift_view}
 use Rattle.toml_rules.specs.Rules.{or_next, held_from, BreaksFirst, BreaksAt}
 use Rattle.toml_rules.proofs.Least.{or_next_err, breaks_first, kept_nowhere}
 use Rattle.plan_text.specs.Plan.{PlanView}
-use Rattle.plan_text.specs.Fits.{fits, misfit, refusal, group_suits, groups_fit, parts_fit, IsFirstMisfit, IsMisfit}
+use Rattle.plan_text.specs.Fits.{fits, misfit, refusal, group_suits, shift_suits, groups_fit, shifts_fit, parts_fit, IsFirstMisfit, IsMisfit}
 
 pub or_next_assoc : (a b c : Result (Unit {0}) Fault) → or_next a (or_next b c) ≡ or_next (or_next a b) c
 or_next_assoc (Ok done) b c = refl
@@ -47,12 +49,23 @@ first_refused mode (part ∷ parts) fault err =
 pub misfit_named : (mode : Mode) (plan : PlanView) (fault : Fault) → fits mode plan ≡ Err fault → IsMisfit mode plan fault
 unfolding fits
 misfit_named mode plan fault err =
-    elim (or_next_err (groups_fit mode plan.groups) (parts_fit mode plan.parts) fault err) [
-      | inl gate ↦ inl (breaks_first (λ number. PlanMode Gate number mode) 1 (map (group_suits mode) plan.groups) fault gate)
-      | inr passed ↦
-          let (kind, is, first) = first_refused mode plan.parts fault passed.1 in
-          inr (kind, is, first, kept_nowhere (λ number. PlanMode Gate number mode) 1 (map (group_suits mode) plan.groups) passed.0)
+    let groups = map (group_suits mode) plan.groups in
+    let shifts = map (shift_suits mode) plan.shifts in
+    elim (or_next_err (groups_fit mode plan.groups) (or_next (shifts_fit mode plan.shifts) (parts_fit mode plan.parts)) fault err) [
+      | inl gate ↦ inl (breaks_first (λ number. PlanMode Gate number mode) 1 groups fault gate)
+      | inr ungated ↦
+          let gates = kept_nowhere (λ number. PlanMode Gate number mode) 1 groups ungated.0 in
+          elim (or_next_err (shifts_fit mode plan.shifts) (parts_fit mode plan.parts) fault ungated.1) [
+            | inl shift ↦ inr (inl (gates, breaks_first (λ number. PlanMode Shift number mode) 1 shifts fault shift))
+            | inr passed ↦ inr (inr (gates, kept_nowhere (λ number. PlanMode Shift number mode) 1 shifts passed.0, first_refused mode plan.parts fault passed.1))
+          ]
     ]
+
+-- what is named is a part
+pub names_part : (mode : Mode) (plan : PlanView) (fault : Fault) → IsMisfit mode plan fault → (kind : PartKind) × (number : ℕ) × (fault ≡ PlanMode kind number mode)
+names_part mode plan fault (inl (number, is, first)) = (Gate, number, is)
+names_part mode plan fault (inr (inl (suit, (number, is, first)))) = (Shift, number, is)
+names_part mode plan fault (inr (inr (suit, suits, (kind, is, first)))) = (kind, 1, is)
 
 -- ## From the first part to the answer
 
@@ -77,8 +90,25 @@ pub is_first : (mode : Mode) (plan : PlanView) (fault : Fault) → IsMisfit mode
 unfolding fits
 is_first mode plan fault (inl (number, is, first)) =
     rw (first_by (λ number. PlanMode Gate number mode) 1 (map (group_suits mode) plan.groups) number (groups_fit mode plan.groups) first refl, is) refl
-is_first mode plan fault (inr (kind, is, first, none)) =
-    rw (none_by (λ number. PlanMode Gate number mode) 1 (map (group_suits mode) plan.groups) (groups_fit mode plan.groups) none refl, first.stands, refused_first mode first.before first.here first.after kind first.names first.suit, is) refl
+is_first mode plan fault (inr (inl (gates, (number, is, first)))) =
+    rw (none_by (λ number. PlanMode Gate number mode) 1 (map (group_suits mode) plan.groups) (groups_fit mode plan.groups) gates refl, first_by (λ number. PlanMode Shift number mode) 1 (map (shift_suits mode) plan.shifts) number (shifts_fit mode plan.shifts) first refl, is) refl
+is_first mode plan fault (inr (inr (gates, shifts, (kind, is, first)))) =
+    rw (none_by (λ number. PlanMode Gate number mode) 1 (map (group_suits mode) plan.groups) (groups_fit mode plan.groups) gates refl, none_by (λ number. PlanMode Shift number mode) 1 (map (shift_suits mode) plan.shifts) (shifts_fit mode plan.shifts) shifts refl, first.stands, refused_first mode first.before first.here first.after kind first.names first.suit, is) refl
+
+-- ## Shifts
+
+-- no shift suits T2
+pub shifts_refused : (sets : List ShiftSet) → 0 < length sets → shifts_fit T2 (map shift_view sets) ≡ Err (PlanMode Shift 1 T2)
+shifts_refused [] some = absurd (omega (arith, some))
+shifts_refused (set ∷ sets) some = refl
+
+held_in_T3 : (first : ℕ) (sets : List ShiftSet) → held_from (λ number. PlanMode Shift number T3) first (map (shift_suits T3) (map shift_view sets)) ≡ Ok tt
+held_in_T3 first [] = refl
+held_in_T3 first (set ∷ sets) = held_in_T3 (first + 1) sets
+
+-- each suits T3
+pub shifts_pass : (sets : List ShiftSet) → shifts_fit T3 (map shift_view sets) ≡ Ok tt
+shifts_pass = held_in_T3 1
 
 -- ## Tables of one kind
 

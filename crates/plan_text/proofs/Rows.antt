@@ -1,10 +1,16 @@
 -- Plans with one bad thing, and small plans that are read.
-use Rattle.std.proofs.Common.{◌≡◌, ◌^◌, refl, codes, Ok, Err, Some, None, [], ◌∷◌}
-use Rattle.tally_base.specs.declared.fault.Fault.TheVariants.{PlanSyntax, PlanRule}
+use Rattle.std.proofs.Common.{◌≡◌, ◌^◌, ◌*◌, refl, codes, ℕ, List, Ok, Err, Some, None, [], ◌∷◌, true, false}
+use Rattle.tally_base.specs.declared.fault.Fault.TheVariants.{PlanSyntax, PlanRule, PlanMode}
+use Rattle.tally_base.specs.declared.header.Mode.TheVariants.{T2}
+use Rattle.tally_base.specs.declared.part.PartKind.TheVariants.{Gate, Shift}
 use Rattle.tally_base.specs.declared.event.Order.TheVariants as orders
 use Rattle.tally_base.specs.declared.event.OnReserved.TheVariants as choices
-use Rattle.tally_base.specs.Settings.PartSettings.{TraceSettings, StartStopSettings, CoincidenceSettings, ImageSettings, CorrelationSettings}
+use Rattle.tally_base.specs.Settings.{ShiftView, entries}
+use Rattle.tally_base.specs.Settings.PartSettings.{HistSettings, TraceSettings, StartStopSettings, CoincidenceSettings, ImageSettings, CorrelationSettings}
+use Rattle.plan_text.specs.Plan.{PlanView}
+use Rattle.plan_text.specs.Fits.{fits}
 use Rattle.plan_text.specs.Reading.{plan_answer}
+use Rattle.plan_text.specs.Bound.{greatest_bound, histogram_entries, trace_entries, startstop_entries, coincidence_entries, image_entries, correlation_entries}
 use Rattle.plan_text.proofs.OnLiterals.{plan_on_literals}
 
 pub row_byte : plan_answer (255 ∷ []) ≡ Err PlanSyntax
@@ -67,11 +73,11 @@ pub row_many : plan_answer (codes "group = [{inputs=[0]}, {inputs=[0]}, {inputs=
 unfolding plan_on_literals
 row_many = refl
 
-pub row_empty : plan_answer (codes "group = []\n") ≡ Ok (record { order = orders.Drop; reserved = choices.Skip; records = 2 ^ 40; groups = []; parts = [] })
+pub row_empty : plan_answer (codes "group = []\n") ≡ Ok (record { order = orders.Drop; reserved = choices.Skip; records = 2 ^ 40; period = 1; shifts = []; groups = []; parts = [] })
 unfolding plan_on_literals
 row_empty = refl
 
-pub row_whole : plan_answer (codes "order = 'stop'\ngroup = [{ inputs = [0, 2], gate = [3, 9] }]\n") ≡ Ok (record { order = orders.Stop; reserved = choices.Skip; records = 2 ^ 40; groups = record { inputs = 5; gate = Some (3, 9) } ∷ []; parts = [] })
+pub row_whole : plan_answer (codes "order = 'stop'\ngroup = [{ inputs = [0, 2], gate = [3, 9] }]\n") ≡ Ok (record { order = orders.Stop; reserved = choices.Skip; records = 2 ^ 40; period = 1; shifts = []; groups = record { inputs = 5; gates = (3, 9) ∷ [] } ∷ []; parts = [] })
 unfolding plan_on_literals
 row_whole = refl
 
@@ -104,7 +110,7 @@ unfolding plan_on_literals
 row_histogram_and_trace = refl
 
 -- a trace without an origin, one with it, and a start-stop
-pub row_times : plan_answer (codes "group = [{ inputs = [0] }]\ntrace = [{ group = 1, width = 5, bins = 2 }, { group = 1, origin = 7, width = 4611686018427387904, bins = 1048576 }]\nstartstop = [{ start = 1, stop = 1, width = 3, bins = 4 }]\n") ≡ Ok (record { order = orders.Drop; reserved = choices.Skip; records = 2 ^ 40; groups = record { inputs = 1; gate = None } ∷ []; parts = TraceSettings (record { group = 1; origin = 0; width = 5; bins = 2 }) ∷ TraceSettings (record { group = 1; origin = 7; width = 2 ^ 62; bins = 2 ^ 20 }) ∷ StartStopSettings (record { start = 1; stop = 1; width = 3; bins = 4 }) ∷ [] })
+pub row_times : plan_answer (codes "group = [{ inputs = [0] }]\ntrace = [{ group = 1, width = 5, bins = 2 }, { group = 1, origin = 7, width = 4611686018427387904, bins = 1048576 }]\nstartstop = [{ start = 1, stop = 1, width = 3, bins = 4 }]\n") ≡ Ok (record { order = orders.Drop; reserved = choices.Skip; records = 2 ^ 40; period = 1; shifts = []; groups = record { inputs = 1; gates = [] } ∷ []; parts = TraceSettings (record { group = 1; origin = 0; width = 5; bins = 2 }) ∷ TraceSettings (record { group = 1; origin = 7; width = 2 ^ 62; bins = 2 ^ 20 }) ∷ StartStopSettings (record { start = 1; stop = 1; width = 3; bins = 4 }) ∷ [] })
 unfolding plan_on_literals
 row_times = refl
 
@@ -137,6 +143,103 @@ unfolding plan_on_literals
 row_correlation_values = refl
 
 -- coincidences, an image without a frame bit, one with it, and a correlation
-pub row_pairs_and_images : plan_answer (codes "group = [{ inputs = [0] }]\ncoincidence = [{ first = 1, second = 1, reach = 1048576, width = 2097152 }]\nimage = [{ group = 1, width = 2048, height = 1, dwell = 4611686018427387904, line = 4 }, { group = 1, width = 2, height = 3, dwell = 4, line = 1, frame = 2, stop = 2 }]\ncorrelation = [{ first = 1, second = 1, lags = 128, levels = 40 }]\n") ≡ Ok (record { order = orders.Drop; reserved = choices.Skip; records = 2 ^ 40; groups = record { inputs = 1; gate = None } ∷ []; parts = CoincidenceSettings (record { first = 1; second = 1; reach = 2 ^ 20; width = 2 ^ 21 }) ∷ ImageSettings (record { group = 1; width = 2048; height = 1; dwell = 2 ^ 62; line = 4; frame = None; stop = None }) ∷ ImageSettings (record { group = 1; width = 2; height = 3; dwell = 4; line = 1; frame = Some 2; stop = Some 2 }) ∷ CorrelationSettings (record { first = 1; second = 1; lags = 128; levels = 40 }) ∷ [] })
+pub row_pairs_and_images : plan_answer (codes "group = [{ inputs = [0] }]\ncoincidence = [{ first = 1, second = 1, reach = 1048576, width = 2097152 }]\nimage = [{ group = 1, width = 2048, height = 1, dwell = 4611686018427387904, line = 4 }, { group = 1, width = 2, height = 3, dwell = 4, line = 1, frame = 2, stop = 2 }]\ncorrelation = [{ first = 1, second = 1, lags = 128, levels = 40 }]\n") ≡ Ok (record { order = orders.Drop; reserved = choices.Skip; records = 2 ^ 40; period = 1; shifts = []; groups = record { inputs = 1; gates = [] } ∷ []; parts = CoincidenceSettings (record { first = 1; second = 1; reach = 2 ^ 20; width = 2 ^ 21 }) ∷ ImageSettings (record { group = 1; width = 2048; height = 1; dwell = 2 ^ 62; line = 4; frame = None; stop = None; serpentine = false }) ∷ ImageSettings (record { group = 1; width = 2; height = 3; dwell = 4; line = 1; frame = Some 2; stop = Some 2; serpentine = false }) ∷ CorrelationSettings (record { first = 1; second = 1; lags = 128; levels = 40 }) ∷ [] })
 unfolding plan_on_literals
 row_pairs_and_images = refl
+
+-- ## The greatest bound
+
+pub row_bound : greatest_bound ≡ 119138208
+row_bound = refl
+
+-- each kind's part of it is that of its most tables, each of its greatest settings
+pub row_bound_by_kind : (32 * entries (HistSettings (record { group = 1; width = 1; bins = 32768 })) ≡ histogram_entries)
+    × (32 * entries (TraceSettings (record { group = 1; origin = 0; width = 1; bins = 2 ^ 20 })) ≡ trace_entries)
+    × (16 * entries (StartStopSettings (record { start = 1; stop = 1; width = 1; bins = 32768 })) ≡ startstop_entries)
+    × (16 * entries (CoincidenceSettings (record { first = 1; second = 1; reach = 2 ^ 20; width = 1 })) ≡ coincidence_entries)
+    × (8 * entries (ImageSettings (record { group = 1; width = 2048; height = 2048; dwell = 1; line = 1; frame = None; stop = None; serpentine = false })) ≡ image_entries)
+    × (16 * entries (CorrelationSettings (record { first = 1; second = 1; lags = 128; levels = 40 })) ≡ correlation_entries)
+row_bound_by_kind = (refl, refl, refl, refl, refl, refl)
+
+-- ## Version 2
+
+-- a shift without a period
+pub row_no_period : plan_answer (codes "version = 2\nshift = [{ input = 0, shift = 0 }]\n") ≡ Err (PlanRule 23 0)
+unfolding plan_on_literals
+row_no_period = refl
+
+-- a period in version 1
+pub row_period : plan_answer (codes "period = 100\n") ≡ Err (PlanRule 1 0)
+unfolding plan_on_literals
+row_period = refl
+
+pub row_version : plan_answer (codes "version = 3\n") ≡ Err (PlanRule 2 0)
+unfolding plan_on_literals
+row_version = refl
+
+pub row_shift : plan_answer (codes "version = 2\nshift = 3\n") ≡ Err (PlanRule 6 8)
+unfolding plan_on_literals
+row_shift = refl
+
+pub row_shift_keys : plan_answer (codes "version = 2\nperiod = 1\nshift = [{ input = 0 }]\n") ≡ Err (PlanRule 24 1)
+unfolding plan_on_literals
+row_shift_keys = refl
+
+-- a shift of the period, and an input that does not rise
+pub row_shift_values : plan_answer (codes "version = 2\nperiod = 7\nshift = [{ input = 0, shift = 6 }, { input = 1, shift = 7 }]\n") ≡ Err (PlanRule 25 2)
+unfolding plan_on_literals
+row_shift_values = refl
+
+pub row_shift_inputs : plan_answer (codes "version = 2\nperiod = 7\nshift = [{ input = 3, shift = 6 }, { input = 3, shift = 0 }]\n") ≡ Err (PlanRule 25 2)
+unfolding plan_on_literals
+row_shift_inputs = refl
+
+-- each version has its own key of gates
+pub row_gates_in_first : plan_answer (codes "group = [{ inputs = [0], gates = [[0, 5]] }]\n") ≡ Err (PlanRule 8 1)
+unfolding plan_on_literals
+row_gates_in_first = refl
+
+pub row_gate_in_second : plan_answer (codes "version = 2\ngroup = [{ inputs = [0], gate = [0, 5] }]\n") ≡ Err (PlanRule 8 1)
+unfolding plan_on_literals
+row_gate_in_second = refl
+
+pub row_gates : plan_answer (codes "version = 2\ngroup = [{ inputs = [0], gates = [[0, 5], [4, 6]] }]\n") ≡ Err (PlanRule 10 1)
+unfolding plan_on_literals
+row_gates = refl
+
+pub row_serpentine_in_first : plan_answer (codes "group = [{ inputs = [0] }]\nimage = [{ group = 1, width = 1, height = 1, dwell = 1, line = 1, serpentine = true }]\n") ≡ Err (PlanRule 19 1)
+unfolding plan_on_literals
+row_serpentine_in_first = refl
+
+pub row_serpentine : plan_answer (codes "version = 2\ngroup = [{ inputs = [0] }]\nimage = [{ group = 1, width = 1, height = 1, dwell = 1, line = 1, serpentine = 1 }]\n") ≡ Err (PlanRule 20 1)
+unfolding plan_on_literals
+row_serpentine = refl
+
+-- a period alone
+pub row_period_alone : plan_answer (codes "version = 2\nperiod = 32768\n") ≡ Ok (record { order = orders.Drop; reserved = choices.Skip; records = 2 ^ 40; period = 32768; shifts = []; groups = []; parts = [] })
+unfolding plan_on_literals
+row_period_alone = refl
+
+-- two gates that touch, two shifts, and an image with rows that run backwards
+pub row_second : plan_answer (codes "version = 2\nperiod = 100\nshift = [{ input = 0, shift = 10 }, { input = 64, shift = 0 }]\ngroup = [{ inputs = [0], gates = [[0, 5], [5, 32768]] }]\nimage = [{ group = 1, width = 3, height = 2, dwell = 10, line = 1, serpentine = true }]\n") ≡ Ok (record { order = orders.Drop; reserved = choices.Skip; records = 2 ^ 40; period = 100; shifts = record { input = 0; shift = 10 } ∷ record { input = 64; shift = 0 } ∷ []; groups = record { inputs = 1; gates = (0, 5) ∷ (5, 32768) ∷ [] } ∷ []; parts = ImageSettings (record { group = 1; width = 3; height = 2; dwell = 10; line = 1; frame = None; stop = None; serpentine = true }) ∷ [] })
+unfolding plan_on_literals
+row_second = refl
+
+-- ## The mode of a file
+
+-- a plan of one group, of these gates, with these shifts and no tables
+abbrev of_one_group : List (ℕ × ℕ) → List ShiftView → PlanView
+of_one_group gates shifts = record { order = orders.Drop; reserved = choices.Skip; records = 2 ^ 40; period = 100; shifts = shifts; groups = record { inputs = 1; gates = gates } ∷ []; parts = [] }
+
+pub row_shift_in_t2 : fits T2 (of_one_group [] (record { input = 0; shift = 10 } ∷ [])) ≡ Err (PlanMode Shift 1 T2)
+unfolding fits
+row_shift_in_t2 = refl
+
+-- the gate of a group is named before a shift
+pub row_gate_in_t2 : fits T2 (of_one_group ((0, 5) ∷ (13, 14) ∷ []) (record { input = 0; shift = 10 } ∷ [])) ≡ Err (PlanMode Gate 1 T2)
+unfolding fits
+row_gate_in_t2 = refl
+
+pub row_period_in_t2 : fits T2 (of_one_group [] []) ≡ Ok tt
+unfolding fits
+row_period_in_t2 = refl

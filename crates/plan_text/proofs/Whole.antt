@@ -1,17 +1,18 @@
 -- Where each rule holds, each table of a list is in the plan.
-use Rattle.std.proofs.Common.{◌≡◌, sym, ap, refl, ℕ, ◌+◌, Bool, true, List, [], ◌∷◌, ◌++◌, map, filter_map, ◌∙◌, Option, Some, None, is_some, inl, inr}
+use Rattle.std.proofs.Common.{◌≡◌, ap, refl, ℕ, ◌+◌, Bool, true, List, [], ◌∷◌, ◌++◌, map, filter_map, ◌∙◌, Option, Some, None, is_some, inl, inr}
 use Rattle.std.proofs.lemmas.Bool.{cases_Bool, false≢true}
 use Rattle.std.proofs.lemmas.List.{map-append}
 use Rattle.std.specs.List.{AllByRecursion, cons_option, flat_map}
 use Rattle.toml.specs.Data.{Data}
 use Rattle.toml_rules.specs.Rules.{Rule, BreaksAt, IsBroken, AllHold, or_next, all_kept}
 use Rattle.toml_rules.proofs.Least.{all_kept_after}
-use Rattle.plan_text.proofs.Misfits.{or_next_assoc}
-use Rattle.plan_text.specs.Plan.{plan_rules, kinds_kept, plan, IsWhole}
+use Rattle.plan_text.specs.Plan.{plan_rules, lists_kept, plan, IsWhole}
 use Rattle.plan_text.specs.Document.{document_rules}
-use Rattle.plan_text.specs.Kind.{Kind, tables, last_rule, kind_rules}
-use Rattle.plan_text.specs.Kinds.{kinds}
-use Rattle.plan_text.specs.Groups.{group_rules, groups, group, group_of, inputs, gate}
+use Rattle.plan_text.specs.Kind.{Kind, tables, last_rule, kind_rules, list_of_kind}
+use Rattle.plan_text.specs.Kinds.{kinds, first_lists, second_lists, table_lists}
+use Rattle.plan_text.specs.Groups.{group_rules, groups, group, group_of, inputs, gates}
+use Rattle.plan_text.specs.Shifts.{shift_rules, all_shifts}
+use Rattle.plan_text.specs.TableList.{TableList}
 
 -- rules of a part are rules of the whole
 broken_after : (before after : List Rule) (n at : ℕ) → IsBroken after n at → IsBroken (before ++ after) n at
@@ -24,14 +25,14 @@ broken_before (rule ∷ before) after n at (inl here) = inl here
 broken_before (rule ∷ before) after n at (inr later) = inr (broken_before before after n at later)
 
 -- where all rules of a whole hold, those of its parts do
-all_before : (before after : List Rule) → AllHold (before ++ after) → AllHold before
+pub all_before : (before after : List Rule) → AllHold (before ++ after) → AllHold before
 all_before before after all = λ n at b. all n at (broken_before before after n at b)
 
 all_after : (before after : List Rule) → AllHold (before ++ after) → AllHold after
 all_after before after all = λ n at b. all n at (broken_after before after n at b)
 
 -- a rule on each thing of a list
-each_holds : {X : Type 0} (test : X → Bool) (first : ℕ) (xs : List X) → ((at : ℕ) → BreaksAt first (map test xs) at → ⊥) → AllByRecursion (λ x. test x ≡ true) xs
+pub each_holds : {X : Type 0} (test : X → Bool) (first : ℕ) (xs : List X) → ((at : ℕ) → BreaksAt first (map test xs) at → ⊥) → AllByRecursion (λ x. test x ≡ true) xs
 each_holds test first [] nowhere = tt
 each_holds test first (x ∷ xs) nowhere =
     elim (cases_Bool (test x)) [
@@ -52,56 +53,84 @@ all_kept_in : {X Y : Type 0} (f : X → Option Y) (xs : List X) → AllByRecursi
 all_kept_in f [] some = refl
 all_kept_in f (x ∷ xs) some = kept_first (f x) (filter_map f xs) (map f xs) some.0 (all_kept_in f xs some.1)
 
--- a group is read where its inputs and its gate are
-group_read : (inputs : Option ℕ) (gate : Option (Option (ℕ × ℕ))) → is_some inputs ≡ true → is_some gate ≡ true → is_some (group_of inputs gate) ≡ true
-group_read None gate first second = first
+-- a group is read where its inputs and its gates are
+group_read : (inputs : Option ℕ) (gates : Option (List (ℕ × ℕ))) → is_some inputs ≡ true → is_some gates ≡ true → is_some (group_of inputs gates) ≡ true
+group_read None gates first second = first
 group_read (Some set) None first second = second
-group_read (Some set) (Some range) first second = refl
+group_read (Some set) (Some ranges) first second = refl
 
-groups_in : (d : Data) → AllHold (group_rules d) → map (λ y. Some y) (filter_map group (groups d)) ≡ map group (groups d)
+groups_in : (d : Data) → AllHold (group_rules d) → map (λ y. Some y) (filter_map (group d) (groups d)) ≡ map (group d) (groups d)
 unfolding group_rules group
 groups_in d all =
     let sets = each_holds (λ g. is_some (inputs g)) 1 (groups d) (λ at b. all 9 at (inr (inl (refl, b)))) in
-    let gates = each_holds (λ g. is_some (gate g)) 1 (groups d) (λ at b. all 10 at (inr (inr (inl (refl, b))))) in
-    all_kept_in group (groups d) (both_hold (λ g. is_some (inputs g)) (λ g. is_some (gate g)) (λ g. is_some (group g)) (groups d) (λ g a b. group_read (inputs g) (gate g) a b) sets gates)
+    let ranges = each_holds (λ g. is_some (gates d g)) 1 (groups d) (λ at b. all 10 at (inr (inr (inl (refl, b))))) in
+    all_kept_in (group d) (groups d) (both_hold (λ g. is_some (inputs g)) (λ g. is_some (gates d g)) (λ g. is_some (group d g)) (groups d) (λ g a b. group_read (inputs g) (gates d g) a b) sets ranges)
+
+same_list : {X : Type 0} (xs : List X) → map (λ x. x) xs ≡ xs
+same_list [] = refl
+same_list (x ∷ xs) = ap (λ more. x ∷ more) (same_list xs)
+
+shifts_in : (d : Data) → AllHold (shift_rules d) → map (λ y. Some y) (filter_map (λ set. set) (all_shifts d)) ≡ all_shifts d
+unfolding shift_rules
+shifts_in d all =
+    all_kept_in (λ set. set) (all_shifts d) (each_holds (λ set. is_some set) 1 (all_shifts d) (λ at b. all 25 at (inr (inr (inl (refl, b))))))
+    ∙ same_list (all_shifts d)
 
 -- where the rules on a kind hold, each of its tables gives settings
 kind_whole : (kind : Kind) (d : Data) → AllHold (kind_rules kind d) → map (λ y. Some y) (filter_map (kind.read d) (tables kind d)) ≡ map (kind.read d) (tables kind d)
 kind_whole kind d all =
     all_kept_in (kind.read d) (tables kind d) (each_holds (λ table. is_some (kind.read d table)) 1 (tables kind d) (λ at b. all_after (kind.before d) (last_rule kind d ∷ []) all kind.last at (inl (refl, b))))
 
-kinds_whole : (kinds : List Kind) (d : Data) → AllHold (flat_map (λ kind. kind_rules kind d) kinds)
+-- Each rule on the list holds.
+abbrev Holds : Data → TableList → Type 0
+Holds d list = AllHold (list.rules d)
+
+kinds_whole : (kinds : List Kind) (d : Data) → AllByRecursion (Holds d) (map list_of_kind kinds)
     → map (λ y. Some y) (flat_map (λ kind. filter_map (kind.read d) (tables kind d)) kinds) ≡ flat_map (λ kind. map (kind.read d) (tables kind d)) kinds
 kinds_whole [] d all = refl
 kinds_whole (kind ∷ kinds) d all =
     let found = filter_map (kind.read d) (tables kind d) in
     let more = flat_map (λ kind. filter_map (kind.read d) (tables kind d)) kinds in
     map-append (λ y. Some y) found more
-    ∙ ap (λ l. l ++ map (λ y. Some y) more) (kind_whole kind d (all_before (kind_rules kind d) (flat_map (λ kind. kind_rules kind d) kinds) all))
-    ∙ ap (λ l. map (kind.read d) (tables kind d) ++ l) (kinds_whole kinds d (all_after (kind_rules kind d) (flat_map (λ kind. kind_rules kind d) kinds) all))
+    ∙ ap (λ l. l ++ map (λ y. Some y) more) (kind_whole kind d all.0)
+    ∙ ap (λ l. map (kind.read d) (tables kind d) ++ l) (kinds_whole kinds d all.1)
 
--- going through the rules of kinds one behind the other
-pub kept_by_kinds : (kinds : List Kind) (d : Data) → all_kept (flat_map (λ kind. kind_rules kind d) kinds) ≡ kinds_kept kinds d
-kept_by_kinds [] d = refl
-kept_by_kinds (kind ∷ kinds) d =
-    all_kept_after (kind_rules kind d) (flat_map (λ kind. kind_rules kind d) kinds)
-    ∙ ap (or_next (all_kept (kind_rules kind d))) (kept_by_kinds kinds d)
+-- going through the rules of lists one behind the other
+pub kept_by_lists : (lists : List TableList) (d : Data) → all_kept (flat_map (λ list. list.rules d) lists) ≡ lists_kept lists d
+kept_by_lists [] d = refl
+kept_by_lists (list ∷ lists) d =
+    all_kept_after (list.rules d) (flat_map (λ list. list.rules d) lists)
+    ∙ ap (or_next (all_kept (list.rules d))) (kept_by_lists lists d)
 
-pub plan_kept : (d : Data) → all_kept (plan_rules d) ≡ or_next (all_kept (document_rules d)) (or_next (all_kept (group_rules d)) (kinds_kept kinds d))
+pub plan_kept : (d : Data) → all_kept (plan_rules d) ≡ or_next (all_kept (document_rules d)) (lists_kept table_lists d)
 unfolding plan_rules
 plan_kept d =
-    let of_kinds = flat_map (λ kind. kind_rules kind d) kinds in
-    all_kept_after (document_rules d ++ group_rules d) of_kinds
-    ∙ ap (λ r. or_next r (all_kept of_kinds)) (all_kept_after (document_rules d) (group_rules d))
-    ∙ ap (or_next (or_next (all_kept (document_rules d)) (all_kept (group_rules d)))) (kept_by_kinds kinds d)
-    ∙ sym (or_next_assoc (all_kept (document_rules d)) (all_kept (group_rules d)) (kinds_kept kinds d))
+    all_kept_after (document_rules d) (flat_map (λ list. list.rules d) table_lists)
+    ∙ ap (or_next (all_kept (document_rules d))) (kept_by_lists table_lists d)
+
+-- where the rules on all lists hold, those on each do
+lists_hold : (lists : List TableList) (d : Data) → AllHold (flat_map (λ list. list.rules d) lists) → AllByRecursion (Holds d) lists
+lists_hold [] d all = tt
+lists_hold (list ∷ lists) d all =
+    let more = flat_map (λ list. list.rules d) lists in
+    (all_before (list.rules d) more all, lists_hold lists d (all_after (list.rules d) more all))
+
+all_first : {X : Type 0} (P : X → Type 0) (xs ys : List X) → AllByRecursion P (xs ++ ys) → AllByRecursion P xs
+all_first P [] ys all = tt
+all_first P (x ∷ xs) ys all = (all.0, all_first P xs ys all.1)
+
+all_last : {X : Type 0} (P : X → Type 0) (xs ys : List X) → AllByRecursion P (xs ++ ys) → AllByRecursion P ys
+all_last P [] ys all = all
+all_last P (x ∷ xs) ys all = all_last P xs ys all.1
 
 pub plan_is_whole : (d : Data) → AllHold (plan_rules d) → IsWhole d
 unfolding plan_rules plan
 plan_is_whole d all =
-    let to_groups = document_rules d ++ group_rules d in
-    let of_kinds = flat_map (λ kind. kind_rules kind d) kinds in
+    let hold = lists_hold table_lists d (all_after (document_rules d) (flat_map (λ list. list.rules d) table_lists) all) in
+    let first = all_first (Holds d) first_lists second_lists hold in
+    let second = all_last (Holds d) first_lists second_lists hold in
     record {
-      groups = groups_in d (all_after (document_rules d) (group_rules d) (all_before to_groups of_kinds all));
-      parts = kinds_whole kinds d (all_after to_groups of_kinds all);
+      shifts = shifts_in d second.0;
+      groups = groups_in d first.0;
+      parts = kinds_whole kinds d first.1;
     }

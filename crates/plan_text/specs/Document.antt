@@ -1,14 +1,11 @@
 -- What the document of a plan says as a whole, and the rules on it.
-use Rattle.std.specs.Prelude.{ℕ, ◌^◌, ◌≤◌, Bool, nat_le, List, [], ◌∷◌, map, length, codes, Option, None, Some, is_some, if◌then◌else◌}
+use Rattle.std.specs.Prelude.{ℕ, ◌^◌, ◌≤◌, Bool, nat_le, List, [], ◌∷◌, ◌++◌, length, codes, Option, None, Some, is_some, if◌then◌else◌}
 use Rattle.std.specs.List.{AllByRecursion}
 use Rattle.toml.specs.Data.{Data, get}
 use Rattle.toml_rules.specs.Rules.{Rule, whole, each}
 use Rattle.toml_rules.specs.Values.{list_at, may_be_tables, has_keys, number_or, second_of}
-use Rattle.plan_text.specs.Kinds.{lists}
-
--- the version of the plan
-unfoldable pub version : Data → Option ℕ
-version d = number_or 1 1 1 (get (codes "version") d)
+use Rattle.plan_text.specs.Kinds.{first_lists, second_lists, keys_of, lists}
+use Rattle.plan_text.specs.Version.{version, is_second}
 
 -- whether late events are refused
 unfoldable pub order : Data → Option Bool
@@ -27,9 +24,13 @@ records_in (Some d) = if has_keys [] (codes "records" ∷ []) d then number_or (
 unfoldable pub records : Data → Option ℕ
 records d = records_in (get (codes "limits") d)
 
--- the document has only keys of a plan
+-- the keys of a plan, by its version
+unfoldable pub known_keys : Bool → List (List ℕ)
+known_keys second = codes "version" ∷ codes "order" ∷ codes "reserved" ∷ codes "limits" ∷ keys_of first_lists ++ (if second then codes "period" ∷ keys_of second_lists else [])
+
+-- the document has only keys of a plan of its version
 unfoldable pub has_known_keys : Data → Bool
-has_known_keys = has_keys [] (codes "version" ∷ codes "order" ∷ codes "reserved" ∷ codes "limits" ∷ map (λ list. list.0) lists)
+has_known_keys d = has_keys [] (known_keys (is_second d)) d
 
 -- an array of tables stands at the key, or nothing
 unfoldable pub may_have_tables : List ℕ → Data → Bool
@@ -51,7 +52,7 @@ rule_of_lengths lists d = each 7 (λ (list : List ℕ × ℕ). has_at_most list.
 abbrev pub AreShort : List (List ℕ × ℕ) → Data → Type 0
 AreShort lists d = AllByRecursion (λ (list : List ℕ × ℕ). length (list_at list.0 d) ≤ list.1) lists
 
--- The rules on the document as a whole. Rules 6 and 7 have a test for each list of tables, in the order of the report.
+-- The rules on the document as a whole. Rules 6 and 7 have a test for each list of tables, in the order of the rules on them.
 unfoldable pub document_rules : Data → List Rule
 document_rules d =
     whole 1 (has_known_keys d)
@@ -63,6 +64,6 @@ document_rules d =
     ∷ rule_of_lengths lists d
     ∷ []
 
--- There are no more groups and tables of each kind than a plan may have.
+-- Each list of the document has at most so many tables as a plan may have.
 abbrev pub HasFewTables : Data → Type 0
 HasFewTables d = AreShort lists d

@@ -1,12 +1,13 @@
 -- What the tables of images say, and the rules on them.
-use Rattle.std.specs.Prelude.{ℕ, ◌^◌, Bool, List, [], ◌∷◌, codes, Option, None, Some, option_map}
+use Rattle.std.specs.Prelude.{ℕ, ◌^◌, Bool, false, List, [], ◌∷◌, codes, Option, None, Some, option_map, if◌then◌else◌}
 use Rattle.toml.specs.Data.{Data, get}
 use Rattle.tally_base.specs.Settings.{PartSettings}
 use Rattle.tally_base.specs.Settings.PartSettings.{ImageSettings}
 use Rattle.toml_rules.specs.Rules.{each}
-use Rattle.toml_rules.specs.Values.{list_at, has_keys, integer_in, number_in}
+use Rattle.toml_rules.specs.Values.{list_at, has_keys, integer_in, number_in, truth_or}
 use Rattle.plan_text.specs.Groups.{group_number}
 use Rattle.plan_text.specs.Kind.{Kind}
+use Rattle.plan_text.specs.Version.{is_second}
 
 -- the tables of images
 abbrev pub images : Data → List Data
@@ -43,21 +44,30 @@ bits_of None frame stop = None
 unfoldable pub bits : Data → Option (ℕ × (Option ℕ × Option ℕ))
 bits image = bits_of (number_in 1 4 (get (codes "line") image)) (bit (codes "frame") image) (bit (codes "stop") image)
 
--- the settings of these numbers, where each keeps its rule
-abbrev pub image_of : Option ℕ → Option (ℕ × (ℕ × ℕ)) → Option (ℕ × (Option ℕ × Option ℕ)) → Option PartSettings
-image_of (Some group) (Some raster) (Some bits) = Some (ImageSettings (record { group = group; width = raster.0; height = raster.1.0; dwell = raster.1.1; line = bits.0; frame = bits.1.0; stop = bits.1.1 }))
-image_of (Some group) (Some raster) None = None
-image_of (Some group) None bits = None
-image_of None raster bits = None
+-- whether the odd rows of an image run backwards
+unfoldable pub serpentine : Data → Option Bool
+serpentine image = truth_or false (get (codes "serpentine") image)
+
+-- the settings of these values, where each keeps its rule
+abbrev pub image_of : Option ℕ → Option (ℕ × (ℕ × ℕ)) → Option (ℕ × (Option ℕ × Option ℕ)) → Option Bool → Option PartSettings
+image_of (Some group) (Some raster) (Some bits) (Some serpentine) = Some (ImageSettings (record { group = group; width = raster.0; height = raster.1.0; dwell = raster.1.1; line = bits.0; frame = bits.1.0; stop = bits.1.1; serpentine = serpentine }))
+image_of (Some group) (Some raster) (Some bits) None = None
+image_of (Some group) (Some raster) None serpentine = None
+image_of (Some group) None bits serpentine = None
+image_of None raster bits serpentine = None
 
 -- the settings that a table of the document gives
 unfoldable pub image : Data → Data → Option PartSettings
-image d set = image_of (group_number d (get (codes "group") set)) (raster set) (bits set)
+image d set = image_of (group_number d (get (codes "group") set)) (raster set) (bits set) (serpentine set)
 
--- the keys group, width, height, dwell and line, and no other key but frame and stop
-unfoldable pub has_image_keys : Data → Bool
-has_image_keys = has_keys (codes "group" ∷ codes "width" ∷ codes "height" ∷ codes "dwell" ∷ codes "line" ∷ []) (codes "frame" ∷ codes "stop" ∷ [])
+-- the keys that an image may have or not, by the version
+abbrev pub other_image_keys : Bool → List (List ℕ)
+other_image_keys second = codes "frame" ∷ codes "stop" ∷ (if second then codes "serpentine" ∷ [] else [])
+
+-- the keys group, width, height, dwell and line, and no other key but frame, stop and, in version 2, serpentine
+unfoldable pub has_image_keys : Data → Data → Bool
+has_image_keys d = has_keys (codes "group" ∷ codes "width" ∷ codes "height" ∷ codes "dwell" ∷ codes "line" ∷ []) (other_image_keys (is_second d))
 
 -- images in a plan
 abbrev pub image_kind : Kind
-image_kind = record { key = codes "image"; most = 8; before = λ d. each 19 has_image_keys (images d) ∷ []; last = 20; read = image }
+image_kind = record { key = codes "image"; most = 8; before = λ d. each 19 (has_image_keys d) (images d) ∷ []; last = 20; read = image }

@@ -4,6 +4,7 @@ use Rattle.toml.specs.Data.{Data}
 use Rattle.tally_base.specs.Settings.{PartSettings}
 use Rattle.toml_rules.specs.Rules.{Rule, each}
 use Rattle.toml_rules.specs.Values.{list_at}
+use Rattle.plan_text.specs.TableList.{TableList}
 
 -- One kind of tables.
 pub record Kind : Type 0 where
@@ -29,3 +30,7 @@ last_rule kind d = each kind.last (λ table. is_some (kind.read d table)) (table
 -- the rules on a kind
 abbrev pub kind_rules : Kind → Data → List Rule
 kind_rules kind d = kind.before d ++ last_rule kind d ∷ []
+
+-- the list of the tables of a kind
+abbrev pub list_of_kind : Kind → TableList
+list_of_kind kind = record { key = kind.key; most = kind.most; rules = kind_rules kind }

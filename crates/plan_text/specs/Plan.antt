@@ -6,21 +6,23 @@ use Rattle.tally_base.specs.declared.event.Order.{Order}
 use Rattle.tally_base.specs.declared.event.Order.TheVariants as orders
 use Rattle.tally_base.specs.declared.event.OnReserved.{OnReserved}
 use Rattle.tally_base.specs.declared.event.OnReserved.TheVariants as choices
-use Rattle.tally_base.specs.Settings.{GroupView, PartSettings}
+use Rattle.tally_base.specs.Settings.{GroupView, ShiftView, PartSettings}
 use Rattle.toml_rules.specs.Rules.{Rule, or_next, all_kept}
 use Rattle.plan_text.specs.Document.{order, reserved, records, document_rules}
-use Rattle.plan_text.specs.Groups.{groups, group, group_rules}
-use Rattle.plan_text.specs.Kind.{Kind, tables, kind_rules}
-use Rattle.plan_text.specs.Kinds.{kinds}
+use Rattle.plan_text.specs.Groups.{groups, group}
+use Rattle.plan_text.specs.Kind.{tables}
+use Rattle.plan_text.specs.Kinds.{kinds, table_lists}
+use Rattle.plan_text.specs.Shifts.{period_or_one, all_shifts}
+use Rattle.plan_text.specs.TableList.{TableList}
 
 -- all rules, in their order
 unfoldable pub plan_rules : Data → List Rule
-plan_rules d = document_rules d ++ group_rules d ++ flat_map (λ kind. kind_rules kind d) kinds
+plan_rules d = document_rules d ++ flat_map (λ list. list.rules d) table_lists
 
--- what going through the rules on some kinds answers
-abbrev pub kinds_kept : List Kind → Data → Result (Unit {0}) Fault
-kinds_kept [] d = Ok tt
-kinds_kept (kind ∷ kinds) d = or_next (all_kept (kind_rules kind d)) (kinds_kept kinds d)
+-- what going through the rules on some lists answers
+abbrev pub lists_kept : List TableList → Data → Result (Unit {0}) Fault
+lists_kept [] d = Ok tt
+lists_kept (list ∷ lists) d = or_next (all_kept (list.rules d)) (lists_kept lists d)
 
 -- What a contract sees of a plan.
 pub record PlanView : Type 0 where
@@ -28,6 +30,9 @@ pub record PlanView : Type 0 where
   pub reserved : OnReserved
   -- the greatest number of records
   pub records : ℕ
+  -- modulo which the dtimes of an input with a shift are taken
+  pub period : ℕ
+  pub shifts : List ShiftView
   pub groups : List GroupView
   -- the settings of its tables, in the order of the report: by kinds, and by numbers in each
   pub parts : List PartSettings
@@ -53,11 +58,14 @@ plan d = record {
   order = order_of (order d);
   reserved = reserved_of (reserved d);
   records = unwrap_or (records d) (2 ^ 40);
-  groups = filter_map group (groups d);
+  period = period_or_one d;
+  shifts = filter_map (λ set. set) (all_shifts d);
+  groups = filter_map (group d) (groups d);
   parts = flat_map (λ kind. filter_map (kind.read d) (tables kind d)) kinds;
 }
 
 -- Each table of the document's lists is in the plan.
 pub record IsWhole (d : Data) : Type 0 where
-  pub groups : map (λ one. Some one) (plan d).groups ≡ map group (groups d)
+  pub shifts : map (λ one. Some one) (plan d).shifts ≡ all_shifts d
+  pub groups : map (λ one. Some one) (plan d).groups ≡ map (group d) (groups d)
   pub parts : map (λ one. Some one) (plan d).parts ≡ flat_map (λ kind. map (kind.read d) (tables kind d)) kinds

@@ -5,7 +5,7 @@ use Rattle.tally_base.specs.declared.fault.Fault.{Fault}
 use Rattle.tally_base.specs.declared.fault.Fault.TheVariants.{OutOfMemory, PlanTooLong, PlanSyntax, PlanRule}
 use Rattle.toml.specs.Data.{table, Members}
 use Rattle.toml.specs.Parse.{parse_document}
-use Rattle.tally_base.specs.Settings.{PartSettings, group_view, hist_view, trace_view, startstop_view, coincidence_view, image_view, correlation_view}
+use Rattle.tally_base.specs.Settings.{PartSettings, group_view, shift_view, hist_view, trace_view, startstop_view, coincidence_view, image_view, correlation_view}
 use Rattle.tally_base.specs.Settings.PartSettings.{HistSettings, TraceSettings, StartStopSettings, CoincidenceSettings, ImageSettings, CorrelationSettings}
 use Rattle.toml_rules.specs.Rules.{all_kept, AllHold, IsLeast}
 use Rattle.plan_text.specs.Plan.{PlanView, plan_rules, plan, IsWhole}
@@ -28,6 +28,8 @@ plan_view plan = record {
   order = plan.policy.order;
   reserved = plan.policy.reserved;
   records = plan.policy.records;
+  period = plan.period;
+  shifts = map shift_view plan.shifts.items;
   groups = map group_view plan.groups.items;
   parts = flat_map (λ list. list) (part_lists plan);
 }

@@ -1,22 +1,15 @@
 // What the document says as a whole.
-ghost use Rattle.std.specs.Prelude.{◌≡◌, ◌<◌, ◌≤◌, ◌^◌, IfSome, OnOk, map, length, true, [], ◌∷◌};
+ghost use Rattle.std.specs.Prelude.{◌≡◌, ◌<◌, ◌≤◌, ◌^◌, IfSome, OnOk, map, length, true, false, [], ◌∷◌};
 ghost use Rattle.toml.specs.View.{view};
 ghost use Rattle.toml_rules.specs.Rules.{all_kept, kept};
-ghost use Rattle.toml_rules.specs.Values.{list_at};
+ghost use Rattle.toml_rules.specs.Values.{list_at, has_keys};
 ghost use Rattle.plan_text.specs.Kinds.{lists};
-ghost use Rattle.plan_text.specs.Document.{version, order, reserved, records, has_known_keys, may_have_tables, has_at_most, rule_of_lists, rule_of_lengths, document_rules, AreShort, HasFewTables};
+ghost use Rattle.plan_text.specs.Document.{order, reserved, records, known_keys, has_known_keys, may_have_tables, has_at_most, rule_of_lists, rule_of_lengths, document_rules, AreShort, HasFewTables};
 
+use crate::version::{is_second, version};
 use tally_base::Fault;
 use toml::Value;
 use toml_rules::{has_keys, held, list_at, may_be_tables, number_or, second_of};
-
-/// The version of the plan, which is 1.
-#[tactic(auto, unfolding(crate::specs::Document::version))]
-pub(crate) fn version(document: &Value) -> Option<u64>
-    ensures { result ≡ version (view document.now) }
-{
-    number_or(document, "version", 1, 1, 1)
-}
 
 /// Whether late events stop the run.
 #[tactic(auto, unfolding(crate::specs::Document::order))]
@@ -52,10 +45,10 @@ pub(crate) fn records(document: &Value) -> Option<u64>
     }
 }
 
-/// Whether the document has only keys of a plan.
-#[tactic(auto, unfolding(crate::specs::Document::has_known_keys))]
-fn has_known_keys(document: &Value) -> bool
-    ensures { result ≡ has_known_keys (view document.now) }
+/// Whether the document has only keys of a plan of version 1.
+#[tactic(auto, unfolding(crate::specs::Document::known_keys))]
+fn has_first_keys(document: &Value) -> bool
+    ensures { result ≡ has_keys [] (known_keys false) (view document.now) }
 {
     has_keys(
         document,
@@ -74,6 +67,44 @@ fn has_known_keys(document: &Value) -> bool
             "correlation",
         ],
     )
+}
+
+/// Whether the document has only keys of a plan of version 2.
+#[tactic(auto, unfolding(crate::specs::Document::known_keys))]
+fn has_second_keys(document: &Value) -> bool
+    ensures { result ≡ has_keys [] (known_keys true) (view document.now) }
+{
+    has_keys(
+        document,
+        &[],
+        &[
+            "version",
+            "order",
+            "reserved",
+            "limits",
+            "group",
+            "histogram",
+            "trace",
+            "startstop",
+            "coincidence",
+            "image",
+            "correlation",
+            "period",
+            "shift",
+        ],
+    )
+}
+
+/// Whether the document has only keys of a plan of its version.
+#[tactic(auto, unfolding(crate::specs::Document::has_known_keys))]
+fn has_known_keys(document: &Value) -> bool
+    ensures { result ≡ has_known_keys (view document.now) }
+{
+    if is_second(document) {
+        has_second_keys(document)
+    } else {
+        has_first_keys(document)
+    }
 }
 
 /// Whether an array of tables stands at the key, or nothing at all.
@@ -123,7 +154,7 @@ fn have_at_most(document: &Value, lists: &[(&str, usize)]) -> Result<(), Fault>
 }
 
 /// The key and the greatest length of each list of a plan.
-fn lists() -> [(&'static str, usize); 7]
+fn lists() -> [(&'static str, usize); 8]
     ensures { map (λ list. (list.0.now, list.1)) result ≡ lists }
 {
     [
@@ -134,6 +165,7 @@ fn lists() -> [(&'static str, usize); 7]
         ("coincidence", 16),
         ("image", 8),
         ("correlation", 16),
+        ("shift", 65),
     ]
 }
 

@@ -1,18 +1,19 @@
 // Whether the parts of a plan suit a file's mode.
-ghost use Rattle.std.specs.Prelude.{◌≡◌, IfErr, ◌≤◌, map, length, is_none, false};
-ghost use Rattle.tally_base.specs.Settings.{group_view};
-ghost use Rattle.plan_text.specs.Fits.{fits, groups_fit, IsMisfit};
+ghost use Rattle.std.specs.Prelude.{◌≡◌, IfErr, ◌≤◌, map, length};
+ghost use Rattle.tally_base.specs.Settings.{group_view, shift_view};
+ghost use Rattle.plan_text.specs.Fits.{fits, groups_fit, shifts_fit, IsMisfit};
 ghost use Rattle.plan_text.specs.Reading.{plan_view};
 
 use crate::kind::suit_tables;
 use crate::plan::Plan;
-use tally_base::{Fault, Group, Mode, PartKind};
+use tally_base::{Fault, Group, Mode, PartKind, ShiftSet};
 
 impl Plan {
     /// Whether each part suits files of a mode. T2 has no dtimes and no sync periods, so it suits no
-    /// gate, no histogram and no image. T3 suits no start-stop and no coincidence. `PlanMode` names the
-    /// first part that does not suit: gates before histograms and these before images, start-stops before
-    /// coincidences, and of a kind the least number. For a gate it is its group's.
+    /// gate, no shift, no histogram and no image. T3 suits no start-stop and no coincidence. `PlanMode`
+    /// names the first part that does not suit: gates before shifts, these before histograms and these
+    /// before images, start-stops before coincidences, and of a kind the least number. For a gate it is
+    /// its group's. A period alone suits both modes.
     pub fn fits(&self, mode: Mode) -> Result<(), Fault>
         ensures answer { result ≡ fits mode (plan_view self.now) }
         ensures first { IfErr result (IsMisfit mode (plan_view self.now)) }
@@ -29,6 +30,7 @@ impl Plan {
         ensures { result ≡ fits mode (plan_view self.now) }
     {
         suit_groups(self.groups.as_slice(), mode)?;
+        suit_shifts(self.shifts.as_slice(), mode)?;
         suit_tables(self.histograms.as_slice(), mode)?;
         suit_tables(self.traces.as_slice(), mode)?;
         suit_tables(self.startstops.as_slice(), mode)?;
@@ -39,14 +41,14 @@ impl Plan {
     }
 }
 
-/// No group has a gate that the mode does not suit.
+/// No group has gates that the mode does not suit.
 fn suit_groups(groups: &[Group], mode: Mode) -> Result<(), Fault>
     requires few { length groups.now ≤ 64 }
     ensures { result ≡ groups_fit mode (map group_view groups.now) }
 {
     let mut index: u8 = 1;
     'groups: for group in groups {
-        if mode == Mode::T2 && group.gate.is_some() {
+        if mode == Mode::T2 && !group.gates.is_empty() {
             return Err(Fault::PlanMode {
                 kind: PartKind::Gate,
                 index,
@@ -56,4 +58,18 @@ fn suit_groups(groups: &[Group], mode: Mode) -> Result<(), Fault>
         index += 1;
     }
     Ok(())
+}
+
+/// There is no shift that the mode does not suit.
+fn suit_shifts(sets: &[ShiftSet], mode: Mode) -> Result<(), Fault>
+    ensures { result ≡ shifts_fit mode (map shift_view sets.now) }
+{
+    match mode {
+        Mode::T2 if !sets.is_empty() => Err(Fault::PlanMode {
+            kind: PartKind::Shift,
+            index: 1,
+            mode,
+        }),
+        _ => Ok(()),
+    }
 }

@@ -1,12 +1,14 @@
 // The groups of a plan.
 ghost use Rattle.std.specs.Prelude.{◌≡◌, ◌<◌, ◌≤◌, ◌^◌, IfSome, map, length, is_some, option_map, codes};
-ghost use Rattle.std.specs.Option.{ForSome};
-ghost use Rattle.toml.specs.Data.{get};
+ghost use Rattle.toml.specs.Data.{get, as_array};
 ghost use Rattle.toml.specs.View.{view};
+ghost use Rattle.tally_base.specs.Gates.{AreGates};
 ghost use Rattle.tally_base.specs.Settings.{group_view};
 ghost use Rattle.toml_rules.specs.Rules.{all_kept};
-ghost use Rattle.plan_text.specs.Groups.{inputs_from, inputs_among, inputs, gate, range_in, groups, has_group_keys, group_rules, group, group_number};
+ghost use Rattle.plan_text.specs.Groups.{inputs_from, inputs_among, inputs, range_in, range_among, ranges_from, ranges_in, many_gates, one_gate, gates, groups, has_group_keys, group_rules, group, group_number};
 
+use crate::version::is_second;
+use arrayvec::ArrayVec;
 use tally_base::{Fault, Group};
 use toml::Value;
 use toml_rules::{ListRule, each, has_keys, integer_in, list_at, number_in};
@@ -65,13 +67,13 @@ fn inputs(group: &Value) -> Option<u128>
     }
 }
 
-/// A range of dtimes from two integers with 0 <= lo < hi <= 32768.
-fn range_in(items: &[Value]) -> Option<(u16, u16)>
-    ensures range { result ≡ range_in (map view items.now) }
-    ensures some { IfSome result (λ range. (range.0 < range.1) × (range.1 ≤ 32768)) }
+/// A range of dtimes from two integers with low <= lo < hi <= 32768.
+fn range_in(low: u16, items: &[Value]) -> Option<(u16, u16)>
+    ensures range { result ≡ range_in low (map view items.now) }
+    ensures some { IfSome result (λ range. (low ≤ range.0) × (range.0 < range.1) × (range.1 ≤ 32768)) }
 {
     match items {
-        [lo, hi] => match (integer_in(lo, 0, 32768), integer_in(hi, 0, 32768)) {
+        [lo, hi] => match (integer_in(lo, low as u64, 32768), integer_in(hi, 0, 32768)) {
             (Some(lo), Some(hi)) => {
                 if lo < hi {
                     Some((lo as u16, hi as u16))
@@ -85,47 +87,122 @@ fn range_in(items: &[Value]) -> Option<(u16, u16)>
     }
 }
 
-/// The gate of a group, if it has one.
-#[tactic(auto, using(toml_rules::proofs::Lists::list_of_view), unfolding(crate::specs::Groups::gate))]
-fn gate(group: &Value) -> Option<Option<(u16, u16)>>
-    ensures range { result ≡ gate (view group.now) }
-    ensures some { IfSome result (λ gate. IfSome gate (λ range. (range.0 < range.1) × (range.1 ≤ 32768))) }
+/// The same of what may be an array.
+#[tactic(auto, using(toml_rules::proofs::Lists::list_of_view))]
+fn range_among(low: u16, value: &Value) -> Option<(u16, u16)>
+    ensures range { result ≡ range_among low (as_array (view value.now)) }
+    ensures some { IfSome result (λ range. (low ≤ range.0) × (range.0 < range.1) × (range.1 ≤ 32768)) }
 {
-    match group.get("gate") {
+    match value.as_array() {
+        Some(items) => range_in(low, items.as_slice()),
+        None => None,
+    }
+}
+
+/// At most 8 such ranges, each from the end of the one before on.
+fn ranges_from(items: &[Value]) -> Option<ArrayVec<(u16, u16), 8>>
+    requires few { length items.now ≤ 8 }
+    ensures ranges { option_map (λ ranges. ranges.items) result ≡ ranges_from 0 (map view items.now) }
+    ensures rise { IfSome result (λ ranges. AreGates 0 ranges.items) }
+{
+    let mut ranges: ArrayVec<(u16, u16), 8> = ArrayVec::new();
+    let mut low: u16 = 0;
+    'items: for item in items {
+        match range_among(low, item) {
+            Some(range) => {
+                low = range.1;
+                ranges.push(range);
+            }
+            None => return None,
+        }
+    }
+    Some(ranges)
+}
+
+/// 1 to 8 such ranges.
+fn ranges_in(items: &[Value]) -> Option<ArrayVec<(u16, u16), 8>>
+    ensures ranges { option_map (λ ranges. ranges.items) result ≡ ranges_in (map view items.now) }
+    ensures rise { IfSome result (λ ranges. AreGates 0 ranges.items) }
+{
+    if items.is_empty() || 8 < items.len() {
+        return None;
+    }
+    ranges_from(items)
+}
+
+/// The gates of a group of version 2.
+#[tactic(auto, using(toml_rules::proofs::Lists::list_of_view))]
+fn many_gates(group: &Value) -> Option<ArrayVec<(u16, u16), 8>>
+    ensures ranges { option_map (λ ranges. ranges.items) result ≡ many_gates (get (codes "gates") (view group.now)) }
+    ensures rise { IfSome result (λ ranges. AreGates 0 ranges.items) }
+{
+    match group.get("gates") {
         Some(value) => match value.as_array() {
-            Some(items) => match range_in(items.as_slice()) {
-                Some(range) => Some(Some(range)),
-                None => None,
-            },
+            Some(items) => ranges_in(items.as_slice()),
             None => None,
         },
-        None => Some(None),
+        None => Some(ArrayVec::new()),
+    }
+}
+
+/// The gate of a group of version 1, if it has one.
+fn one_gate(group: &Value) -> Option<ArrayVec<(u16, u16), 8>>
+    ensures ranges { option_map (λ ranges. ranges.items) result ≡ one_gate (get (codes "gate") (view group.now)) }
+    ensures rise { IfSome result (λ ranges. AreGates 0 ranges.items) }
+{
+    let mut ranges: ArrayVec<(u16, u16), 8> = ArrayVec::new();
+    match group.get("gate") {
+        Some(value) => match range_among(0, value) {
+            Some(range) => {
+                ranges.push(range);
+                Some(ranges)
+            }
+            None => None,
+        },
+        None => Some(ranges),
+    }
+}
+
+/// The gates of a group of a document, in its version.
+#[tactic(auto, unfolding(crate::specs::Groups::gates))]
+fn gates(document: &Value, group: &Value) -> Option<ArrayVec<(u16, u16), 8>>
+    ensures ranges { option_map (λ ranges. ranges.items) result ≡ gates (view document.now) (view group.now) }
+    ensures rise { IfSome result (λ ranges. AreGates 0 ranges.items) }
+{
+    if is_second(document) {
+        many_gates(group)
+    } else {
+        one_gate(group)
     }
 }
 
 /// The group that a table gives.
 #[tactic(auto, unfolding(crate::specs::Groups::group))]
-pub(crate) fn group(table: &Value) -> Option<Group>
-    ensures { option_map group_view result ≡ group (view table.now) }
+pub(crate) fn group(document: &Value, table: &Value) -> Option<Group>
+    ensures { option_map group_view result ≡ group (view document.now) (view table.now) }
 {
     match inputs(table) {
-        Some(inputs) => match gate(table) {
-            Some(gate) => Some(Group { inputs, gate }),
+        Some(inputs) => match gates(document, table) {
+            Some(gates) => Some(Group { inputs, gates }),
             None => None,
         },
         None => None,
     }
 }
 
-/// A group has the key `inputs`, and no other key but `gate`.
+/// A group has the key `inputs`, and no other key but `gate` in version 1 and `gates` in version 2.
 struct GroupKeys;
 
 impl ListRule for GroupKeys {
-    ghost asks = { λ d. has_group_keys };
+    ghost asks = { has_group_keys };
 
     #[tactic(auto, unfolding(crate::specs::Groups::has_group_keys))]
-    fn is_met(_document: &Value, item: &Value) -> bool {
-        has_keys(item, &["inputs"], &["gate"])
+    fn is_met(document: &Value, item: &Value) -> bool {
+        if is_second(document) {
+            has_keys(item, &["inputs"], &["gates"])
+        } else {
+            has_keys(item, &["inputs"], &["gate"])
+        }
     }
 }
 
@@ -140,14 +217,14 @@ impl ListRule for GroupInputs {
     }
 }
 
-/// The gate of a group is as it should be, if it has one.
-struct GroupGate;
+/// The gates of a group are as they should be, if it has any.
+struct GroupGates;
 
-impl ListRule for GroupGate {
-    ghost asks = { λ d group. is_some (gate group) };
+impl ListRule for GroupGates {
+    ghost asks = { λ d group. is_some (gates d group) };
 
-    fn is_met(_document: &Value, item: &Value) -> bool {
-        gate(item).is_some()
+    fn is_met(document: &Value, item: &Value) -> bool {
+        gates(document, item).is_some()
     }
 }
 
@@ -159,7 +236,7 @@ pub(crate) fn keeps_group_rules(document: &Value) -> Result<(), Fault>
 {
     each::<GroupKeys>(8, document, "group")?;
     each::<GroupInputs>(9, document, "group")?;
-    each::<GroupGate>(10, document, "group")?;
+    each::<GroupGates>(10, document, "group")?;
     Ok(())
 }
 

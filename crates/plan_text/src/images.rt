@@ -4,13 +4,14 @@ ghost use Rattle.toml.specs.View.{view};
 ghost use Rattle.tally_base.specs.Settings.{image_view};
 ghost use Rattle.tally_base.specs.Settings.PartSettings.{ImageSettings};
 ghost use Rattle.plan_text.specs.Groups.{groups};
-ghost use Rattle.plan_text.specs.Images.{bit, raster, bits, image, has_image_keys, image_kind};
+ghost use Rattle.plan_text.specs.Images.{bit, raster, bits, serpentine, image, has_image_keys, image_kind};
 
 use crate::groups::group_number;
 use crate::kind::PlanKind;
+use crate::version::is_second;
 use tally_base::{Fault, ImageSet, Mode, PartKind};
 use toml::Value;
-use toml_rules::{ListRule, each, has_keys, integer_in, list_at, number_in};
+use toml_rules::{ListRule, each, has_keys, integer_in, list_at, number_in, truth_or};
 
 /// The number of the marker bit at a key, if there is one.
 #[tactic(auto, unfolding(crate::specs::Images::bit))]
@@ -67,6 +68,14 @@ fn bits(table: &Value) -> Option<(u8, (Option<u8>, Option<u8>))>
     Some((line as u8, (frame, stop)))
 }
 
+/// Whether the odd rows run backwards, which they don't where the table does not say so.
+#[tactic(auto, unfolding(crate::specs::Images::serpentine))]
+fn serpentine(table: &Value) -> Option<bool>
+    ensures { result ≡ serpentine (view table.now) }
+{
+    truth_or(table, "serpentine", false)
+}
+
 /// The image that a table asks for.
 #[tactic(auto, unfolding(crate::specs::Images::image))]
 fn image(document: &Value, table: &Value) -> Option<ImageSet>
@@ -82,6 +91,9 @@ fn image(document: &Value, table: &Value) -> Option<ImageSet>
     let Some((line, (frame, stop))) = bits(table) else {
         return None;
     };
+    let Some(serpentine) = serpentine(table) else {
+        return None;
+    };
     Some(ImageSet {
         group: group as u8,
         width,
@@ -90,23 +102,32 @@ fn image(document: &Value, table: &Value) -> Option<ImageSet>
         line,
         frame,
         stop,
+        serpentine,
     })
 }
 
-/// An image has the keys `group`, `width`, `height`, `dwell` and `line`, and no other key but `frame`
-/// and `stop`.
+/// An image has the keys `group`, `width`, `height`, `dwell` and `line`, and no other key but `frame`,
+/// `stop` and, in version 2, `serpentine`.
 struct ImageKeys;
 
 impl ListRule for ImageKeys {
-    ghost asks = { λ d. has_image_keys };
+    ghost asks = { has_image_keys };
 
     #[tactic(auto, unfolding(crate::specs::Images::has_image_keys))]
-    fn is_met(_document: &Value, item: &Value) -> bool {
-        has_keys(
-            item,
-            &["group", "width", "height", "dwell", "line"],
-            &["frame", "stop"],
-        )
+    fn is_met(document: &Value, item: &Value) -> bool {
+        if is_second(document) {
+            has_keys(
+                item,
+                &["group", "width", "height", "dwell", "line"],
+                &["frame", "stop", "serpentine"],
+            )
+        } else {
+            has_keys(
+                item,
+                &["group", "width", "height", "dwell", "line"],
+                &["frame", "stop"],
+            )
+        }
     }
 }
 

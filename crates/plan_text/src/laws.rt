@@ -1,5 +1,5 @@
 // Laws of plans, as the contracts of functions that do nothing.
-ghost use Rattle.std.specs.Prelude.{◌≡◌, ◌≢◌, ◌↔◌, ℕ, List, Some, Ok, Err};
+ghost use Rattle.std.specs.Prelude.{◌≡◌, ◌≢◌, ◌↔◌, ◌≤◌, ℕ, List, Some, Ok, Err};
 ghost use Rattle.toml.specs.Data.{Members, table};
 ghost use Rattle.tally_base.specs.declared.fault.Fault.{Fault};
 ghost use Rattle.tally_base.specs.declared.fault.Fault.TheVariants.{OutOfMemory};
@@ -8,6 +8,7 @@ ghost use Rattle.plan_text.specs.declared.plan.Plan.{Plan};
 ghost use Rattle.plan_text.specs.Plan.{PlanView, plan};
 ghost use Rattle.plan_text.specs.Reading.{document, plan_answer, IsCalledFor, IsValid, HaveSameTables};
 ghost use Rattle.plan_text.specs.Fits.{fits, IsMisfit};
+ghost use Rattle.plan_text.specs.Bound.{bound, greatest_bound};
 
 /// What bytes answer as a plan is the one fault that they call for, or the plan of a document that breaks
 /// no rule.
@@ -29,4 +30,12 @@ pub fn first_misfit()
 /// The one list of a plan's parts tells its tables of each kind: nothing is lost in it.
 pub fn same_tables_of_each_kind()
     ensures { (one other : Plan) → HaveSameTables one other }
+{}
+
+/// A plan that bytes answer has a bound of at most 119,138,208 entries: 48 bytes that are carried, 1,048,608
+/// entries of histograms, 33,554,528 of traces, 524,320 of start-stops, 50,331,696 of coincidences, 33,554,464 of
+/// images, and 124,544 of correlations.
+pub fn bounded()
+    ensures { (bytes : List ℕ) (view : PlanView) → plan_answer bytes ≡ Ok view
+        → bound view ≤ greatest_bound }
 {}

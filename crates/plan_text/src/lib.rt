@@ -11,12 +11,20 @@ mod images;
 mod kind;
 pub mod laws;
 mod plan;
+mod read;
+mod shifts;
 mod startstops;
 mod traces;
+mod version;
 
-pub use plan::{Plan, TEXT_LIMIT, read_plan};
+pub use plan::Plan;
+pub use read::{TEXT_LIMIT, read_plan};
 
 #[cfg(test)]
+mod greatest_tests;
+#[cfg(test)]
 mod pair_tests;
+#[cfg(test)]
+mod second_tests;
 #[cfg(test)]
 mod tests;

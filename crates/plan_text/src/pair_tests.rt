@@ -266,6 +266,7 @@ fn has_images(plan: &Plan) -> bool {
     };
     (first.group, first.width, first.height, first.dwell) == (2, 3, 4, 5)
         && (first.line, first.frame, first.stop) == (1, Some(2), Some(3))
+        && !first.serpentine
         && (second.group, second.width, second.height, second.dwell) == (1, 6, 7, 8)
         && (second.line, second.frame, second.stop) == (4, None, None)
 }

@@ -23,7 +23,7 @@ const BROKEN: [(&str, u8, u16); 78] = [
     ("Version = 1", 1, 0),
     ("images = []", 1, 0),
     ("[[histogram]]\n[[marker]]\n[[group]]\n", 1, 0),
-    ("version = 2", 2, 0),
+    ("version = 3", 2, 0),
     ("version = 0", 2, 0),
     ("version = -1", 2, 0),
     ("version = 1.0", 2, 0),
@@ -141,8 +141,8 @@ const BROKEN: [(&str, u8, u16); 78] = [
 
 /// Plans that break several rules: the least of them is named, and under it the least index.
 const BROKEN_OFTEN: [(&str, u8, u16); 10] = [
-    ("order = 1\nversion = 2\n", 2, 0),
-    ("order = 1\nversion = 2\nhistograms = 1\n", 1, 0),
+    ("order = 1\nversion = 3\n", 2, 0),
+    ("order = 1\nversion = 3\nhistograms = 1\n", 1, 0),
     ("histogram = 1\ngroup = 1\n", 6, 1),
     ("histogram = 1\n[[group]]\n", 6, 2),
     ("startstop = 1\ntrace = 1\n[[group]]\n", 6, 3),
@@ -335,7 +335,11 @@ const IMAGE: &str = "[[image]]\ngroup = 1\nwidth = 1\nheight = 1\ndwell = 1\nlin
 
 const CORRELATION: &str = "[[correlation]]\nfirst = 1\nsecond = 1\nlags = 2\nlevels = 1\n";
 
-const LONG: [Long; 17] = [
+const SHIFT: &str = "[[shift]]\ninput = 64\nshift = 0\n";
+
+const PERIOD: &str = "version = 2\nperiod = 1\n";
+
+const LONG: [Long; 19] = [
     Long {
         before: "",
         part: "#",
@@ -438,10 +442,22 @@ const LONG: [Long; 17] = [
         times: 17,
         fault: Some(Fault::PlanRule { rule: 7, index: 7 }),
     },
+    Long {
+        before: PERIOD,
+        part: SHIFT,
+        times: 65,
+        fault: Some(Fault::PlanRule { rule: 25, index: 2 }),
+    },
+    Long {
+        before: PERIOD,
+        part: SHIFT,
+        times: 66,
+        fault: Some(Fault::PlanRule { rule: 7, index: 8 }),
+    },
 ];
 
 /// What a plan is refused for.
-fn refusal(alloc: Global, bytes: &[u8]) -> Option<Fault> {
+pub(crate) fn refusal(alloc: Global, bytes: &[u8]) -> Option<Fault> {
     match read_plan(alloc, bytes) {
         Ok(_plan) => None,
         Err(fault) => Some(fault),
@@ -551,6 +567,8 @@ fn is_default(plan: &Plan) -> bool {
         records: 1 << 40,
     };
     plan.policy == policy
+        && plan.period == 1
+        && plan.shifts.is_empty()
         && plan.groups.is_empty()
         && plan.histograms.is_empty()
         && plan.traces.is_empty()
@@ -583,9 +601,9 @@ fn has_policy_and_groups(plan: &Plan) -> bool {
     };
     plan.policy == policy
         && first.inputs == (1 << 64) + 9
-        && first.gate == None
+        && first.gates.is_empty()
         && second.inputs == 2
-        && second.gate == Some((10, 32768))
+        && second.gates.as_slice() == [(10, 32768)].as_slice()
 }
 
 /// Whether the tables are those of `WHOLE`.

@@ -6,7 +6,7 @@ use Rattle.std.specs.Fmt.{digits}
 use Rattle.tally_base.specs.declared.header.Mode.TheVariants.{T2, T3}
 use Rattle.tally_base.specs.declared.header.RecordType.{RecordType}
 use Rattle.tally_base.specs.declared.header.RecordType.TheVariants.{PicoHarpT2, PicoHarpT3, HydraHarpT2, HydraHarpT3, HydraHarp2T2, HydraHarp2T3, TimeHarp260NT2, TimeHarp260NT3, TimeHarp260PT2, TimeHarp260PT3, MultiHarpT2, MultiHarpT3}
-use Rattle.tally_base.specs.declared.part.PartKind.TheVariants.{Gate, Coincidence}
+use Rattle.tally_base.specs.declared.part.PartKind.TheVariants.{Gate, Shift, Coincidence}
 use Rattle.tally_base.specs.declared.slot.Slot.TheVariants.{Plan, Data}
 use Rattle.tally_base.specs.declared.fault.Fault.TheVariants.{Usage, OpenFault, ReadFault, PlanRule, PlanMode, TruncatedHeader, TagType, TagLength, UnknownRecordType, TruncatedRecord, ReservedRecord, BackwardTime, RecordLimit, TimeLimit}
 use Rattle.tally_base.specs.Faults.{line_of}
@@ -29,6 +29,10 @@ row-rule = refl
 pub row-gate : line_of (PlanMode Gate 3 T2) ≡ codes "ptu: gate 3 does not suit T2\n"
 unfolding digits
 row-gate = refl
+
+pub row-shift : line_of (PlanMode Shift 1 T2) ≡ codes "ptu: shift 1 does not suit T2\n"
+unfolding digits
+row-shift = refl
 
 pub row-coincidence : line_of (PlanMode Coincidence 16 T3) ≡ codes "ptu: coincidence 16 does not suit T3\n"
 unfolding digits

@@ -9,7 +9,7 @@ use Rattle.tally_base.specs.declared.slot.Slot.TheVariants.{Plan, Data}
 use Rattle.tally_base.specs.declared.header.Mode.{Mode}
 use Rattle.tally_base.specs.declared.header.Mode.TheVariants.{T2, T3}
 use Rattle.tally_base.specs.declared.part.PartKind.{PartKind}
-use Rattle.tally_base.specs.declared.part.PartKind.TheVariants.{Gate, Histogram, StartStop, Coincidence, Image}
+use Rattle.tally_base.specs.declared.part.PartKind.TheVariants.{Gate, Shift, Histogram, StartStop, Coincidence, Image}
 use Rattle.tally_base.specs.declared.fault.Fault.{Fault}
 use Rattle.tally_base.specs.declared.fault.Fault.TheVariants.{Usage, OpenFault, ReadFault, WriteFault, OutOfMemory, PlanTooLong, PlanSyntax, PlanRule, PlanMode, BadMagic, TruncatedHeader, TagType, TagLength, NoRecordType, UnknownRecordType, HeaderLimit, TruncatedRecord, ReservedRecord, BackwardTime, RecordLimit, TimeLimit}
 
@@ -42,6 +42,7 @@ slot_name Data = codes "data"
 
 abbrev pub kind_name : PartKind → List ℕ
 kind_name Gate = codes "gate"
+kind_name Shift = codes "shift"
 kind_name Histogram = codes "histogram"
 kind_name StartStop = codes "startstop"
 kind_name Coincidence = codes "coincidence"

@@ -3,5 +3,6 @@ pub mod RecordTypes
 pub mod Faults
 pub mod Events
 pub mod FaultCounts
+pub mod Gates
 pub mod Settings
 pub mod Tally

@@ -1,7 +1,8 @@
 -- What a contract sees of the settings of a plan: their numbers alone, so that definitions can make them.
-use Rattle.std.specs.Prelude.{ℕ, ◌+◌, ◌-◌, ◌*◌, ◌/◌, Bool, true, false}
+use Rattle.std.specs.Prelude.{ℕ, ◌+◌, ◌-◌, ◌*◌, ◌/◌, Bool, true, false, List}
 use Rattle.std.specs.declared.option.Option.{Option}
 use Rattle.tally_base.specs.declared.settings.Group.{Group}
+use Rattle.tally_base.specs.declared.settings.ShiftSet.{ShiftSet}
 use Rattle.tally_base.specs.declared.settings.HistSet.{HistSet}
 use Rattle.tally_base.specs.declared.settings.TraceSet.{TraceSet}
 use Rattle.tally_base.specs.declared.settings.StartStopSet.{StartStopSet}
@@ -12,8 +13,13 @@ use Rattle.tally_base.specs.declared.settings.CorrelationSet.{CorrelationSet}
 pub record GroupView : Type 0 where
   -- bit n is set for the input n
   pub inputs : ℕ
-  -- the first dtime of the group, and the first behind those of the group
-  pub gate : Option (ℕ × ℕ)
+  -- of each gate the first dtime, and the first behind it
+  pub gates : List (ℕ × ℕ)
+
+pub record ShiftView : Type 0 where
+  pub input : ℕ
+  -- how many ticks are added to its dtimes
+  pub shift : ℕ
 
 pub record HistView : Type 0 where
   pub group : ℕ
@@ -47,6 +53,8 @@ pub record ImageView : Type 0 where
   pub line : ℕ
   pub frame : Option ℕ
   pub stop : Option ℕ
+  -- whether the odd rows are run through backwards
+  pub serpentine : Bool
 
 pub record CorrelationView : Type 0 where
   pub first : ℕ
@@ -55,7 +63,10 @@ pub record CorrelationView : Type 0 where
   pub levels : ℕ
 
 abbrev pub group_view : Group → GroupView
-group_view group = record { inputs = group.inputs; gate = group.gate }
+group_view group = record { inputs = group.inputs; gates = group.gates.items }
+
+abbrev pub shift_view : ShiftSet → ShiftView
+shift_view set = record { input = set.input; shift = set.shift }
 
 abbrev pub hist_view : HistSet → HistView
 hist_view set = record { group = set.group; width = set.width; bins = set.bins }
@@ -70,7 +81,7 @@ abbrev pub coincidence_view : CoincidenceSet → CoincidenceView
 coincidence_view set = record { first = set.first; second = set.second; reach = set.reach; width = set.width }
 
 abbrev pub image_view : ImageSet → ImageView
-image_view set = record { group = set.group; width = set.width; height = set.height; dwell = set.dwell; line = set.line; frame = set.frame; stop = set.stop }
+image_view set = record { group = set.group; width = set.width; height = set.height; dwell = set.dwell; line = set.line; frame = set.frame; stop = set.stop; serpentine = set.serpentine }
 
 abbrev pub correlation_view : CorrelationSet → CorrelationView
 correlation_view set = record { first = set.first; second = set.second; lags = set.lags; levels = set.levels }

@@ -282,6 +282,7 @@ fn kind_text(kind: PartKind) -> &'static str
 {
     match kind {
         PartKind::Gate => "gate",
+        PartKind::Shift => "shift",
         PartKind::Histogram => "histogram",
         PartKind::StartStop => "startstop",
         PartKind::Coincidence => "coincidence",

@@ -17,7 +17,7 @@ pub use header::{Header, Mode, RecordType};
 pub use line::{put_decimal, put_hexadecimal, put_signed, put_text};
 pub use part::PartKind;
 pub use settings::{
-    CoincidenceSet, CorrelationSet, Group, HistSet, ImageSet, StartStopSet, TraceSet,
+    CoincidenceSet, CorrelationSet, Group, HistSet, ImageSet, ShiftSet, StartStopSet, TraceSet,
 };
 pub use slot::{Failed, Slot};
 pub use steps::Steps;

@@ -2,6 +2,7 @@
 #[derive(Clone, Copy, Debug, PartialEq, Eq)]
 pub enum PartKind {
     Gate,
+    Shift,
     Histogram,
     StartStop,
     Coincidence,

@@ -1,17 +1,31 @@
 // The settings of the groups and tables of a plan. Each has its ranges as facts of its type.
 ghost use Rattle.std.specs.Prelude.{◌≡◌, ◌%◌, ◌^◌, ◌<◌, ◌≤◌};
 ghost use Rattle.std.specs.Option.{ForSome};
+ghost use Rattle.tally_base.specs.Gates.{AreGates, AreGates-prop};
 
-/// The photons of some inputs, and of a part of the dtimes.
-#[derive(Clone, Copy, Debug)]
+use arrayvec::ArrayVec;
+
+/// The photons of some inputs, and of some ranges of the dtimes.
+#[derive(Drop)]
 pub struct Group {
     /// Bit n is set for the input n, 0 to 64. There is at least one.
     pub inputs: u128,
-    /// The dtimes of the group, in ticks, from the first on and below the second, which is at most
-    /// 32,768. Without a gate every dtime is of the group.
-    pub gate: Option<(u16, u16)>,
+    /// The gates, ranges of the dtimes of the group in ticks, each from its first on and below its
+    /// second. They are at most 32,768, and rise. Without a gate every dtime is of the group.
+    pub gates: ArrayVec<(u16, u16), 8>,
     pub ghost some_inputs: { (0 < inputs) × (inputs < 2 ^ 65) },
-    pub ghost some_gate: { ForSome gate (λ g. (g.0 < g.1) × (g.1 ≤ 32768)) },
+    pub ghost rising_gates: { AreGates 0 gates.items } by { AreGates-prop 0 gates.items },
+}
+
+/// What is added to the dtimes of an input, modulo the period of the plan.
+#[derive(Clone, Copy, Debug)]
+pub struct ShiftSet {
+    /// The input, 0 to 64.
+    pub input: u8,
+    /// How many ticks are added, below 32,768.
+    pub shift: u16,
+    pub ghost of_input: { input ≤ 64 },
+    pub ghost some_shift: { shift < 32768 },
 }
 
 /// A histogram of the photons of a group by their dtimes.
@@ -97,6 +111,8 @@ pub struct ImageSet {
     pub frame: Option<u8>,
     /// The number of the marker bit that ends a line, 1 to 4.
     pub stop: Option<u8>,
+    /// Whether the odd rows are run through backwards, from the last column to the first.
+    pub serpentine: bool,
     pub ghost of_group: { (0 < group) × (group ≤ 64) },
     pub ghost some_width: { (0 < width) × (width ≤ 2048) },
     pub ghost some_height: { (0 < height) × (height ≤ 2048) },
@@ -129,8 +145,15 @@ impl Default for Group {
     fn default() -> Group {
         Group {
             inputs: 1,
-            gate: None,
+            gates: ArrayVec::new(),
         }
+    }
+}
+
+/// The input 0, to which nothing is added, which fills unused room.
+impl Default for ShiftSet {
+    fn default() -> ShiftSet {
+        ShiftSet { input: 0, shift: 0 }
     }
 }
 
@@ -192,6 +215,7 @@ impl Default for ImageSet {
             line: 1,
             frame: None,
             stop: None,
+            serpentine: false,
         }
     }
 }

@@ -69,6 +69,16 @@ fn lines_of_faults(rt: HostRuntime) {
         &rt,
         9,
         Fault::PlanMode {
+            kind: PartKind::Shift,
+            index: 65,
+            mode: Mode::T2,
+        },
+        "ptu: shift 65 does not suit T2\n",
+    );
+    says(
+        &rt,
+        9,
+        Fault::PlanMode {
             kind: PartKind::Histogram,
             index: 1,
             mode: Mode::T2,

@@ -2,7 +2,7 @@
 use Rattle.std.specs.Prelude.{ℕ, pos, Bool, true, false, ◌&&◌, ◌||◌, nat_le, List, [], ◌∷◌, Option, None, Some, is_some, option_and_then, if◌then◌else◌}
 use Rattle.std.specs.List.{list_all}
 use Rattle.std.specs.Str.{bytes_eq}
-use Rattle.toml.specs.Data.{Data, integer, table, Items, no_items, item, Members, no_members, member, get, as_array, as_table, as_str}
+use Rattle.toml.specs.Data.{Data, integer, table, Items, no_items, item, Members, no_members, member, get, as_array, as_table, as_str, as_bool}
 
 -- the members of an array
 abbrev pub list_of : Items → List Data
@@ -70,6 +70,11 @@ number_in least greatest (Some d) = integer_in least greatest d
 abbrev pub number_or : ℕ → ℕ → ℕ → Option Data → Option ℕ
 number_or default least greatest None = Some default
 number_or default least greatest (Some d) = integer_in least greatest d
+
+-- the truth value of a value that may be left out
+abbrev pub truth_or : Bool → Option Data → Option Bool
+truth_or default None = Some default
+truth_or default (Some d) = as_bool d
 
 -- which of two words a value is, if it is a text: false is the first, true the second
 abbrev pub second_word : List ℕ → List ℕ → Option (List ℕ) → Option Bool

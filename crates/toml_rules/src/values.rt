@@ -3,7 +3,7 @@ ghost use Rattle.std.specs.Prelude.{◌≡◌, ◌≤◌, map, IfSome};
 ghost use Rattle.std.specs.List.{list_all};
 ghost use Rattle.toml.specs.Data.{get};
 ghost use Rattle.toml.specs.View.{view, table_view};
-ghost use Rattle.toml_rules.specs.Values.{list_at, is_table, may_be_tables, is_one_of, members_within, has_each, has_keys, integer_in, number_in, number_or, second_of};
+ghost use Rattle.toml_rules.specs.Values.{list_at, is_table, may_be_tables, is_one_of, members_within, has_each, has_keys, integer_in, number_in, number_or, truth_or, second_of};
 
 use toml::{Table, Value};
 
@@ -61,6 +61,17 @@ pub fn number_or(table: &Value, key: &str, default: u64, least: u64, greatest: u
 {
     match table.get(key) {
         Some(value) => integer_in(value, least, greatest),
+        None => Some(default),
+    }
+}
+
+/// The truth value at a key. Where nothing stands at the key, it is the default. None, where another
+/// value stands there.
+pub fn truth_or(table: &Value, key: &str, default: bool) -> Option<bool>
+    ensures { result ≡ truth_or default (get key.now (view table.now)) }
+{
+    match table.get(key) {
+        Some(value) => value.as_bool(),
         None => Some(default),
     }
 }

@@ -1,6 +1,6 @@
 use Rattle.std.proofs.Common.{◌∙◌, ap, sym, refl, Err}
 use Rattle.plan_text.proofs.Documents.{plan_answer_long, answer_none, answer_some}
-use Rattle.plan_text.proofs.plan.read_plan.Goals as goal
+use Rattle.plan_text.proofs.read.read_plan.Goals as goal
 
 pub returns-then-bytes-gt-TEXT_LIMIT-clause-answer : goal.returns-then-bytes-gt-TEXT_LIMIT-clause-answer
 returns-then-bytes-gt-TEXT_LIMIT-clause-answer c _ = sym (plan_answer_long c.args.bytes.now c.if-bytes-gt-TEXT_LIMIT.true)

@@ -4,7 +4,7 @@ use Rattle.toml_rules.proofs.Least.{names_least, all_kept_nowhere, all_kept_insi
 use Rattle.plan_text.specs.Plan.{plan_rules}
 use Rattle.plan_text.proofs.Rise.{plan_rules_rise}
 use Rattle.plan_text.proofs.Whole.{plan_is_whole}
-use Rattle.plan_text.proofs.plan.plan_by_rules.Goals as goal
+use Rattle.plan_text.proofs.read.plan_by_rules.Goals as goal
 
 pub returns-in-Err-clause-refused : goal.returns-in-Err-clause-refused
 returns-in-Err-clause-refused c = names_least 0 _ _ (plan_rules_rise (view c.args.document.now)) (sym c.in-Err.ensures.kept)

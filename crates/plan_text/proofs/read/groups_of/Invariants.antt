@@ -3,11 +3,11 @@ use Rattle.arrayvec.specs.ArrayVec.{array_vec_len}
 use Rattle.toml.specs.View.{view}
 use Rattle.tally_base.specs.Settings.{group_view}
 use Rattle.plan_text.specs.Groups.{group}
-use Rattle.plan_text.proofs.plan.groups_of.Given as goal
+use Rattle.plan_text.proofs.read.groups_of.Given as goal
 
 abbrev pub invariant-items : goal.invariant-items
 invariant-items l = record {
   room : array_vec_len l.found ≤ l.item-index;
   few : length l.items ≤ 64;
-  so_far : map group_view l.found.items ++ filter_map group (map view (drop l.item-index l.items)) ≡ filter_map group (map view l.items);
+  so_far : map group_view l.found.items ++ filter_map (group (view l.document)) (map view (drop l.item-index l.items)) ≡ filter_map (group (view l.document)) (map view l.items);
 }

@@ -1,0 +1,194 @@
+// How a plan is read.
+ghost use Rattle.std.specs.Prelude.{◌≡◌, ◌≤◌, ◌<◌, ◌≢◌, map, filter_map, length, IfOk, IfErr, OnOk, Some, None, Err, unwrap_or, ◌^◌, false};
+ghost use Rattle.tally_base.specs.Faults.{is_outside};
+ghost use Rattle.toml.specs.Data.{Members, table};
+ghost use Rattle.toml.specs.View.{view};
+ghost use Rattle.tally_base.specs.Settings.{group_view};
+ghost use Rattle.toml_rules.specs.Rules.{all_kept, Names, AllHold};
+ghost use Rattle.plan_text.specs.Groups.{groups, group};
+ghost use Rattle.plan_text.specs.Document.{order, reserved, records, HasFewTables};
+ghost use Rattle.plan_text.specs.Kinds.{table_lists};
+ghost use Rattle.plan_text.specs.Plan.{order_of, reserved_of, plan_rules, lists_kept, plan, IsWhole};
+ghost use Rattle.plan_text.specs.Reading.{document, plan_answer, plan_view, plan_seen, if_kept, IsCalledFor, IsValid};
+
+use crate::document::{keeps_document_rules, order, records, reserved};
+use crate::groups::{group, keeps_group_rules};
+use crate::kind::{keeps_kind_rules, list_of};
+use crate::plan::Plan;
+use crate::shifts::{keeps_shift_rules, period_or_one, shifts_of};
+use arrayvec::ArrayVec;
+use std::alloc::Global;
+use tally_base::{
+    CoincidenceSet, CorrelationSet, Fault, Group, HistSet, ImageSet, OnReserved, Order, Policy,
+    StartStopSet, TraceSet,
+};
+use toml::Value;
+use toml_rules::list_at;
+
+/// The most bytes of a plan.
+pub const TEXT_LIMIT: usize = 65_536;
+
+/// Reads a plan, a TOML document of at most 65,536 bytes. It is refused, by the first that applies,
+///
+/// - with `PlanTooLong`, where there are more bytes, which are not looked at;
+/// - with `PlanSyntax`, where the bytes are no TOML document;
+/// - with `PlanRule`, where a rule is broken: the least such rule, and under it the least index;
+///
+/// and with `OutOfMemory`, where memory for a document that is not too long is wanting.
+pub fn read_plan(alloc: Global, bytes: &[u8]) -> Result<Plan, Fault>
+    ensures answer { result ≢ Err Fault.OutOfMemory → plan_seen result ≡ plan_answer bytes.now }
+    ensures refused { IfErr result (IsCalledFor bytes.now) }
+    ensures valid { OnOk result (IsValid bytes.now) }
+    ensures records { IfOk result (λ plan. (0 < plan.policy.records) × (plan.policy.records ≤ 2 ^ 40)) }
+    ensures inside { IfErr result (λ fault. fault ≢ Fault.OutOfMemory → is_outside fault ≡ false) }
+{
+    if TEXT_LIMIT < bytes.len() {
+        return Err(Fault::PlanTooLong);
+    }
+    match read_document(alloc, bytes) {
+        Ok(document) => plan_by_rules(&document),
+        Err(fault) => Err(fault),
+    }
+}
+
+/// The plan of a document that keeps the rules.
+fn plan_by_rules(document: &Value) -> Result<Plan, Fault>
+    ensures answer { plan_seen result ≡ if_kept (all_kept (plan_rules (view document.now))) (plan (view document.now)) }
+    ensures refused { IfErr result (Names (plan_rules (view document.now))) }
+    ensures valid { OnOk result (AllHold (plan_rules (view document.now))) }
+    ensures whole { OnOk result (IsWhole (view document.now)) }
+    ensures records { IfOk result (λ plan. (0 < plan.policy.records) × (plan.policy.records ≤ 2 ^ 40)) }
+    ensures inside { IfErr result (λ fault. is_outside fault ≡ false) }
+{
+    match keeps_rules(document) {
+        Ok(()) => Ok(plan_of(document)),
+        Err(fault) => Err(fault),
+    }
+}
+
+/// The table that the bytes are as a TOML document.
+#[tactic(auto, using(crate::proofs::Documents::document_of_text))]
+fn read_document(alloc: Global, bytes: &[u8]) -> Result<Value, Fault>
+    ensures ok { IfOk result (λ value. (ms : Members) × (document bytes.now ≡ Some ms) × (view value ≡ table ms)) }
+    ensures refused { IfErr result (λ fault. fault ≢ Fault.OutOfMemory → (fault ≡ Fault.PlanSyntax) × (document bytes.now ≡ None)) }
+{
+    let text = match std::str::from_utf8(bytes) {
+        Ok(text) => text,
+        Err(_) => return Err(Fault::PlanSyntax),
+    };
+    match toml::table_from_str(alloc, text) {
+        Ok(table) => Ok(Value::Table(table)),
+        Err(error) => {
+            if error.is_memory() {
+                Err(Fault::OutOfMemory)
+            } else {
+                Err(Fault::PlanSyntax)
+            }
+        }
+    }
+}
+
+/// All rules, in their order.
+#[tactic(auto, using(crate::proofs::Whole::plan_kept))]
+fn keeps_rules(document: &Value) -> Result<(), Fault>
+    ensures kept { result ≡ all_kept (plan_rules (view document.now)) }
+    ensures few { OnOk result (HasFewTables (view document.now)) }
+{
+    keeps_document_rules(document)?;
+    keep_rules_of_lists(document)?;
+    Ok(())
+}
+
+/// The rules on each list of tables.
+fn keep_rules_of_lists(document: &Value) -> Result<(), Fault>
+    requires few { HasFewTables (view document.now) }
+    ensures { result ≡ lists_kept table_lists (view document.now) }
+{
+    keeps_group_rules(document)?;
+    keeps_kind_rules::<HistSet>(document)?;
+    keeps_kind_rules::<TraceSet>(document)?;
+    keeps_kind_rules::<StartStopSet>(document)?;
+    keeps_kind_rules::<CoincidenceSet>(document)?;
+    keeps_kind_rules::<ImageSet>(document)?;
+    keeps_kind_rules::<CorrelationSet>(document)?;
+    keeps_shift_rules(document)?;
+    Ok(())
+}
+
+/// The plan that a valid document gives.
+#[tactic(auto, unfolding(crate::specs::Plan::plan))]
+fn plan_of(document: &Value) -> Plan
+    requires few { HasFewTables (view document.now) }
+    ensures plan { plan_view result ≡ plan (view document.now) }
+    ensures records { (0 < result.policy.records) × (result.policy.records ≤ 2 ^ 40) }
+{
+    Plan {
+        policy: policy_of(document),
+        period: period_or_one(document) as u32,
+        shifts: shifts_of(document),
+        groups: groups_of(document, list_at(document, "group")),
+        histograms: list_of(document),
+        traces: list_of(document),
+        startstops: list_of(document),
+        coincidences: list_of(document),
+        images: list_of(document),
+        correlations: list_of(document),
+    }
+}
+
+/// Which records the document refuses.
+fn policy_of(document: &Value) -> Policy
+    ensures order { result.order ≡ order_of (order (view document.now)) }
+    ensures reserved { result.reserved ≡ reserved_of (reserved (view document.now)) }
+    ensures records { result.records ≡ unwrap_or (records (view document.now)) (2 ^ 40) }
+    ensures range { (0 < result.records) × (result.records ≤ 2 ^ 40) }
+{
+    let order = order_of(order(document));
+    let reserved = reserved_of(reserved(document));
+    match records(document) {
+        Some(records) => Policy {
+            order,
+            reserved,
+            records,
+        },
+        None => Policy {
+            order,
+            reserved,
+            records: 1 << 40,
+        },
+    }
+}
+
+/// Late events are left out, where the document does not say that they stop the run.
+fn order_of(stops: Option<bool>) -> Order
+    ensures { result ≡ order_of stops }
+{
+    match stops {
+        Some(true) => Order::Stop,
+        _ => Order::Drop,
+    }
+}
+
+/// Reserved records are left out, where the document does not say that they stop the run.
+fn reserved_of(stops: Option<bool>) -> OnReserved
+    ensures { result ≡ reserved_of stops }
+{
+    match stops {
+        Some(true) => OnReserved::Stop,
+        _ => OnReserved::Skip,
+    }
+}
+
+/// The groups of the tables that give one, in their order.
+fn groups_of(document: &Value, items: &[Value]) -> ArrayVec<Group, 64>
+    requires few { length items.now ≤ 64 }
+    ensures { map group_view result.items ≡ filter_map (group (view document.now)) (map view items.now) }
+{
+    let mut found: ArrayVec<Group, 64> = ArrayVec::new();
+    'items: for item in items {
+        if let Some(part) = group(document, item) {
+            found.push(part);
+        }
+    }
+    found
+}

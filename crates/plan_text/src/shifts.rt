@@ -1,0 +1,137 @@
+// The period of the dtimes, and the shifts of a plan.
+ghost use Rattle.std.specs.Prelude.{◌≡◌, ◌<◌, ◌≤◌, map, filter_map, length, is_some, option_map, IfSome};
+ghost use Rattle.toml.specs.View.{view};
+ghost use Rattle.tally_base.specs.Settings.{shift_view};
+ghost use Rattle.toml_rules.specs.Rules.{all_kept, kept, each};
+ghost use Rattle.plan_text.specs.Shifts.{shifts, period, period_or_one, shift, input_behind, shifts_from, all_shifts, has_shift_keys, shift_rules};
+
+use arrayvec::ArrayVec;
+use tally_base::{Fault, ShiftSet};
+use toml::Value;
+use toml_rules::{ListRule, each, has_keys, held, integer_in, list_at, number_in};
+
+/// The period of the dtimes in ticks. It may be left out where there is no shift, and is 1 then.
+#[tactic(auto, unfolding(crate::specs::Shifts::period))]
+fn period(document: &Value) -> Option<u64>
+    ensures number { result ≡ period (view document.now) }
+    ensures range { IfSome result (λ n. (1 ≤ n) × (n ≤ 32768)) }
+{
+    match document.get("period") {
+        Some(value) => integer_in(value, 1, 32768),
+        None => {
+            if list_at(document, "shift").is_empty() {
+                Some(1)
+            } else {
+                None
+            }
+        }
+    }
+}
+
+/// The period by which the shifts are read.
+#[tactic(auto, unfolding(crate::specs::Shifts::period_or_one))]
+pub(crate) fn period_or_one(document: &Value) -> u64
+    ensures number { result ≡ period_or_one (view document.now) }
+    ensures range { (1 ≤ result) × (result ≤ 32768) }
+{
+    match period(document) {
+        Some(period) => period,
+        None => 1,
+    }
+}
+
+/// The shift that a table gives, of an input from `low` on.
+#[tactic(auto, unfolding(crate::specs::Shifts::shift))]
+fn shift(period: u64, low: u64, table: &Value) -> Option<ShiftSet>
+    requires { (1 ≤ period) × (period ≤ 32768) }
+    ensures { option_map shift_view result ≡ shift period low (view table.now) }
+{
+    let Some(input) = number_in(table, "input", low, 64) else {
+        return None;
+    };
+    let Some(shift) = number_in(table, "shift", 0, period - 1) else {
+        return None;
+    };
+    Some(ShiftSet {
+        input: input as u8,
+        shift: shift as u16,
+    })
+}
+
+/// The least input that may follow a shift.
+fn input_behind(set: Option<ShiftSet>) -> u64
+    ensures { result ≡ input_behind (option_map shift_view set) }
+{
+    match set {
+        Some(set) => set.input as u64 + 1,
+        None => 0,
+    }
+}
+
+/// A shift has exactly the keys `input` and `shift`.
+struct ShiftKeys;
+
+impl ListRule for ShiftKeys {
+    ghost asks = { λ d. has_shift_keys };
+
+    #[tactic(auto, unfolding(crate::specs::Shifts::has_shift_keys))]
+    fn is_met(_document: &Value, item: &Value) -> bool {
+        has_keys(item, &["input", "shift"], &[])
+    }
+}
+
+/// Each of the tables gives a shift, of a greater input than the one before. Refused with the rule and the
+/// number of the first, from 1, that gives none.
+fn each_is_read(rule: u8, period: u64, items: &[Value]) -> Result<(), Fault>
+    requires period { (1 ≤ period) × (period ≤ 32768) }
+    requires few { length items.now ≤ 255 }
+    ensures { result ≡ kept (each rule (λ set. is_some set) (shifts_from period 0 (map view items.now))) }
+{
+    let mut index: u16 = 1;
+    let mut low: u64 = 0;
+    'items: for item in items {
+        let set = shift(period, low, item);
+        held(rule, index, set.is_some())?;
+        low = input_behind(set);
+        index += 1;
+    }
+    Ok(())
+}
+
+/// Goes through the rules on the period and the shifts, 23 to 25.
+#[tactic(auto, unfolding(crate::specs::Shifts::shift_rules, crate::specs::Shifts::all_shifts))]
+pub(crate) fn keeps_shift_rules(document: &Value) -> Result<(), Fault>
+    requires few { length (shifts (view document.now)) ≤ 65 }
+    ensures { result ≡ all_kept (shift_rules (view document.now)) }
+{
+    held(23, 0, period(document).is_some())?;
+    each::<ShiftKeys>(24, document, "shift")?;
+    each_is_read(25, period_or_one(document), list_at(document, "shift"))
+}
+
+/// The shifts of the tables that give one, each of a greater input than the one before.
+fn shifts_in(period: u64, items: &[Value]) -> ArrayVec<ShiftSet, 65>
+    requires period { (1 ≤ period) × (period ≤ 32768) }
+    requires few { length items.now ≤ 65 }
+    ensures { map shift_view result.items ≡ filter_map (λ set. set) (shifts_from period 0 (map view items.now)) }
+{
+    let mut found: ArrayVec<ShiftSet, 65> = ArrayVec::new();
+    let mut low: u64 = 0;
+    'items: for item in items {
+        let set = shift(period, low, item);
+        low = input_behind(set);
+        if let Some(set) = set {
+            found.push(set);
+        }
+    }
+    found
+}
+
+/// The shifts of the document.
+#[tactic(auto, unfolding(crate::specs::Shifts::all_shifts))]
+pub(crate) fn shifts_of(document: &Value) -> ArrayVec<ShiftSet, 65>
+    requires few { length (shifts (view document.now)) ≤ 65 }
+    ensures { map shift_view result.items ≡ filter_map (λ set. set) (all_shifts (view document.now)) }
+{
+    shifts_in(period_or_one(document), list_at(document, "shift"))
+}
