@@ -8,4 +8,6 @@ mod trace;
 pub use trace::Trace;
 
 #[cfg(test)]
+mod greatest_tests;
+#[cfg(test)]
 mod tests;

@@ -20,15 +20,15 @@ const GREAT: u64 = 1 << 62;
 const END: u64 = GREAT + (1 << 28);
 
 /// An event with its time and its groups.
-type Given = (u64, EventKind, u64);
+pub(crate) type Given = (u64, EventKind, u64);
 
 /// A photon of group 1 alone.
-fn photon(time: u64) -> Given {
+pub(crate) fn photon(time: u64) -> Given {
     (time, PHOTON, 1)
 }
 
 /// A trace of group 1.
-fn of_first(origin: u64, width: u64, bins: u32) -> TraceSet
+pub(crate) fn of_first(origin: u64, width: u64, bins: u32) -> TraceSet
     requires origin { origin ≤ 2 ^ 62 }
     requires some_width { (0 < width) × (width ≤ 2 ^ 62) }
     requires some_bins { (0 < bins) × (bins ≤ 2 ^ 20) }
@@ -43,7 +43,7 @@ fn of_first(origin: u64, width: u64, bins: u32) -> TraceSet
 }
 
 /// A closed trace that was given these events.
-fn filled<L: Ledger>(
+pub(crate) fn filled<L: Ledger>(
     alloc: Global,
     blank: Blank,
     set: TraceSet,

@@ -139,7 +139,7 @@ impl Tally for Trace {
 
     ghost floor = { λ t. t.floor };
 
-    // The bin of the last photon is an entry, beside the cells and the two rest counts.
+    // The bin of the last event is an entry, beside the cells and the two rest counts.
     ghost held = { λ t. length t.cells.items + 3 };
 
     ghost settings = { settings };

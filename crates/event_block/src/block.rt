@@ -22,7 +22,7 @@ pub struct Block {
 }
 
 impl Block {
-    ghost use Rattle.std.specs.Prelude.{◌≡◌, ◌+◌, ◌<◌, ◌++◌, ◌∷◌, ◌&&◌, [], length, ℕ, nat_lt, if◌then◌else◌};
+    ghost use Rattle.std.specs.Prelude.{◌≡◌, ◌≢◌, ◌+◌, ◌<◌, ◌++◌, ◌∷◌, ◌&&◌, [], length, ℕ, nat_lt, slice_index, if◌then◌else◌};
     ghost use Rattle.tally_base.specs.Events.{is_in};
     ghost use Rattle.event_block.specs.Columns.{count, sorted, event_at, groups_at, code_at, dtime_at, time_at, item, gathered, event_by, written};
     ghost use Rattle.event_block.specs.Order.{floor_after};
@@ -182,6 +182,19 @@ impl Block {
         self.len = at + 1;
     }
 
+    /// Gives the event at a place, from 0, another dtime. That of a marker has no meaning.
+    #[inline(always)]
+    pub fn set_dtime(&mut self, at: usize, dtime: u16)
+        requires inside { at < count self.old }
+        ensures there { event_at self.new at ≡ event_by (event_at self.old at).place
+            (code_at self.old at) dtime (time_at self.old at) }
+        ensures others { (i : ℕ) → i ≢ at → event_at self.new i ≡ event_at self.old i }
+        ensures count { count self.new ≡ count self.old }
+        ensures unsorted { sorted self.new ≡ sorted self.old }
+    {
+        self.dtimes[at] = dtime;
+    }
+
     /// Puts the groups of the event at a place, from 0, once those before it have theirs. A marker has none.
     #[inline(always)]
     pub fn put(&mut self, at: usize, groups: u64)
@@ -196,6 +209,21 @@ impl Block {
     {
         self.groups[at] = groups;
         self.sorted = at + 1;
+    }
+
+    /// Puts the groups of all events, each at its place. A marker has none. What stands behind the last event
+    /// has no meaning.
+    #[inline(always)]
+    pub fn put_all(&mut self, groups: &[u64; 64])
+        requires { (i : ℕ) → i < count self.old → 256 ≤ code_at self.old i
+            → slice_index groups.now i ≡ 0 }
+        ensures same { (i : ℕ) → event_at self.new i ≡ event_at self.old i }
+        ensures count { count self.new ≡ count self.old }
+        ensures there { (i : ℕ) → groups_at self.new i ≡ slice_index groups.now i }
+        ensures sorted { sorted self.new ≡ count self.old }
+    {
+        self.groups = *groups;
+        self.sorted = self.len;
     }
 
     /// Drops all events.

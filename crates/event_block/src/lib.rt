@@ -2,7 +2,5 @@
 #![tactic(auto)]
 
 mod block;
-mod give;
 
 pub use block::Block;
-pub use give::give_block;

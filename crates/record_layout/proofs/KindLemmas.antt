@@ -1,5 +1,5 @@
 -- How many of some words are of each kind.
-use Rattle.std.proofs.Common.{◌≡◌, ◌+◌, ◌-◌, ◌≤◌, ℕ, List, [], ◌∷◌, ◌++◌, Bool, cond, length, map, refl, sym, ap, ◌∙◌, arith}
+use Rattle.std.proofs.Common.{◌≡◌, ◌+◌, ◌-◌, ◌<◌, ◌≤◌, ℕ, zero, suc, get_or, take, List, [], ◌∷◌, ◌++◌, Bool, cond, length, map, refl, sym, ap, ◌∙◌, arith}
 use Rattle.std.specs.Prelude.{count_by}
 use Rattle.std.specs.Int.{from_le_bytes, w32}
 use Rattle.std.proofs.lemmas.List.{length-append, length-map}
@@ -15,6 +15,17 @@ count_by-append p xs ys = sum_by-append (λ x. cond (p x) 1 0) xs ys
 
 count_by-cons : {X : Type 0} (p : X → Bool) (x : X) (xs : List X) → count_by p (x ∷ xs) ≡ cond (p x) 1 0 + count_by p xs
 count_by-cons p x xs = let e = count_by-append p (x ∷ []) xs in omega (arith, e)
+
+-- one element more
+pub count-more : {X : Type 0} (p : X → Bool) (xs : List X) (i : ℕ) (d : X) → i < length xs → count_by p (take (i + 1) xs) ≡ count_by p (take i xs) + cond (p (get_or xs i d)) 1 0
+count-more p xs i d lt = let e : i + 1 ≡ suc i = omega arith in rw e (one-more p xs i d lt)
+  where
+    one-more : {X : Type 0} (p : X → Bool) (xs : List X) (i : ℕ) (d : X) → i < length xs → count_by p (take (suc i) xs) ≡ count_by p (take i xs) + cond (p (get_or xs i d)) 1 0
+    one-more p [] i d lt = absurd (omega (arith, lt))
+    one-more p (x ∷ xs) zero d lt = omega (arith, count_by-cons p x [])
+    one-more p (x ∷ xs) (suc i) d lt =
+        let more = one-more p xs i d (omega (arith, lt)) in
+        omega (arith, more, count_by-cons p x (take (suc i) xs), count_by-cons p x (take i xs))
 
 -- each record is of one kind
 pub counts_of-split : (records : List Raw) → IsSplit (counts_of records)

@@ -1,6 +1,7 @@
 pub mod BegunLemmas
 mod FieldLemmas
 mod KindLemmas
+mod CodeLemmas
 mod RowLemmas
 mod Growing
 mod Rows

@@ -1,5 +1,6 @@
 -- Records by their parts in columns.
-use Rattle.std.specs.Prelude.{ℕ, ◌≡◌, slice_index}
+use Rattle.std.specs.Prelude.{ℕ, ◌*◌, ◌≡◌, ◌<◌, [], List, length, slice_index, slice_index_or}
+use Rattle.std.specs.Int.{from_le_bytes, w32}
 use Rattle.ptu_definitions.specs.declared.records.Raw.{Raw}
 use Rattle.ptu_definitions.specs.Times.{amount}
 use Rattle.record_layout.specs.Rowed.{raw_of}
@@ -11,10 +12,15 @@ pub record IsRow (meaning : ℕ → Raw) (row : Row) (word : ℕ) : Type 0 where
   pub raw : raw_of row ≡ meaning word
   pub amounts : row.amount ≡ amount (meaning word)
 
-abbrev pub row_at : Columns → ℕ → Row
-row_at rows i = record {
+-- the record at a place, where a wrap adds a unit
+abbrev pub row_at : ℕ → Columns → ℕ → Row
+row_at unit rows i = record {
   code = slice_index rows.codes i;
   time = slice_index rows.times i;
   dtime = slice_index rows.dtimes i;
-  amount = slice_index rows.amounts i;
+  amount = unit * slice_index rows.wraps i;
 }
+
+-- The columns have the records of these words.
+abbrev pub HasRows : (ℕ → Raw) → ℕ → Columns → List (List ℕ) → Type 0
+HasRows meaning unit rows words = (i : ℕ) → i < length words → IsRow meaning (row_at unit rows i) (from_le_bytes w32 (slice_index_or words i []))

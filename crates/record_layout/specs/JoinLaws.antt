@@ -8,6 +8,7 @@ use Rattle.ptu_definitions.specs.declared.records.Raw.{Raw}
 use Rattle.ptu_definitions.specs.declared.records.Raw.TheVariants.{Photon}
 use Rattle.ptu_definitions.specs.Layouts.{bits, pico_t2, pico_t3, hydra_t2, hydra_t3, hydra_t2_special, hydra_t3_special}
 use Rattle.record_layout.specs.Parts.{fields_in}
+use Rattle.record_layout.specs.Rowed.{hydra_t2_unit}
 use Rattle.record_layout.specs.Joins.{joined_pico_t2, joined_pico_t3, joined_hydra_t2, joined_hydra_t3}
 
 -- a shift and a mask take the bits of a field
@@ -62,3 +63,7 @@ hydra_t2-is_join old word small = rw (bit_and-lowest word 25) (top_seven (λ cha
 pub hydra_t3-is_join : (old : Bool) (word : ℕ) → word < 2 ^ 32 → hydra_t3 old word ≡ joined_hydra_t3 old (fields_in 25 10 (2 ^ 15 - 1) (2 ^ 10 - 1) word)
 unfolding hydra_t3
 hydra_t3-is_join old word small = rw (bit_and-lowest word 10, bit_and-shifted word 10 15) (top_seven (λ channel. Photon channel (bits word 0 10) (bits word 10 15)) (λ channel. hydra_t3_special old channel (bits word 0 10)) word small)
+
+pub hydra_t2-unit_small : (old : Bool) → hydra_t2_unit old < 2 ^ 28
+hydra_t2-unit_small true = omega arith
+hydra_t2-unit_small false = omega arith

@@ -1,8 +1,8 @@
 -- What a record says, by its parts, and the parts by the fields of its word.
-use Rattle.std.specs.Prelude.{ℕ, ◌+◌, ◌%◌, ◌==◌, Bool, nat_lt, nat_le, if◌then◌else◌}
+use Rattle.std.specs.Prelude.{ℕ, ◌+◌, ◌%◌, ◌==◌, Bool, true, false, nat_lt, nat_le, if◌then◌else◌}
 use Rattle.ptu_definitions.specs.declared.records.Raw.{Raw}
 use Rattle.ptu_definitions.specs.declared.records.Raw.TheVariants.{Photon, Marker, Wrap, Reserved}
-use Rattle.ptu_definitions.specs.Layouts.{hydra_t2_wrap, hydra_t3_wrap}
+use Rattle.ptu_definitions.specs.Layouts.{hydra_t2_wrap, hydra_t3_wrap, wraps_in}
 use Rattle.ptu_definitions.specs.Times.{amount}
 use Rattle.record_layout.specs.declared.row.Row.{Row}
 
@@ -45,3 +45,15 @@ pico_code channel marker =
 
 abbrev pub pico_amount : ℕ → ℕ → ℕ → ℕ
 pico_amount unit channel marker = if channel == 15 then (if marker == 0 then unit else 0) else 0
+
+-- how much later the times behind a wrap are
+abbrev pub hydra_t2_unit : Bool → ℕ
+hydra_t2_unit true = 33552000
+hydra_t2_unit false = 33554432
+
+-- how many wraps a record stands for
+abbrev pub hydra_wraps : Bool → ℕ → ℕ → ℕ
+hydra_wraps old top time = if top == 127 then (if old then 1 else wraps_in time) else 0
+
+abbrev pub pico_wraps : ℕ → ℕ → ℕ
+pico_wraps channel marker = if channel == 15 then (if marker == 0 then 1 else 0) else 0

@@ -1,9 +1,13 @@
 // The records of a few words, by their parts.
-ghost use Rattle.std.specs.Prelude.{◌≡◌, ◌<◌, ◌≤◌, ℕ, [], length, slice_index_or};
+ghost use Rattle.std.specs.Prelude.{◌≡◌, ◌*◌, ◌<◌, ◌≤◌, ℕ, [], length, map, slice_index_or};
 ghost use Rattle.std.specs.Int.{from_le_bytes, w32};
+ghost use Rattle.ptu_definitions.specs.Fours.{numbers};
+ghost use Rattle.ptu_definitions.specs.Kinds.{counts_of};
+ghost use Rattle.record_layout.specs.Sums.{IsSplit};
 
 use crate::layout::RecordLayout;
 use crate::row::Row;
+use ptu_definitions::KindCounts;
 
 /// The records of up to 64 words by their parts, each part in a column, so that the compiler takes several
 /// words at once.
@@ -12,11 +16,12 @@ pub struct Columns {
     codes: [u16; 64],
     times: [u32; 64],
     dtimes: [u16; 64],
-    amounts: [u64; 64],
+    // How many wraps each record stands for: narrower than how much later the times behind it are.
+    wraps: [u32; 64],
 }
 
 impl Columns {
-    ghost use Rattle.record_layout.specs.InColumns.{IsRow, row_at};
+    ghost use Rattle.record_layout.specs.InColumns.{HasRows, IsRow, row_at};
 
     /// Columns for records, which say nothing yet.
     pub fn new() -> Columns {
@@ -24,7 +29,7 @@ impl Columns {
             codes: [0; 64],
             times: [0; 64],
             dtimes: [0; 64],
-            amounts: [0; 64],
+            wraps: [0; 64],
         }
     }
 
@@ -33,39 +38,69 @@ impl Columns {
     #[inline(always)]
     pub fn fill<R: RecordLayout>(&mut self, words: &[[u8; 4]])
         requires { length words.now ≤ 64 }
-        ensures { (i : ℕ) → i < length words.now → IsRow R.meaning (row_at self.new i)
-            (from_le_bytes w32 (slice_index_or words.now i [])) }
+        ensures { HasRows R.meaning R.UNIT self.new words.now }
     {
         for i in 0..words.len() {
-            let row = R::row(u32::from_le_bytes(words[i]));
-            self.put(i, &row);
+            let word = u32::from_le_bytes(words[i]);
+            let row = R::row(word);
+            self.put(i, &row, R::wraps(word));
         }
     }
 
-    /// Puts the record of the word at a place, 0 to 63.
+    /// Puts the record of the word at a place, 0 to 63, with how many wraps it stands for.
     #[inline(always)]
-    fn put(&mut self, at: usize, row: &Row)
+    fn put(&mut self, at: usize, row: &Row, wraps: u32)
         requires { at < 64 }
-        ensures there { row_at self.new at ≡ row.now }
-        ensures before { (i : ℕ) → i < at → row_at self.new i ≡ row_at self.old i }
+        ensures there { (unit : ℕ) → unit * wraps ≡ row.now.amount
+            → row_at unit self.new at ≡ row.now }
+        ensures before { (unit i : ℕ) → i < at → row_at unit self.new i ≡ row_at unit self.old i }
     {
         self.codes[at] = row.code;
         self.times[at] = row.time;
         self.dtimes[at] = row.dtime;
-        self.amounts[at] = row.amount;
+        self.wraps[at] = wraps;
+    }
+
+    /// How many of the words are of each kind whose records it has. It reads their codes alone.
+    #[inline(always)]
+    pub fn kinds<R: RecordLayout>(&self, words: &[[u8; 4]]) -> KindCounts
+        requires few { length words.now ≤ 64 }
+        requires rows { HasRows R.meaning R.UNIT self.now words.now }
+        ensures value { result ≡ counts_of (map R.meaning (numbers words.now)) }
+        ensures records { result.records ≡ length words.now }
+        ensures split { IsSplit result }
+    {
+        let mut photons = 0u16;
+        let mut markers = 0u16;
+        let mut wraps = 0u16;
+        for i in 0..words.len() {
+            let code = self.codes[i];
+            photons += (code < 256) as u16;
+            markers += ((256 <= code) & (code < 512)) as u16;
+            wraps += (code == 512) as u16;
+        }
+        let records = words.len() as u64;
+        let others = photons as u64 + markers as u64 + wraps as u64;
+        KindCounts {
+            records,
+            photons: photons as u64,
+            markers: markers as u64,
+            wraps: wraps as u64,
+            reserved: records - others,
+        }
     }
 
     /// The record of the word at a place, 0 to 63.
     #[inline(always)]
-    pub fn get(&self, at: usize) -> Row
+    pub fn get<R: RecordLayout>(&self, at: usize) -> Row
         requires { at < 64 }
-        ensures { result ≡ row_at self.now at }
+        ensures { result ≡ row_at R.UNIT self.now at }
     {
         Row {
             code: self.codes[at],
             time: self.times[at],
             dtime: self.dtimes[at],
-            amount: self.amounts[at],
+            amount: R::unit() * self.wraps[at] as u64,
         }
     }
 }

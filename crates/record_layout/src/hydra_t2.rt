@@ -4,8 +4,8 @@ ghost use Rattle.std.proofs.Common.{rules};
 ghost use Rattle.tally_base.specs.declared.header.Mode.TheVariants.{T2};
 ghost use Rattle.ptu_definitions.specs.Layouts.{hydra_t2, hydra_t2_wrap, wraps_in};
 ghost use Rattle.record_layout.specs.Joins.{joined_hydra_t2};
-ghost use Rattle.record_layout.specs.Rowed.{hydra_t2_code, hydra_t2_amount};
-ghost use Rattle.record_layout.specs.JoinLaws.{hydra_t2-is_join};
+ghost use Rattle.record_layout.specs.Rowed.{hydra_t2_code, hydra_t2_amount, hydra_t2_unit, hydra_wraps};
+ghost use Rattle.record_layout.specs.JoinLaws.{hydra_t2-is_join, hydra_t2-unit_small};
 
 use crate::fields::Fields;
 use crate::layout::RecordLayout;
@@ -39,6 +39,8 @@ impl<const OLD: bool> RecordLayout for HydraT2<OLD> {
 
     ghost TIME_MASK = { 33554431 };
 
+    ghost UNIT = { hydra_t2_unit OLD };
+
     ghost meaning = { hydra_t2 OLD };
 
     ghost joined = { joined_hydra_t2 OLD };
@@ -51,7 +53,19 @@ impl<const OLD: bool> RecordLayout for HydraT2<OLD> {
 
     ghost dtime_mask_high = { Prim.search rules };
 
+    ghost unit_small = { hydra_t2-unit_small OLD };
+
     ghost decode_is_join = { hydra_t2-is_join OLD };
+
+    #[inline(always)]
+    fn unit() -> u64 {
+        if OLD { 33_552_000 } else { 33_554_432 }
+    }
+
+    #[inline(always)]
+    fn wraps_of(fields: &Fields) -> u32 {
+        wraps_by::<OLD>(fields.top, fields.time)
+    }
 
     #[inline(always)]
     fn join(fields: &Fields) -> Raw {
@@ -117,6 +131,16 @@ fn amount_of<const OLD: bool>(top: u8, time: u32) -> u64
         33_554_432 * wraps_in(time)
     };
     if top == 127 { unit } else { 0 }
+}
+
+/// How many wraps a record stands for, by the top seven bits of its word and its time field.
+#[inline(always)]
+pub(crate) fn wraps_by<const OLD: bool>(top: u8, time: u32) -> u32
+    ensures { result ≡ hydra_wraps OLD top time }
+{
+    let many = if time == 0 { 1 } else { time };
+    let wraps = if OLD { 1 } else { many };
+    if top == 127 { wraps } else { 0 }
 }
 
 /// What a wrap record says, by its time field.

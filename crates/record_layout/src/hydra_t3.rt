@@ -8,7 +8,7 @@ ghost use Rattle.record_layout.specs.Rowed.{hydra_t3_code, hydra_t3_amount};
 ghost use Rattle.record_layout.specs.JoinLaws.{hydra_t3-is_join};
 
 use crate::fields::Fields;
-use crate::hydra_t2::wraps_in;
+use crate::hydra_t2::{wraps_by, wraps_in};
 use crate::layout::RecordLayout;
 use crate::row::Row;
 use ptu_definitions::Raw;
@@ -40,6 +40,8 @@ impl<const OLD: bool> RecordLayout for HydraT3<OLD> {
 
     ghost TIME_MASK = { 1023 };
 
+    ghost UNIT = { 1024 };
+
     ghost meaning = { hydra_t3 OLD };
 
     ghost joined = { joined_hydra_t3 OLD };
@@ -52,7 +54,19 @@ impl<const OLD: bool> RecordLayout for HydraT3<OLD> {
 
     ghost dtime_mask_high = { Prim.search rules };
 
+    ghost unit_small = { Prim.search rules };
+
     ghost decode_is_join = { hydra_t3-is_join OLD };
+
+    #[inline(always)]
+    fn unit() -> u64 {
+        1024
+    }
+
+    #[inline(always)]
+    fn wraps_of(fields: &Fields) -> u32 {
+        wraps_by::<OLD>(fields.top, fields.time)
+    }
 
     #[inline(always)]
     fn join(fields: &Fields) -> Raw {

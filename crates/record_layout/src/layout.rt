@@ -1,5 +1,5 @@
 // How the bits of a word are laid out.
-ghost use Rattle.std.specs.Prelude.{◌≡◌, ◌^◌, ◌<◌, ◌≤◌, ℕ};
+ghost use Rattle.std.specs.Prelude.{◌≡◌, ◌*◌, ◌^◌, ◌<◌, ◌≤◌, ℕ};
 ghost use Rattle.tally_base.specs.declared.header.Mode.{Mode};
 ghost use Rattle.ptu_definitions.specs.declared.records.Raw.{Raw};
 ghost use Rattle.record_layout.specs.declared.fields.Fields.{Fields};
@@ -39,6 +39,9 @@ pub trait RecordLayout {
 
     ghost TIME_MASK: { ℕ };
 
+    /// How much later the times behind one wrap are.
+    ghost UNIT: { ℕ };
+
     /// What a word means.
     ghost meaning: { ℕ → Raw };
 
@@ -53,6 +56,16 @@ pub trait RecordLayout {
     fn split(fields: &Fields) -> Row
         ensures record { raw_of result ≡ joined fields.now }
         ensures amount { result.amount ≡ amount (joined fields.now) };
+
+    /// How much later the times behind one wrap are, below 2^28.
+    fn unit() -> u64
+        ensures { result ≡ UNIT };
+
+    /// How many wraps the record stands for that fields say. It is to take no branch.
+    fn wraps_of(fields: &Fields) -> u32
+        ensures { UNIT * result ≡ amount (joined fields.now) };
+
+    ghost unit_small: { UNIT < 2 ^ 28 };
 
     ghost top_shift_low: { 25 ≤ TOP_SHIFT };
 
@@ -81,6 +94,14 @@ pub trait RecordLayout {
         ensures amount { result.amount ≡ amount (meaning word) }
     {
         Self::split(&fields_of::<Self>(word))
+    }
+
+    /// How many wraps a word stands for.
+    #[inline(always)]
+    final fn wraps(word: u32) -> u32
+        ensures { UNIT * result ≡ amount (meaning word) }
+    {
+        Self::wraps_of(&fields_of::<Self>(word))
     }
 }
 

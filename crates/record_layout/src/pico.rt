@@ -4,7 +4,7 @@ ghost use Rattle.std.proofs.Common.{rules};
 ghost use Rattle.tally_base.specs.declared.header.Mode.TheVariants.{T2, T3};
 ghost use Rattle.ptu_definitions.specs.Layouts.{pico_t2, pico_t3};
 ghost use Rattle.record_layout.specs.Joins.{joined_pico_t2, joined_pico_t3};
-ghost use Rattle.record_layout.specs.Rowed.{pico_code, pico_amount};
+ghost use Rattle.record_layout.specs.Rowed.{pico_code, pico_amount, pico_wraps};
 ghost use Rattle.record_layout.specs.JoinLaws.{pico_t2-is_join, pico_t3-is_join};
 
 use crate::fields::Fields;
@@ -37,6 +37,8 @@ impl RecordLayout for PicoT2 {
 
     ghost TIME_MASK = { 268435455 };
 
+    ghost UNIT = { 210698240 };
+
     ghost meaning = { pico_t2 };
 
     ghost joined = { joined_pico_t2 };
@@ -49,7 +51,19 @@ impl RecordLayout for PicoT2 {
 
     ghost dtime_mask_high = { Prim.search rules };
 
+    ghost unit_small = { Prim.search rules };
+
     ghost decode_is_join = { pico_t2-is_join };
+
+    #[inline(always)]
+    fn unit() -> u64 {
+        210_698_240
+    }
+
+    #[inline(always)]
+    fn wraps_of(fields: &Fields) -> u32 {
+        wraps_by(fields.top, (fields.time & 15) as u8)
+    }
 
     #[inline(always)]
     fn join(fields: &Fields) -> Raw {
@@ -107,6 +121,8 @@ impl RecordLayout for PicoT3 {
 
     ghost TIME_MASK = { 65535 };
 
+    ghost UNIT = { 65536 };
+
     ghost meaning = { pico_t3 };
 
     ghost joined = { joined_pico_t3 };
@@ -119,7 +135,19 @@ impl RecordLayout for PicoT3 {
 
     ghost dtime_mask_high = { Prim.search rules };
 
+    ghost unit_small = { Prim.search rules };
+
     ghost decode_is_join = { pico_t3-is_join };
+
+    #[inline(always)]
+    fn unit() -> u64 {
+        65_536
+    }
+
+    #[inline(always)]
+    fn wraps_of(fields: &Fields) -> u32 {
+        wraps_by(fields.top, (fields.dtime & 15) as u8)
+    }
 
     #[inline(always)]
     fn join(fields: &Fields) -> Raw {
@@ -175,5 +203,14 @@ fn amount_of(unit: u64, channel: u8, marker: u8) -> u64
     ensures { result ≡ pico_amount unit channel marker }
 {
     let special = if marker == 0 { unit } else { 0 };
+    if channel == 15 { special } else { 0 }
+}
+
+/// How many wraps a record stands for.
+#[inline(always)]
+fn wraps_by(channel: u8, marker: u8) -> u32
+    ensures { result ≡ pico_wraps channel marker }
+{
+    let special = if marker == 0 { 1 } else { 0 };
     if channel == 15 { special } else { 0 }
 }

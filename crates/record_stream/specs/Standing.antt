@@ -1,5 +1,5 @@
 -- What a stream stands for.
-use Rattle.std.specs.Prelude.{ℕ, ◌≡◌, ◌≢◌, ◌+◌, ◌*◌, List, length, None, Some}
+use Rattle.std.specs.Prelude.{ℕ, ◌≡◌, ◌≢◌, ◌+◌, ◌*◌, ◌≤◌, List, length, None, Some}
 use Rattle.std.specs.declared.option.Option.{Option}
 use Rattle.ptu_definitions.specs.declared.records.Summary.{Summary}
 use Rattle.tally_base.specs.declared.fault.Fault.{Fault}
@@ -9,7 +9,8 @@ use Rattle.ptu_definitions.specs.Words.{words_of, rest_of}
 use Rattle.record_layout.specs.Begun.{begun_in}
 use Rattle.abs_time.specs.declared.clock.Clock.{Clock}
 use Rattle.abs_time.specs.Placing.{greatest_by}
-use Rattle.record_stream.specs.Feeding.{IsAt}
+use Rattle.record_stream.specs.Feeding.{IsAt, Follows}
+use Rattle.record_stream.specs.declared.taker.EventTaker.{Ghosts}
 use Rattle.record_stream.specs.Summing.{summed}
 use Rattle.record_stream.specs.declared.stream.RecordStream.{RecordStream}
 
@@ -59,3 +60,20 @@ Stands how clock sum count carried (Some fault) bytes = fault ≢ WriteFault →
 -- The stream was given these bytes.
 abbrev pub HasStreamed : RecordStream → List ℕ → Type 0
 HasStreamed stream bytes = Stands (how_of stream) stream.walk.clock (summed stream.walk.sums) stream.walk.given (begun_in stream.carried) stream.refused bytes
+
+module _ {T : Type 0} (g : Ghosts T) where
+  -- The taker is of the mode of the stream, and no further on.
+  abbrev pub IsFollowed : RecordStream → T → Type 0
+  IsFollowed stream taker = Follows g (how_of stream).mode (given_by stream) (top_of stream) taker
+
+  -- The stream took so many bytes more and refused none, and the taker is no further on.
+  pub record StreamsOn (old new : RecordStream) (taker : T) (more : ℕ) : Type 0 where
+    pub follows : Follows g (how_of old).mode (given_by new) (top_of new) taker
+    pub counted : bytes_in new ≡ bytes_in old + more
+
+  -- Whatever the stream answers, it reads as before and was refused what it was, the taker keeps what a call leaves as it is, and the count of faults doesn't fall.
+  pub record Stays (old new : RecordStream) (taker now : T) : Type 0 where
+    pub same_how : how_of new ≡ how_of old
+    pub same_refused : refused_with new ≡ refused_with old
+    pub later : g.faults taker ≤ g.faults now
+    pub same : g.same taker now

@@ -1,11 +1,16 @@
 -- How far a walk is.
-use Rattle.std.specs.Prelude.{ℕ, Bool, ◌≡◌, ◌+◌, List}
+use Rattle.std.specs.Prelude.{ℕ, Bool, ◌≡◌, ◌+◌, ◌≤◌, List, ◌++◌, length}
 use Rattle.tally_base.specs.declared.event.Event.{Event}
 use Rattle.ptu_definitions.specs.declared.records.Summary.{Summary}
 use Rattle.ptu_definitions.specs.Streams.{Reading, reading}
 use Rattle.abs_time.specs.declared.clock.Clock.{Clock}
-use Rattle.abs_time.specs.Placing.{greatest_by}
-use Rattle.record_stream.specs.Feeding.{IsAt}
+use Rattle.abs_time.specs.Placing.{greatest_by, placed_by}
+use Rattle.ptu_definitions.specs.Fours.{numbers}
+use Rattle.event_block.specs.Columns.{count, sorted}
+use Rattle.event_block.specs.declared.block.Block.{Block}
+use Rattle.record_stream.specs.Blocks.{Adds}
+use Rattle.record_stream.specs.Feeding.{IsAt, Follows}
+use Rattle.record_stream.specs.declared.taker.EventTaker.{Ghosts}
 use Rattle.record_stream.specs.OneMore.{with_event}
 use Rattle.record_stream.specs.Summing.{summed}
 use Rattle.record_stream.specs.declared.walk.Walk.{Walk}
@@ -44,3 +49,29 @@ pub record KeepsPlace (old new : Walk) : Type 0 where
 -- It took these words and refused none.
 abbrev pub IsBehind : Walk → List ℕ → Type 0
 IsBehind walk words = IsAt (how_of walk) walk.clock (summed walk.sums) walk.given words
+
+-- What some words add behind any that it took: these events, up to this sum of wraps and this greatest time.
+abbrev pub AddsBehind : Walk → List (List ℕ) → ℕ → ℕ → List Event → Type 0
+AddsBehind walk words sum top es =
+    (before : List ℕ) → IsBehind walk before → Adds (how_of walk) (placed_by (clock_in walk) + length words) sum top before (before ++ numbers words) es
+
+-- A block with no events, of which no groups are known.
+pub record IsBlank (block : Block) : Type 0 where
+  pub empty : count block ≡ 0
+  pub unsorted : sorted block ≡ 0
+
+module _ {T : Type 0} (g : Ghosts T) where
+  -- The taker is of the mode of the walk, and no further on.
+  abbrev pub IsFollowed : Walk → T → Type 0
+  IsFollowed walk taker = Follows g (how_of walk).mode (given_by walk) (top_of walk) taker
+
+  -- The walk took so many words more and refused none, and the taker is no further on.
+  pub record WalksOn (old new : Walk) (taker : T) (more : ℕ) : Type 0 where
+    pub follows : Follows g (how_of old).mode (given_by new) (top_of new) taker
+    pub counted : records_of new ≡ records_of old + more
+
+  -- Whatever a walk answers, it reads as before, the taker keeps what a call leaves as it is, and the count of faults doesn't fall.
+  pub record Stays (old new : Walk) (taker now : T) : Type 0 where
+    pub same_how : how_of new ≡ how_of old
+    pub later : g.faults taker ≤ g.faults now
+    pub same : g.same taker now

@@ -10,17 +10,18 @@ ghost use Rattle.ptu_definitions.specs.Kept.{Marked};
 ghost use Rattle.ptu_definitions.specs.Times.{event_of};
 ghost use Rattle.abs_time.specs.Placing.{base_of, placed_by};
 ghost use Rattle.event_block.specs.Columns.{count, sorted, gathered, written};
+ghost use Rattle.record_layout.specs.InColumns.{HasRows};
 ghost use Rattle.record_layout.specs.Rowed.{raw_of};
-ghost use Rattle.record_stream.specs.Blocks.{on_time, Adds, IsInLine, BrokeAmong};
+ghost use Rattle.record_stream.specs.Blocks.{on_time, IsInLine, BrokeAmong};
 ghost use Rattle.record_stream.specs.Rows.{ordered_below, top_by};
-ghost use Rattle.record_stream.specs.Feeding.{Follows, Fed};
-ghost use Rattle.record_stream.specs.Walking.{how_of, given_by, top_of, records_of, summary_in, clock_in, IsBehind};
+ghost use Rattle.record_stream.specs.Feeding.{Fed};
+ghost use Rattle.record_stream.specs.Walking.{how_of, given_by, top_of, records_of, summary_in, clock_in, IsBehind, AddsBehind, IsBlank, IsFollowed, WalksOn, Stays};
 
 use crate::count::{add_block, stops_reserved};
 use crate::taker::EventTaker;
 use crate::walk::Walk;
 use event_block::Block;
-use record_layout::{Columns, RecordLayout, Row, kinds_of};
+use record_layout::{Columns, RecordLayout, Row};
 use tally_base::{Fault, Mode};
 
 /// How many words are taken at once, as many as a block has places.
@@ -86,25 +87,25 @@ fn ordered_below(mode: Mode) -> u16
     }
 }
 
-/// Writes the events of words into an empty block, where their policy lets each of them pass. Whether none
-/// is late is known at the end.
+/// Writes the events of words, whose records are in columns, into an empty block, where their policy lets
+/// each of them pass. Whether none is late is known at the end.
 #[inline(always)]
 fn gather<R: RecordLayout>(
     walk: &Walk,
     words: &[[u8; 4]],
-    columns: &mut Columns,
+    columns: &Columns,
     block: &mut Block,
 ) -> Ahead
     requires meaning { R.meaning ≡ (how_of walk.now).meaning }
+    requires rows { HasRows R.meaning R.UNIT columns.now words.now }
     requires few { length words.now ≤ 64 }
     requires empty { count block.old ≡ 0 }
     requires room { records_of walk.now + length words.now ≤ (how_of walk.now).policy.records }
     requires base { base_of (clock_in walk.now) + 2 ^ 56 ≤ 2 ^ 62 }
     requires reserved { stops_reserved (how_of walk.now).policy.reserved ≡ true
         → count_by is_reserved (map R.meaning (numbers words.now)) ≡ 0 }
-    ensures adds { result.in_order ≡ true → (before : List ℕ) → IsBehind walk.now before
-        → Adds (how_of walk.now) (placed_by (clock_in walk.now) + length words.now) result.base
-        result.greatest before (before ++ numbers words.now) (written block.new result.len) }
+    ensures adds { result.in_order ≡ true → AddsBehind walk.now words.now result.base
+        result.greatest (written block.new result.len) }
     ensures in_line { result.in_order ≡ true → IsInLine (how_of walk.now).mode (top_of walk.now)
         result.greatest (written block.new result.len) }
     ensures few { result.len ≤ length words.now }
@@ -120,9 +121,8 @@ fn gather<R: RecordLayout>(
         len: 0,
         in_order: true,
     };
-    columns.fill::<R>(words);
     for i in 0..words.len() {
-        let row = columns.get(i);
+        let row = columns.get::<R>(i);
         ahead.place(&row, placed + i as u64 + 1, ordered, block);
     }
     ahead
@@ -138,26 +138,21 @@ fn take_block<R: RecordLayout, S: EventTaker>(
     taker: &mut S,
 ) -> Result<(), Fault>
     requires few { length words.now ≤ 64 }
-    requires empty { count block.old ≡ 0 }
-    requires unsorted { sorted block.old ≡ 0 }
+    requires blank { IsBlank block.old }
     requires meaning { R.meaning ≡ (how_of walk.old).meaning }
-    requires follows { Follows S.EventTaker (how_of walk.old).mode (given_by walk.old)
-        (top_of walk.old) taker.old }
-    ensures empty { OnOk result (count block.new ≡ 0) }
-    ensures unsorted { OnOk result (sorted block.new ≡ 0) }
+    requires follows { IsFollowed S.EventTaker walk.old taker.old }
+    ensures blank { OnOk result (IsBlank block.new) }
     ensures at { (before : List ℕ) → IsBehind walk.old before
         → OnOk result (IsBehind walk.new (before ++ numbers words.now)) }
     ensures fed { (before : List ℕ) → IsBehind walk.old before
         → Fed S.EventTaker (how_of walk.old) taker.old taker.new before
         (before ++ numbers words.now) result }
-    ensures follows { OnOk result (Follows S.EventTaker (how_of walk.old).mode
-        (given_by walk.new) (top_of walk.new) taker.new) }
-    ensures counted { OnOk result (records_of walk.new ≡ records_of walk.old + length words.now) }
-    ensures same_how { how_of walk.new ≡ how_of walk.old }
-    ensures later { S.faults taker.old ≤ S.faults taker.new }
-    ensures same { S.same taker.old taker.new }
+    ensures goes_on { OnOk result
+        (WalksOn S.EventTaker walk.old walk.new taker.new (length words.now)) }
+    ensures stays { Stays S.EventTaker walk.old walk.new taker.old taker.new }
 {
-    let counts = kinds_of::<R>(words);
+    columns.fill::<R>(words);
+    let counts = columns.kinds::<R>(words);
     let stops = stops_reserved(walk.policy.reserved) && counts.reserved > 0;
     let room = counts.records <= walk.policy.records - walk.sums.records;
     if stops || !room || walk.clock.base() > EARLY_ENOUGH {
@@ -186,19 +181,15 @@ pub(crate) fn take_words<R: RecordLayout, S: EventTaker>(
     taker: &mut S,
 ) -> Result<(), Fault>
     requires meaning { R.meaning ≡ (how_of walk.old).meaning }
-    requires follows { Follows S.EventTaker (how_of walk.old).mode (given_by walk.old)
-        (top_of walk.old) taker.old }
+    requires follows { IsFollowed S.EventTaker walk.old taker.old }
     ensures at { (before : List ℕ) → IsBehind walk.old before
         → OnOk result (IsBehind walk.new (before ++ numbers words.now)) }
     ensures fed { (before : List ℕ) → IsBehind walk.old before
         → Fed S.EventTaker (how_of walk.old) taker.old taker.new before
         (before ++ numbers words.now) result }
-    ensures follows { OnOk result (Follows S.EventTaker (how_of walk.old).mode
-        (given_by walk.new) (top_of walk.new) taker.new) }
-    ensures counted { OnOk result (records_of walk.new ≡ records_of walk.old + length words.now) }
-    ensures same_how { how_of walk.new ≡ how_of walk.old }
-    ensures later { S.faults taker.old ≤ S.faults taker.new }
-    ensures same { S.same taker.old taker.new }
+    ensures goes_on { OnOk result
+        (WalksOn S.EventTaker walk.old walk.new taker.new (length words.now)) }
+    ensures stays { Stays S.EventTaker walk.old walk.new taker.old taker.new }
 {
     let mut columns = Columns::new();
     let mut block = Block::new();

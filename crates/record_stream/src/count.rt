@@ -99,10 +99,9 @@ pub(crate) fn add_event(sums: &mut Sums, event: &Event, late: bool)
 pub(crate) fn stops_at(reserved: OnReserved, raw: &Raw) -> bool
     ensures { result ≡ (is_reserved raw.now && stops_reserved reserved) }
 {
-    match (reserved, raw) {
-        (OnReserved::Stop, Raw::Reserved) => true,
-        (OnReserved::Stop, _) => false,
-        (OnReserved::Skip, _) => false,
+    match raw {
+        Raw::Reserved => stops_reserved(reserved),
+        _ => false,
     }
 }
 

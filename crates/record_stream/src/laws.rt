@@ -1,8 +1,10 @@
 // Laws of streams, each as the contract of a function that does nothing.
-ghost use Rattle.std.specs.Prelude.{◌≡◌, ℕ, List, length, None};
+ghost use Rattle.std.specs.Prelude.{◌≡◌, ◌++◌, ℕ, List, length, None, Some, Err};
+ghost use Rattle.tally_base.specs.declared.fault.Fault.{Fault};
 ghost use Rattle.ptu_definitions.specs.Words.{words_of};
 ghost use Rattle.ptu_definitions.specs.Kept.{floor_of};
-ghost use Rattle.ptu_definitions.specs.Streams.{given};
+ghost use Rattle.ptu_definitions.specs.Shown.{Shows};
+ghost use Rattle.ptu_definitions.specs.Streams.{Reading, given, record_refusal, streamed};
 ghost use Rattle.record_stream.specs.declared.stream.RecordStream.{RecordStream};
 ghost use Rattle.record_stream.specs.Standing.{how_of, given_by, top_of, refused_with, HasStreamed};
 
@@ -15,4 +17,15 @@ pub fn stream_numbers()
     ensures top { (stream : RecordStream) (bytes : List ℕ)
         → HasStreamed stream bytes → refused_with stream ≡ None
         → top_of stream ≡ floor_of (how_of stream).mode (given (how_of stream) (words_of bytes)) }
+{}
+
+/// A refusal of records stays, whatever comes behind: that of words, and what their bytes answer. What is
+/// given then are the events before it (`first_refusal` of the definitions), and stays too.
+pub fn a_refusal_stays()
+    ensures words { (how : Reading) (words more : List ℕ) (fault : Fault)
+        → record_refusal how words ≡ Some fault
+        → record_refusal how (words ++ more) ≡ Some fault }
+    ensures bytes { (how : Reading) (bytes : List ℕ) (fault : Fault)
+        → record_refusal how (words_of bytes) ≡ Some fault
+        → Shows (streamed how) bytes (Err fault) }
 {}

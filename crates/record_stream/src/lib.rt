@@ -4,6 +4,8 @@
 mod blocks;
 mod count;
 pub mod laws;
+#[cfg(test)]
+mod refused_tests;
 mod stream;
 mod taker;
 mod walk;

@@ -40,7 +40,7 @@ impl RecordStream {
     ghost use Rattle.tally_base.specs.Faults.{is_outside};
     ghost use Rattle.std.specs.Prelude.{false};
     ghost use Rattle.record_stream.specs.Feeding.{Follows, Fed};
-    ghost use Rattle.record_stream.specs.Standing.{how_of, given_by, top_of, refused_with, carried_by, records_of, bytes_in, summary_in, clock_in, IsBehind, CarriesOn, HasStreamed};
+    ghost use Rattle.record_stream.specs.Standing.{how_of, given_by, top_of, refused_with, carried_by, records_of, bytes_in, summary_in, clock_in, IsBehind, CarriesOn, HasStreamed, IsFollowed, StreamsOn, Stays};
     ghost use Rattle.tally_base.specs.Faults.{fault_in};
 
     /// The stream of a file of this type, which was given no bytes. The greatest number of records is 1
@@ -105,20 +105,15 @@ impl RecordStream {
         taker: &mut S,
     ) -> Result<(), Fault>
         requires meaning { R.meaning ≡ (how_of self.old).meaning }
-        requires follows { Follows S.EventTaker (how_of self.old).mode (given_by self.old)
-            (top_of self.old) taker.old }
+        requires follows { IsFollowed S.EventTaker self.old taker.old }
         ensures at { (bytes : List ℕ) → CarriesOn self.old bytes
             → OnOk result (CarriesOn self.new (bytes ++ piece.now)) }
         ensures fed { (bytes : List ℕ) → CarriesOn self.old bytes
             → Fed S.EventTaker (how_of self.old) taker.old taker.new (words_of bytes) (words_of
             (bytes ++ piece.now)) result }
-        ensures follows { OnOk result (Follows S.EventTaker (how_of self.old).mode
-            (given_by self.new) (top_of self.new) taker.new) }
-        ensures counted { OnOk result (bytes_in self.new ≡ bytes_in self.old + length piece.now) }
-        ensures same_how { how_of self.new ≡ how_of self.old }
-        ensures same_refused { refused_with self.new ≡ refused_with self.old }
-        ensures later { S.faults taker.old ≤ S.faults taker.new }
-        ensures same { S.same taker.old taker.new }
+        ensures goes_on { OnOk result
+            (StreamsOn S.EventTaker self.old self.new taker.new (length piece.now)) }
+        ensures stays { Stays S.EventTaker self.old self.new taker.old taker.new }
     {
         let (first, words) = self.carried.take(piece);
         self.walk.words::<R, S>(first.as_slice(), taker)?;
@@ -127,20 +122,15 @@ impl RecordStream {
 
     /// Takes a piece in the layout of the record type.
     fn by_type<S: EventTaker>(&mut self, piece: &[u8], taker: &mut S) -> Result<(), Fault>
-        requires follows { Follows S.EventTaker (how_of self.old).mode (given_by self.old)
-            (top_of self.old) taker.old }
+        requires follows { IsFollowed S.EventTaker self.old taker.old }
         ensures at { (bytes : List ℕ) → CarriesOn self.old bytes
             → OnOk result (CarriesOn self.new (bytes ++ piece.now)) }
         ensures fed { (bytes : List ℕ) → CarriesOn self.old bytes
             → Fed S.EventTaker (how_of self.old) taker.old taker.new (words_of bytes) (words_of
             (bytes ++ piece.now)) result }
-        ensures follows { OnOk result (Follows S.EventTaker (how_of self.old).mode
-            (given_by self.new) (top_of self.new) taker.new) }
-        ensures counted { OnOk result (bytes_in self.new ≡ bytes_in self.old + length piece.now) }
-        ensures same_how { how_of self.new ≡ how_of self.old }
-        ensures same_refused { refused_with self.new ≡ refused_with self.old }
-        ensures later { S.faults taker.old ≤ S.faults taker.new }
-        ensures same { S.same taker.old taker.new }
+        ensures goes_on { OnOk result
+            (StreamsOn S.EventTaker self.old self.new taker.new (length piece.now)) }
+        ensures stays { Stays S.EventTaker self.old self.new taker.old taker.new }
     {
         in_layout!(self.walk.record_type, self.piece::<R, S>(piece, taker))
     }

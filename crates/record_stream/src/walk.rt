@@ -38,7 +38,7 @@ impl Walk {
     ghost use Rattle.ptu_definitions.specs.Fitting.{Fits};
     ghost use Rattle.ptu_definitions.specs.Fours.{numbers};
     ghost use Rattle.record_stream.specs.Feeding.{Follows, CanGet, Fed};
-    ghost use Rattle.record_stream.specs.Walking.{how_of, given_by, top_of, records_of, Notes, KeepsPlace, IsBehind};
+    ghost use Rattle.record_stream.specs.Walking.{how_of, given_by, top_of, records_of, Notes, KeepsPlace, IsBehind, IsFollowed, WalksOn, Stays};
 
     /// What a word means.
     #[inline(always)]
@@ -58,19 +58,15 @@ impl Walk {
         taker: &mut S,
     ) -> Result<(), Fault>
         requires meaning { R.meaning ≡ (how_of self.old).meaning }
-        requires follows { Follows S.EventTaker (how_of self.old).mode (given_by self.old)
-            (top_of self.old) taker.old }
+        requires follows { IsFollowed S.EventTaker self.old taker.old }
         ensures at { (words : List ℕ) → IsBehind self.old words
             → OnOk result (IsBehind self.new (words ++ word ∷ [])) }
         ensures fed { (words : List ℕ) → IsBehind self.old words
             → Fed S.EventTaker (how_of self.old) taker.old taker.new words
             (words ++ word ∷ []) result }
-        ensures follows { OnOk result (Follows S.EventTaker (how_of self.old).mode
-            (given_by self.new) (top_of self.new) taker.new) }
-        ensures one_more { OnOk result (records_of self.new ≡ records_of self.old + 1) }
-        ensures same_how { how_of self.new ≡ how_of self.old }
-        ensures later { S.faults taker.old ≤ S.faults taker.new }
-        ensures same { S.same taker.old taker.new }
+        ensures goes_on { OnOk result
+            (WalksOn S.EventTaker self.old self.new taker.new 1) }
+        ensures stays { Stays S.EventTaker self.old self.new taker.old taker.new }
     {
         if self.sums.records == self.policy.records {
             return Err(Fault::RecordLimit {
@@ -140,19 +136,15 @@ impl Walk {
         taker: &mut S,
     ) -> Result<(), Fault>
         requires meaning { R.meaning ≡ (how_of self.old).meaning }
-        requires follows { Follows S.EventTaker (how_of self.old).mode (given_by self.old)
-            (top_of self.old) taker.old }
+        requires follows { IsFollowed S.EventTaker self.old taker.old }
         ensures at { (before : List ℕ) → IsBehind self.old before
             → OnOk result (IsBehind self.new (before ++ numbers words.now)) }
         ensures fed { (before : List ℕ) → IsBehind self.old before
             → Fed S.EventTaker (how_of self.old) taker.old taker.new before
             (before ++ numbers words.now) result }
-        ensures follows { OnOk result (Follows S.EventTaker (how_of self.old).mode
-            (given_by self.new) (top_of self.new) taker.new) }
-        ensures counted { OnOk result (records_of self.new ≡ records_of self.old + length words.now) }
-        ensures same_how { how_of self.new ≡ how_of self.old }
-        ensures later { S.faults taker.old ≤ S.faults taker.new }
-        ensures same { S.same taker.old taker.new }
+        ensures goes_on { OnOk result
+            (WalksOn S.EventTaker self.old self.new taker.new (length words.now)) }
+        ensures stays { Stays S.EventTaker self.old self.new taker.old taker.new }
     {
         // A copy, whose fields the loop keeps in registers. After a refusal no field is read again.
         let mut at = *self;

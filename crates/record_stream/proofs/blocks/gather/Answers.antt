@@ -20,7 +20,7 @@ pub place-requires-clause-base : goal.place-requires-clause-base
 place-requires-clause-base g c =
     let walk = c.args.walk.now in
     let w = from_le_bytes w32 (get_or c.args.words.now c.loop-i.i []) in
-    let is = c.fill.ensures c.loop-i.i c.loop-i-test.true in
+    let is = c.requires.rows c.loop-i.i c.loop-i-test.true in
     let amounts : c.get-row.result.amount ≡ amount (meaning_of walk.record_type w) = ap (λ (r : Row). r.amount) c.get-row.ensures ∙ is.amounts ∙ ap (λ (f : _). amount (f w)) c.requires.meaning in
     let small : c.get-row.result.amount < 2 ^ 50 = rw amounts (amount-small walk.record_type w) in
     omega (arith, small, c.loop-i.invariant.base, c.requires.base, c.requires.few, c.loop-i-test.true)
@@ -34,7 +34,7 @@ loop-i-preserved g c =
     let i = c.loop-i.i in
     let ahead = c.loop-i.ahead in
     let w = from_le_bytes w32 (get_or words i []) in
-    let is = c.fill.ensures i c.loop-i-test.true in
+    let is = c.requires.rows i c.loop-i-test.true in
     let row = c.get-row.result in
     let now = c.place.new.self in
     let n = placed_by (clock_in walk) + i in

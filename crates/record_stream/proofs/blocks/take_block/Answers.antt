@@ -23,7 +23,7 @@ take_block-requires-clause-room g c =
     let es = written b ahead.len in
     let sure : ahead.in_order ≡ true = search rules in
     let many : length (gathered c.keep.new.self) ≡ ahead.len = ap length c.keep.ensures.kept ∙ length-rows (event_at b) ahead.len in
-    omega (arith, many, c.requires.follows.few, walk.few_given, walk.few, walk.limit, c.gather-ahead.ensures.few, c.kinds_of-counts.ensures.records, c.if-not-room.false)
+    omega (arith, many, c.requires.follows.few, walk.few_given, walk.few, walk.limit, c.gather-ahead.ensures.few, c.kinds-counts.ensures.records, c.if-not-room.false)
 
 pub take_block-requires-clause-in_order : goal.take_block-requires-clause-in_order
 take_block-requires-clause-in_order g c =
@@ -53,8 +53,11 @@ returns-then-is_err-clause-fed g c = λ before h.
           (rw c.keep.ensures.kept at broke) (err_of c.take_block.result (sym c.is_err.ensures.value ∙ c.if-is_err.true) c.take_block.ensures.cause.failed),
     )
 
-pub returns-clause-empty : goal.returns-clause-empty
-returns-clause-empty g c = sym (length-rows (event_at c.clear.new.self) c.clear.new.self.len) ∙ ap length c.clear.ensures.empty
+pub returns-clause-blank : goal.returns-clause-blank
+returns-clause-blank g c = record {
+  empty = sym (length-rows (event_at c.clear.new.self) c.clear.new.self.len) ∙ ap length c.clear.ensures.empty;
+  unsorted = c.clear.ensures.unsorted;
+}
 
 pub returns-clause-at : goal.returns-clause-at
 returns-clause-at g c = λ before h.
@@ -66,10 +69,10 @@ returns-clause-at g c = λ before h.
     let es = written b ahead.len in
     let sure : ahead.in_order ≡ true = search rules in
     let words = c.args.words.now in
-    let counts = c.kinds_of-counts.result in
-    let placed : placed_by c.go_on.new.self ≡ placed_by (clock_in walk) + length words = omega (arith, c.go_on.ensures.count, c.placed.ensures.value, c.kinds_of-counts.ensures.records) in
+    let counts = c.kinds-counts.result in
+    let placed : placed_by c.go_on.new.self ≡ placed_by (clock_in walk) + length words = omega (arith, c.go_on.ensures.count, c.placed.ensures.value, c.kinds-counts.ensures.records) in
     let sums : summed c.add_block.new.sums ≡ with_block (summed walk.sums) counts es = c.add_block.ensures.value ∙ ap (with_block (summed walk.sums) counts) c.keep.ensures.kept in
-    let kinds : counts ≡ counts_of (map how.meaning (numbers words)) = c.kinds_of-counts.ensures.value ∙ ap (λ (f : _). counts_of (map f (numbers words))) c.requires.meaning in
+    let kinds : counts ≡ counts_of (map how.meaning (numbers words)) = c.kinds-counts.ensures.value ∙ ap (λ (f : _). counts_of (map f (numbers words))) c.requires.meaning in
     let counted : walk.given + ahead.len ≡ walk.given + length es = ap (λ (k : ℕ). walk.given + k) (sym (length-rows (event_at b) ahead.len)) in
     block_at how (clock_in walk) c.go_on.new.self (summed walk.sums) (summed c.add_block.new.sums) walk.given (walk.given + ahead.len) (placed_by (clock_in walk) + length words) ahead.base ahead.greatest before (numbers words) es counts
     h (c.gather-ahead.ensures.adds sure before h) (c.go_on.ensures.same_mode ∙ walk.same_mode) placed c.go_on.ensures.base c.go_on.ensures.greatest sums kinds counted
@@ -87,8 +90,8 @@ returns-clause-fed g c = λ before h.
     block_fed s how c.args.taker.now c.take_block.new.self _ ahead.base ahead.greatest before (before ++ numbers c.args.words.now) es h.clear (c.gather-ahead.ensures.adds sure before h)
     (rw c.keep.ensures.kept at got)
 
-pub returns-clause-follows : goal.returns-clause-follows
-returns-clause-follows g c =
+pub returns-clause-goes_on : goal.returns-clause-goes_on
+returns-clause-goes_on g c =
     let s = g.S.EventTaker in
     let walk = c.args.walk.now in
     let how = how_of walk in
@@ -103,7 +106,10 @@ returns-clause-follows g c =
     let moved = rw (c.keep.ensures.kept, c.requires.follows.mode_is) at (ok_of r fine c.take_block.ensures.moved) in
     let low = floors_below how.mode (s.floor c.args.taker.now) (top_of walk) ahead.greatest es c.requires.follows.before (c.gather-ahead.ensures.in_line sure).greatest in
     record {
-      mode_is = ok_of r fine c.take_block.ensures.same_mode ∙ c.requires.follows.mode_is;
-      few = omega (arith, many, more, c.requires.follows.few);
-      before = omega (arith, moved, low, c.go_on.ensures.greatest);
+      follows = record {
+        mode_is = ok_of r fine c.take_block.ensures.same_mode ∙ c.requires.follows.mode_is;
+        few = omega (arith, many, more, c.requires.follows.few);
+        before = omega (arith, moved, low, c.go_on.ensures.greatest);
+      };
+      counted = search (rules, arith);
     }

@@ -51,11 +51,11 @@ many-preserved g c =
     let how = how_of c.args.walk.now in
     let inv = c.many.invariant in
     record {
-      how = c.take_block.ensures.same_how ∙ inv.how;
-      counted = omega (arith, inv.counted, c.in_ok-take_block.ensures.counted, c.split_at.ensures.back_len, c.split_at.ensures.front_len);
-      empty = c.in_ok-take_block.ensures.empty;
-      unsorted = c.in_ok-take_block.ensures.unsorted;
-      follows = rw (ap (λ (h : Reading). h.mode) inv.how) at c.in_ok-take_block.ensures.follows;
+      how = c.take_block.ensures.stays.same_how ∙ inv.how;
+      counted = omega (arith, inv.counted, c.in_ok-take_block.ensures.goes_on.counted, c.split_at.ensures.back_len, c.split_at.ensures.front_len);
+      empty = c.in_ok-take_block.ensures.blank.empty;
+      unsorted = c.in_ok-take_block.ensures.blank.unsorted;
+      follows = rw (ap (λ (h : Reading). h.mode) inv.how) at c.in_ok-take_block.ensures.goes_on.follows;
       so_far = λ before h.
           let o = inv.so_far before h in
           let front = numbers c.split_at.result.0.now in
@@ -66,8 +66,8 @@ many-preserved g c =
             subst (IsBehind c.take_block.new.walk) (append_assoc before o.0 front) (c.in_ok-take_block.ensures.at (before ++ o.0) o.2),
             subst (λ l. GaveOn s how c.args.taker.now c.take_block.new.taker before l) (append_assoc before o.0 front) (GaveOn-trans s how _ c.many.taker _ before (before ++ o.0) _ o.3 fed.1),
           );
-      later = omega (arith, inv.later, c.take_block.ensures.later);
-      same = g.met.S.EventTaker.same_more _ _ _ inv.same c.take_block.ensures.same;
+      later = omega (arith, inv.later, c.take_block.ensures.stays.later);
+      same = g.met.S.EventTaker.same_more _ _ _ inv.same c.take_block.ensures.stays.same;
     }
 
 pub returns-clause-fed : goal.returns-clause-fed

@@ -1,4 +1,4 @@
-use Rattle.std.proofs.Common.{◌≡◌, ◌<◌, ◌+◌, ℕ, [], get_or, ◌∙◌, ap, arith, ◌⊎◌, ⊎_elim}
+use Rattle.std.proofs.Common.{◌≡◌, ◌<◌, ◌+◌, ◌*◌, ℕ, [], get_or, ◌∙◌, ap, sym, arith, ◌⊎◌, ⊎_elim}
 use Rattle.std.specs.Int.{from_le_bytes, w32}
 use Rattle.ptu_definitions.specs.declared.records.Raw.{Raw}
 use Rattle.ptu_definitions.specs.Times.{amount}
@@ -20,6 +20,9 @@ more_at meaning word old new i row there before is so_far k lt =
 
 pub loop-i-preserved : goal.loop-i-preserved
 loop-i-preserved g c =
-    more_at g.R.RecordLayout.meaning (λ k. from_le_bytes w32 (get_or c.args.words.now k [])) (row_at c.loop-i.self) (row_at c.put.new.self) c.loop-i.i c.row-row.result c.put.ensures.there c.put.ensures.before
-    (record { raw = c.row-row.ensures.record ∙ ap g.R.RecordLayout.meaning c.from_le_bytes.ensures; amounts = c.row-row.ensures.amount ∙ ap (λ w. amount (g.R.RecordLayout.meaning w)) c.from_le_bytes.ensures })
+    let r = g.R.RecordLayout in
+    let row = c.row-row.result in
+    let is_amount : r.UNIT * c.wraps.result ≡ row.amount = c.wraps.ensures ∙ sym c.row-row.ensures.amount in
+    more_at r.meaning (λ k. from_le_bytes w32 (get_or c.args.words.now k [])) (row_at r.UNIT c.loop-i.self) (row_at r.UNIT c.put.new.self) c.loop-i.i row (c.put.ensures.there r.UNIT is_amount) (c.put.ensures.before r.UNIT)
+    (record { raw = c.row-row.ensures.record ∙ ap r.meaning c.from_le_bytes-word.ensures; amounts = c.row-row.ensures.amount ∙ ap (λ w. amount (r.meaning w)) c.from_le_bytes-word.ensures })
     c.loop-i.invariant

@@ -1,4 +1,4 @@
-use Rattle.std.proofs.Common.{◌≡◌, ◌<◌, ℕ, List, length, get_or, set, refl, arith, rules}
+use Rattle.std.proofs.Common.{◌≡◌, ◌*◌, ◌<◌, ℕ, List, length, get_or, set, refl, ap, arith, rules}
 use Rattle.std.proofs.lemmas.Grind.{common_steps}
 use Rattle.std.proofs.lemmas.List.{get_or-set_same}
 use Rattle.record_layout.proofs.columns.Columns.put.Goals as goal
@@ -10,16 +10,16 @@ here : (xs : List ℕ) (n v : ℕ) → n < length xs → get_or (set xs n v) n 0
 here xs n v inside = get_or-set_same xs n v 0 inside
 
 pub returns-clause-there : goal.returns-clause-there
-returns-clause-there c =
+returns-clause-there c = λ unit is.
     let s = c.args.self.now in
     let n = c.args.at in
     let few : n < 64 = c.requires in
     let row = c.args.row.now in
-    rw (here s.codes n row.code (search (rules, arith, few)), here s.times n row.time (search (rules, arith, few)), here s.dtimes n row.dtime (search (rules, arith, few)), here s.amounts n row.amount (search (rules, arith, few))) refl
+    rw (here s.codes n row.code (search (rules, arith, few)), here s.times n row.time (search (rules, arith, few)), here s.dtimes n row.dtime (search (rules, arith, few)), here s.wraps n c.args.wraps (search (rules, arith, few)), is) refl
 
 pub returns-clause-before : goal.returns-clause-before
-returns-clause-before c = λ i lt.
+returns-clause-before c = λ unit i lt.
     let s = c.args.self.now in
     let n = c.args.at in
     let row = c.args.row.now in
-    rw (other s.codes n i row.code lt, other s.times n i row.time lt, other s.dtimes n i row.dtime lt, other s.amounts n i row.amount lt) refl
+    rw (other s.codes n i row.code lt, other s.times n i row.time lt, other s.dtimes n i row.dtime lt, other s.wraps n i c.args.wraps lt) refl

@@ -40,6 +40,6 @@ returns-clause-fed g c = λ bytes h.
     let ws = words_of bytes ++ numbers (listed c.take-first.result.0) in
     let stepped = rw first at (c.in_ok-words.ensures.at (words_of bytes) h.1) in
     let fed = rw first at (c.in_ok-words.ensures.fed (words_of bytes) h.1) in
-    let more = rw c.words.ensures.same_how at (c.take_words.ensures.fed ws stepped) in
+    let more = rw c.words.ensures.stays.same_how at (c.take_words.ensures.fed ws stepped) in
     subst (λ l. Fed s how c.args.taker.now c.take_words.new.taker (words_of bytes) l c.take_words.result) (cut-words (begun_in c.args.self.now.carried) bytes c.args.piece.now h.0 (listed c.take-first.result.0) c.take-first.result.1.now c.take-first.ensures.words)
-    (Fed-trans s how _ c.words.new.taker _ (words_of bytes) ws _ c.take_words.result c.words.ensures.later fed.1 more)
+    (Fed-trans s how _ c.words.new.taker _ (words_of bytes) ws _ c.take_words.result c.words.ensures.stays.later fed.1 more)

@@ -26,14 +26,14 @@ loop-word-preserved g c =
     let how = how_of c.args.self.now in
     let inv = c.loop-word.invariant in
     record {
-      how = c.step.ensures.same_how ∙ inv.how;
-      counted = omega (arith, inv.counted, c.in_ok-step.ensures.one_more);
-      follows = rw (ap (λ (h : Reading). h.mode) inv.how) at c.in_ok-step.ensures.follows;
+      how = c.step.ensures.stays.same_how ∙ inv.how;
+      counted = omega (arith, inv.counted, c.in_ok-step.ensures.goes_on.counted);
+      follows = rw (ap (λ (h : Reading). h.mode) inv.how) at c.in_ok-step.ensures.goes_on.follows;
       at = λ before h. more_at (IsBehind c.step.new.self) before c.args.words.now c.loop-word.word-index _ _ c.loop-word-test.true c.from_le_bytes.ensures (c.in_ok-step.ensures.at _ (inv.at before h));
       gave = λ before h.
           let fed = rw inv.how at (c.in_ok-step.ensures.fed _ (inv.at before h)) in
           more_at (λ l. GaveOn s how c.args.taker.now c.step.new.taker before l) before c.args.words.now c.loop-word.word-index _ _ c.loop-word-test.true c.from_le_bytes.ensures
           (GaveOn-trans s how _ c.loop-word.taker _ before _ _ (inv.gave before h) fed.1);
-      later = omega (arith, inv.later, c.step.ensures.later);
-      same = g.met.S.EventTaker.same_more _ _ _ inv.same c.step.ensures.same;
+      later = omega (arith, inv.later, c.step.ensures.stays.later);
+      same = g.met.S.EventTaker.same_more _ _ _ inv.same c.step.ensures.stays.same;
     }

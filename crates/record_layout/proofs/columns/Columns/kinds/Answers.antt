@@ -1,0 +1,23 @@
+use Rattle.std.proofs.Common.{◌≡◌, length, arith, rules}
+use Rattle.std.proofs.lemmas.List.{take_all}
+use Rattle.record_layout.proofs.KindLemmas.{others-fit, counts_of-three}
+use Rattle.record_layout.proofs.columns.Columns.kinds.Goals as goal
+
+pub overflow_sub-result : goal.overflow_sub-result
+overflow_sub-result g c =
+    let all = take_all c.loop-i.i c.args.words.now c.loop-i-test.false in
+    let seen = c.loop-i.invariant in
+    others-fit g.R.RecordLayout.meaning c.args.words.now _ _ _ (rw all at seen.photons) (rw all at seen.markers) (rw all at seen.wraps)
+
+pub returns-clause-value : goal.returns-clause-value
+returns-clause-value g c =
+    let all = take_all c.loop-i.i c.args.words.now c.loop-i-test.false in
+    let seen = c.loop-i.invariant in
+    counts_of-three g.R.RecordLayout.meaning c.args.words.now _ _ _ (rw all at seen.photons) (rw all at seen.markers) (rw all at seen.wraps)
+
+pub returns-clause-split : goal.returns-clause-split
+returns-clause-split g c =
+    let all = take_all c.loop-i.i c.args.words.now c.loop-i-test.false in
+    let seen = c.loop-i.invariant in
+    let fit = others-fit g.R.RecordLayout.meaning c.args.words.now _ _ _ (rw all at seen.photons) (rw all at seen.markers) (rw all at seen.wraps) in
+    omega (arith, fit)

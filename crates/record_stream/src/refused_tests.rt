@@ -1,0 +1,131 @@
+// Streams that have refused, which are fed once more.
+ghost use Rattle.std.specs.Prelude.{◌≡◌, ◌+◌, ◌^◌, ◌<◌, ◌≤◌, length, None, max};
+ghost use Rattle.ptu_definitions.specs.Kept.{floor_of};
+ghost use Rattle.record_stream.specs.Feeding.{Follows};
+ghost use Rattle.record_stream.specs.Standing.{how_of, given_by, top_of, refused_with};
+
+use crate::{EventTaker, RecordStream, moved_floor};
+use std::test::Fail;
+use tally_base::{Event, Failed, Fault, Mode, OnReserved, Order, Policy, RecordType};
+
+/// Counts its calls, and fails at each of them once it took as many events as it has room for.
+#[derive(Drop)]
+struct Counter {
+    mode: Mode,
+    room: u64,
+    taken: u64,
+    floor: u64,
+    failed: u64,
+}
+
+impl EventTaker for Counter {
+    ghost use Rattle.std.specs.Prelude.{refl};
+    ghost use Rattle.std.proofs.Common.{◌∙◌, arith};
+
+    ghost got = { λ s t l. (t.mode ≡ s.mode) × (t.taken ≡ s.taken + length l)
+        × (t.floor ≡ max s.floor (floor_of s.mode l)) };
+
+    ghost broke = { λ s t l. (t.mode ≡ s.mode) × (t.taken + 1 ≡ s.taken + length l) };
+
+    ghost same = { λ s t. t.room ≡ s.room };
+
+    ghost same_none = { λ t. refl };
+
+    ghost same_more = { λ t u v p q. q ∙ p };
+
+    ghost mode = { λ t. t.mode };
+
+    ghost taken = { λ t. t.taken };
+
+    ghost floor = { λ t. t.floor };
+
+    ghost faults = { λ t. t.failed };
+
+    ghost got_none = { λ t. (refl, omega arith, omega arith) };
+
+    ghost taken_is = { λ s t l is. is.1 };
+
+    ghost floor_is = { λ s t l is. is.2 };
+
+    fn take(&mut self, event: &Event, late: bool) -> Result<(), Failed> {
+        if self.taken == self.room {
+            self.failed = self.failed.saturating_add(1);
+            return Err(Failed);
+        }
+        self.taken += 1;
+        self.floor = moved_floor(self.mode, self.floor, event, late);
+        Ok(())
+    }
+}
+
+/// What a stream answers to a piece, if it refuses it.
+fn answer<S: EventTaker>(stream: &mut RecordStream, piece: &[u8], taker: &mut S) -> Option<Fault>
+    requires { refused_with stream.old ≡ None → Follows S.EventTaker (how_of stream.old).mode
+        (given_by stream.old) (top_of stream.old) taker.old }
+    ensures { refused_with stream.new ≡ None → Follows S.EventTaker (how_of stream.new).mode
+        (given_by stream.new) (top_of stream.new) taker.new }
+{
+    match stream.feed(piece, taker) {
+        Ok(()) => None,
+        Err(fault) => Some(fault),
+    }
+}
+
+/// What a stream of T3 records answers to these words, to an empty piece and to two photons more, and
+/// behind each how many events its taker took and how often it failed.
+fn answers(policy: Policy, room: u64, words: &[u8]) -> ([Option<Fault>; 3], [[u64; 2]; 3])
+    requires { (0 < policy.records) × (policy.records ≤ 2 ^ 40) }
+{
+    let mut stream = RecordStream::new(RecordType::HydraHarp2T3, policy);
+    let mut taker = Counter {
+        mode: Mode::T3,
+        room,
+        taken: 0,
+        floor: 0,
+        failed: 0,
+    };
+    let first = answer(&mut stream, words, &mut taker);
+    let at_first = [taker.taken, taker.failed];
+    let empty = answer(&mut stream, &[], &mut taker);
+    let at_empty = [taker.taken, taker.failed];
+    let more = answer(&mut stream, &[30, 0, 0, 0, 31, 0, 0, 0], &mut taker);
+    let at_more = [taker.taken, taker.failed];
+    ([first, empty, more], [at_first, at_empty, at_more])
+}
+
+/// Passes over what may be passed over, in three records.
+const LENIENT: Policy = Policy {
+    order: Order::Drop,
+    reserved: OnReserved::Skip,
+    records: 3,
+};
+
+#[test]
+fn a_refusal_is_repeated(rt: HostRuntime) -> Result<(), Fail> {
+    let ordered = Policy {
+        order: Order::Stop,
+        ..LENIENT
+    };
+    let late = Fault::BackwardTime {
+        place: 2,
+        time: 20,
+        before: 21,
+    };
+    assert!(rt; answers(ordered, 9, &[21, 0, 0, 0, 20, 0, 0, 0]) == ([Some(late); 3], [[1, 0]; 3]));
+    let known = Policy {
+        reserved: OnReserved::Stop,
+        ..LENIENT
+    };
+    let reserved = Fault::ReservedRecord {
+        place: 2,
+        word: 0xFC00_0000,
+    };
+    assert!(rt;
+        answers(known, 9, &[21, 0, 0, 0, 0, 0, 0, 0xFC]) == ([Some(reserved); 3], [[1, 0]; 3])
+    );
+    let four = [21, 0, 0, 0, 22, 0, 0, 0, 23, 0, 0, 0, 24, 0, 0, 0];
+    let limit = Fault::RecordLimit { limit: 3 };
+    assert!(rt; answers(LENIENT, 9, &four) == ([Some(limit); 3], [[3, 0]; 3]));
+    assert!(rt; answers(LENIENT, 2, &four[..12]) == ([Some(Fault::WriteFault); 3], [[2, 1]; 3]));
+    Ok(())
+}
