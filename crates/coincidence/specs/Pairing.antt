@@ -58,6 +58,14 @@ joined bin more = record {
   both = bin.both + more.both;
 }
 
+-- each cell has room for so many pairs more
+abbrev pub HasRoom : CoincidenceView → Cells → (ℕ → ℕ) → Type 0
+HasRoom set cells more = (c : ℕ) → c < coincidence_cells set → slice_index cells.cells c + more c ≤ 2 ^ 80
+
+-- each cell counts so many pairs more
+abbrev pub CountsMore : CoincidenceView → Cells → Cells → (ℕ → ℕ) → Type 0
+CountsMore set old new more = (c : ℕ) → c < coincidence_cells set → slice_index new.cells c ≡ slice_index old.cells c + more c
+
 abbrev pub pairing_of : Option Bin → Ring → Cells → Pairing
 pairing_of bin ring cells = record { «open» = bin; ring = ring; cells = cells }
 
@@ -117,6 +125,10 @@ module _ (set : CoincidenceView) where
   -- the photons that came, in their order
   abbrev pub Came : Pairing → History → Type 0
   Came p came = (closed : History) × (open' : History) × (came ≡ closed ++ open') × PairingIs p closed open'
+
+  -- Photons of one tick came behind any others that they may come behind.
+  abbrev pub Puts : Pairing → Pairing → Bin → Type 0
+  Puts old new bin = (closed open' xs : History) → CanPut old bin closed open' xs → Came new ((closed ++ open') ++ xs)
 
   pub record CanEnd (p : Pairing) (came : History) : Type 0 where
     pub few : length came ≤ 2 ^ 40

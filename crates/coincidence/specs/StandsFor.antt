@@ -1,13 +1,17 @@
 -- What the fields of a table of coincidences stand for.
-use Rattle.std.specs.Prelude.{◌≡◌, ℕ, ◌+◌, ◌^◌, ◌<◌, ◌≤◌, Bool, true, false, IsTrue, List, length}
+use Rattle.std.specs.Prelude.{◌≡◌, ℕ, ◌+◌, ◌^◌, ◌<◌, ◌≤◌, Bool, true, false, IsTrue, Option, List, ◌++◌, length}
 use Rattle.tally_base.specs.declared.event.Event.{Event}
 use Rattle.tally_base.specs.Events.{is_photon}
 use Rattle.tally_base.specs.Settings.{CoincidenceView}
 use Rattle.tally_base.specs.Tally.{History, greatest_time}
 use Rattle.event_block.specs.Order.{InOrder}
+use Rattle.lag_ring.specs.Cells.{Cells}
+use Rattle.lag_ring.specs.Ring.{Ring}
+use Rattle.coincidence.specs.declared.pairing.Bin.{Bin}
 use Rattle.coincidence.specs.declared.pairing.Pairing.{Pairing}
 use Rattle.coincidence.specs.Pairs.{photons_of_groups}
-use Rattle.coincidence.specs.Pairing.{Came, PairingDone}
+use Rattle.coincidence.specs.Pairing.{Came, PairingDone, pairing_of}
+use Rattle.coincidence.specs.Closing.{Gathered}
 
 -- the photons came, and in a closed table all of them are in closed bins
 abbrev pub HasPhotons : Bool → CoincidenceView → Pairing → History → Type 0
@@ -31,3 +35,13 @@ pub record CanTake (set : CoincidenceView) (p : Pairing) (es : List Event) (h : 
   pub few : length h + length es ≤ 2 ^ 40
   pub was : Came set p (photons_of_groups set h)
   pub after : InOrder false (greatest_time false h) es
+
+-- The photons of these events came behind those of any that they may be given after. A block has `es`, of which `xs` are its events.
+abbrev pub TakesOn : CoincidenceView → Pairing → Pairing → List Event → History → Type 0
+TakesOn set old new es xs = (h : History) → CanTake set old es h → Came set new (photons_of_groups set (h ++ xs))
+
+-- The photons of these events came, and the bins that they closed are gathered behind those that were closed before.
+abbrev pub Gathers : CoincidenceView → Option Bin → Option Bin → List Bin → List Event → History → Type 0
+Gathers set waiting result bins es xs =
+    (ring : Ring) (cells : Cells) (h : History) → (can : CanTake set (pairing_of waiting ring cells) es h)
+    → Gathered set result bins can.was.0 (photons_of_groups set (h ++ xs))

@@ -5,7 +5,8 @@ ghost use Rattle.tally_base.specs.Settings.{coincidence_view, coincidence_cells}
 ghost use Rattle.tally_base.specs.Tally.{History};
 ghost use Rattle.lag_ring.specs.Ring.{IsRising};
 ghost use Rattle.lag_ring.specs.Window.{weight_of};
-ghost use Rattle.coincidence.specs.Pairing.{RingIs, CellsAre, bin_pairs};
+ghost use Rattle.lag_ring.specs.Cells.{Spends};
+ghost use Rattle.coincidence.specs.Pairing.{RingIs, CellsAre, bin_pairs, HasRoom, CountsMore};
 ghost use Rattle.coincidence.specs.Closing.{weights_in, BinsAre, CanKeepAll, CanShutAll, FitsWindow};
 
 use crate::lags::{TOP, are_near, pair_lags};
@@ -69,19 +70,15 @@ fn keep_all<L: Ledger>(
     requires stands { ∥ ((closed : History) × (xs : History)
         × CanKeepAll (coincidence_view set.now) ring.old bins.now closed xs) ∥₁ }
     requires sized { length cells.old.cells ≡ coincidence_cells (coincidence_view set.now) }
-    requires fits { (c : ℕ) → c < coincidence_cells (coincidence_view set.now)
-        → slice_index cells.old.cells c
-        + sum_by (λ bin. bin_pairs (coincidence_view set.now) c bin []) bins.now ≤ 2 ^ 80 }
+    requires fits { HasRoom (coincidence_view set.now) cells.old
+        (λ c. sum_by (λ bin. bin_pairs (coincidence_view set.now) c bin []) bins.now) }
     requires room { cells.old.added + length bins.now < 2 ^ 64 }
     ensures ring { (closed xs : History)
         → CanKeepAll (coincidence_view set.now) ring.old bins.now closed xs
         → RingIs (coincidence_view set.now) ring.new (closed ++ xs) }
-    ensures cells { (c : ℕ) → c < coincidence_cells (coincidence_view set.now)
-        → slice_index cells.new.cells c ≡ slice_index cells.old.cells c
-        + sum_by (λ bin. bin_pairs (coincidence_view set.now) c bin []) bins.now }
-    ensures same { length cells.new.cells ≡ length cells.old.cells }
-    ensures added { cells.new.added ≤ cells.old.added + length bins.now }
-    ensures steps { steps.new + cells.old.added ≡ steps.old + cells.new.added }
+    ensures cells { CountsMore (coincidence_view set.now) cells.old cells.new
+        (λ c. sum_by (λ bin. bin_pairs (coincidence_view set.now) c bin []) bins.now) }
+    ensures spends { Spends cells.old cells.new steps.old steps.new (length bins.now) }
 {
     for bin in bins {
         pair_inside(cells, set, bin, steps);

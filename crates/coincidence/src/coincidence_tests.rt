@@ -21,15 +21,15 @@ const MARKER: EventKind = EventKind::Marker { bits: 15 };
 const END: u64 = (1 << 62) + (1 << 28);
 
 /// An event with its time and its groups.
-type Given = (u64, EventKind, u64);
+pub(crate) type Given = (u64, EventKind, u64);
 
 /// A photon of some groups, bit g - 1 for group g.
-fn photon(time: u64, groups: u64) -> Given {
+pub(crate) fn photon(time: u64, groups: u64) -> Given {
     (time, PHOTON, groups)
 }
 
 /// Coincidences of groups 1 and 2.
-fn of_two(reach: u32, width: u32) -> CoincidenceSet
+pub(crate) fn of_two(reach: u32, width: u32) -> CoincidenceSet
     requires some_reach { (0 < reach) × (reach ≤ 2 ^ 20) }
     requires some_width { (0 < width) × (width ≤ 2 ^ 21) }
 {
@@ -55,7 +55,7 @@ fn of_one(reach: u32, width: u32) -> CoincidenceSet
 }
 
 /// A closed table that was given these events.
-fn filled<L: Ledger>(
+pub(crate) fn filled<L: Ledger>(
     alloc: Global,
     blank: Blank,
     set: CoincidenceSet,

@@ -6,9 +6,8 @@ ghost use Rattle.lag_ring.specs.Cells.{Cells};
 ghost use Rattle.lag_ring.specs.Ring.{Ring};
 ghost use Rattle.arrayvec.specs.ArrayVec.{array_vec_len};
 ghost use Rattle.event_block.specs.Columns.{gathered, events_in, IsSorted};
-ghost use Rattle.coincidence.specs.StandsFor.{CanTake};
+ghost use Rattle.coincidence.specs.StandsFor.{CanTake, Gathers};
 ghost use Rattle.coincidence.specs.Pairing.{pairing_of};
-ghost use Rattle.coincidence.specs.Pairs.{photons_of_groups};
 ghost use Rattle.coincidence.specs.Closing.{Gathered, CanGather};
 
 use crate::pairing::Bin;
@@ -53,10 +52,8 @@ pub(crate) fn gather_block(
     requires empty { (bins.old.items ≡ []) × (array_vec_len bins.old ≡ 0) }
     requires stands { ∥ ((ring : Ring) × (cells : Cells) × (h : History) × CanTake
         (coincidence_view set.now) (pairing_of waiting ring cells) (gathered block.now) h) ∥₁ }
-    ensures follows { (ring : Ring) (cells : Cells) (h : History) → (can : CanTake
-        (coincidence_view set.now) (pairing_of waiting ring cells) (gathered block.now) h)
-        → Gathered (coincidence_view set.now) result bins.new.items can.was.0
-        (photons_of_groups (coincidence_view set.now) (h ++ events_in block.now)) }
+    ensures follows { Gathers (coincidence_view set.now) waiting result bins.new.items
+        (gathered block.now) (events_in block.now) }
     ensures few { array_vec_len bins.new ≤ 64 }
 {
     // Copies, so that no field is read again for each photon.

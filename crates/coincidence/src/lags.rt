@@ -2,7 +2,9 @@
 ghost use Rattle.std.specs.Prelude.{◌≡◌, ℕ, ◌+◌, ◌-◌, ◌%◌, ◌^◌, ◌<◌, ◌≤◌, ◌++◌, IsTrue, filter, length, nat_lt, slice_index, sum_by};
 ghost use Rattle.std.specs.List.{AllByRecursion};
 ghost use Rattle.tally_base.specs.Settings.{coincidence_view, coincidence_cells};
-ghost use Rattle.lag_ring.specs.Window.{weight_of, weight_at};
+ghost use Rattle.lag_ring.specs.Window.{weight_of, weight_at, ServesLater};
+ghost use Rattle.lag_ring.specs.Cells.{Spends};
+ghost use Rattle.coincidence.specs.Pairing.{HasRoom, CountsMore};
 ghost use Rattle.coincidence.specs.Closing.{earlier_side, later_side, strip_sum, window_sum, lag_sum, FitsWindow};
 
 use crate::pairing::{Direction, add_pairs};
@@ -55,16 +57,12 @@ fn add_single_ticks<L: Ledger>(
     requires single { set.width ≡ 1 }
     requires sized { length cells.old.cells ≡ coincidence_cells (coincidence_view set) }
     requires inside { (count ≤ LAGS) × (least + count ≤ set.reach) }
-    requires fits { (c : ℕ) → c < coincidence_cells (coincidence_view set)
-        → slice_index cells.old.cells c
-        + strip_sum direction (coincidence_view set) c least count sums.now ≤ 2 ^ 80 }
+    requires fits { HasRoom (coincidence_view set) cells.old
+        (λ c. strip_sum direction (coincidence_view set) c least count sums.now) }
     requires room { cells.old.added + count < 2 ^ 64 }
-    ensures cells { (c : ℕ) → c < coincidence_cells (coincidence_view set)
-        → slice_index cells.new.cells c ≡ slice_index cells.old.cells c
-        + strip_sum direction (coincidence_view set) c least count sums.now }
-    ensures same { length cells.new.cells ≡ length cells.old.cells }
-    ensures added { cells.new.added ≤ cells.old.added + count }
-    ensures steps { steps.new + cells.old.added ≡ steps.old + cells.new.added }
+    ensures cells { CountsMore (coincidence_view set) cells.old cells.new
+        (λ c. strip_sum direction (coincidence_view set) c least count sums.now) }
+    ensures spends { Spends cells.old cells.new steps.old steps.new count }
 {
     let most = least + count;
     let falling = &sums[LAGS - count as usize..];
@@ -87,16 +85,12 @@ fn add_groups<L: Ledger>(
 )
     requires sized { length cells.old.cells ≡ coincidence_cells (coincidence_view set) }
     requires inside { (count ≤ LAGS) × (least + count ≤ set.reach) }
-    requires fits { (c : ℕ) → c < coincidence_cells (coincidence_view set)
-        → slice_index cells.old.cells c
-        + strip_sum direction (coincidence_view set) c least count sums.now ≤ 2 ^ 80 }
+    requires fits { HasRoom (coincidence_view set) cells.old
+        (λ c. strip_sum direction (coincidence_view set) c least count sums.now) }
     requires room { cells.old.added + count < 2 ^ 64 }
-    ensures cells { (c : ℕ) → c < coincidence_cells (coincidence_view set)
-        → slice_index cells.new.cells c ≡ slice_index cells.old.cells c
-        + strip_sum direction (coincidence_view set) c least count sums.now }
-    ensures same { length cells.new.cells ≡ length cells.old.cells }
-    ensures added { cells.new.added ≤ cells.old.added + count }
-    ensures steps { steps.new + cells.old.added ≡ steps.old + cells.new.added }
+    ensures cells { CountsMore (coincidence_view set) cells.old cells.new
+        (λ c. strip_sum direction (coincidence_view set) c least count sums.now) }
+    ensures spends { Spends cells.old cells.new steps.old steps.new count }
 {
     for i in 0..count {
         let shifted = direction.shifted(set, u64::from(least + 1 + i));
@@ -119,16 +113,12 @@ fn add_sums<L: Ledger>(
 )
     requires sized { length cells.old.cells ≡ coincidence_cells (coincidence_view set) }
     requires inside { (count ≤ LAGS) × (least + count ≤ set.reach) }
-    requires fits { (c : ℕ) → c < coincidence_cells (coincidence_view set)
-        → slice_index cells.old.cells c
-        + strip_sum direction (coincidence_view set) c least count sums.now ≤ 2 ^ 80 }
+    requires fits { HasRoom (coincidence_view set) cells.old
+        (λ c. strip_sum direction (coincidence_view set) c least count sums.now) }
     requires room { cells.old.added + count < 2 ^ 64 }
-    ensures cells { (c : ℕ) → c < coincidence_cells (coincidence_view set)
-        → slice_index cells.new.cells c ≡ slice_index cells.old.cells c
-        + strip_sum direction (coincidence_view set) c least count sums.now }
-    ensures same { length cells.new.cells ≡ length cells.old.cells }
-    ensures added { cells.new.added ≤ cells.old.added + count }
-    ensures steps { steps.new + cells.old.added ≡ steps.old + cells.new.added }
+    ensures cells { CountsMore (coincidence_view set) cells.old cells.new
+        (λ c. strip_sum direction (coincidence_view set) c least count sums.now) }
+    ensures spends { Spends cells.old cells.new steps.old steps.new count }
 {
     if set.width == 1 {
         add_single_ticks(cells, set, direction, least, count, sums, steps);
@@ -153,20 +143,14 @@ fn pair_strip<L: Ledger>(
 )
     requires sized { length cells.old.cells ≡ coincidence_cells (coincidence_view set) }
     requires inside { (count ≤ LAGS) × (least + count ≤ set.reach) × (least + LAGS ≤ top) }
-    requires small { (p : ℕ) → p < length window.now → slice_index window.now p < 2 ^ 16 }
-    requires few { sum_by (weight_of (later_side direction)) later.now < 2 ^ 16 }
-    requires near { AllByRecursion
-        (λ e. (low ≤ e.index) × (e.index - low + top ≤ length window.now)) later.now }
-    requires fits { (c : ℕ) → c < coincidence_cells (coincidence_view set)
-        → slice_index cells.old.cells c
-        + window_sum direction (coincidence_view set) c least count top window.now low later.now ≤ 2 ^ 80 }
+    requires window { ServesLater (later_side direction) (length window.now) top low window.now
+        later.now }
+    requires fits { HasRoom (coincidence_view set) cells.old
+        (λ c. window_sum direction (coincidence_view set) c least count top window.now low later.now) }
     requires room { cells.old.added + count < 2 ^ 64 }
-    ensures cells { (c : ℕ) → c < coincidence_cells (coincidence_view set)
-        → slice_index cells.new.cells c ≡ slice_index cells.old.cells c
-        + window_sum direction (coincidence_view set) c least count top window.now low later.now }
-    ensures same { length cells.new.cells ≡ length cells.old.cells }
-    ensures added { cells.new.added ≤ cells.old.added + count }
-    ensures steps { steps.new + cells.old.added ≡ steps.old + cells.new.added }
+    ensures cells { CountsMore (coincidence_view set) cells.old cells.new
+        (λ c. window_sum direction (coincidence_view set) c least count top window.now low later.now) }
+    ensures spends { Spends cells.old cells.new steps.old steps.new count }
 {
     let from = top as usize - LAGS - least as usize;
     let sums = lag_sums(window, later_side(direction), low, from, later);
@@ -185,22 +169,15 @@ fn pair_window<L: Ledger>(
     steps: &mut Steps<L>,
 )
     requires sized { length cells.old.cells ≡ coincidence_cells (coincidence_view set) }
-    requires reach { set.reach ≤ top }
-    requires strips { top % LAGS ≡ 0 }
-    requires small { (p : ℕ) → p < length window.now → slice_index window.now p < 2 ^ 16 }
-    requires few { sum_by (weight_of (later_side direction)) later.now < 2 ^ 16 }
-    requires near { AllByRecursion
-        (λ e. (low ≤ e.index) × (e.index - low + top ≤ length window.now)) later.now }
-    requires fits { (c : ℕ) → c < coincidence_cells (coincidence_view set)
-        → slice_index cells.old.cells c
-        + window_sum direction (coincidence_view set) c 0 set.reach top window.now low later.now ≤ 2 ^ 80 }
+    requires lags { (set.reach ≤ top) × (top % LAGS ≡ 0) }
+    requires window { ServesLater (later_side direction) (length window.now) top low window.now
+        later.now }
+    requires fits { HasRoom (coincidence_view set) cells.old
+        (λ c. window_sum direction (coincidence_view set) c 0 set.reach top window.now low later.now) }
     requires room { cells.old.added + set.reach < 2 ^ 64 }
-    ensures cells { (c : ℕ) → c < coincidence_cells (coincidence_view set)
-        → slice_index cells.new.cells c ≡ slice_index cells.old.cells c
-        + window_sum direction (coincidence_view set) c 0 set.reach top window.now low later.now }
-    ensures same { length cells.new.cells ≡ length cells.old.cells }
-    ensures added { cells.new.added ≤ cells.old.added + set.reach }
-    ensures steps { steps.new + cells.old.added ≡ steps.old + cells.new.added }
+    ensures cells { CountsMore (coincidence_view set) cells.old cells.new
+        (λ c. window_sum direction (coincidence_view set) c 0 set.reach top window.now low later.now) }
+    ensures spends { Spends cells.old cells.new steps.old steps.new set.reach }
 {
     for strip in 0..set.reach.div_ceil(LAGS as u32) {
         let least = strip * LAGS as u32;
@@ -274,16 +251,12 @@ fn pair_over<L: Ledger>(
     requires near { AllByRecursion
         (λ e. (low ≤ e.index) × (e.index - low + top ≤ length window.old)) later.now }
     requires few { length later.now ≤ 64 }
-    requires fits { (c : ℕ) → c < coincidence_cells (coincidence_view set)
-        → slice_index cells.old.cells c
-        + lag_sum direction (coincidence_view set) c (ring.now.entries ++ later.now) later.now ≤ 2 ^ 80 }
+    requires fits { HasRoom (coincidence_view set) cells.old
+        (λ c. lag_sum direction (coincidence_view set) c (ring.now.entries ++ later.now) later.now) }
     requires room { cells.old.added + set.reach < 2 ^ 64 }
-    ensures cells { (c : ℕ) → c < coincidence_cells (coincidence_view set)
-        → slice_index cells.new.cells c ≡ slice_index cells.old.cells c
-        + lag_sum direction (coincidence_view set) c (ring.now.entries ++ later.now) later.now }
-    ensures same { length cells.new.cells ≡ length cells.old.cells }
-    ensures added { cells.new.added ≤ cells.old.added + set.reach }
-    ensures steps { steps.new + cells.old.added ≡ steps.old + cells.new.added }
+    ensures cells { CountsMore (coincidence_view set) cells.old cells.new
+        (λ c. lag_sum direction (coincidence_view set) c (ring.now.entries ++ later.now) later.now) }
+    ensures spends { Spends cells.old cells.new steps.old steps.new set.reach }
 {
     fill(window, earlier_side(direction), top, ring, low, later);
     let counted = with_weight(later_side(direction), later);
@@ -303,16 +276,12 @@ pub(crate) fn pair_lags<L: Ledger>(
     requires sized { length cells.old.cells ≡ coincidence_cells (coincidence_view set) }
     requires window { FitsWindow (coincidence_view set) low ring.now.entries later.now }
     requires few { length later.now ≤ 64 }
-    requires fits { (c : ℕ) → c < coincidence_cells (coincidence_view set)
-        → slice_index cells.old.cells c
-        + lag_sum direction (coincidence_view set) c (ring.now.entries ++ later.now) later.now ≤ 2 ^ 80 }
+    requires fits { HasRoom (coincidence_view set) cells.old
+        (λ c. lag_sum direction (coincidence_view set) c (ring.now.entries ++ later.now) later.now) }
     requires room { cells.old.added + set.reach < 2 ^ 64 }
-    ensures cells { (c : ℕ) → c < coincidence_cells (coincidence_view set)
-        → slice_index cells.new.cells c ≡ slice_index cells.old.cells c
-        + lag_sum direction (coincidence_view set) c (ring.now.entries ++ later.now) later.now }
-    ensures same { length cells.new.cells ≡ length cells.old.cells }
-    ensures added { cells.new.added ≤ cells.old.added + set.reach }
-    ensures steps { steps.new + cells.old.added ≡ steps.old + cells.new.added }
+    ensures cells { CountsMore (coincidence_view set) cells.old cells.new
+        (λ c. lag_sum direction (coincidence_view set) c (ring.now.entries ++ later.now) later.now) }
+    ensures spends { Spends cells.old cells.new steps.old steps.new set.reach }
 {
     if set.reach <= SHORT && are_near(low, SHORT, later) {
         let mut window = [0; 1024];

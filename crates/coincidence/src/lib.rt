@@ -18,4 +18,6 @@ pub use start_stop::StartStop;
 #[cfg(test)]
 mod coincidence_tests;
 #[cfg(test)]
+mod greatest_tests;
+#[cfg(test)]
 mod tests;

@@ -3,7 +3,8 @@ ghost use Rattle.std.specs.Prelude.{◌≡◌, ℕ, ◌+◌, ◌-◌, ◌*◌, �
 ghost use Rattle.std.specs.List.{AllByRecursion};
 ghost use Rattle.tally_base.specs.Settings.{coincidence_view, coincidence_cells};
 ghost use Rattle.tally_base.specs.Tally.{History};
-ghost use Rattle.coincidence.specs.Pairing.{pairs_of, pairs_of_all, pairs_with, bin_pairs, pairing_of, RingIs, CellsAre, CanKeep, CanShut, CanPut, Came};
+ghost use Rattle.lag_ring.specs.Cells.{Spends};
+ghost use Rattle.coincidence.specs.Pairing.{pairs_of, pairs_of_all, pairs_with, bin_pairs, pairing_of, RingIs, CellsAre, CanKeep, CanShut, CanPut, Puts, HasRoom, CountsMore};
 
 use lag_ring::{Entry, LagRing, PairCells};
 use std::alloc::{AllocError, Global};
@@ -151,9 +152,7 @@ pub(crate) fn add_pairs<L: Ledger>(
     ensures cells { (c : ℕ) → c < length cells.old.cells
         → slice_index cells.new.cells c ≡ slice_index cells.old.cells c
         + (if shifted / set.width == c then earlier * later else 0) }
-    ensures same { length cells.new.cells ≡ length cells.old.cells }
-    ensures added { cells.new.added ≤ cells.old.added + 1 }
-    ensures steps { steps.new + cells.old.added ≡ steps.old + cells.new.added }
+    ensures spends { Spends cells.old cells.new steps.old steps.new 1 }
 {
     let pairs = u128::from(earlier) * u128::from(later);
     cells.add(cell_of(set, shifted), pairs, steps);
@@ -173,16 +172,12 @@ fn pair_earlier<L: Ledger>(
 )
     requires sized { length cells.old.cells ≡ coincidence_cells (coincidence_view set) }
     requires after { earlier.now.index < index }
-    requires fits { (c : ℕ) → c < coincidence_cells (coincidence_view set)
-        → slice_index cells.old.cells c
-        + pairs_of direction (coincidence_view set) c index later earlier.now ≤ 2 ^ 80 }
+    requires fits { HasRoom (coincidence_view set) cells.old
+        (λ c. pairs_of direction (coincidence_view set) c index later earlier.now) }
     requires count { cells.old.added + 1 < 2 ^ 64 }
-    ensures cells { (c : ℕ) → c < coincidence_cells (coincidence_view set)
-        → slice_index cells.new.cells c ≡ slice_index cells.old.cells c
-        + pairs_of direction (coincidence_view set) c index later earlier.now }
-    ensures same { length cells.new.cells ≡ length cells.old.cells }
-    ensures added { cells.new.added ≤ cells.old.added + 1 }
-    ensures steps { steps.new + cells.old.added ≡ steps.old + cells.new.added }
+    ensures cells { CountsMore (coincidence_view set) cells.old cells.new
+        (λ c. pairs_of direction (coincidence_view set) c index later earlier.now) }
+    ensures spends { Spends cells.old cells.new steps.old steps.new 1 }
 {
     let apart = index - earlier.index;
     if is_near(set, apart) {
@@ -210,16 +205,12 @@ fn pair_direction<L: Ledger>(
 )
     requires sized { length cells.old.cells ≡ coincidence_cells (coincidence_view set) }
     requires after { AllByRecursion (λ e. e.index < index) entries.now }
-    requires fits { (c : ℕ) → c < coincidence_cells (coincidence_view set)
-        → slice_index cells.old.cells c
-        + pairs_of_all direction (coincidence_view set) c index later entries.now ≤ 2 ^ 80 }
+    requires fits { HasRoom (coincidence_view set) cells.old
+        (λ c. pairs_of_all direction (coincidence_view set) c index later entries.now) }
     requires count { cells.old.added + length entries.now < 2 ^ 64 }
-    ensures cells { (c : ℕ) → c < coincidence_cells (coincidence_view set)
-        → slice_index cells.new.cells c ≡ slice_index cells.old.cells c
-        + pairs_of_all direction (coincidence_view set) c index later entries.now }
-    ensures same { length cells.new.cells ≡ length cells.old.cells }
-    ensures added { cells.new.added ≤ cells.old.added + length entries.now }
-    ensures steps { steps.new + cells.old.added ≡ steps.old + cells.new.added }
+    ensures cells { CountsMore (coincidence_view set) cells.old cells.new
+        (λ c. pairs_of_all direction (coincidence_view set) c index later entries.now) }
+    ensures spends { Spends cells.old cells.new steps.old steps.new (length entries.now) }
 {
     if later > 0 {
         for earlier in entries {
@@ -239,16 +230,12 @@ fn pair_groups<L: Ledger>(
 )
     requires sized { length cells.old.cells ≡ coincidence_cells (coincidence_view set) }
     requires after { AllByRecursion (λ e. e.index < later.now.index) entries.now }
-    requires fits { (c : ℕ) → c < coincidence_cells (coincidence_view set)
-        → slice_index cells.old.cells c
-        + pairs_with (coincidence_view set) c later.now entries.now ≤ 2 ^ 80 }
+    requires fits { HasRoom (coincidence_view set) cells.old
+        (λ c. pairs_with (coincidence_view set) c later.now entries.now) }
     requires count { cells.old.added + 2 * length entries.now < 2 ^ 64 }
-    ensures cells { (c : ℕ) → c < coincidence_cells (coincidence_view set)
-        → slice_index cells.new.cells c ≡ slice_index cells.old.cells c
-        + pairs_with (coincidence_view set) c later.now entries.now }
-    ensures same { length cells.new.cells ≡ length cells.old.cells }
-    ensures added { cells.new.added ≤ cells.old.added + 2 * length entries.now }
-    ensures steps { steps.new + cells.old.added ≡ steps.old + cells.new.added }
+    ensures cells { CountsMore (coincidence_view set) cells.old cells.new
+        (λ c. pairs_with (coincidence_view set) c later.now entries.now) }
+    ensures spends { Spends cells.old cells.new steps.old steps.new (2 * length entries.now) }
 {
     let Entry { index, a, b } = *later;
     pair_direction(cells, set, Direction::Forward, index, b, entries, steps);
@@ -268,16 +255,12 @@ fn pair_single_ticks<L: Ledger>(
     requires single { set.width ≡ 1 }
     requires sized { length cells.old.cells ≡ coincidence_cells (coincidence_view set) }
     requires after { AllByRecursion (λ e. e.index < later.now.index) entries.now }
-    requires fits { (c : ℕ) → c < coincidence_cells (coincidence_view set)
-        → slice_index cells.old.cells c
-        + pairs_with (coincidence_view set) c later.now entries.now ≤ 2 ^ 80 }
+    requires fits { HasRoom (coincidence_view set) cells.old
+        (λ c. pairs_with (coincidence_view set) c later.now entries.now) }
     requires count { cells.old.added + 2 * length entries.now < 2 ^ 64 }
-    ensures cells { (c : ℕ) → c < coincidence_cells (coincidence_view set)
-        → slice_index cells.new.cells c ≡ slice_index cells.old.cells c
-        + pairs_with (coincidence_view set) c later.now entries.now }
-    ensures same { length cells.new.cells ≡ length cells.old.cells }
-    ensures added { cells.new.added ≤ cells.old.added + 2 * length entries.now }
-    ensures steps { steps.new + cells.old.added ≡ steps.old + cells.new.added }
+    ensures cells { CountsMore (coincidence_view set) cells.old cells.new
+        (λ c. pairs_with (coincidence_view set) c later.now entries.now) }
+    ensures spends { Spends cells.old cells.new steps.old steps.new (2 * length entries.now) }
 {
     pair_groups(cells, set, later, entries, steps);
 }
@@ -292,16 +275,12 @@ fn pair_entries<L: Ledger>(
 )
     requires sized { length cells.old.cells ≡ coincidence_cells (coincidence_view set.now) }
     requires after { AllByRecursion (λ e. e.index < later.now.index) entries.now }
-    requires fits { (c : ℕ) → c < coincidence_cells (coincidence_view set.now)
-        → slice_index cells.old.cells c
-        + pairs_with (coincidence_view set.now) c later.now entries.now ≤ 2 ^ 80 }
+    requires fits { HasRoom (coincidence_view set.now) cells.old
+        (λ c. pairs_with (coincidence_view set.now) c later.now entries.now) }
     requires count { cells.old.added + 2 * length entries.now < 2 ^ 64 }
-    ensures cells { (c : ℕ) → c < coincidence_cells (coincidence_view set.now)
-        → slice_index cells.new.cells c ≡ slice_index cells.old.cells c
-        + pairs_with (coincidence_view set.now) c later.now entries.now }
-    ensures same { length cells.new.cells ≡ length cells.old.cells }
-    ensures added { cells.new.added ≤ cells.old.added + 2 * length entries.now }
-    ensures steps { steps.new + cells.old.added ≡ steps.old + cells.new.added }
+    ensures cells { CountsMore (coincidence_view set.now) cells.old cells.new
+        (λ c. pairs_with (coincidence_view set.now) c later.now entries.now) }
+    ensures spends { Spends cells.old cells.new steps.old steps.new (2 * length entries.now) }
 {
     let set = *set;
     if set.width == 1 {
@@ -320,16 +299,12 @@ pub(crate) fn pair_inside<L: Ledger>(
 )
     requires sized { length cells.old.cells ≡ coincidence_cells (coincidence_view set.now) }
     requires both { bin.now.both ≤ bin.now.weights.a * bin.now.weights.b }
-    requires fits { (c : ℕ) → c < coincidence_cells (coincidence_view set.now)
-        → slice_index cells.old.cells c
-        + bin_pairs (coincidence_view set.now) c bin.now [] ≤ 2 ^ 80 }
+    requires fits { HasRoom (coincidence_view set.now) cells.old
+        (λ c. bin_pairs (coincidence_view set.now) c bin.now []) }
     requires count { cells.old.added + 1 < 2 ^ 64 }
-    ensures cells { (c : ℕ) → c < coincidence_cells (coincidence_view set.now)
-        → slice_index cells.new.cells c ≡ slice_index cells.old.cells c
-        + bin_pairs (coincidence_view set.now) c bin.now [] }
-    ensures same { length cells.new.cells ≡ length cells.old.cells }
-    ensures added { cells.new.added ≤ cells.old.added + 1 }
-    ensures steps { steps.new + cells.old.added ≡ steps.old + cells.new.added }
+    ensures cells { CountsMore (coincidence_view set.now) cells.old cells.new
+        (λ c. bin_pairs (coincidence_view set.now) c bin.now []) }
+    ensures spends { Spends cells.old cells.new steps.old steps.new 1 }
 {
     let pairs = u128::from(bin.weights.a) * u128::from(bin.weights.b) - u128::from(bin.both);
     if pairs > 0 {
@@ -348,16 +323,13 @@ fn pair<L: Ledger>(
     requires sized { length cells.old.cells ≡ coincidence_cells (coincidence_view set.now) }
     requires after { AllByRecursion (λ e. e.index < bin.now.weights.index) ring.now.entries }
     requires both { bin.now.both ≤ bin.now.weights.a * bin.now.weights.b }
-    requires fits { (c : ℕ) → c < coincidence_cells (coincidence_view set.now)
-        → slice_index cells.old.cells c
-        + bin_pairs (coincidence_view set.now) c bin.now ring.now.entries ≤ 2 ^ 80 }
+    requires fits { HasRoom (coincidence_view set.now) cells.old
+        (λ c. bin_pairs (coincidence_view set.now) c bin.now ring.now.entries) }
     requires count { cells.old.added + (2 * length ring.now.entries + 1) < 2 ^ 64 }
-    ensures cells { (c : ℕ) → c < coincidence_cells (coincidence_view set.now)
-        → slice_index cells.new.cells c ≡ slice_index cells.old.cells c
-        + bin_pairs (coincidence_view set.now) c bin.now ring.now.entries }
-    ensures same { length cells.new.cells ≡ length cells.old.cells }
-    ensures added { cells.new.added ≤ cells.old.added + (2 * length ring.now.entries + 1) }
-    ensures steps { steps.new + cells.old.added ≡ steps.old + cells.new.added }
+    ensures cells { CountsMore (coincidence_view set.now) cells.old cells.new
+        (λ c. bin_pairs (coincidence_view set.now) c bin.now ring.now.entries) }
+    ensures spends { Spends cells.old cells.new steps.old steps.new
+        (2 * length ring.now.entries + 1) }
 {
     let (front, back) = ring.slices();
     pair_entries(cells, set, &bin.weights, front, steps);
@@ -469,10 +441,8 @@ pub(crate) fn put<L: Ledger>(
 ) -> Option<Bin>
     requires stands { ∥ ((closed : History) × (open' : History) × (xs : History) × CanPut
         (coincidence_view set.now) (pairing_of waiting ring.old cells.old) bin closed open' xs) ∥₁ }
-    ensures follows { (closed open' xs : History) → CanPut
-        (coincidence_view set.now) (pairing_of waiting ring.old cells.old) bin closed open' xs
-        → Came (coincidence_view set.now) (pairing_of result ring.new cells.new)
-        ((closed ++ open') ++ xs) }
+    ensures follows { Puts (coincidence_view set.now) (pairing_of waiting ring.old cells.old)
+        (pairing_of result ring.new cells.new) bin }
     ensures steps { steps.new + cells.old.added ≡ steps.old + cells.new.added }
 {
     match waiting {

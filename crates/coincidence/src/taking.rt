@@ -1,11 +1,9 @@
 // The photons of a block, for a table of coincidences.
-ghost use Rattle.std.specs.Prelude.{◌≡◌, ◌+◌, ◌++◌};
+ghost use Rattle.std.specs.Prelude.{◌≡◌, ◌+◌};
 ghost use Rattle.tally_base.specs.Settings.{coincidence_view};
 ghost use Rattle.tally_base.specs.Tally.{History};
 ghost use Rattle.event_block.specs.Columns.{gathered, events_in, IsSorted};
-ghost use Rattle.coincidence.specs.StandsFor.{CanTake};
-ghost use Rattle.coincidence.specs.Pairing.{Came};
-ghost use Rattle.coincidence.specs.Pairs.{photons_of_groups};
+ghost use Rattle.coincidence.specs.StandsFor.{CanTake, TakesOn};
 
 use crate::closing::{MANY, shut_all};
 use crate::gathering::gather_block;
@@ -26,10 +24,8 @@ pub(crate) fn take_block<L: Ledger>(
     requires sorted { IsSorted block.now }
     requires stands { ∥ ((h : History)
         × CanTake (coincidence_view set.now) pairing.old (gathered block.now) h) ∥₁ }
-    ensures follows { (h : History)
-        → CanTake (coincidence_view set.now) pairing.old (gathered block.now) h
-        → Came (coincidence_view set.now) pairing.new
-        (photons_of_groups (coincidence_view set.now) (h ++ events_in block.now)) }
+    ensures follows { TakesOn (coincidence_view set.now) pairing.old pairing.new
+        (gathered block.now) (events_in block.now) }
     ensures steps { steps.new + pairing.old.cells.added ≡ steps.old + pairing.new.cells.added }
 {
     if pairing.ring.len() >= MANY {
@@ -49,10 +45,8 @@ fn take_together<L: Ledger>(
     requires sorted { IsSorted block.now }
     requires stands { ∥ ((h : History)
         × CanTake (coincidence_view set.now) pairing.old (gathered block.now) h) ∥₁ }
-    ensures follows { (h : History)
-        → CanTake (coincidence_view set.now) pairing.old (gathered block.now) h
-        → Came (coincidence_view set.now) pairing.new
-        (photons_of_groups (coincidence_view set.now) (h ++ events_in block.now)) }
+    ensures follows { TakesOn (coincidence_view set.now) pairing.old pairing.new
+        (gathered block.now) (events_in block.now) }
     ensures steps { steps.new + pairing.old.cells.added ≡ steps.old + pairing.new.cells.added }
 {
     let mut bins = ArrayVec::new();
@@ -71,10 +65,8 @@ fn take_each<L: Ledger>(
     requires sorted { IsSorted block.now }
     requires stands { ∥ ((h : History)
         × CanTake (coincidence_view set.now) pairing.old (gathered block.now) h) ∥₁ }
-    ensures follows { (h : History)
-        → CanTake (coincidence_view set.now) pairing.old (gathered block.now) h
-        → Came (coincidence_view set.now) pairing.new
-        (photons_of_groups (coincidence_view set.now) (h ++ events_in block.now)) }
+    ensures follows { TakesOn (coincidence_view set.now) pairing.old pairing.new
+        (gathered block.now) (events_in block.now) }
     ensures steps { steps.new + pairing.old.cells.added ≡ steps.old + pairing.new.cells.added }
 {
     // Copies, so that no field is read again for each photon.

@@ -29,11 +29,11 @@ products-le g y m P (e ∷ es) all small =
     rw (sum_by-cons (λ e. g e * y e) e es, sum_by-cons y e es) (grind (arith, here, rest))
 
 -- a sum so far and one more product are small
-pub sums_fit : (side : Side) (window : List ℕ) (low from q : ℕ) (later : List Entry) (i : ℕ) (d : Entry) → q < 64 → i < length later → ((p : ℕ) → p < length window → get_or window p 0 < 2 ^ 16) → sum_by (weight_of side) later < 2 ^ 16
-    → AllByRecursion (λ e. (low ≤ e.index) × (e.index - low + from + 64 ≤ length window)) later → sum_by (product_at side window low (from + q)) (take i later) + product_at side window low (from + q) (get_or later i d) < 2 ^ 32
-sums_fit side window low from q later i d lag inside small few near =
+pub sums_fit : (lags : ℕ) (side : Side) (window : List ℕ) (low from q : ℕ) (later : List Entry) (i : ℕ) (d : Entry) → q < lags → i < length later → ((p : ℕ) → p < length window → get_or window p 0 < 2 ^ 16) → sum_by (weight_of side) later < 2 ^ 16
+    → AllByRecursion (λ e. (low ≤ e.index) × (e.index - low + from + lags ≤ length window)) later → sum_by (product_at side window low (from + q)) (take i later) + product_at side window low (from + q) (get_or later i d) < 2 ^ 32
+sums_fit lags side window low from q later i d lag inside small few near =
     let all : sum_by (product_at side window low (from + q)) later ≤ (2 ^ 16 - 1) * sum_by (weight_of side) later =
-    products-le (λ e. get_or window (e.index - low + (from + q)) 0) (weight_of side) (2 ^ 16 - 1) (λ e. (low ≤ e.index) × (e.index - low + from + 64 ≤ length window)) later near
+    products-le (λ e. get_or window (e.index - low + (from + q)) 0) (weight_of side) (2 ^ 16 - 1) (λ e. (low ≤ e.index) × (e.index - low + from + lags ≤ length window)) later near
     (λ e at. let place : get_or window (e.index - low + (from + q)) 0 < 2 ^ 16 = small (e.index - low + (from + q)) (omega arith) in omega (arith, place)) in
     let some = sum_by_more_le (product_at side window low (from + q)) later i d inside in
     omega (arith, all, some, few)

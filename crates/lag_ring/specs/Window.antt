@@ -1,5 +1,6 @@
 -- Weights by tick.
-use Rattle.std.specs.Prelude.{ℕ, ◌+◌, ◌-◌, ◌*◌, ◌==◌, List, slice_index}
+use Rattle.std.specs.Prelude.{ℕ, ◌≡◌, ◌+◌, ◌-◌, ◌*◌, ◌^◌, ◌<◌, ◌≤◌, ◌==◌, List, length, slice_index, sum_by}
+use Rattle.std.specs.List.{AllByRecursion}
 use Rattle.lag_ring.specs.declared.ring.Entry.{Entry}
 use Rattle.lag_ring.specs.declared.window.Side.{Side}
 use Rattle.lag_ring.specs.declared.window.Side.TheVariants.{First, Second}
@@ -20,3 +21,10 @@ weight_at side top low p es = weight_where (weight_of side) (λ i. i + top == lo
 -- an entry's weight times what stands in the window so many places after that of its index, where place 0 is that of low
 abbrev pub product_at : Side → List ℕ → ℕ → ℕ → Entry → ℕ
 product_at side window low from e = slice_index window (e.index - low + from) * weight_of side e
+
+-- A window of so many places serves later entries up to the greatest lag: its weights and theirs on this side are few, and each entry and all before it up to that lag have a place.
+pub record ServesLater (side : Side) (places top low : ℕ) (window : List ℕ) (later : List Entry) : Type 0 where
+  pub sized : length window ≡ places
+  pub small : (p : ℕ) → p < length window → slice_index window p < 2 ^ 16
+  pub few : sum_by (weight_of side) later < 2 ^ 16
+  pub near : AllByRecursion (λ e. (low ≤ e.index) × (e.index - low + top ≤ places)) later

@@ -84,6 +84,17 @@ impl Buffered {
         self.kept.push_back(Entry { index, a, b });
     }
 
+    /// Removes all entries, and puts these into their place.
+    #[inline(always)]
+    pub(crate) fn refill(&mut self, entries: &[Entry])
+        requires rising { IsRising entries.now }
+        requires room { length entries.now ≤ self.old.reach }
+        ensures filled { self.new ≡ ring entries.now self.old.reach }
+    {
+        self.kept.clear();
+        self.kept.extend_from_slice(entries);
+    }
+
     /// The entry at place `i` from the front, which is 0 for the first.
     pub(crate) fn visit(&self, i: u32) -> Entry
         requires inside { i < length self.now.entries }

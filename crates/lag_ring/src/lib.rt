@@ -8,7 +8,7 @@ mod window;
 
 pub use cells::PairCells;
 pub use ring::{Entry, LagRing};
-pub use window::{LAGS, Side, lag_sums, put_weights, total_weight};
+pub use window::{FEW_LAGS, LAGS, Side, few_lag_sums, lag_sums, put_weights, total_weight};
 
 #[cfg(test)]
 mod tests;

@@ -19,6 +19,17 @@ pub struct Entry {
     pub b: u64,
 }
 
+impl Default for Entry {
+    /// An entry of no photons.
+    fn default() -> Entry {
+        Entry {
+            index: 0,
+            a: 0,
+            b: 0,
+        }
+    }
+}
+
 /// The last occupied bins, in the order of their rising indices. There are never more of them than its
 /// reach.
 ///
@@ -131,6 +142,20 @@ impl LagRing {
         }
         self.last = Entry { index, a, b };
         self.alone = true;
+    }
+
+    /// Removes all entries, and puts these into their place.
+    #[inline(always)]
+    pub fn refill(&mut self, entries: &[Entry])
+        requires rising { IsRising entries.now }
+        requires room { length entries.now ≤ self.old.reach }
+        ensures filled { self.new ≡ ring entries.now self.old.reach }
+    {
+        self.kept.refill(entries);
+        self.alone = false;
+        if let Some(last) = entries.last() {
+            self.last = *last;
+        }
     }
 
     /// The entry at place `i` from the front, which is 0 for the first.

@@ -97,6 +97,23 @@ fn a_ring_begins_anew(rt: HostRuntime) -> Result<(), Fail> {
     ring.retire(12);
     agrees(&rt, rt.alloc(), &ring, &[(12, 0, 7)])?;
     ring.retire(13);
+    agrees(&rt, rt.alloc(), &ring, &[])?;
+    let entries = [
+        Entry {
+            index: 14,
+            a: 1,
+            b: 2,
+        },
+        Entry {
+            index: 17,
+            a: 0,
+            b: 4,
+        },
+    ];
+    ring.refill(&entries);
+    agrees(&rt, rt.alloc(), &ring, &[(14, 1, 2), (17, 0, 4)])?;
+    assert_eq!(rt; ring.newest(), 17);
+    ring.refill(&[]);
     agrees(&rt, rt.alloc(), &ring, &[])
 }
 
@@ -116,9 +133,33 @@ fn filled<L: Ledger>(alloc: Global, blank: Blank) -> Result<PairCells, Fail>
     Ok(cells)
 }
 
+/// Cells to which rows were added, upwards and downwards.
+fn rowed<L: Ledger>(alloc: Global, blank: Blank) -> Result<PairCells, Fail>
+    requires name { blank.name ≡ L.name }
+    requires parts { blank.parts ≡ L.parts }
+    requires some { 0 < blank.parts }
+    ensures { IfOk result (λ cells. length cells.cells ≡ 4) }
+{
+    let mut steps = Steps::<L>::new(blank);
+    let mut cells = PairCells::open(alloc, 4)?;
+    cells.add_upwards(1, &[3, 40], &mut steps);
+    cells.add_downwards(2, &[500, 6000, 70000], &mut steps);
+    Ok(cells)
+}
+
 #[test]
 fn pairs_are_added(rt: HostRuntime) -> Result<(), Fail> {
     let cells = filled::<Brand>(rt.alloc(), Blank::new(1))?;
     assert_eq!(rt; [cells.get(0), cells.get(1), cells.get(2)], [1 << 80, 0, 5]);
+    Ok(())
+}
+
+#[test]
+fn rows_are_added(rt: HostRuntime) -> Result<(), Fail> {
+    let cells = rowed::<Brand>(rt.alloc(), Blank::new(1))?;
+    assert_eq!(rt;
+        [cells.get(0), cells.get(1), cells.get(2), cells.get(3)],
+        [70000, 6003, 540, 0]
+    );
     Ok(())
 }

@@ -8,16 +8,8 @@ use crate::ring::Entry;
 /// How many lags are summed at once.
 pub const LAGS: usize = 64;
 
-impl Default for Entry {
-    /// An entry of no photons.
-    fn default() -> Entry {
-        Entry {
-            index: 0,
-            a: 0,
-            b: 0,
-        }
-    }
-}
+/// How many lags are summed at once where there are few.
+pub const FEW_LAGS: usize = 16;
 
 /// One of the two weights of an entry.
 #[derive(Clone, Copy, Debug)]
@@ -146,6 +138,45 @@ pub fn lag_sums(window: &[u32], side: Side, low: u64, from: usize, later: &[Entr
         let at = (entry.index - low) as usize + from;
         let part = &window[at..at + LAGS];
         add_part(&mut sums, part, side.weight(entry) as u32);
+    }
+    sums
+}
+
+/// Adds so many times each of a part of a window to a few sums.
+#[inline(always)]
+fn add_few_times(sums: &mut [u32; FEW_LAGS], part: &[u32], times: u32)
+    requires all { length part.now ≡ FEW_LAGS }
+    requires fits { (q : ℕ) → q < FEW_LAGS
+        → slice_index sums.old q + slice_index part.now q * times < 2 ^ 32 }
+    ensures sums { (q : ℕ) → q < FEW_LAGS → slice_index sums.new q
+        ≡ slice_index sums.old q + slice_index part.now q * times }
+{
+    for q in 0..FEW_LAGS {
+        sums[q] += part[q] * times;
+    }
+}
+
+/// The same products, summed for each of a few lags. An entry without the weight takes no branch.
+#[inline(always)]
+pub fn few_lag_sums(
+    window: &[u32],
+    side: Side,
+    low: u64,
+    from: usize,
+    later: &[Entry],
+) -> [u32; FEW_LAGS]
+    requires small { (p : ℕ) → p < length window.now → slice_index window.now p < 2 ^ 16 }
+    requires few { sum_by (weight_of side) later.now < 2 ^ 16 }
+    requires inside { AllByRecursion
+        (λ e. (low ≤ e.index) × (e.index - low + from + FEW_LAGS ≤ length window.now)) later.now }
+    ensures sums { (q : ℕ) → q < FEW_LAGS → slice_index result q
+        ≡ sum_by (product_at side window.now low (from + q)) later.now }
+{
+    let mut sums = [0; FEW_LAGS];
+    for entry in later {
+        let at = (entry.index - low) as usize + from;
+        let part = &window[at..at + FEW_LAGS];
+        add_few_times(&mut sums, part, side.weight(entry) as u32);
     }
     sums
 }

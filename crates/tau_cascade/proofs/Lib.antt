@@ -11,6 +11,7 @@ pub mod Paired
 pub mod Keeping
 pub mod Nexts
 pub mod Together
+pub mod Runs
 pub mod Blocks
 pub mod Takes
 pub mod Spaced

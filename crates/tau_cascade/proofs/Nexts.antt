@@ -7,7 +7,7 @@ use Rattle.std.proofs.lemmas.List.Sums.{sum_by-append}
 use Rattle.lag_ring.specs.declared.ring.Entry.{Entry}
 use Rattle.lag_ring.specs.Ring.{IsRising}
 use Rattle.lag_ring.proofs.Lists.{all_back}
-use Rattle.lag_ring.proofs.Rising.{all_weaker, all_push, rising_front, rising_back}
+use Rattle.lag_ring.proofs.Rising.{all_weaker, rising_front, rising_back}
 use Rattle.tau_cascade.specs.Levels.{weight_before, entries_at_lags}
 use Rattle.tau_cascade.specs.Paired.{paired}
 use Rattle.tau_cascade.proofs.Keeping.{all_below, split_at}
@@ -31,7 +31,7 @@ take_both es from n =
     sym both ∙ rw (front, back) refl
 
 -- the entries before a place, parted at an earlier one
-take_parts : (es : List Entry) (from at : ℕ) → from ≤ at → take at es ≡ take from es ++ take (at - from) (drop from es)
+pub take_parts : (es : List Entry) (from at : ℕ) → from ≤ at → take at es ≡ take from es ++ take (at - from) (drop from es)
 take_parts es from at within =
     let whole : from + (at - from) ≡ at = omega arith in
     subst (λ m. take m es ≡ take from es ++ take (at - from) (drop from es)) whole (take_both es from (at - from))
@@ -120,7 +120,3 @@ pub count_next : (lags skipped start i n before now few : ℕ) → start ≤ i �
 count_next lags skipped start i n before now few behind inside so_far some =
     let more : (lags - skipped) * (i + 1 - start) ≤ (lags - skipped) * (n - start) = mul-le-mul_left (lags - skipped) (omega arith) in
     omega (arith, added_next lags skipped start i before now few behind so_far some, more)
-
--- one bin more is behind the reach
-pub reach_more : (bins : List Entry) (place lags index : ℕ) (none : Entry) → place < length bins → AllByRecursion (λ f. f.index + lags < index) (take place bins) → lags < index - (get_or bins place none).index → AllByRecursion (λ f. f.index + lags < index) (take (place + 1) bins)
-reach_more bins place lags index none inside far here = rw (take_more bins place none inside) (all_push (λ f. f.index + lags < index) (take place bins) (get_or bins place none) far (omega arith))

@@ -46,14 +46,20 @@ counted f es =
     some-or-none n (suc w) = let some : ltb 0 (suc w) ≡ true = grind (arith, nat_tests) in rw some refl
 
 -- the pairs of a window are those with the bins in it
+pub window-paired-all : (lags low start k : ℕ) (window : List ℕ) (list : List Entry) → 0 < k → k ≤ 192 → length window ≡ 1024 → IsRising list → FitsWindow lags low list (drop start list)
+    → ((p : ℕ) → p < length window → get_or window p 0 ≡ weight_at First 192 low p list)
+    → window_pairs window low (drop start list) k ≡ paired k (take start list) (drop start list)
+window-paired-all lags low start k window list some upto long rising fits has =
+    sum_by-agree (λ e. (low ≤ e.index) × (e.index - low + 192 ≤ 1024)) (λ e. get_or window (e.index - low + (192 - k)) 0 * e.b) (λ e. weight_before k e.index list * e.b) (drop start list) fits.near
+    (λ e at. ap (λ n. n * e.b) (window-before First window low 192 list has k e.index upto at.0 (omega (arith, at.1, some, long))))
+    ∙ sym (paired-all k list (take start list) (drop start list) some (take-append-drop start list) rising)
+
+-- the same, where bins without photons of the second group are left out
 pub window-paired : (lags low start k : ℕ) (window : List ℕ) (list : List Entry) → 0 < k → k ≤ 192 → length window ≡ 1024 → IsRising list → FitsWindow lags low list (drop start list)
     → ((p : ℕ) → p < length window → get_or window p 0 ≡ weight_at First 192 low p list)
     → window_pairs window low (filter (λ e. ltb 0 e.b) (drop start list)) k ≡ paired k (take start list) (drop start list)
 window-paired lags low start k window list some upto long rising fits has =
-    counted (λ e. get_or window (e.index - low + (192 - k)) 0) (drop start list)
-    ∙ sum_by-agree (λ e. (low ≤ e.index) × (e.index - low + 192 ≤ 1024)) (λ e. get_or window (e.index - low + (192 - k)) 0 * e.b) (λ e. weight_before k e.index list * e.b) (drop start list) fits.near
-    (λ e at. ap (λ n. n * e.b) (window-before First window low 192 list has k e.index upto at.0 (omega (arith, at.1, some, long))))
-    ∙ sym (paired-all k list (take start list) (drop start list) some (take-append-drop start list) rising)
+    counted (λ e. get_or window (e.index - low + (192 - k)) 0) (drop start list) ∙ window-paired-all lags low start k window list some upto long rising fits has
 
 -- bins with photons of the second group have no more of them than all
 pub few_counted : (es : List Entry) → sum_by (weight_of Second) (filter (λ e. ltb 0 e.b) es) ≤ sum_by (weight_of Second) es
@@ -71,7 +77,7 @@ to_last list none some rising =
     subst (λ es. AllByRecursion (λ e. e.index ≤ last.index) es) whole all
 
 -- none from one on is before it
-from_first : (list : List Entry) (start : ℕ) (none : Entry) → start < length list → IsRising list → AllByRecursion (λ e. (get_or list start none).index ≤ e.index) (drop start list)
+pub from_first : (list : List Entry) (start : ℕ) (none : Entry) → start < length list → IsRising list → AllByRecursion (λ e. (get_or list start none).index ≤ e.index) (drop start list)
 from_first list start none inside rising =
     let first : Entry = get_or list start none in
     let split : drop start list ≡ first ∷ drop (start + 1) list = drop_more list start none inside in

@@ -87,11 +87,24 @@ module _ (set : CorrelationView) (level : ℕ) where
     pub is : LevelIs set level l (closed ++ done) now
     pub bins : Follow closed shut done
 
+  -- Photons came in these bins behind any that they may come behind, and the bins `shut` were closed.
+  abbrev pub Takes : Level → Level → List Entry → List Entry → Type 0
+  Takes old new es shut =
+      (closed open' xs : History) → CanTake old es closed open' xs → (done : History) × (now : History) × Took new shut closed open' xs done now
+
+  -- This holds of the photons of closed bins together with those of bins that may be closed behind them.
+  abbrev pub HoldsOfAll : Ring → Cells → List Entry → (History → Type 0) → Type 0
+  HoldsOfAll ring cells es holds = (closed xs : History) → CanShutAll ring cells es closed xs → holds (closed ++ xs)
+
 -- photons xs may come in these bins to a level and those above it
 pub record CanCome (set : CorrelationView) (level : ℕ) (ls : List Level) (es : List Entry) (came xs : History) : Type 0 where
   pub few : length came + length xs ≤ 2 ^ 40
   pub chain : Chain set level ls came
   pub come : Come set level came es xs
+
+-- Photons came in these bins to a level and those above it, behind any that they may come behind.
+abbrev pub Carries : CorrelationView → ℕ → List Level → List Level → List Entry → Type 0
+Carries set level old new es = (came xs : History) → CanCome set level old es came xs → Chain set level new (came ++ xs)
 
 -- the events of a block may be given, after those that were
 pub record CanGiveBlock (set : CorrelationView) (ls : List Level) (block : Block) (h : History) : Type 0 where

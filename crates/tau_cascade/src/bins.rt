@@ -8,6 +8,18 @@ use event_block::Block;
 use lag_ring::{Entry, LagRing};
 use tally_base::CorrelationSet;
 
+/// How many bins a list has room for: those of a ring, and behind them those of a block.
+pub(crate) const LIST: usize = 192;
+
+/// How many bins a ring has at most.
+pub(crate) const RING: usize = 128;
+
+/// How many bins a block brings at most.
+pub(crate) const FULL_BLOCK: usize = 64;
+
+/// How many levels there are at most.
+pub(crate) const LEVELS: usize = 40;
+
 /// What bins were merged into.
 #[derive(Clone, Copy)]
 pub(crate) struct Merged {
@@ -21,15 +33,15 @@ pub(crate) struct Merged {
 /// and answers how many there are.
 pub(crate) fn gather(set: &CorrelationSet, block: &Block, bins: &mut [Entry], start: usize) -> usize
     requires sorted { IsSorted block.now }
-    requires room { start + 64 ≤ length bins.old }
+    requires room { start + FULL_BLOCK ≤ length bins.old }
     ensures bins { take result (drop start bins.new)
         ≡ photon_bins (correlation_view set.now) (events_in block.now) }
-    ensures few { result ≤ 64 }
+    ensures few { result ≤ FULL_BLOCK }
 {
     let first = set.first;
     let second = set.second;
     let mut count = 0;
-    for at in 0..block.len().min(64) {
+    for at in 0..block.len().min(FULL_BLOCK) {
         // No branch on the groups, which are as good as random from photon to photon.
         let a = block.photons_in(at, first);
         let b = block.photons_in(at, second);
@@ -141,12 +153,9 @@ fn copy_into(entries: &[Entry], list: &mut [Entry], start: usize) -> usize
     ensures entries { take result list.new ≡ take start list.old ++ entries.now }
     ensures place { result ≡ start + length entries.now }
 {
-    let mut at = start;
-    for e in entries {
-        list[at] = *e;
-        at += 1;
-    }
-    at
+    let end = start + entries.len();
+    list[start..end].copy_from_slice(entries);
+    end
 }
 
 /// Copies the entries of a ring to the front of a list, and answers how many they are.

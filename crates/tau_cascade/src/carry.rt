@@ -3,8 +3,9 @@ ghost use Rattle.std.specs.Prelude.{◌≡◌, ◌+◌, ◌<◌, ◌≤◌, ◌�
 ghost use Rattle.tally_base.specs.Settings.{correlation_view};
 ghost use Rattle.tally_base.specs.Tally.{History};
 ghost use Rattle.tau_cascade.specs.Levels.{CanEnd, Chain, Complete, LevelDone, spent};
-ghost use Rattle.tau_cascade.specs.Bins.{stretch, IsSpaced, CanCome};
+ghost use Rattle.tau_cascade.specs.Bins.{stretch, IsSpaced, CanCome, Carries};
 
+use crate::bins::{FULL_BLOCK, LEVELS, LIST, RING};
 use crate::level::{Closed, Level};
 use lag_ring::Entry;
 use std::sync::ledger::Ledger;
@@ -32,17 +33,16 @@ pub(crate) fn carry_all<L: Ledger>(
     spare: &mut [Entry],
     steps: &mut Steps<L>,
 )
-    requires sized { (length bins.old ≡ 192) × (length spare.old ≡ 192) }
-    requires places { (coming.closed.from ≤ 128) × (coming.closed.count ≤ 64) }
+    requires sized { (length bins.old ≡ LIST) × (length spare.old ≡ LIST) }
+    requires places { (coming.closed.from ≤ RING) × (coming.closed.count ≤ FULL_BLOCK) }
     requires up { coming.levels ≤ level + 1 }
     requires spaced { 0 < coming.apart → IsSpaced coming.apart
         (take coming.closed.count (drop coming.closed.from bins.old)) }
     requires stands { ∥ ((came : History) × (xs : History) × CanCome (correlation_view set.now) level
         levels.old (stretch coming.closed.from coming.closed.count coming.levels bins.old) came xs) ∥₁ }
-    requires depth { level + length levels.old ≤ 40 }
-    ensures follows { (came xs : History) → CanCome (correlation_view set.now) level
-        levels.old (stretch coming.closed.from coming.closed.count coming.levels bins.old) came xs
-        → Chain (correlation_view set.now) level levels.new (came ++ xs) }
+    requires depth { level + length levels.old ≤ LEVELS }
+    ensures follows { Carries (correlation_view set.now) level levels.old levels.new
+        (stretch coming.closed.from coming.closed.count coming.levels bins.old) }
     ensures steps { steps.new + spent levels.old ≡ steps.old + spent levels.new }
 {
     let Closed { from, count } = coming.closed;
@@ -101,14 +101,14 @@ fn end_first<L: Ledger>(
     steps: &mut Steps<L>,
 )
     requires stands { ∥ ((came : History) × CanEnd (correlation_view set.now) level (first.old ∷ rest.old) came) ∥₁ }
-    requires depth { level + 1 + length rest.old ≤ 40 }
+    requires depth { level + 1 + length rest.old ≤ LEVELS }
     ensures first { (came : History) → CanEnd (correlation_view set.now) level (first.old ∷ rest.old) came → LevelDone (correlation_view set.now) level first.new came }
     ensures rest { (came : History) → CanEnd (correlation_view set.now) level (first.old ∷ rest.old) came → CanEnd (correlation_view set.now) (level + 1) rest.new came }
     ensures steps { steps.new + (first.old.cells.added + spent rest.old) ≡ steps.old + (first.new.cells.added + spent rest.new) }
 {
     if let Some(last) = first.end(set, level, steps) {
-        let mut bins = [last; 192];
-        let mut spare = [last; 192];
+        let mut bins = [last; LIST];
+        let mut spare = [last; LIST];
         let one = Coming {
             closed: Closed { from: 0, count: 1 },
             levels: 1,
@@ -126,7 +126,7 @@ pub(crate) fn end_all<L: Ledger>(
     steps: &mut Steps<L>,
 )
     requires stands { ∥ ((came : History) × CanEnd (correlation_view set.now) level levels.old came) ∥₁ }
-    requires depth { level + length levels.old ≤ 40 }
+    requires depth { level + length levels.old ≤ LEVELS }
     ensures follows { (came : History) → CanEnd (correlation_view set.now) level levels.old came → Complete (correlation_view set.now) level levels.new came }
     ensures steps { steps.new + spent levels.old ≡ steps.old + spent levels.new }
 {

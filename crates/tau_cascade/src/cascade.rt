@@ -8,7 +8,7 @@ ghost use Rattle.tau_cascade.specs.StandsFor.{StandsFor, CanGive};
 ghost use Rattle.tau_cascade.specs.Levels.{Chain, spent};
 ghost use Rattle.tau_cascade.specs.Bins.{CanGiveBlock};
 
-use crate::bins::{gather, spacing};
+use crate::bins::{LEVELS, LIST, gather, spacing};
 use crate::carry::{Coming, carry_all, end_all};
 use crate::level::{Closed, Level, skipped_lags};
 use event_block::Block;
@@ -163,7 +163,7 @@ fn give<L: Ledger>(
 )
     requires stands { ∥ ((h : History)
         × CanGive (correlation_view set.now) levels.old e.now h) ∥₁ }
-    requires depth { length levels.old ≤ 40 }
+    requires depth { length levels.old ≤ LEVELS }
     ensures same { length levels.new ≡ length levels.old }
     ensures follows { (h : History) → CanGive (correlation_view set.now) levels.old e.now h
         → Chain (correlation_view set.now) 0 levels.new
@@ -179,8 +179,8 @@ fn give<L: Ledger>(
                 a: u64::from(a),
                 b: u64::from(b),
             };
-            let mut bins = [bin; 192];
-            let mut spare = [bin; 192];
+            let mut bins = [bin; LIST];
+            let mut spare = [bin; LIST];
             let one = Coming {
                 closed: Closed { from: 0, count: 1 },
                 levels: 0,
@@ -201,7 +201,7 @@ fn give_block<L: Ledger>(
     requires sorted { IsSorted block.now }
     requires stands { ∥ ((h : History)
         × CanGiveBlock (correlation_view set.now) levels.old block.now h) ∥₁ }
-    requires depth { length levels.old ≤ 40 }
+    requires depth { length levels.old ≤ LEVELS }
     ensures same { length levels.new ≡ length levels.old }
     ensures follows { (h : History) → CanGiveBlock (correlation_view set.now) levels.old block.now h
         → Chain (correlation_view set.now) 0 levels.new
@@ -213,13 +213,17 @@ fn give_block<L: Ledger>(
         a: 0,
         b: 0,
     };
-    let mut bins = [none; 192];
-    let mut spare = [none; 192];
-    let count = gather(set, block, &mut bins, 40);
+    let mut bins = [none; LIST];
+    let mut spare = [none; LIST];
+    // Each level puts at most one bin before the list.
+    let count = gather(set, block, &mut bins, LEVELS);
     let all = Coming {
-        closed: Closed { from: 40, count },
+        closed: Closed {
+            from: LEVELS,
+            count,
+        },
         levels: 0,
-        apart: spacing(&bins[40..40 + count]),
+        apart: spacing(&bins[LEVELS..LEVELS + count]),
     };
     carry_all(levels, set, 0, &mut bins, all, &mut spare, steps);
 }

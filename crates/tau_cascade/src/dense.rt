@@ -3,12 +3,15 @@ ghost use Rattle.std.specs.Prelude.{◌≡◌, ◌≢◌, ℕ, ◌+◌, ◌-◌,
 ghost use Rattle.std.specs.List.{AllByRecursion};
 ghost use Rattle.lag_ring.specs.Ring.{IsRising};
 ghost use Rattle.lag_ring.specs.declared.window.Side.TheVariants.{First, Second};
-ghost use Rattle.lag_ring.specs.Window.{weight_of};
+ghost use Rattle.lag_ring.specs.Window.{weight_of, ServesLater};
+ghost use Rattle.lag_ring.specs.Cells.{Spends};
 ghost use Rattle.tau_cascade.specs.Paired.{paired};
 ghost use Rattle.tau_cascade.specs.Dense.{window_pairs, FitsWindow};
 
 use arrayvec::ArrayVec;
-use lag_ring::{Entry, LAGS, PairCells, Side, lag_sums, put_weights, total_weight};
+use lag_ring::{
+    Entry, FEW_LAGS, LAGS, PairCells, Side, few_lag_sums, lag_sums, put_weights, total_weight,
+};
 use std::sync::ledger::Ledger;
 use tally_base::Steps;
 
@@ -19,7 +22,7 @@ const TOP: u32 = 192;
 const PLACES: usize = 1024;
 
 /// How many ticks the later bins may span.
-const ROOM: u64 = 832;
+pub(crate) const ROOM: u64 = 832;
 
 /// The greatest number of lags that a window serves.
 const MOST_LAGS: u32 = 128;
@@ -27,9 +30,12 @@ const MOST_LAGS: u32 = 128;
 /// How many later bins a window serves.
 const MOST_BINS: usize = 64;
 
-/// How many pairs are to be expected at least where a window pays. To empty a window and to fill it
-/// costs as much as some hundred pairs.
+/// How many pairs are to be expected at least where a window of many lags pays. To empty a window and to
+/// fill it costs as much as some hundred pairs.
 const WORTH: u64 = 512;
+
+/// How many bins are paired together at least.
+const SOME: usize = 4;
 
 /// No bin of a window has an index from here on.
 const END: u64 = 1 << 63;
@@ -43,9 +49,7 @@ fn add_some<L: Ledger>(cells: &mut PairCells, at: u32, pairs: u32, steps: &mut S
     ensures cell { slice_index cells.new.cells at ≡ slice_index cells.old.cells at + pairs }
     ensures others { (p : ℕ) → p ≢ at
         → slice_index cells.new.cells p ≡ slice_index cells.old.cells p }
-    ensures same { length cells.new.cells ≡ length cells.old.cells }
-    ensures added { cells.new.added ≤ cells.old.added + 1 }
-    ensures steps { steps.new + cells.old.added ≡ steps.old + cells.new.added }
+    ensures spends { Spends cells.old cells.new steps.old steps.new 1 }
 {
     if pairs > 0 {
         cells.add(at, u128::from(pairs), steps);
@@ -59,26 +63,24 @@ fn add_sums<L: Ledger>(
     cells: &mut PairCells,
     at: u32,
     count: u32,
-    sums: &[u32; LAGS],
+    sums: &[u32],
     steps: &mut Steps<L>,
 )
-    requires inside { (count ≤ LAGS) × (at + count ≤ length cells.old.cells) }
+    requires inside { (count ≤ length sums.now) × (at + count ≤ length cells.old.cells) }
     requires places { at + count < 2 ^ 32 }
     requires fits { (i : ℕ) → i < count → slice_index cells.old.cells (at + i)
-        + slice_index sums.now (LAGS - 1 - i) ≤ 2 ^ 80 }
+        + slice_index sums.now (length sums.now - 1 - i) ≤ 2 ^ 80 }
     requires room { cells.old.added + count < 2 ^ 64 }
     ensures cells { (i : ℕ) → i < count → slice_index cells.new.cells (at + i)
-        ≡ slice_index cells.old.cells (at + i) + slice_index sums.now (LAGS - 1 - i) }
+        ≡ slice_index cells.old.cells (at + i) + slice_index sums.now (length sums.now - 1 - i) }
     ensures before { (p : ℕ) → p < at
         → slice_index cells.new.cells p ≡ slice_index cells.old.cells p }
     ensures behind { (p : ℕ) → at + count ≤ p
         → slice_index cells.new.cells p ≡ slice_index cells.old.cells p }
-    ensures same { length cells.new.cells ≡ length cells.old.cells }
-    ensures added { cells.new.added ≤ cells.old.added + count }
-    ensures steps { steps.new + cells.old.added ≡ steps.old + cells.new.added }
+    ensures spends { Spends cells.old cells.new steps.old steps.new count }
 {
     for i in 0..count {
-        add_some(cells, at + i, sums[LAGS - 1 - i as usize], steps);
+        add_some(cells, at + i, sums[sums.len() - 1 - i as usize], steps);
     }
 }
 
@@ -98,11 +100,7 @@ fn pair_strip<L: Ledger>(
     requires inside { (count ≤ LAGS) × (at + count ≤ length cells.old.cells)
         × (least + LAGS ≤ TOP) }
     requires places { at + count < 2 ^ 32 }
-    requires window { length window.now ≡ PLACES }
-    requires small { (p : ℕ) → p < length window.now → slice_index window.now p < 2 ^ 16 }
-    requires few { sum_by (weight_of Second) later.now < 2 ^ 16 }
-    requires near { AllByRecursion
-        (λ e. (low ≤ e.index) × (e.index - low + TOP ≤ PLACES)) later.now }
+    requires window { ServesLater Second PLACES TOP low window.now later.now }
     requires fits { (i : ℕ) → i < count → slice_index cells.old.cells (at + i)
         + window_pairs window.now low later.now (least + 1 + i) ≤ 2 ^ 80 }
     requires room { cells.old.added + count < 2 ^ 64 }
@@ -113,9 +111,7 @@ fn pair_strip<L: Ledger>(
         → slice_index cells.new.cells p ≡ slice_index cells.old.cells p }
     ensures behind { (p : ℕ) → at + count ≤ p
         → slice_index cells.new.cells p ≡ slice_index cells.old.cells p }
-    ensures same { length cells.new.cells ≡ length cells.old.cells }
-    ensures added { cells.new.added ≤ cells.old.added + count }
-    ensures steps { steps.new + cells.old.added ≡ steps.old + cells.new.added }
+    ensures spends { Spends cells.old cells.new steps.old steps.new count }
 {
     let from = TOP as usize - LAGS - least as usize;
     let sums = lag_sums(window, Side::Second, low, from, later);
@@ -134,20 +130,14 @@ fn pair_window<L: Ledger>(
 )
     requires lags { (skipped ≤ lags) × (lags ≤ MOST_LAGS)
         × (length cells.old.cells ≡ lags - skipped) }
-    requires window { length window.now ≡ PLACES }
-    requires small { (p : ℕ) → p < length window.now → slice_index window.now p < 2 ^ 16 }
-    requires few { sum_by (weight_of Second) later.now < 2 ^ 16 }
-    requires near { AllByRecursion
-        (λ e. (low ≤ e.index) × (e.index - low + TOP ≤ PLACES)) later.now }
+    requires window { ServesLater Second PLACES TOP low window.now later.now }
     requires fits { (p : ℕ) → p < lags - skipped → slice_index cells.old.cells p
         + window_pairs window.now low later.now (p + skipped + 1) ≤ 2 ^ 80 }
     requires room { cells.old.added + (lags - skipped) < 2 ^ 64 }
     ensures cells { (p : ℕ) → p < lags - skipped → slice_index cells.new.cells p
         ≡ slice_index cells.old.cells p
         + window_pairs window.now low later.now (p + skipped + 1) }
-    ensures same { length cells.new.cells ≡ length cells.old.cells }
-    ensures added { cells.new.added ≤ cells.old.added + (lags - skipped) }
-    ensures steps { steps.new + cells.old.added ≡ steps.old + cells.new.added }
+    ensures spends { Spends cells.old cells.new steps.old steps.new (lags - skipped) }
 {
     let all = lags - skipped;
     for strip in 0..all.div_ceil(LAGS as u32) {
@@ -155,6 +145,32 @@ fn pair_window<L: Ledger>(
         let count = (all - at).min(LAGS as u32);
         pair_strip(cells, skipped + at, at, count, window, low, later, steps);
     }
+}
+
+/// Pairs later bins with those in the window, at the lags above `skipped` and up to `lags`, which are few.
+fn pair_few<L: Ledger>(
+    cells: &mut PairCells,
+    skipped: u32,
+    lags: u32,
+    window: &[u32],
+    low: u64,
+    later: &[Entry],
+    steps: &mut Steps<L>,
+)
+    requires lags { (skipped ≤ lags) × (lags - skipped ≤ FEW_LAGS) × (lags ≤ MOST_LAGS)
+        × (length cells.old.cells ≡ lags - skipped) }
+    requires window { ServesLater Second PLACES TOP low window.now later.now }
+    requires fits { (p : ℕ) → p < lags - skipped → slice_index cells.old.cells p
+        + window_pairs window.now low later.now (p + skipped + 1) ≤ 2 ^ 80 }
+    requires room { cells.old.added + (lags - skipped) < 2 ^ 64 }
+    ensures cells { (p : ℕ) → p < lags - skipped → slice_index cells.new.cells p
+        ≡ slice_index cells.old.cells p
+        + window_pairs window.now low later.now (p + skipped + 1) }
+    ensures spends { Spends cells.old cells.new steps.old steps.new (lags - skipped) }
+{
+    let from = TOP as usize - FEW_LAGS - skipped as usize;
+    let sums = few_lag_sums(window, Side::Second, low, from, later);
+    add_sums(cells, 0, lags - skipped, &sums, steps);
 }
 
 /// The bins that have photons of the second group.
@@ -190,10 +206,37 @@ fn is_worth(first: u64, last: u64, count: usize, bins: usize, lags: u32) -> bool
     most >= span.saturating_mul(WORTH)
 }
 
-/// The least index of the bins from `start` on, where those of a list are dense and have their places
-/// in one window.
-pub(crate) fn window_from(skipped: u32, lags: u32, list: &[Entry], start: usize) -> Option<u64>
+/// How many bins from `start` on have one before them that is no further than the lags.
+#[inline(always)]
+fn count_near(list: &[Entry], start: usize, lags: u32) -> usize {
+    let mut near = 0;
+    for at in start.max(1)..list.len() {
+        let apart = list[at].index.saturating_sub(list[at - 1].index);
+        near += usize::from(apart <= u64::from(lags));
+    }
+    near
+}
+
+/// Whether bins from `start` on are so dense that to pair them lag by lag pays. Few lags are summed at
+/// hardly more cost than that of looking for what is near, once a quarter of the bins has something near.
+pub(crate) fn is_dense(skipped: u32, lags: u32, list: &[Entry], start: usize) -> bool
     requires lags { skipped ≤ lags }
+    requires start { start ≤ length list.now }
+{
+    let bins = list.len() - start;
+    if bins < SOME {
+        return false;
+    }
+    if lags - skipped <= FEW_LAGS as u32 {
+        count_near(list, start, lags) > bins / 4
+    } else {
+        let last = list[list.len() - 1].index;
+        is_worth(list[0].index, last, list.len(), bins, lags - skipped)
+    }
+}
+
+/// The least index of the bins from `start` on, where those of a list have their places in one window.
+pub(crate) fn window_from(lags: u32, list: &[Entry], start: usize) -> Option<u64>
     requires start { start ≤ length list.now }
     requires rising { IsRising list.now }
     ensures { IfSome result (λ low. FitsWindow lags low list.now (drop start list.now)) }
@@ -204,12 +247,69 @@ pub(crate) fn window_from(skipped: u32, lags: u32, list: &[Entry], start: usize)
     let low = list[start].index;
     let last = list[list.len() - 1].index;
     let bins = list.len() - start;
-    let pays = is_worth(list[0].index, last, list.len(), bins, lags - skipped);
-    if pays && last < END && last.saturating_sub(low) <= ROOM && are_few(list, &list[start..]) {
+    if bins > 1 && last < END && last.saturating_sub(low) <= ROOM && are_few(list, &list[start..]) {
         Some(low)
     } else {
         None
     }
+}
+
+/// Pairs the bins of a list from `start` on with those before them over a window, at few lags.
+fn pair_few_together<L: Ledger>(
+    cells: &mut PairCells,
+    skipped: u32,
+    lags: u32,
+    list: &[Entry],
+    start: usize,
+    low: u64,
+    steps: &mut Steps<L>,
+)
+    requires lags { (skipped ≤ lags) × (length cells.old.cells ≡ lags - skipped) }
+    requires few { lags - skipped ≤ FEW_LAGS }
+    requires start { start ≤ length list.now }
+    requires rising { IsRising list.now }
+    requires window { FitsWindow lags low list.now (drop start list.now) }
+    requires fits { (p : ℕ) → p < lags - skipped → slice_index cells.old.cells p
+        + paired (p + skipped + 1) (take start list.now) (drop start list.now) ≤ 2 ^ 80 }
+    requires room { cells.old.added + (lags - skipped) < 2 ^ 64 }
+    ensures cells { (p : ℕ) → p < lags - skipped → slice_index cells.new.cells p
+        ≡ slice_index cells.old.cells p
+        + paired (p + skipped + 1) (take start list.now) (drop start list.now) }
+    ensures spends { Spends cells.old cells.new steps.old steps.new (lags - skipped) }
+{
+    let mut window = [0; PLACES];
+    let top = u64::from(TOP);
+    put_weights(&mut window, Side::First, top, low, list);
+    pair_few(cells, skipped, lags, &window, low, &list[start..], steps);
+}
+
+/// The same for many lags: bins without photons of the second group are left out first.
+fn pair_many_together<L: Ledger>(
+    cells: &mut PairCells,
+    skipped: u32,
+    lags: u32,
+    list: &[Entry],
+    start: usize,
+    low: u64,
+    steps: &mut Steps<L>,
+)
+    requires lags { (skipped ≤ lags) × (length cells.old.cells ≡ lags - skipped) }
+    requires start { start ≤ length list.now }
+    requires rising { IsRising list.now }
+    requires window { FitsWindow lags low list.now (drop start list.now) }
+    requires fits { (p : ℕ) → p < lags - skipped → slice_index cells.old.cells p
+        + paired (p + skipped + 1) (take start list.now) (drop start list.now) ≤ 2 ^ 80 }
+    requires room { cells.old.added + (lags - skipped) < 2 ^ 64 }
+    ensures cells { (p : ℕ) → p < lags - skipped → slice_index cells.new.cells p
+        ≡ slice_index cells.old.cells p
+        + paired (p + skipped + 1) (take start list.now) (drop start list.now) }
+    ensures spends { Spends cells.old cells.new steps.old steps.new (lags - skipped) }
+{
+    let mut window = [0; PLACES];
+    let top = u64::from(TOP);
+    put_weights(&mut window, Side::First, top, low, list);
+    let later = with_second(&list[start..]);
+    pair_window(cells, skipped, lags, &window, low, &later, steps);
 }
 
 /// Pairs the bins of a list from `start` on with those before them, at the lags above `skipped` and up
@@ -233,13 +333,11 @@ pub(crate) fn pair_together<L: Ledger>(
     ensures cells { (p : ℕ) → p < lags - skipped → slice_index cells.new.cells p
         ≡ slice_index cells.old.cells p
         + paired (p + skipped + 1) (take start list.now) (drop start list.now) }
-    ensures same { length cells.new.cells ≡ length cells.old.cells }
-    ensures added { cells.new.added ≤ cells.old.added + (lags - skipped) }
-    ensures steps { steps.new + cells.old.added ≡ steps.old + cells.new.added }
+    ensures spends { Spends cells.old cells.new steps.old steps.new (lags - skipped) }
 {
-    let mut window = [0; PLACES];
-    let top = u64::from(TOP);
-    put_weights(&mut window, Side::First, top, low, list);
-    let later = with_second(&list[start..]);
-    pair_window(cells, skipped, lags, &window, low, &later, steps);
+    if lags - skipped <= FEW_LAGS as u32 {
+        pair_few_together(cells, skipped, lags, list, start, low, steps);
+    } else {
+        pair_many_together(cells, skipped, lags, list, start, low, steps);
+    }
 }

@@ -7,7 +7,7 @@ ghost use Rattle.tally_base.specs.Tally.{History};
 ghost use Rattle.tau_cascade.specs.Correlation.{skipped_lags};
 ghost use Rattle.tau_cascade.specs.Levels.{RingIs, CellsAre};
 
-use crate::bins::{lay_out, merge_onto, raised};
+use crate::bins::{LIST, RING, lay_out, merge_onto, raised};
 use crate::pairing::pair_all;
 use lag_ring::{Entry, LagRing, PairCells};
 use std::alloc::{AllocError, Global};
@@ -68,26 +68,21 @@ fn first_kept(bins: &[Entry], before: u64) -> usize
     start
 }
 
-/// Puts into a ring those of the bins that are not before an index, and removes what is before it.
+/// Puts those of the bins that are not before an index into a ring, in place of what it has.
 #[inline(always)]
 fn keep_all(ring: &mut LagRing, bins: &[Entry], before: u64)
-    requires rising { IsRising (ring.old.entries ++ bins.now) }
-    requires room { length (filter (λ e. nat_le before e.index) (ring.old.entries ++ bins.now))
-        ≤ ring.old.reach }
-    ensures { ring.new ≡ ring_of
-        (filter (λ e. nat_le before e.index) (ring.old.entries ++ bins.now))
-        ring.old.reach }
+    requires rising { IsRising bins.now }
+    requires room { length (filter (λ e. nat_le before e.index) bins.now) ≤ ring.old.reach }
+    ensures { ring.new
+        ≡ ring_of (filter (λ e. nat_le before e.index) bins.now) ring.old.reach }
 {
-    ring.retire(before);
-    for bin in &bins[first_kept(bins, before)..] {
-        ring.push(bin.index, bin.a, bin.b);
-    }
+    ring.refill(&bins[first_kept(bins, before)..]);
 }
 
 impl Level {
     ghost use Rattle.std.specs.Prelude.{ℕ, ◌*◌, ◌/◌, ◌^◌, ◌-◌, ◌∷◌, ◌++◌, [], IfOk, IfSome, Some, map, slice_set};
     ghost use Rattle.tau_cascade.specs.Levels.{LevelIs, CanFinish, Finished};
-    ghost use Rattle.tau_cascade.specs.Bins.{raised, lowered, stretch, IsSpaced, CanShutAll, CanTake, Took};
+    ghost use Rattle.tau_cascade.specs.Bins.{raised, lowered, stretch, IsSpaced, CanShutAll, CanTake, Takes, HoldsOfAll};
 
     /// A level to which nothing came, or `AllocError` where memory for it is wanting.
     pub(crate) fn open(alloc: Global, set: &CorrelationSet, level: u32) -> Result<Level, AllocError>
@@ -116,14 +111,10 @@ impl Level {
         requires stands { ∥ ((closed : History) × (xs : History) × CanShutAll
             (correlation_view set.now) level self.old.ring self.old.cells (drop start list.now)
             closed xs) ∥₁ }
-        ensures ring { (closed xs : History) → CanShutAll
-            (correlation_view set.now) level self.old.ring self.old.cells (drop start list.now)
-            closed xs
-            → RingIs (correlation_view set.now) level self.new.ring (closed ++ xs) }
-        ensures cells { (closed xs : History) → CanShutAll
-            (correlation_view set.now) level self.old.ring self.old.cells (drop start list.now)
-            closed xs
-            → CellsAre (correlation_view set.now) level self.new.cells (closed ++ xs) }
+        ensures ring { HoldsOfAll (correlation_view set.now) level self.old.ring self.old.cells
+            (drop start list.now) (RingIs (correlation_view set.now) level self.new.ring) }
+        ensures cells { HoldsOfAll (correlation_view set.now) level self.old.ring self.old.cells
+            (drop start list.now) (CellsAre (correlation_view set.now) level self.new.cells) }
         ensures open { self.new.open ≡ self.old.open }
         ensures steps { steps.new + self.old.cells.added ≡ steps.old + self.new.cells.added }
     {
@@ -132,7 +123,7 @@ impl Level {
             let skipped = skipped_lags(set, level);
             pair_all(&mut self.cells, skipped, set.lags, list, start, steps);
             let before = last.index.saturating_sub(u64::from(set.lags) - 1);
-            keep_all(&mut self.ring, bins, before);
+            keep_all(&mut self.ring, list, before);
         }
     }
 
@@ -149,17 +140,14 @@ impl Level {
     ) -> Closed
         requires some { 0 < length came.now }
         requires levels { levels < 64 }
-        requires room { 128 + length came.now ≤ length list.old }
+        requires room { RING + length came.now ≤ length list.old }
         requires stands { ∥ ((shut : History) × (open' : History) × (xs : History)
             × CanTake (correlation_view set.now) level self.old (map (raised levels) came.now)
             shut open' xs) ∥₁ }
-        ensures follows { (shut open' xs : History)
-            → CanTake (correlation_view set.now) level self.old (map (raised levels) came.now)
-            shut open' xs
-            → (done : History) × (now : History) × Took (correlation_view set.now) level self.new
-            (take result.count (drop result.from list.new)) shut open' xs done now }
+        ensures follows { Takes (correlation_view set.now) level self.old self.new
+            (map (raised levels) came.now) (take result.count (drop result.from list.new)) }
         ensures few { result.count ≤ length came.now }
-        ensures early { result.from ≤ 128 }
+        ensures early { result.from ≤ RING }
         ensures steps { steps.new + self.old.cells.added ≡ steps.old + self.new.cells.added }
     {
         let from = lay_out(&self.ring, list);
@@ -231,11 +219,9 @@ impl Level {
             (first.now ∷ stretch closed.from closed.count levels bins.old) }
         requires behind { AllByRecursion
             (λ e. e.index + set.now.lags < first.now.index) self.old.ring.entries }
-        ensures follows { (level : ℕ) (shut open' xs : History)
-            → CanTake (correlation_view set.now) level self.old
-            (stretch closed.from closed.count levels bins.old) shut open' xs
-            → (done : History) × (now : History) × Took (correlation_view set.now) level self.new
-            (stretch (closed.from - 1) closed.count levels bins.new) shut open' xs done now }
+        ensures follows { (level : ℕ) → Takes (correlation_view set.now) level self.old self.new
+            (stretch closed.from closed.count levels bins.old)
+            (stretch (closed.from - 1) closed.count levels bins.new) }
         ensures bins { bins.new
             ≡ slice_set bins.old (closed.from - 1) (lowered levels first.now) }
         ensures added { self.new.cells.added ≡ self.old.cells.added }
@@ -268,7 +254,7 @@ impl Level {
     {
         match self.open {
             Some(last) => {
-                let mut list = [last; 129];
+                let mut list = [last; LIST];
                 let from = lay_out(&self.ring, &mut list);
                 list[from] = last;
                 self.shut_all(set, level, &list[..from + 1], from, steps);

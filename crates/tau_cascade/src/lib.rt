@@ -11,4 +11,6 @@ mod pairing;
 pub use cascade::Cascade;
 
 #[cfg(test)]
+mod greatest_tests;
+#[cfg(test)]
 mod tests;

@@ -2,11 +2,12 @@
 ghost use Rattle.std.specs.Prelude.{◌≡◌, ℕ, ◌+◌, ◌-◌, ◌*◌, ◌^◌, ◌<◌, ◌≤◌, length, take, drop, slice_index, if◌then◌else◌, ◌==◌, ◌&&◌, nat_lt, nat_le};
 ghost use Rattle.std.specs.List.{AllByRecursion};
 ghost use Rattle.lag_ring.specs.Ring.{IsRising};
+ghost use Rattle.lag_ring.specs.Cells.{Spends};
 ghost use Rattle.tau_cascade.specs.Levels.{weight_before, entries_at_lags};
 ghost use Rattle.tau_cascade.specs.Paired.{paired};
 
-use crate::dense::{pair_together, window_from};
-use lag_ring::{Entry, PairCells};
+use crate::dense::{ROOM, is_dense, pair_together, window_from};
+use lag_ring::{Entry, FEW_LAGS, PairCells};
 use std::sync::ledger::Ledger;
 use tally_base::Steps;
 
@@ -28,10 +29,8 @@ fn add_at_lag<L: Ledger>(
     requires count { skipped < lag → lag ≤ lags → cells.old.added < 2 ^ 64 - 1 }
     ensures cells { (p : ℕ) → p < lags - skipped → slice_index cells.new.cells p
         ≡ slice_index cells.old.cells p + (if p + skipped + 1 == lag then earlier * later else 0) }
-    ensures same { length cells.new.cells ≡ length cells.old.cells }
-    ensures added { cells.new.added
-        ≤ cells.old.added + (if nat_lt skipped lag && nat_le lag lags then 1 else 0) }
-    ensures steps { steps.new + cells.old.added ≡ steps.old + cells.new.added }
+    ensures spends { Spends cells.old cells.new steps.old steps.new
+        (if nat_lt skipped lag && nat_le lag lags then 1 else 0) }
 {
     if lag > u64::from(skipped) && lag <= u64::from(lags) {
         let pairs = u128::from(earlier) * u128::from(later);
@@ -60,10 +59,8 @@ fn pair_entries<L: Ledger>(
     ensures cells { (p : ℕ) → p < lags - skipped → slice_index cells.new.cells p
         ≡ slice_index cells.old.cells p
         + weight_before (p + skipped + 1) index entries.now * weight }
-    ensures same { length cells.new.cells ≡ length cells.old.cells }
-    ensures added { cells.new.added
-        ≤ cells.old.added + entries_at_lags skipped lags index entries.now }
-    ensures steps { steps.new + cells.old.added ≡ steps.old + cells.new.added }
+    ensures spends { Spends cells.old cells.new steps.old steps.new
+        (entries_at_lags skipped lags index entries.now) }
 {
     for e in entries {
         let lag = index - e.index;
@@ -95,10 +92,8 @@ fn pair_some<L: Ledger>(
     ensures cells { (p : ℕ) → p < lags - skipped → slice_index cells.new.cells p
         ≡ slice_index cells.old.cells p
         + weight_before (p + skipped + 1) index entries.now * weight }
-    ensures same { length cells.new.cells ≡ length cells.old.cells }
-    ensures added { cells.new.added
-        ≤ cells.old.added + entries_at_lags skipped lags index entries.now }
-    ensures steps { steps.new + cells.old.added ≡ steps.old + cells.new.added }
+    ensures spends { Spends cells.old cells.new steps.old steps.new
+        (entries_at_lags skipped lags index entries.now) }
 {
     if entries.len() > 0 {
         if weight > 0 {
@@ -107,10 +102,29 @@ fn pair_some<L: Ledger>(
     }
 }
 
+/// The place, at most `at`, of the first bin that is no more than `lags` before the index. Mostly that is
+/// `at` itself.
+#[inline(always)]
+fn first_in_reach(bins: &[Entry], at: usize, index: u64, lags: u32) -> usize
+    requires place { at ≤ length bins.now }
+    requires rising { IsRising bins.now }
+    ensures place { result ≤ at }
+    ensures far { AllByRecursion (λ e. e.index + lags < index) (take result bins.now) }
+{
+    let mut place = at;
+    'back: while place > 0 {
+        if index.saturating_sub(bins[place - 1].index) > u64::from(lags) {
+            return place;
+        }
+        place -= 1;
+    }
+    place
+}
+
 /// The place, from `from` on and at most `at`, of the first bin that is no more than `lags` before the
 /// index.
 #[inline(always)]
-fn first_in_reach(bins: &[Entry], from: usize, at: usize, index: u64, lags: u32) -> usize
+fn next_in_reach(bins: &[Entry], from: usize, at: usize, index: u64, lags: u32) -> usize
     requires places { (from ≤ at) × (at ≤ length bins.now) }
     requires after { AllByRecursion (λ e. e.index < index) (take at bins.now) }
     requires far { AllByRecursion (λ e. e.index + lags < index) (take from bins.now) }
@@ -123,6 +137,24 @@ fn first_in_reach(bins: &[Entry], from: usize, at: usize, index: u64, lags: u32)
         }
     }
     at
+}
+
+/// The same. Where there are few lags, hardly a bin is in reach. Else there are many, and a search that
+/// goes on from the last place passes each bin but once.
+#[inline(always)]
+fn search_reach(bins: &[Entry], from: usize, at: usize, index: u64, lags: u32) -> usize
+    requires places { (from ≤ at) × (at ≤ length bins.now) }
+    requires rising { IsRising bins.now }
+    requires after { AllByRecursion (λ e. e.index < index) (take at bins.now) }
+    requires far { AllByRecursion (λ e. e.index + lags < index) (take from bins.now) }
+    ensures place { result ≤ at }
+    ensures far { AllByRecursion (λ e. e.index + lags < index) (take result bins.now) }
+{
+    if lags <= FEW_LAGS as u32 {
+        first_in_reach(bins, at, index, lags)
+    } else {
+        next_in_reach(bins, from, at, index, lags)
+    }
 }
 
 /// Pairs the bins of a list from `start` on with those before them, at the lags above `skipped` and up
@@ -144,15 +176,13 @@ fn pair_each<L: Ledger>(
     ensures cells { (p : ℕ) → p < lags - skipped → slice_index cells.new.cells p
         ≡ slice_index cells.old.cells p
         + paired (p + skipped + 1) (take start list.now) (drop start list.now) }
-    ensures same { length cells.new.cells ≡ length cells.old.cells }
-    ensures added { cells.new.added
-        ≤ cells.old.added + (lags - skipped) * (length list.now - start) }
-    ensures steps { steps.new + cells.old.added ≡ steps.old + cells.new.added }
+    ensures spends { Spends cells.old cells.new steps.old steps.new
+        ((lags - skipped) * (length list.now - start)) }
 {
     let mut from = 0;
     for at in start..list.len() {
         let bin = list[at];
-        from = first_in_reach(list, from, at, bin.index, lags);
+        from = search_reach(list, from, at, bin.index, lags);
         pair_some(
             cells,
             skipped,
@@ -165,8 +195,84 @@ fn pair_each<L: Ledger>(
     }
 }
 
+/// The same: over a window, where they have places in one.
+fn pair_run<L: Ledger>(
+    cells: &mut PairCells,
+    skipped: u32,
+    lags: u32,
+    list: &[Entry],
+    start: usize,
+    steps: &mut Steps<L>,
+)
+    requires lags { (skipped ≤ lags) × (length cells.old.cells ≡ lags - skipped) }
+    requires start { start ≤ length list.now }
+    requires rising { IsRising list.now }
+    requires fits { (p : ℕ) → p < lags - skipped → slice_index cells.old.cells p
+        + paired (p + skipped + 1) (take start list.now) (drop start list.now) ≤ 2 ^ 80 }
+    requires count { cells.old.added + (lags - skipped) * (length list.now - start) < 2 ^ 64 }
+    ensures cells { (p : ℕ) → p < lags - skipped → slice_index cells.new.cells p
+        ≡ slice_index cells.old.cells p
+        + paired (p + skipped + 1) (take start list.now) (drop start list.now) }
+    ensures spends { Spends cells.old cells.new steps.old steps.new
+        ((lags - skipped) * (length list.now - start)) }
+{
+    match window_from(lags, list, start) {
+        Some(low) => pair_together(cells, skipped, lags, list, start, low, steps),
+        None => pair_each(cells, skipped, lags, list, start, steps),
+    }
+}
+
+/// The place behind the bins from `at` on that have places in one window.
+#[inline(always)]
+fn run_end(list: &[Entry], at: usize) -> usize
+    requires inside { at < length list.now }
+    ensures more { at < result }
+    ensures within { result ≤ length list.now }
+{
+    let low = list[at].index;
+    if list[list.len() - 1].index.saturating_sub(low) <= ROOM {
+        return list.len();
+    }
+    for end in at + 1..list.len() {
+        if list[end].index.saturating_sub(low) > ROOM {
+            return end;
+        }
+    }
+    list.len()
+}
+
+/// The same, window by window.
+fn pair_runs<L: Ledger>(
+    cells: &mut PairCells,
+    skipped: u32,
+    lags: u32,
+    list: &[Entry],
+    start: usize,
+    steps: &mut Steps<L>,
+)
+    requires lags { (skipped ≤ lags) × (length cells.old.cells ≡ lags - skipped) }
+    requires start { start ≤ length list.now }
+    requires rising { IsRising list.now }
+    requires fits { (p : ℕ) → p < lags - skipped → slice_index cells.old.cells p
+        + paired (p + skipped + 1) (take start list.now) (drop start list.now) ≤ 2 ^ 80 }
+    requires count { cells.old.added + (lags - skipped) * (length list.now - start) < 2 ^ 64 }
+    ensures cells { (p : ℕ) → p < lags - skipped → slice_index cells.new.cells p
+        ≡ slice_index cells.old.cells p
+        + paired (p + skipped + 1) (take start list.now) (drop start list.now) }
+    ensures spends { Spends cells.old cells.new steps.old steps.new
+        ((lags - skipped) * (length list.now - start)) }
+{
+    let mut at = start;
+    'runs: while at < list.len() {
+        let end = run_end(list, at);
+        let from = first_in_reach(list, at, list[at].index, lags);
+        pair_run(cells, skipped, lags, &list[from..end], at - from, steps);
+        at = end;
+    }
+}
+
 /// Pairs the bins of a list from `start` on with those before them, at the lags above `skipped` and up
-/// to `lags`. Where the bins are dense, lag by lag over a window.
+/// to `lags`. Where the bins are dense, lag by lag over windows.
 pub(crate) fn pair_all<L: Ledger>(
     cells: &mut PairCells,
     skipped: u32,
@@ -184,13 +290,12 @@ pub(crate) fn pair_all<L: Ledger>(
     ensures cells { (p : ℕ) → p < lags - skipped → slice_index cells.new.cells p
         ≡ slice_index cells.old.cells p
         + paired (p + skipped + 1) (take start list.now) (drop start list.now) }
-    ensures same { length cells.new.cells ≡ length cells.old.cells }
-    ensures added { cells.new.added
-        ≤ cells.old.added + (lags - skipped) * (length list.now - start) }
-    ensures steps { steps.new + cells.old.added ≡ steps.old + cells.new.added }
+    ensures spends { Spends cells.old cells.new steps.old steps.new
+        ((lags - skipped) * (length list.now - start)) }
 {
-    match window_from(skipped, lags, list, start) {
-        Some(low) => pair_together(cells, skipped, lags, list, start, low, steps),
-        None => pair_each(cells, skipped, lags, list, start, steps),
+    if is_dense(skipped, lags, list, start) {
+        pair_runs(cells, skipped, lags, list, start, steps);
+    } else {
+        pair_each(cells, skipped, lags, list, start, steps);
     }
 }

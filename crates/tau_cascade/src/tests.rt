@@ -21,15 +21,15 @@ const MARKER: EventKind = EventKind::Marker { bits: 15 };
 const END: u64 = (1 << 62) + (1 << 28);
 
 /// An event with its time and its groups.
-type Given = (u64, EventKind, u64);
+pub(crate) type Given = (u64, EventKind, u64);
 
 /// A photon of group 1 alone.
-fn first(time: u64) -> Given {
+pub(crate) fn first(time: u64) -> Given {
     (time, PHOTON, 1)
 }
 
 /// A photon of group 2 alone.
-fn second(time: u64) -> Given {
+pub(crate) fn second(time: u64) -> Given {
     (time, PHOTON, 2)
 }
 
@@ -39,7 +39,7 @@ fn both(time: u64) -> Given {
 }
 
 /// The correlation of group 1 with group 2.
-fn of_two(lags: u32, levels: u32) -> CorrelationSet
+pub(crate) fn of_two(lags: u32, levels: u32) -> CorrelationSet
     requires lags { (2 ≤ lags) × (lags ≤ 128) }
     requires even { lags % 2 ≡ 0 }
     requires levels { (0 < levels) × (levels ≤ 40) }
@@ -160,7 +160,7 @@ fn given_in_blocks<L: Ledger>(
 }
 
 /// A closed table that was given these events.
-fn filled<L: Ledger>(
+pub(crate) fn filled<L: Ledger>(
     alloc: Global,
     blank: Blank,
     set: CorrelationSet,
@@ -237,7 +237,7 @@ fn photons_wait_in_the_open_bins(rt: HostRuntime) -> Result<(), Fail> {
 }
 
 /// The cells that aren't 0, each with its level and its lag.
-fn cells(alloc: Global, table: &Cascade) -> Result<Vec<(u32, u32, u128)>, Fail>
+pub(crate) fn cells(alloc: Global, table: &Cascade) -> Result<Vec<(u32, u32, u128)>, Fail>
     requires closed { ⟦<Cascade as Tally>⟧.closed table.now ≡ true }
 {
     let mut cells = Vec::new(alloc);

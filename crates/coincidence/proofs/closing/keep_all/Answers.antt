@@ -45,7 +45,7 @@ loop-bin-preserved g c =
       cells = λ at inside.
           let more = sum_by_more (λ bin. bin_pairs (coincidence_view c.args.set.now) at bin []) c.args.bins.now c.loop-bin.bin-index none c.loop-bin-test.true in
           omega (arith, more, inv.cells at inside, c.pair_inside.ensures.cells at inside);
-      same = omega (arith, inv.same, c.pair_inside.ensures.same);
-      added = omega (arith, inv.added, c.pair_inside.ensures.added);
-      steps = omega (arith, inv.steps, c.pair_inside.ensures.steps);
+      same = omega (arith, inv.same, c.pair_inside.ensures.spends.same);
+      added = omega (arith, inv.added, c.pair_inside.ensures.spends.added);
+      steps = omega (arith, inv.steps, c.pair_inside.ensures.spends.steps);
     }

@@ -29,7 +29,7 @@ loop-i-preserved g c =
       cells = λ at inside.
           let term = strip-term c.args.direction set at least i c.shifted-shifted.result c.from-pairs.result c.args.sums.now lag c.from-pairs.ensures in
           omega (arith, inv.cells at inside, c.add_pairs.ensures.cells at (omega (arith, inside, inv.same, c.requires.sized)), range-more (strip_pairs c.args.direction set at least c.args.sums.now) (least + 1) i, term);
-      same = omega (arith, inv.same, c.add_pairs.ensures.same);
-      added = omega (arith, inv.added, c.add_pairs.ensures.added);
-      steps = omega (arith, inv.steps, c.add_pairs.ensures.steps);
+      same = omega (arith, inv.same, c.add_pairs.ensures.spends.same);
+      added = omega (arith, inv.added, c.add_pairs.ensures.spends.added);
+      steps = omega (arith, inv.steps, c.add_pairs.ensures.spends.steps);
     }

@@ -1,4 +1,4 @@
-use Rattle.std.proofs.Common.{◌≡◌, ◌∙◌, ◌<◌, ◌≤◌, ◌+◌, ◌-◌, ◌^◌, ◌++◌, ℕ, ltb, length, get_or, arith}
+use Rattle.std.proofs.Common.{refl, ◌≡◌, ◌∙◌, ◌<◌, ◌≤◌, ◌+◌, ◌-◌, ◌^◌, ◌++◌, ℕ, ltb, length, get_or, arith}
 use Rattle.std.specs.List.{filter, AllByRecursion}
 use Rattle.tally_base.specs.Settings.{coincidence_view}
 use Rattle.lag_ring.specs.declared.ring.Entry.{Entry}
@@ -19,23 +19,22 @@ fill-requires-clause-early_later g c = all_weaker (λ (e : Entry). e.index + 409
 pub fill-requires-clause-few : goal.fill-requires-clause-few
 fill-requires-clause-few g c = rw c.earlier_side.ensures (few_earlier c.args.direction (coincidence_view c.args.set) c.args.low c.args.ring.now.entries c.args.later.now c.requires.photons)
 
-pub pair_window-requires-clause-small : goal.pair_window-requires-clause-small
-pair_window-requires-clause-small g c = λ p inside.
-    let at : p < length c.args.window.now = omega (arith, inside, c.fill.ensures.same) in
-    let all = few_earlier c.args.direction (coincidence_view c.args.set) c.args.low c.args.ring.now.entries c.args.later.now c.requires.photons in
-    let has : get_or c.fill.new.window p 0 ≡ weight_at (earlier_side c.args.direction) c.args.top c.args.low p (c.args.ring.now.entries ++ c.args.later.now) = rw c.earlier_side.ensures at (c.fill.ensures.weights p at) in
-    omega (arith, has, all, weight_at-le (earlier_side c.args.direction) c.args.top c.args.low p (c.args.ring.now.entries ++ c.args.later.now))
-
-pub pair_window-requires-clause-few : goal.pair_window-requires-clause-few
-pair_window-requires-clause-few g c =
-    let counted : c.deref.result.now ≡ filter (λ (e : Entry). ltb 0 (weight_of (later_side c.args.direction) e)) c.args.later.now = c.deref.ensures.0 ∙ rw c.later_side.ensures at c.with_weight-counted.ensures in
-    rw counted (few_later c.args.direction (coincidence_view c.args.set) c.args.low c.args.ring.now.entries c.args.later.now c.requires.photons)
-
-pub pair_window-requires-clause-near : goal.pair_window-requires-clause-near
-pair_window-requires-clause-near g c =
-    let counted : c.deref.result.now ≡ filter (λ (e : Entry). ltb 0 (weight_of (later_side c.args.direction) e)) c.args.later.now = c.deref.ensures.0 ∙ rw c.later_side.ensures at c.with_weight-counted.ensures in
-    let near = all_weaker (λ (e : Entry). (c.args.low ≤ e.index) × (e.index - c.args.low + c.args.top ≤ length c.args.window.now)) (λ (e : Entry). (c.args.low ≤ e.index) × (e.index - c.args.low + c.args.top ≤ length c.fill.new.window)) (λ e is. (is.0, omega (arith, is.1, c.fill.ensures.same))) c.args.later.now c.requires.near in
-    rw counted (all_filter (λ (e : Entry). (c.args.low ≤ e.index) × (e.index - c.args.low + c.args.top ≤ length c.fill.new.window)) (λ e. ltb 0 (weight_of (later_side c.args.direction) e)) c.args.later.now near)
+pub pair_window-requires-clause-window : goal.pair_window-requires-clause-window
+pair_window-requires-clause-window g c = record {
+  sized = refl;
+  small = λ p inside.
+      let at : p < length c.args.window.now = omega (arith, inside, c.fill.ensures.same) in
+      let all = few_earlier c.args.direction (coincidence_view c.args.set) c.args.low c.args.ring.now.entries c.args.later.now c.requires.photons in
+      let has : get_or c.fill.new.window p 0 ≡ weight_at (earlier_side c.args.direction) c.args.top c.args.low p (c.args.ring.now.entries ++ c.args.later.now) = rw c.earlier_side.ensures at (c.fill.ensures.weights p at) in
+      omega (arith, has, all, weight_at-le (earlier_side c.args.direction) c.args.top c.args.low p (c.args.ring.now.entries ++ c.args.later.now));
+  few =
+      let counted : c.deref.result.now ≡ filter (λ (e : Entry). ltb 0 (weight_of (later_side c.args.direction) e)) c.args.later.now = c.deref.ensures.0 ∙ rw c.later_side.ensures at c.with_weight-counted.ensures in
+      rw counted (few_later c.args.direction (coincidence_view c.args.set) c.args.low c.args.ring.now.entries c.args.later.now c.requires.photons);
+  near =
+      let counted : c.deref.result.now ≡ filter (λ (e : Entry). ltb 0 (weight_of (later_side c.args.direction) e)) c.args.later.now = c.deref.ensures.0 ∙ rw c.later_side.ensures at c.with_weight-counted.ensures in
+      let near = all_weaker (λ (e : Entry). (c.args.low ≤ e.index) × (e.index - c.args.low + c.args.top ≤ length c.args.window.now)) (λ (e : Entry). (c.args.low ≤ e.index) × (e.index - c.args.low + c.args.top ≤ length c.fill.new.window)) (λ e is. (is.0, omega (arith, is.1, c.fill.ensures.same))) c.args.later.now c.requires.near in
+      rw counted (all_filter (λ (e : Entry). (c.args.low ≤ e.index) × (e.index - c.args.low + c.args.top ≤ length c.fill.new.window)) (λ e. ltb 0 (weight_of (later_side c.args.direction) e)) c.args.later.now near);
+}
 
 pub pair_window-requires-clause-fits : goal.pair_window-requires-clause-fits
 pair_window-requires-clause-fits g c = λ at inside.

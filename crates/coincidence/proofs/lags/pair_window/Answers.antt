@@ -25,7 +25,7 @@ loop-strip-preserved g c =
           let f : ℕ → ℕ = window_pairs c.args.direction (coincidence_view c.args.set) at c.args.window.now c.args.low c.args.top c.args.later.now in
           let was = rw so_far at (inv.cells at inside) in
           rw next (omega (arith, was, c.pair_strip.ensures.cells at inside, range-strip f least c.min-count.result));
-      same = omega (arith, inv.same, c.pair_strip.ensures.same);
-      added = omega (arith, inv.added, c.pair_strip.ensures.added, next, so_far);
-      steps = omega (arith, inv.steps, c.pair_strip.ensures.steps);
+      same = omega (arith, inv.same, c.pair_strip.ensures.spends.same);
+      added = omega (arith, inv.added, c.pair_strip.ensures.spends.added, next, so_far);
+      steps = omega (arith, inv.steps, c.pair_strip.ensures.spends.steps);
     }

@@ -20,7 +20,7 @@ pub pair-requires-clause-count : goal.pair-requires-clause-count
 pair-requires-clause-count g c = ∥∥₁_elim c.requires.stands (hlevel props) (λ w. may_count (coincidence_view c.args.set.now) c.args.ring.now c.args.cells.now c.args.bin.now w.0 w.1 w.2 c.args.set.now.some_reach.1)
 
 pub returns-clause-cells : goal.returns-clause-cells
-returns-clause-cells g c = λ closed xs can. cells_shut (coincidence_view c.args.set.now) c.args.ring.now c.args.cells.now c.args.bin.now closed xs can c.pair.new.cells c.pair.ensures.cells c.pair.ensures.same c.pair.ensures.added
+returns-clause-cells g c = λ closed xs can. cells_shut (coincidence_view c.args.set.now) c.args.ring.now c.args.cells.now c.args.bin.now closed xs can c.pair.new.cells c.pair.ensures.cells c.pair.ensures.spends.same c.pair.ensures.spends.added
 
 pub keep-requires : goal.keep-requires
 keep-requires g c = record { stands = ∥∥₁_map c.requires.stands (λ w. (w.0, w.1, w.2.keep)) }

@@ -17,4 +17,4 @@ pub returns-clause-ring : goal.returns-clause-ring
 returns-clause-ring g c = λ closed xs can. rw c.restart.ensures.alone (ring_alone (coincidence_view c.args.set.now) c.args.ring.now c.args.bin.now closed xs can c.requires.far c.args.set.now.some_reach.0)
 
 pub returns-clause-cells : goal.returns-clause-cells
-returns-clause-cells g c = λ closed xs can. cells_alone (coincidence_view c.args.set.now) c.args.ring.now c.args.cells.now c.args.bin.now closed xs can c.requires.far c.pair_inside.new.cells c.pair_inside.ensures.cells c.pair_inside.ensures.same c.pair_inside.ensures.added
+returns-clause-cells g c = λ closed xs can. cells_alone (coincidence_view c.args.set.now) c.args.ring.now c.args.cells.now c.args.bin.now closed xs can c.requires.far c.pair_inside.new.cells c.pair_inside.ensures.cells c.pair_inside.ensures.spends.same c.pair_inside.ensures.spends.added

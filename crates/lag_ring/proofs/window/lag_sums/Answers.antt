@@ -13,6 +13,6 @@ add_part-requires-clause-fits c = λ q inside.
     let later = c.args.later.now in
     let i = c.loop-entry.entry-index in
     let at : ℕ = (get_or later i none).index - c.args.low + c.args.from in
-    let fits = sums_fit c.args.side c.args.window.now c.args.low c.args.from q later i none inside c.loop-entry-test.true c.requires.small c.requires.few c.requires.inside in
+    let fits = sums_fit 64 c.args.side c.args.window.now c.args.low c.args.from q later i none inside c.loop-entry-test.true c.requires.small c.requires.few c.requires.inside in
     let place : at + q ≡ (get_or later i none).index - c.args.low + (c.args.from + q) = omega arith in
     rw (c.loop-entry.invariant q inside, part-at c.args.window.now at q (at + 64 - at) (omega (arith, inside)), c.weight.ensures, place) fits

@@ -15,7 +15,7 @@ loop-strip-preserved g c =
     record {
       done = λ p within inside. strip_more at' c.min-count.result all c.args.skipped c.args.cells.now.cells c.loop-strip.cells.cells c.pair_strip.new.cells.cells (window_pairs c.args.window.now c.args.low c.args.later.now) inv.done inv.left e.before e.cells p (omega arith) inside;
       left = λ p from. e.behind p (omega arith) ∙ inv.left p (omega arith);
-      same = omega (arith, inv.same, e.same);
-      added = omega (arith, inv.added, e.added, next, so_far);
-      steps = omega (arith, inv.steps, e.steps);
+      same = omega (arith, inv.same, e.spends.same);
+      added = omega (arith, inv.added, e.spends.added, next, so_far);
+      steps = omega (arith, inv.steps, e.spends.steps);
     }

@@ -1,7 +1,8 @@
-use Rattle.std.proofs.Common.{◌+◌, ◌<◌, take}
-use Rattle.std.specs.List.{AllByRecursion}
-use Rattle.lag_ring.specs.declared.ring.Entry.{Entry}
+use Rattle.std.proofs.Common.{◌≤◌}
 use Rattle.tau_cascade.proofs.pairing.first_in_reach.Given as goal
 
-abbrev pub invariant-loop-place : goal.invariant-loop-place
-invariant-loop-place l = AllByRecursion (λ (f : Entry). f.index + l.lags < l.index) (take l.place l.bins)
+abbrev pub invariant-back : goal.invariant-back
+invariant-back l = l.place ≤ l.at
+
+abbrev pub decreases-back : goal.decreases-back
+decreases-back l = l.place

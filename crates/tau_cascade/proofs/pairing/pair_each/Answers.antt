@@ -16,40 +16,40 @@ loop-at-init g c = record {
   steps = search rules;
 }
 
-pub first_in_reach-from-requires-clause-after : goal.first_in_reach-from-requires-clause-after
-first_in_reach-from-requires-clause-after g c =
+pub search_reach-from-requires-clause-after : goal.search_reach-from-requires-clause-after
+search_reach-from-requires-clause-after g c =
     let inside : c.loop-at.at < length c.args.list.now = search (rules, arith) in
     below_bins c.args.list.now c.loop-at.from c.loop-at.at c.args.lags none inside c.loop-at.invariant.from c.requires.rising
 
-pub first_in_reach-from-requires-clause-far : goal.first_in_reach-from-requires-clause-far
-first_in_reach-from-requires-clause-far g c =
+pub search_reach-from-requires-clause-far : goal.search_reach-from-requires-clause-far
+search_reach-from-requires-clause-far g c =
     let inside : c.loop-at.at < length c.args.list.now = search (rules, arith) in
     c.loop-at.invariant.far _ (below_bins c.args.list.now c.loop-at.from c.loop-at.at c.args.lags none inside c.loop-at.invariant.from c.requires.rising)
 
 pub pair_some-requires-clause-rising : goal.pair_some-requires-clause-rising
 pair_some-requires-clause-rising g c =
     let inside : c.loop-at.at < length c.args.list.now = search (rules, arith) in
-    (is_near c.args.list.now c.first_in_reach-from.result c.loop-at.at c.args.lags none inside c.first_in_reach-from.ensures.place c.requires.rising).0
+    (is_near c.args.list.now c.search_reach-from.result c.loop-at.at c.args.lags none inside c.search_reach-from.ensures.place c.requires.rising).0
 
 pub pair_some-requires-clause-after : goal.pair_some-requires-clause-after
 pair_some-requires-clause-after g c =
     let inside : c.loop-at.at < length c.args.list.now = search (rules, arith) in
-    (is_near c.args.list.now c.first_in_reach-from.result c.loop-at.at c.args.lags none inside c.first_in_reach-from.ensures.place c.requires.rising).1
+    (is_near c.args.list.now c.search_reach-from.result c.loop-at.at c.args.lags none inside c.search_reach-from.ensures.place c.requires.rising).1
 
 pub pair_some-requires-clause-fits : goal.pair_some-requires-clause-fits
 pair_some-requires-clause-fits g c = λ p inside.
     let k = p + c.args.skipped + 1 in
     let within : c.loop-at.at < length c.args.list.now = search (rules, arith) in
     let behind : c.args.start ≤ c.loop-at.at = search (rules, arith) in
-    let next = paired_next c.args.list.now c.first_in_reach-from.result c.loop-at.at c.args.lags none within c.first_in_reach-from.ensures.place c.requires.rising c.args.start behind c.first_in_reach-from.ensures.far k (omega arith) in
-    let part = paired_part c.args.list.now c.first_in_reach-from.result c.loop-at.at c.args.lags none within c.first_in_reach-from.ensures.place c.requires.rising c.args.start behind k in
+    let next = paired_next c.args.list.now c.search_reach-from.result c.loop-at.at c.args.lags none within c.search_reach-from.ensures.place c.requires.rising c.args.start behind c.search_reach-from.ensures.far k (omega arith) in
+    let part = paired_part c.args.list.now c.search_reach-from.result c.loop-at.at c.args.lags none within c.search_reach-from.ensures.place c.requires.rising c.args.start behind k in
     omega (arith, next, part, c.loop-at.invariant.cells p inside, c.requires.fits p inside)
 
 pub pair_some-requires-clause-count : goal.pair_some-requires-clause-count
 pair_some-requires-clause-count g c =
     let within : c.loop-at.at < length c.args.list.now = search (rules, arith) in
     let behind : c.args.start ≤ c.loop-at.at = search (rules, arith) in
-    let few = few_next c.args.list.now c.first_in_reach-from.result c.loop-at.at c.args.lags none within c.first_in_reach-from.ensures.place c.requires.rising c.args.skipped in
+    let few = few_next c.args.list.now c.search_reach-from.result c.loop-at.at c.args.lags none within c.search_reach-from.ensures.place c.requires.rising c.args.skipped in
     let all = count_next c.args.lags c.args.skipped c.args.start c.loop-at.at (length c.args.list.now) c.args.cells.now.added c.loop-at.cells.added _ behind within c.loop-at.invariant.added few in
     omega (arith, all, c.requires.count)
 
@@ -57,16 +57,16 @@ pub loop-at-preserved : goal.loop-at-preserved
 loop-at-preserved g c =
     let within : c.loop-at.at < length c.args.list.now = search (rules, arith) in
     let behind : c.args.start ≤ c.loop-at.at = search (rules, arith) in
-    let few = few_next c.args.list.now c.first_in_reach-from.result c.loop-at.at c.args.lags none within c.first_in_reach-from.ensures.place c.requires.rising c.args.skipped in
+    let few = few_next c.args.list.now c.search_reach-from.result c.loop-at.at c.args.lags none within c.search_reach-from.ensures.place c.requires.rising c.args.skipped in
     let e = c.pair_some.ensures in
     record {
-      from = omega (arith, c.first_in_reach-from.ensures.place);
-      far = far_next c.args.list.now c.first_in_reach-from.result c.loop-at.at c.args.lags none within c.first_in_reach-from.ensures.place c.requires.rising c.first_in_reach-from.ensures.far;
+      from = omega (arith, c.search_reach-from.ensures.place);
+      far = far_next c.args.list.now c.search_reach-from.result c.loop-at.at c.args.lags none within c.search_reach-from.ensures.place c.requires.rising c.search_reach-from.ensures.far;
       cells = λ p inside.
           let k = p + c.args.skipped + 1 in
-          let next = paired_next c.args.list.now c.first_in_reach-from.result c.loop-at.at c.args.lags none within c.first_in_reach-from.ensures.place c.requires.rising c.args.start behind c.first_in_reach-from.ensures.far k (omega arith) in
+          let next = paired_next c.args.list.now c.search_reach-from.result c.loop-at.at c.args.lags none within c.search_reach-from.ensures.place c.requires.rising c.args.start behind c.search_reach-from.ensures.far k (omega arith) in
           omega (arith, next, e.cells p inside, c.loop-at.invariant.cells p inside);
       same = search rules;
-      added = (let all = added_next c.args.lags c.args.skipped c.args.start c.loop-at.at c.args.cells.now.added c.loop-at.cells.added _ behind c.loop-at.invariant.added few in omega (arith, all, e.added));
-      steps = omega (arith, e.steps, c.loop-at.invariant.steps);
+      added = (let all = added_next c.args.lags c.args.skipped c.args.start c.loop-at.at c.args.cells.now.added c.loop-at.cells.added _ behind c.loop-at.invariant.added few in omega (arith, all, e.spends.added));
+      steps = omega (arith, e.spends.steps, c.loop-at.invariant.steps);
     }

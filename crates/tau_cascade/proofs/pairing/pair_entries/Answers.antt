@@ -15,8 +15,8 @@ loop-e-preserved g c =
     record {
       cells = cells_more c.args.entries.now c.loop-e.e-index none c.loop-e-test.true c.args.cells.now.cells c.loop-e.cells.cells c.add_at_lag.new.cells.cells c.args.skipped c.args.lags c.args.index c.args.weight c.requires.after c.loop-e.invariant.cells c.add_at_lag.ensures.cells;
       same = search rules;
-      added = omega (arith, c.add_at_lag.ensures.added, c.loop-e.invariant.added, lags_more c.args.entries.now c.loop-e.e-index none c.loop-e-test.true c.args.skipped c.args.lags c.args.index);
-      steps = omega (arith, c.add_at_lag.ensures.steps, c.loop-e.invariant.steps);
+      added = omega (arith, c.add_at_lag.ensures.spends.added, c.loop-e.invariant.added, lags_more c.args.entries.now c.loop-e.e-index none c.loop-e-test.true c.args.skipped c.args.lags c.args.index);
+      steps = omega (arith, c.add_at_lag.ensures.spends.steps, c.loop-e.invariant.steps);
     }
 
 pub returns-then-lag-from-clause-cells : goal.returns-then-lag-from-clause-cells

@@ -23,7 +23,7 @@ shut_all-requires-clause-ring g c =
     let from = c.lay_out-from.result in
     let entries = c.args.self.now.ring.entries in
     let few : length entries ≤ c.args.set.now.lags = ∥∥₁_elim c.requires.stands (hlevel props) (λ w. omega (arith, w.2.was.ring.keeps.within, w.2.was.ring.reach)) in
-    let long : length c.lay_out-from.new.list ≡ 129 = search rules in
+    let long : length c.lay_out-from.new.list ≡ 192 = search rules in
     let all = laid c.lay_out-from.new.list entries from last c.lay_out-from.ensures.entries (omega (arith, few, long, c.lay_out-from.ensures.count, c.args.set.now.some_lags)) in
     rw (all, take_at entries (last ∷ []) from (sym c.lay_out-from.ensures.count)) refl
 
@@ -33,7 +33,7 @@ shut_all-requires-clause-stands g c =
     let from = c.lay_out-from.result in
     let entries = c.args.self.now.ring.entries in
     let few : length entries ≤ c.args.set.now.lags = ∥∥₁_elim c.requires.stands (hlevel props) (λ w. omega (arith, w.2.was.ring.keeps.within, w.2.was.ring.reach)) in
-    let long : length c.lay_out-from.new.list ≡ 129 = search rules in
+    let long : length c.lay_out-from.new.list ≡ 192 = search rules in
     let all = laid c.lay_out-from.new.list entries from last c.lay_out-from.ensures.entries (omega (arith, few, long, c.lay_out-from.ensures.count, c.args.set.now.some_lags)) in
     rw (all, drop_at entries (last ∷ []) from (sym c.lay_out-from.ensures.count)) (∥∥₁_map c.requires.stands (λ w. (w.0, w.1, finish_shut (correlation_view c.args.set.now) c.args.level c.args.self.now last c.in-Some.is w.0 w.1 w.2)))
 
@@ -43,7 +43,7 @@ returns-in-Some-clause-follows g c = λ closed open' can.
     let from = c.lay_out-from.result in
     let entries = c.args.self.now.ring.entries in
     let few : length entries ≤ c.args.set.now.lags = ∥∥₁_elim c.requires.stands (hlevel props) (λ w. omega (arith, w.2.was.ring.keeps.within, w.2.was.ring.reach)) in
-    let long : length c.lay_out-from.new.list ≡ 129 = search rules in
+    let long : length c.lay_out-from.new.list ≡ 192 = search rules in
     let all = laid c.lay_out-from.new.list entries from last c.lay_out-from.ensures.entries (omega (arith, few, long, c.lay_out-from.ensures.count, c.args.set.now.some_lags)) in
     let part = drop_at entries (last ∷ []) from (sym c.lay_out-from.ensures.count) in
     let may = finish_shut (correlation_view c.args.set.now) c.args.level c.args.self.now last c.in-Some.is closed open' can in

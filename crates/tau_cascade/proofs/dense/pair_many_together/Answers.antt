@@ -7,7 +7,7 @@ use Rattle.lag_ring.specs.Window.{weight_at}
 use Rattle.lag_ring.proofs.Lists.{all_filter}
 use Rattle.lag_ring.proofs.Windows.{weight_at-le}
 use Rattle.tau_cascade.proofs.Together.{window-paired, few_counted}
-use Rattle.tau_cascade.proofs.dense.pair_together.Goals as goal
+use Rattle.tau_cascade.proofs.dense.pair_many_together.Goals as goal
 
 pub put_weights-requires-clause-early : goal.put_weights-requires-clause-early
 put_weights-requires-clause-early g c = rw c.from-top.ensures c.requires.window.early
@@ -15,22 +15,21 @@ put_weights-requires-clause-early g c = rw c.from-top.ensures c.requires.window.
 pub put_weights-requires-clause-fits : goal.put_weights-requires-clause-fits
 put_weights-requires-clause-fits g c = λ p inside. omega (arith, get_or-replicate {A = ℕ} 1024 p 0 0 inside, c.requires.window.firsts)
 
-pub pair_window-requires-clause-small : goal.pair_window-requires-clause-small
-pair_window-requires-clause-small g c = λ p inside.
-    let at : p < 1024 = omega (arith, inside, c.put_weights.ensures.same) in
-    omega (arith, c.put_weights.ensures.weights p at, get_or-replicate {A = ℕ} 1024 p 0 0 at, c.requires.window.firsts, weight_at-le First c.from-top.result c.args.low p c.args.list.now)
-
-pub pair_window-requires-clause-few : goal.pair_window-requires-clause-few
-pair_window-requires-clause-few g c =
-    let es = drop c.args.start c.args.list.now in
-    let later : c.deref.result.now ≡ filter (λ (e : Entry). ltb 0 e.b) es = c.deref.ensures.0 ∙ (rw (take_rest c.args.list.now c.args.start) at c.with_second-later.ensures) in
-    rw later (omega (arith, few_counted es, c.requires.window.seconds))
-
-pub pair_window-requires-clause-near : goal.pair_window-requires-clause-near
-pair_window-requires-clause-near g c =
-    let es = drop c.args.start c.args.list.now in
-    let later : c.deref.result.now ≡ filter (λ (e : Entry). ltb 0 e.b) es = c.deref.ensures.0 ∙ (rw (take_rest c.args.list.now c.args.start) at c.with_second-later.ensures) in
-    rw later (all_filter (λ (e : Entry). (c.args.low ≤ e.index) × (e.index - c.args.low + 192 ≤ 1024)) (λ e. ltb 0 e.b) es c.requires.window.near)
+pub pair_window-requires-clause-window : goal.pair_window-requires-clause-window
+pair_window-requires-clause-window g c = record {
+  sized = c.put_weights.ensures.same;
+  small = λ p inside.
+      let at : p < 1024 = omega (arith, inside, c.put_weights.ensures.same) in
+      omega (arith, c.put_weights.ensures.weights p at, get_or-replicate {A = ℕ} 1024 p 0 0 at, c.requires.window.firsts, weight_at-le First c.from-top.result c.args.low p c.args.list.now);
+  few =
+      let es = drop c.args.start c.args.list.now in
+      let later : c.deref.result.now ≡ filter (λ (e : Entry). ltb 0 e.b) es = c.deref.ensures.0 ∙ (rw (take_rest c.args.list.now c.args.start) at c.with_second-later.ensures) in
+      rw later (omega (arith, few_counted es, c.requires.window.seconds));
+  near =
+      let es = drop c.args.start c.args.list.now in
+      let later : c.deref.result.now ≡ filter (λ (e : Entry). ltb 0 e.b) es = c.deref.ensures.0 ∙ (rw (take_rest c.args.list.now c.args.start) at c.with_second-later.ensures) in
+      rw later (all_filter (λ (e : Entry). (c.args.low ≤ e.index) × (e.index - c.args.low + 192 ≤ 1024)) (λ e. ltb 0 e.b) es c.requires.window.near);
+}
 
 pub pair_window-requires-clause-fits : goal.pair_window-requires-clause-fits
 pair_window-requires-clause-fits g c = λ p inside.

@@ -1,0 +1,18 @@
+use Rattle.std.proofs.Common.{◌≡◌, ◌+◌, ◌-◌, ℕ, get_or, arith}
+use Rattle.std.proofs.lemmas.List.{get_or-replicate}
+use Rattle.lag_ring.specs.declared.ring.Entry.{Entry}
+use Rattle.lag_ring.proofs.Windows.{sums_fit, part-at}
+use Rattle.lag_ring.proofs.window.few_lag_sums.Goals as goal
+
+pub loop-entry-init : goal.loop-entry-init
+loop-entry-init c = λ q inside. get_or-replicate 16 q 0 0 inside
+
+pub add_few_times-requires-clause-fits : goal.add_few_times-requires-clause-fits
+add_few_times-requires-clause-fits c = λ q inside.
+    let none : Entry = record { index = 0; a = 0; b = 0 } in
+    let later = c.args.later.now in
+    let i = c.loop-entry.entry-index in
+    let at : ℕ = (get_or later i none).index - c.args.low + c.args.from in
+    let fits = sums_fit 16 c.args.side c.args.window.now c.args.low c.args.from q later i none inside c.loop-entry-test.true c.requires.small c.requires.few c.requires.inside in
+    let place : at + q ≡ (get_or later i none).index - c.args.low + (c.args.from + q) = omega arith in
+    rw (c.loop-entry.invariant q inside, part-at c.args.window.now at q (at + 16 - at) (omega (arith, inside)), c.weight.ensures, place) fits

@@ -1,9 +1,0 @@
-use Rattle.std.proofs.Common.{arith}
-use Rattle.tau_cascade.proofs.Together.{once_each}
-use Rattle.tau_cascade.proofs.pairing.pair_all.Goals as goal
-
-pub pair_together-requires-clause-room : goal.pair_together-requires-clause-room
-pair_together-requires-clause-room g c = omega (arith, c.requires.count, once_each c.args.lags c.args.skipped c.args.start c.args.list.now c.in-Some.ensures.some)
-
-pub returns-in-Some-clause-added : goal.returns-in-Some-clause-added
-returns-in-Some-clause-added g c = omega (arith, c.pair_together.ensures.added, once_each c.args.lags c.args.skipped c.args.start c.args.list.now c.in-Some.ensures.some)
