@@ -1,4 +1,5 @@
 pub mod Bits
 pub mod Parts
+pub mod InputShifts
 pub mod Rows
 pub mod Inputs

@@ -1,17 +1,18 @@
--- Events at the ends of a gate, and in several groups.
-use Rattle.std.proofs.Common.{◌≡◌, refl, List, [], ◌∷◌, None, Some}
+-- Shifted dtimes, events at the ends of gates, and in several groups.
+use Rattle.std.proofs.Common.{◌≡◌, refl, List, [], ◌∷◌}
 use Rattle.tally_base.specs.declared.event.Event.{Event}
 use Rattle.tally_base.specs.declared.event.EventKind.{EventKind}
 use Rattle.tally_base.specs.declared.event.EventKind.TheVariants.{Photon, Marker}
 use Rattle.tally_base.specs.Settings.{GroupView}
-use Rattle.gate_plan.specs.Groups.{groups_in}
+use Rattle.gate_plan.specs.Shifting.{Sorting, shifted}
+use Rattle.gate_plan.specs.Taking.{groups_in}
 
 abbrev event : EventKind → Event
 event kind = record { place = 1; kind = kind; time = 0 }
 
 -- the inputs 0 and 3, and the input 3 with the dtimes 10 to 19
-abbrev two_groups : List GroupView
-two_groups = record { inputs = 9; gate = None } ∷ record { inputs = 8; gate = Some (10, 20) } ∷ []
+abbrev two_groups : Sorting
+two_groups = record { period = 1; shifts = []; groups = record { inputs = 9; gates = [] } ∷ record { inputs = 8; gates = (10, 20) ∷ [] } ∷ [] }
 
 pub row_before : groups_in two_groups (event (Photon 3 9)) ≡ 1
 row_before = refl
@@ -30,3 +31,49 @@ row_other = refl
 
 pub row_marker : groups_in two_groups (event (Marker 9)) ≡ 0
 row_marker = refl
+
+pub row_unshifted : shifted two_groups (event (Photon 3 9)) ≡ event (Photon 3 9)
+row_unshifted = refl
+
+-- the dtimes of the input 0 and 10 more, modulo 100, from 0 to 4 and 13 alone
+abbrev two_gates : Sorting
+two_gates = record { period = 100; shifts = record { input = 0; shift = 10 } ∷ []; groups = record { inputs = 3; gates = (0, 5) ∷ (13, 14) ∷ [] } ∷ [] }
+
+pub row_zero : shifted two_gates (event (Photon 0 0)) ≡ event (Photon 0 10)
+row_zero = refl
+
+pub row_shifted : shifted two_gates (event (Photon 0 3)) ≡ event (Photon 0 13)
+row_shifted = refl
+
+pub row_round : shifted two_gates (event (Photon 0 90)) ≡ event (Photon 0 0)
+row_round = refl
+
+-- The dtime may be beyond the period.
+pub row_far : shifted two_gates (event (Photon 0 295)) ≡ event (Photon 0 5)
+row_far = refl
+
+-- An input without a shift keeps its dtime, beyond the period too, and a marker stays as it is.
+pub row_kept : shifted two_gates (event (Photon 1 295)) ≡ event (Photon 1 295)
+row_kept = refl
+
+pub row_same_marker : shifted two_gates (event (Marker 9)) ≡ event (Marker 9)
+row_same_marker = refl
+
+-- The gates are those of the shifted dtime.
+pub row_between : groups_in two_gates (event (Photon 0 0)) ≡ 0
+row_between = refl
+
+pub row_second : groups_in two_gates (event (Photon 0 3)) ≡ 1
+row_second = refl
+
+pub row_before_first : groups_in two_gates (event (Photon 0 89)) ≡ 0
+row_before_first = refl
+
+pub row_at_first : groups_in two_gates (event (Photon 0 90)) ≡ 1
+row_at_first = refl
+
+pub row_behind_first : groups_in two_gates (event (Photon 0 95)) ≡ 0
+row_behind_first = refl
+
+pub row_of_another : groups_in two_gates (event (Photon 1 3)) ≡ 1
+row_of_another = refl

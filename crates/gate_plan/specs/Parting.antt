@@ -1,25 +1,24 @@
--- The groups without a gate and those with one, apart.
-use Rattle.std.specs.Prelude.{ℕ, ◌*◌, ◌^◌, Bool, true, false, ◌&&◌, nat_le, nat_lt, List, map, sum_by, slice_index_or, None, Some}
-use Rattle.std.specs.declared.option.Option.{Option}
+-- The groups without a gate and those with gates, apart.
+use Rattle.std.specs.Prelude.{ℕ, ◌*◌, ◌^◌, Bool, true, false, ◌&&◌, List, [], ◌∷◌, map, sum_by, slice_index_or}
+use Rattle.std.specs.List.{list_any}
 use Rattle.tally_base.specs.Settings.{GroupView}
-use Rattle.gate_plan.specs.Taking.{is_among, one_if, bits_of}
+use Rattle.gate_plan.specs.Taking.{is_among, is_in_gate, one_if, bits_of}
 use Rattle.gate_plan.specs.declared.gated.Gated.{Gated}
 
-abbrev pub is_open : Option (ℕ × ℕ) → Bool
-is_open None = true
-is_open (Some gate) = false
+abbrev pub is_open : List (ℕ × ℕ) → Bool
+is_open [] = true
+is_open (gate ∷ gates) = false
 
-abbrev pub passes : Option (ℕ × ℕ) → ℕ → Bool
-passes None dtime = false
-passes (Some gate) dtime = nat_le gate.0 dtime && nat_lt dtime gate.1
+abbrev pub passes : List (ℕ × ℕ) → ℕ → Bool
+passes gates dtime = list_any (is_in_gate dtime) gates
 
 -- the group has the input, and no gate
 abbrev pub takes_plainly : ℕ → GroupView → Bool
-takes_plainly input group = is_among group.inputs input && is_open group.gate
+takes_plainly input group = is_among group.inputs input && is_open group.gates
 
 -- the group has the input, and a gate that the dtime is in
 abbrev pub takes_gated : ℕ → ℕ → GroupView → Bool
-takes_gated input dtime group = is_among group.inputs input && passes group.gate dtime
+takes_gated input dtime group = is_among group.inputs input && passes group.gates dtime
 
 abbrev pub plain_bits : List GroupView → ℕ → ℕ
 plain_bits groups input = bits_of (map (takes_plainly input) groups)
@@ -28,7 +27,7 @@ abbrev pub gated_bits : List GroupView → ℕ → ℕ → ℕ
 gated_bits groups input dtime = bits_of (map (takes_gated input dtime) groups)
 
 abbrev pub gated_bit : ℕ → ℕ → Gated → ℕ
-gated_bit input dtime group = one_if (slice_index_or group.has input false && (nat_le group.first dtime && nat_lt dtime group.end)) * 2 ^ group.place
+gated_bit input dtime group = one_if (slice_index_or group.has input false && passes group.gates.items dtime) * 2 ^ group.place
 
 abbrev pub gated_sum : List Gated → ℕ → ℕ → ℕ
 gated_sum gated input dtime = sum_by (gated_bit input dtime) gated

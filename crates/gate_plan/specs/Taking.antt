@@ -1,27 +1,32 @@
 -- Which groups an event is in.
-use Rattle.std.specs.Prelude.{ℕ, ◌+◌, ◌*◌, Bool, true, false, ◌&&◌, ◌==◌, nat_le, nat_lt, List, map, [], ◌∷◌, None, Some}
-use Rattle.std.specs.declared.option.Option.{Option}
+use Rattle.std.specs.Prelude.{ℕ, ◌+◌, ◌*◌, Bool, true, false, ◌&&◌, ◌==◌, nat_le, nat_lt, List, map, [], ◌∷◌}
+use Rattle.std.specs.List.{list_any}
 use Rattle.std.specs.Int.{bit_at}
 use Rattle.tally_base.specs.declared.event.Event.{Event}
 use Rattle.tally_base.specs.declared.event.EventKind.{EventKind}
 use Rattle.tally_base.specs.declared.event.EventKind.TheVariants.{Photon, Marker}
 use Rattle.tally_base.specs.Settings.{GroupView}
+use Rattle.gate_plan.specs.Shifting.{Sorting, shifted}
 
 -- the input is one of these: bit n is set for input n
 abbrev pub is_among : ℕ → ℕ → Bool
 is_among inputs input = bit_at inputs input == 1
 
--- the dtime is in the gate, where there is one: from the first on and below the second
-abbrev pub is_in_gate : Option (ℕ × ℕ) → ℕ → Bool
-is_in_gate None dtime = true
-is_in_gate (Some gate) dtime = nat_le gate.0 dtime && nat_lt dtime gate.1
+-- the dtime is in the gate: from its first on and below its second
+abbrev pub is_in_gate : ℕ → ℕ × ℕ → Bool
+is_in_gate dtime gate = nat_le gate.0 dtime && nat_lt dtime gate.1
 
--- a photon of one of the group's inputs, with a dtime in its gate
+-- the dtime is in one of the gates, where there are any
+abbrev pub is_in_gates : List (ℕ × ℕ) → ℕ → Bool
+is_in_gates [] dtime = true
+is_in_gates (gate ∷ gates) dtime = list_any (is_in_gate dtime) (gate ∷ gates)
+
+-- a photon of one of the group's inputs, with a dtime in one of its gates
 abbrev pub takes_kind : GroupView → EventKind → Bool
-takes_kind group (Photon input dtime) = is_among group.inputs input && is_in_gate group.gate dtime
+takes_kind group (Photon input dtime) = is_among group.inputs input && is_in_gates group.gates dtime
 takes_kind group (Marker bits) = false
 
--- the event is in the group
+-- the event, whose dtime is shifted, is in the group
 abbrev pub takes : GroupView → Event → Bool
 takes group e = takes_kind group e.kind
 
@@ -35,6 +40,10 @@ abbrev pub bits_of : List Bool → ℕ
 bits_of [] = 0
 bits_of (test ∷ tests) = one_if test + 2 * bits_of tests
 
--- the groups that the event is in: bit g - 1 is set for group g
-abbrev pub groups_in : List GroupView → Event → ℕ
-groups_in groups e = bits_of (map (λ group. takes group e) groups)
+-- the groups that an event, whose dtime is shifted, is in: bit g - 1 is set for group g
+abbrev pub groups_by : List GroupView → Event → ℕ
+groups_by groups e = bits_of (map (λ group. takes group e) groups)
+
+-- the groups that an event of a file is in: its gates are those of the shifted dtime
+abbrev pub groups_in : Sorting → Event → ℕ
+groups_in by e = groups_by by.groups (shifted by e)

@@ -1,15 +1,17 @@
-// A group that has a gate.
+// A group that has gates.
 ghost use Rattle.std.specs.Prelude.{◌<◌};
 
-/// A group with a gate.
-#[derive(Clone, Copy, Debug)]
+use arrayvec::ArrayVec;
+
+/// A group with gates.
+#[derive(Drop)]
 pub struct Gated {
     /// The place of its bit.
     pub place: u64,
     /// By input: whether it is in the group.
     pub has: [bool; 256],
-    pub first: u16,
-    pub end: u16,
+    /// Ranges of dtimes, each from its first on and below its second.
+    pub gates: ArrayVec<(u16, u16), 8>,
     pub ghost in_place: { place < 64 },
 }
 
@@ -19,8 +21,7 @@ impl Default for Gated {
         Gated {
             place: 0,
             has: [false; 256],
-            first: 0,
-            end: 0,
+            gates: ArrayVec::new(),
         }
     }
 }

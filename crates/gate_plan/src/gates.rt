@@ -1,23 +1,33 @@
-// The groups that an event is in.
-ghost use Rattle.std.specs.Prelude.{◌≡◌, ◌<◌, ◌≤◌, ℕ, map, length, slice_index};
-ghost use Rattle.tally_base.specs.Settings.{group_view};
+// The shifted dtimes of events, and the groups that they are in.
+ghost use Rattle.std.specs.Prelude.{◌≡◌, ◌<◌, ◌≤◌, ℕ, map, length, None, slice_index, slice_index_or};
+ghost use Rattle.tally_base.specs.Settings.{group_view, shift_view};
+ghost use Rattle.gate_plan.specs.Shifting.{shift_of};
 ghost use Rattle.gate_plan.specs.Parting.{plain_bits, gated_bits, gated_sum};
 
+use crate::copies::groups_again;
 use crate::gated::Gated;
+use crate::shifts::{shift_table, shifted_by};
 use crate::table::{bits_of_gated, gated_of, plain_table};
 use arrayvec::ArrayVec;
 use plan_text::Plan;
-use tally_base::{Event, EventKind, Group};
+use tally_base::{Event, EventKind, Group, ShiftSet};
 
-/// The groups of a plan, which sort events.
+/// The shifts and the groups of a plan, which sort events.
 #[derive(Drop)]
 pub struct Gates {
+    period: u32,
+    shifts: ArrayVec<ShiftSet, 65>,
+    // By input: its shift, if it has one.
+    shift_by_input: [Option<u16>; 256],
     groups: ArrayVec<Group, 64>,
     // By input: the number of those groups of the input that have no gate.
     plain: [u64; 256],
-    // The groups that have a gate.
+    // The groups that have gates.
     gated: ArrayVec<Gated, 64>,
+    ghost some_period: { (0 < period) × (period ≤ 32768) },
     ghost few: { length groups.items ≤ 64 },
+    ghost shifts_are: { (input : ℕ) → input < 256
+        → slice_index_or shift_by_input input None ≡ shift_of (map shift_view shifts.items) input },
     ghost plain_is: { (input : ℕ) → input < 256
         → slice_index plain input ≡ plain_bits (map group_view groups.items) input },
     ghost gated_is: { (input dtime : ℕ) → gated_sum gated.items input dtime
@@ -25,39 +35,80 @@ pub struct Gates {
 }
 
 impl Gates {
-    ghost use Rattle.std.specs.Prelude.{◌+◌, ◌-◌, get_or, false};
+    ghost use Rattle.std.specs.Prelude.{◌+◌, ◌-◌, [], get_or, false};
     ghost use Rattle.tally_base.specs.Events.{is_in};
     ghost use Rattle.plan_text.specs.Reading.{plan_view};
-    ghost use Rattle.gate_plan.specs.Taking.{takes};
-    ghost use Rattle.gate_plan.specs.Groups.{groups_of, groups_in};
+    ghost use Rattle.gate_plan.specs.Shifting.{sorting, shifted, shifted_dtime};
+    ghost use Rattle.gate_plan.specs.Taking.{takes, groups_in};
+    ghost use Rattle.gate_plan.specs.Groups.{sorting_of};
 
-    /// The groups of a plan.
+    /// The shifts and the groups of a plan.
     pub fn of(plan: &Plan) -> Gates
-        ensures groups { groups_of result ≡ (plan_view plan.now).groups }
+        ensures sorting { sorting_of result ≡ sorting (plan_view plan.now) }
     {
-        let mut groups: ArrayVec<Group, 64> = ArrayVec::new();
-        let _ = groups.try_extend_from_slice(plan.groups.as_slice());
+        let mut shifts: ArrayVec<ShiftSet, 65> = ArrayVec::new();
+        let _ = shifts.try_extend_from_slice(plan.shifts.as_slice());
+        let shift_by_input = shift_table(shifts.as_slice());
+        let groups = groups_again(plan.groups.as_slice());
         let plain = plain_table(groups.as_slice());
         let gated = gated_of(groups.as_slice());
         Gates {
+            period: plan.period,
+            shifts,
+            shift_by_input,
             groups,
             plain,
             gated,
         }
     }
 
-    /// The groups that a photon is in.
+    /// Whether an input has a shift.
+    pub fn has_shifts(&self) -> bool
+        ensures { result ≡ false → (sorting_of self.now).shifts ≡ [] }
+    {
+        !self.shifts.is_empty()
+    }
+
+    /// The dtime of a photon of an input, in ticks, with the shift of the input added modulo the period,
+    /// where it has one.
+    #[inline(always)]
+    pub fn shifted_dtime(&self, input: u8, dtime: u16) -> u16
+        ensures { result ≡ shifted_dtime (sorting_of self.now) input dtime }
+    {
+        shifted_by(self.period, self.shift_by_input[input as usize], dtime)
+    }
+
+    /// The event with its shifted dtime in place of its dtime. A marker stays as it is.
+    #[inline(always)]
+    pub fn shifted(&self, e: &Event) -> Event
+        ensures { result ≡ shifted (sorting_of self.now) e.now }
+    {
+        match e.kind {
+            EventKind::Photon { input, dtime } => Event {
+                place: e.place,
+                kind: EventKind::Photon {
+                    input,
+                    dtime: self.shifted_dtime(input, dtime),
+                },
+                time: e.time,
+            },
+            EventKind::Marker { .. } => *e,
+        }
+    }
+
+    /// The groups that a photon is in, by its shifted dtime.
     #[inline(always)]
     pub fn of_photon(&self, input: u8, dtime: u16) -> u64
-        ensures { result ≡ plain_bits (groups_of self.now) input
-            + gated_bits (groups_of self.now) input dtime }
+        ensures { result ≡ plain_bits (sorting_of self.now).groups input
+            + gated_bits (sorting_of self.now).groups input dtime }
     {
         self.of_input(input) + bits_of_gated(self.gated.as_slice(), input, dtime)
     }
 
     /// Whether a group has a gate.
     pub fn has_gates(&self) -> bool
-        ensures { result ≡ false → (input dtime : ℕ) → gated_bits (groups_of self.now) input dtime ≡ 0 }
+        ensures { result ≡ false → (input dtime : ℕ)
+            → gated_bits (sorting_of self.now).groups input dtime ≡ 0 }
     {
         !self.gated.is_empty()
     }
@@ -65,21 +116,25 @@ impl Gates {
     /// The groups without a gate that the photons of an input are in.
     #[inline(always)]
     pub fn of_input(&self, input: u8) -> u64
-        ensures { result ≡ plain_bits (groups_of self.now) input }
+        ensures { result ≡ plain_bits (sorting_of self.now).groups input }
     {
         self.plain[input as usize]
     }
 
-    /// The groups that an event is in: bit g - 1 is set for group g. A photon is in a group where its
-    /// input is one of the group's, and its dtime (in ticks) is in the group's gate, if there is one. A
-    /// marker is in no group.
+    /// The groups that an event is in, asked of the event as the file has it: bit g - 1 is set for group
+    /// g. A photon is in a group where its input is one of the group's, and its shifted dtime (in ticks)
+    /// is in one of the group's gates, if there are any. A marker is in no group.
     #[inline(always)]
     pub fn groups(&self, e: &Event) -> u64
-        ensures number { result ≡ groups_in (groups_of self.now) e.now }
-        ensures each { (g : ℕ) → 0 < g → is_in result g ≡ get_or (map (λ group. takes group e.now) (groups_of self.now)) (g - 1) false }
+        ensures number { result ≡ groups_in (sorting_of self.now) e.now }
+        ensures each { (g : ℕ) → 0 < g → is_in result g
+            ≡ get_or (map (λ group. takes group (shifted (sorting_of self.now) e.now))
+            (sorting_of self.now).groups) (g - 1) false }
     {
         match e.kind {
-            EventKind::Photon { input, dtime } => self.of_photon(input, dtime),
+            EventKind::Photon { input, dtime } => {
+                self.of_photon(input, self.shifted_dtime(input, dtime))
+            }
             EventKind::Marker { .. } => 0,
         }
     }

@@ -1,10 +1,11 @@
-// The groups without a gate by input, and those with a gate.
+// The groups without a gate by input, and those with gates.
 ghost use Rattle.std.specs.Prelude.{◌≡◌, ◌<◌, ◌≤◌, ◌*◌, ◌^◌, ℕ, map, length, slice_index, slice_index_or, false};
 ghost use Rattle.std.specs.Int.{bit_at};
 ghost use Rattle.tally_base.specs.Settings.{group_view};
-ghost use Rattle.gate_plan.specs.Taking.{is_among, one_if};
-ghost use Rattle.gate_plan.specs.Parting.{takes_plainly, plain_bits, gated_bits, gated_bit, gated_sum};
+ghost use Rattle.gate_plan.specs.Taking.{is_among, is_in_gate, one_if};
+ghost use Rattle.gate_plan.specs.Parting.{takes_plainly, takes_gated, passes, plain_bits, gated_bits, gated_bit, gated_sum};
 
+use crate::copies::gates_again;
 use crate::gated::Gated;
 use arrayvec::ArrayVec;
 use tally_base::Group;
@@ -41,10 +42,10 @@ fn plain_of(groups: &[Group], input: u8) -> u64
 fn is_plain(group: &Group, input: u8) -> bool
     ensures { result ≡ takes_plainly input (group_view group.now) }
 {
-    is_among(group.inputs, input) && group.gate.is_none()
+    is_among(group.inputs, input) && group.gates.is_empty()
 }
 
-/// The groups that have a gate.
+/// The groups that have gates.
 pub(crate) fn gated_of(groups: &[Group]) -> ArrayVec<Gated, 64>
     requires few { length groups.now ≤ 64 }
     ensures { (input dtime : ℕ) → gated_sum result.items input dtime
@@ -53,17 +54,25 @@ pub(crate) fn gated_of(groups: &[Group]) -> ArrayVec<Gated, 64>
     let mut gated: ArrayVec<Gated, 64> = ArrayVec::new();
     let mut place: u64 = 0;
     'groups: for group in groups {
-        if let Some((first, end)) = group.gate {
-            gated.push(Gated {
-                place,
-                has: inputs_of(group.inputs),
-                first,
-                end,
-            });
+        if !group.gates.is_empty() {
+            gated.push(gated_at(group, place));
         }
         place += 1;
     }
     gated
+}
+
+/// The group with its gates, whose bit stands at a place.
+fn gated_at(group: &Group, place: u64) -> Gated
+    requires { place < 64 }
+    ensures { (input dtime : ℕ) → gated_bit input dtime result
+        ≡ one_if (takes_gated input dtime (group_view group.now)) * 2 ^ place }
+{
+    Gated {
+        place,
+        has: inputs_of(group.inputs),
+        gates: gates_again(group.gates.as_slice()),
+    }
 }
 
 /// The number of those of these groups that a photon is in.
@@ -79,13 +88,43 @@ pub(crate) fn bits_of_gated(gated: &[Gated], input: u8, dtime: u16) -> u64
     bits
 }
 
-/// The bit of a group, if a photon is in it. It takes no branch.
+/// The bit of a group, if a photon is in it. It takes no branch on the input or on the dtime.
 #[inline(always)]
 fn bit_in(group: &Gated, input: u8, dtime: u16) -> u64
     ensures { result ≡ gated_bit input dtime group.now }
 {
-    let set = group.has[input as usize] & ((group.first <= dtime) & (dtime < group.end));
+    let set = group.has[input as usize] & passes(group.gates.as_slice(), dtime);
     u64::from(set) << group.place
+}
+
+/// Whether a dtime is in one of the gates. Most groups have one, which takes no loop.
+#[inline(always)]
+fn passes(gates: &[(u16, u16)], dtime: u16) -> bool
+    ensures { result ≡ passes gates.now dtime }
+{
+    match gates {
+        [gate] => is_in_gate(gate, dtime),
+        _ => passes_some(gates, dtime),
+    }
+}
+
+/// Whether a dtime is in one of several gates.
+fn passes_some(gates: &[(u16, u16)], dtime: u16) -> bool
+    ensures { result ≡ passes gates.now dtime }
+{
+    let mut found = false;
+    'gates: for gate in gates {
+        found |= is_in_gate(gate, dtime);
+    }
+    found
+}
+
+/// Whether a dtime is in the gate: from its first on and below its second.
+#[inline(always)]
+fn is_in_gate(gate: &(u16, u16), dtime: u16) -> bool
+    ensures { result ≡ is_in_gate dtime gate.now }
+{
+    (gate.0 <= dtime) & (dtime < gate.1)
 }
 
 /// For each input whether it is one of these.

@@ -1,6 +1,6 @@
 -- The definitions at known markers.
 use Rattle.std.proofs.Common.{◌≡◌, ℕ, refl}
-use Rattle.std.specs.Prelude.{List, [], ◌∷◌, Option, None, Some, nat_le}
+use Rattle.std.specs.Prelude.{false, true, List, [], ◌∷◌, Option, None, Some, nat_le}
 use Rattle.tally_base.specs.Settings.{ImageView}
 use Rattle.marker_map.specs.Lasts.{last_that, until_last, behind_last, from_last}
 use Rattle.marker_map.specs.Marks.{Mark, mark, greatest_time}
@@ -29,7 +29,7 @@ row-from_none = refl
 
 -- Line bit 1 and frame bit 2.
 abbrev framed : Option ℕ → ImageView
-framed stop = record { group = 1; width = 2; height = 2; dwell = 10; line = 1; frame = Some 2; stop = stop }
+framed stop = record { group = 1; width = 2; height = 2; dwell = 10; line = 1; frame = Some 2; stop = stop; serpentine = false }
 
 -- A frame and a line in one marker: the line is row 0 of that frame.
 abbrev together : List Mark
@@ -83,7 +83,7 @@ row-below = refl
 
 -- Without a frame bit the rows begin again behind the last.
 abbrev unframed : ImageView
-unframed = record { group = 1; width = 1; height = 2; dwell = 10; line = 1; frame = None; stop = None }
+unframed = record { group = 1; width = 1; height = 2; dwell = 10; line = 1; frame = None; stop = None; serpentine = false }
 
 row-first : place_of unframed 0 (mark 1 0 ∷ []) ≡ Some (0, 0)
 row-first = refl
@@ -93,6 +93,22 @@ row-next = refl
 
 row-again : place_of unframed 20 (mark 1 0 ∷ mark 1 10 ∷ mark 1 20 ∷ []) ≡ Some (0, 0)
 row-again = refl
+
+-- Every second row runs backwards: its first column is the last of the image.
+abbrev serpentine : ImageView
+serpentine = record { group = 1; width = 3; height = 2; dwell = 10; line = 1; frame = None; stop = None; serpentine = true }
+
+row-forwards : place_of serpentine 29 (mark 1 0 ∷ []) ≡ Some (2, 0)
+row-forwards = refl
+
+row-backwards : place_of serpentine 30 (mark 1 0 ∷ mark 1 30 ∷ []) ≡ Some (2, 1)
+row-backwards = refl
+
+row-last_backwards : place_of serpentine 59 (mark 1 0 ∷ mark 1 30 ∷ []) ≡ Some (0, 1)
+row-last_backwards = refl
+
+row-behind_backwards : place_of serpentine 60 (mark 1 0 ∷ mark 1 30 ∷ []) ≡ None
+row-behind_backwards = refl
 
 row-greatest : greatest_time (mark 1 0 ∷ mark 2 10 ∷ []) ≡ 10
 row-greatest = refl

@@ -4,7 +4,7 @@ use Rattle.std.specs.Prelude.{Option, None, Some, nat_lt, option_map, option_and
 use Rattle.std.proofs.lemmas.Bool.Decides.{nat_tests}
 use Rattle.tally_base.specs.Settings.{ImageView}
 use Rattle.marker_map.specs.Marks.{Mark}
-use Rattle.marker_map.specs.Places.{line_of, row_of, within, place_of}
+use Rattle.marker_map.specs.Places.{line_of, row_of, column_in, within, place_of}
 use Rattle.marker_map.specs.PlacesBy.{place_by}
 use Rattle.marker_map.specs.Rows.{line_at, open_line}
 use Rattle.marker_map.specs.declared.lines.Line.{Line}
@@ -17,15 +17,15 @@ by_parts set time (Some line) (Some row) = refl
 pub place_is : (set : ImageView) (time : ℕ) (ms : List Mark) (line : Option Line) → line ≡ open_line set ms → place_by set time line ≡ place_of set time ms
 place_is set time ms line is = ap (place_by set time) is ∙ by_parts set time (line_of set ms) (row_of set ms)
 
-pub low_row : (set : ImageView) (column row : ℕ) → row < set.height → within set column row ≡ (if nat_lt column set.width then Some (column, row) else None)
-low_row set column row low = let is : nat_lt row set.height ≡ true = grind (arith, nat_tests, low) in ap (λ b. if b then Some (column, row) else None) (ap (λ b. nat_lt column set.width && b) is ∙ and_true (nat_lt column set.width))
+pub low_row : (set : ImageView) (steps row : ℕ) → row < set.height → within set steps row ≡ (if nat_lt steps set.width then Some (column_in set row steps, row) else None)
+low_row set steps row low = let is : nat_lt row set.height ≡ true = grind (arith, nat_tests, low) in ap (λ b. if b then Some (column_in set row steps, row) else None) (ap (λ b. nat_lt steps set.width && b) is ∙ and_true (nat_lt steps set.width))
   where
     and_true : (b : Bool) → (b && true) ≡ b
     and_true true = refl
     and_true false = refl
 
-pub high_row : (set : ImageView) (column row : ℕ) → set.height ≤ row → within set column row ≡ None
-high_row set column row high = let is : nat_lt row set.height ≡ false = grind (arith, nat_tests, high) in ap (λ b. if b then Some (column, row) else None) (ap (λ b. nat_lt column set.width && b) is ∙ and_false (nat_lt column set.width))
+pub high_row : (set : ImageView) (steps row : ℕ) → set.height ≤ row → within set steps row ≡ None
+high_row set steps row high = let is : nat_lt row set.height ≡ false = grind (arith, nat_tests, high) in ap (λ b. if b then Some (column_in set row steps, row) else None) (ap (λ b. nat_lt steps set.width && b) is ∙ and_false (nat_lt steps set.width))
   where
     and_false : (b : Bool) → (b && false) ≡ false
     and_false true = refl

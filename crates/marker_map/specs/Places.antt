@@ -1,5 +1,5 @@
 -- Where a photon is in an image, by all the markers before it.
-use Rattle.std.specs.Prelude.{ℕ, Bool, ◌-◌, ◌/◌, ◌%◌, ◌&&◌, nat_lt, List, Option, None, Some, count_by, option_and_then, if◌then◌else◌}
+use Rattle.std.specs.Prelude.{ℕ, Bool, ◌-◌, ◌/◌, ◌%◌, ◌&&◌, ◌==◌, nat_lt, List, Option, None, Some, count_by, option_and_then, if◌then◌else◌}
 use Rattle.std.specs.List.{list_any}
 use Rattle.tally_base.specs.Settings.{ImageView}
 use Rattle.marker_map.specs.Lasts.{last_that, until_last, behind_last, from_last}
@@ -32,9 +32,17 @@ row_at (Some frame) set ms = if list_any (is_frame frame) ms then Some (lines_in
 abbrev pub row_of : ImageView → List Mark → Option ℕ
 row_of set ms = row_at set.frame set (until_last (is_line set) ms)
 
--- a column and a row of the image, and nothing where the image ends before them
+-- the odd rows of a serpentine image are run through backwards
+abbrev pub runs_back : ImageView → ℕ → Bool
+runs_back set row = set.serpentine && (row % 2 == 1)
+
+-- the column that is so many dwell times behind the start of a row
+abbrev pub column_in : ImageView → ℕ → ℕ → ℕ
+column_in set row steps = if runs_back set row then set.width - 1 - steps else steps
+
+-- the column and the row so many dwell times behind the start of a row, and nothing where the image ends before them
 abbrev pub within : ImageView → ℕ → ℕ → Option (ℕ × ℕ)
-within set column row = if nat_lt column set.width && nat_lt row set.height then Some (column, row) else None
+within set steps row = if nat_lt steps set.width && nat_lt row set.height then Some (column_in set row steps, row) else None
 
 -- the column and the row of a photon at this time behind these markers
 abbrev pub place_of : ImageView → ℕ → List Mark → Option (ℕ × ℕ)

@@ -13,10 +13,14 @@ width_of strip = strip.width
 abbrev pub height_of : Strip → ℕ
 height_of strip = strip.height
 
--- the column of a photon at this time, if it is in the image
+-- how many dwell times a photon at this time is behind the start of the line
+abbrev pub steps_on : Strip → ℕ → ℕ
+steps_on strip time = (time - strip.start) / divisor_of strip.dwell
+
+-- the column so many dwell times behind the start of the line
 abbrev pub column_on : Strip → ℕ → ℕ
-column_on strip time = (time - strip.start) / divisor_of strip.dwell
+column_on strip steps = if strip.backwards then strip.width - 1 - steps else steps
 
 -- the column and the row of a photon at this time, and nothing where it is outside the image
 abbrev pub place_on : Strip → ℕ → Option (ℕ × ℕ)
-place_on strip time = if strip.open then (if nat_lt (column_on strip time) strip.width then Some (column_on strip time, strip.row) else None) else None
+place_on strip time = if strip.open then (if nat_lt (steps_on strip time) strip.width then Some (column_on strip (steps_on strip time), strip.row) else None) else None

@@ -2,6 +2,7 @@
 ghost use Rattle.std.specs.Prelude.{◌≡◌, ◌+◌, ◌^◌, ◌<◌, ◌≤◌, None, Some, option_map, if◌then◌else◌};
 ghost use Rattle.std.specs.Option.{ForSome};
 ghost use Rattle.tally_base.specs.Settings.{image_view};
+ghost use Rattle.marker_map.specs.Places.{runs_back};
 ghost use Rattle.marker_map.specs.Rows.{line_at, row_after};
 ghost use Rattle.marker_map.specs.Divisors.{divisor_of};
 
@@ -23,8 +24,9 @@ struct Line {
 /// The line of a photon is the last marker with the line bit, where no marker behind that one has the
 /// stop bit. With a frame bit the rows count from 0 from each frame on, and before the first frame a line
 /// has no row. Without a frame bit they count from the first line on, and begin again behind the last row
-/// of the image. In one marker the stop bit counts first, then the frame bit, then the line bit. Times
-/// are sync periods.
+/// of the image. In one marker the stop bit counts first, then the frame bit, then the line bit. The
+/// columns of a line count from its marker on, and in the odd rows of a serpentine image backwards, from
+/// the last one. Times are sync periods.
 #[derive(Drop)]
 pub struct Lines {
     set: ImageSet,
@@ -73,6 +75,13 @@ fn row_behind(set: &ImageSet, row: Option<u64>) -> Option<u64>
     } else {
         Some(row)
     }
+}
+
+/// Whether a row is run through backwards.
+fn runs_back(set: &ImageSet, row: u64) -> bool
+    ensures { result ≡ runs_back (image_view set.now) row }
+{
+    set.serpentine && row % 2 == 1
 }
 
 impl Lines {
@@ -162,6 +171,7 @@ impl Lines {
             open: true,
             start: line.start,
             row: line.row as u32,
+            backwards: runs_back(&self.set, line.row),
             width: self.set.width,
             height: self.set.height,
             dwell: self.dwell,
@@ -180,6 +190,7 @@ impl Lines {
             open: false,
             start: 0,
             row: 0,
+            backwards: false,
             width: self.set.width,
             height: self.set.height,
             dwell: self.dwell,

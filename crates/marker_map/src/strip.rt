@@ -10,6 +10,8 @@ pub struct Strip {
     // The time of the marker of the line.
     pub(crate) start: u64,
     pub(crate) row: u32,
+    // Whether the line runs from the last column to the first.
+    pub(crate) backwards: bool,
     pub(crate) width: u32,
     pub(crate) height: u32,
     pub(crate) dwell: Divisor,
@@ -18,7 +20,7 @@ pub struct Strip {
 
 impl Strip {
     ghost use Rattle.std.specs.Prelude.{◌≤◌, IfSome};
-    ghost use Rattle.marker_map.specs.Strips.{place_on, start_of, width_of, height_of};
+    ghost use Rattle.marker_map.specs.Strips.{place_on, column_on, start_of, width_of, height_of};
 
     /// The column and the row of a photon at this time, which isn't below that of the marker of the line.
     #[inline(always)]
@@ -30,11 +32,25 @@ impl Strip {
         if !self.open {
             return None;
         }
-        let column = self.dwell.quotient(time - self.start);
-        if column < u64::from(self.width) {
-            Some((column as u32, self.row))
+        let steps = self.dwell.quotient(time - self.start);
+        if steps < u64::from(self.width) {
+            Some((self.column(steps as u32), self.row))
         } else {
             None
+        }
+    }
+
+    /// The column so many dwell times behind the start of the line, fewer than there are columns.
+    #[inline(always)]
+    fn column(&self, steps: u32) -> u32
+        requires { steps < width_of self.now }
+        ensures value { result ≡ column_on self.now steps }
+        ensures inside { result < width_of self.now }
+    {
+        if self.backwards {
+            self.width - 1 - steps
+        } else {
+            steps
         }
     }
 }

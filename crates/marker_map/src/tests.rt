@@ -25,6 +25,21 @@ fn of_size(width: u32, height: u32, frame: Option<u8>, stop: Option<u8>) -> Imag
         line: 1,
         frame,
         stop,
+        serpentine: false,
+    }
+}
+
+/// The same image, where its odd rows run backwards.
+fn serpentine(set: ImageSet) -> ImageSet {
+    ImageSet {
+        group: set.group,
+        width: set.width,
+        height: set.height,
+        dwell: set.dwell,
+        line: set.line,
+        frame: set.frame,
+        stop: set.stop,
+        serpentine: true,
     }
 }
 
@@ -196,6 +211,34 @@ fn each_photon_has_its_place(rt: HostRuntime) -> Result<(), Fail> {
             set: of_size(2, 1, None, Some(3)),
             markers: &[(1, 0), (1, 10), (4, 20), (1, 30)],
             photons: &[(30, Some((0, 0))), (49, Some((1, 0)))],
+        },
+        Row {
+            name: "an even row of a serpentine image",
+            set: serpentine(of_size(3, 2, None, None)),
+            markers: &[(1, 0)],
+            photons: &[
+                (0, Some((0, 0))),
+                (10, Some((1, 0))),
+                (29, Some((2, 0))),
+                (30, None),
+            ],
+        },
+        Row {
+            name: "an odd row of a serpentine image",
+            set: serpentine(of_size(3, 2, None, None)),
+            markers: &[(1, 0), (1, 30)],
+            photons: &[
+                (30, Some((2, 1))),
+                (49, Some((1, 1))),
+                (59, Some((0, 1))),
+                (60, None),
+            ],
+        },
+        Row {
+            name: "a frame begins with a row forwards",
+            set: serpentine(of_size(2, 2, Some(2), None)),
+            markers: &[(3, 0), (3, 20), (1, 40)],
+            photons: &[(40, Some((1, 1))), (50, Some((0, 1)))],
         },
     ] {
         agrees(&rt, &row)?;

@@ -4,3 +4,4 @@ pub mod Cells
 pub mod Counts
 pub mod Totals
 pub mod Steps
+pub mod Later

@@ -1,6 +1,6 @@
 -- The definitions at known events.
 use Rattle.std.proofs.Common.{◌≡◌, ℕ, refl}
-use Rattle.std.specs.Prelude.{[], ◌∷◌, Option, None, Some}
+use Rattle.std.specs.Prelude.{false, true, [], ◌∷◌, Option, None, Some}
 use Rattle.tally_base.specs.declared.event.Event.{Event}
 use Rattle.tally_base.specs.declared.event.EventKind.TheVariants.{Photon, Marker}
 use Rattle.tally_base.specs.Settings.{ImageView}
@@ -16,7 +16,7 @@ marker time bits = (record { place = 1; kind = Marker bits; time = time }, 0)
 
 -- Line bit 1 and frame bit 2.
 abbrev framed : Option ℕ → ImageView
-framed stop = record { group = 1; width = 2; height = 2; dwell = 10; line = 1; frame = Some 2; stop = stop }
+framed stop = record { group = 1; width = 2; height = 2; dwell = 10; line = 1; frame = Some 2; stop = stop; serpentine = false }
 
 -- A frame and a line in one marker, a photon in each column of that line, and one behind the last.
 abbrev together : History
@@ -46,7 +46,7 @@ row-no_cell = refl
 
 -- Without a frame bit the rows begin again behind the last.
 abbrev unframed : ImageView
-unframed = record { group = 1; width = 1; height = 2; dwell = 10; line = 1; frame = None; stop = None }
+unframed = record { group = 1; width = 1; height = 2; dwell = 10; line = 1; frame = None; stop = None; serpentine = false }
 
 abbrev three_lines : History
 three_lines = marker 0 1 ∷ photon 0 1 ∷ marker 10 1 ∷ photon 10 1 ∷ marker 20 1 ∷ photon 20 1 ∷ []
@@ -59,6 +59,25 @@ row-row_1 = refl
 
 row-all_inside : count_outside unframed three_lines ≡ 0
 row-all_inside = refl
+
+-- The first column of an odd row is the last of a serpentine image.
+abbrev serpentine : ImageView
+serpentine = record { group = 1; width = 3; height = 2; dwell = 10; line = 1; frame = None; stop = None; serpentine = true }
+
+abbrev there_and_back : History
+there_and_back = marker 0 1 ∷ photon 0 1 ∷ marker 30 1 ∷ photon 30 1 ∷ photon 60 1 ∷ []
+
+row-there : in_cell serpentine 0 0 there_and_back ≡ 1
+row-there = refl
+
+row-back : in_cell serpentine 2 1 there_and_back ≡ 1
+row-back = refl
+
+row-not_forwards : in_cell serpentine 0 1 there_and_back ≡ 0
+row-not_forwards = refl
+
+row-behind_the_row : count_outside serpentine there_and_back ≡ 1
+row-behind_the_row = refl
 
 -- Photons of other groups count nowhere.
 abbrev of_others : History

@@ -11,7 +11,7 @@ use Rattle.tally_base.specs.Events.{is_photon, is_in}
 use Rattle.tally_base.specs.Settings.{ImageView}
 use Rattle.tally_base.specs.Tally.{History}
 use Rattle.marker_map.specs.Marks.{Mark}
-use Rattle.marker_map.specs.Places.{line_of, row_of, within, place_of}
+use Rattle.marker_map.specs.Places.{line_of, row_of, column_in, runs_back, within, place_of}
 use Rattle.scan_image.specs.ImageCounts.{markers, is_at, in_cell, count_outside}
 use Rattle.scan_image.specs.Totals.{in_all_cells, photons_of_group}
 use Rattle.scan_image.proofs.Behind.{one_if}
@@ -64,9 +64,13 @@ abbrev pub Inside : ImageView → Option (ℕ × ℕ) → Type 0
 Inside set None = Unit {0}
 Inside set (Some place) = (place.0 < set.width) × (place.1 < set.height)
 
-tested : (set : ImageView) (column row : ℕ) (test : Bool) → (ltb column set.width && ltb row set.height) ≡ test → Inside set (cond test (Some (column, row)) None)
-tested set column row true is = (grind (arith, common_steps), grind (arith, common_steps))
-tested set column row false is = tt
+turned : (width steps : ℕ) (back : Bool) → steps < width → cond back (width - 1 - steps) steps < width
+turned width steps true low = omega (arith, low)
+turned width steps false low = low
+
+tested : (set : ImageView) (steps row : ℕ) (test : Bool) → (ltb steps set.width && ltb row set.height) ≡ test → Inside set (cond test (Some (column_in set row steps, row)) None)
+tested set steps row true is = (turned set.width steps (runs_back set row) (grind (arith, common_steps)), grind (arith, common_steps))
+tested set steps row false is = tt
 
 inside-by : (set : ImageView) (time : ℕ) (row : Option ℕ) (line : Option Mark) → Inside set (option_and_then (λ line. option_and_then (within set ((time - line.time) / set.dwell)) row) line)
 inside-by set time row None = tt

@@ -1,7 +1,9 @@
 -- The counts of an image over events.
-use Rattle.std.specs.Prelude.{◌≡◌, ℕ, ◌+◌, ◌*◌, ◌<◌, List, slice_index}
+use Rattle.std.specs.Prelude.{◌≡◌, ℕ, ◌+◌, ◌*◌, ◌<◌, ◌++◌, List, slice_index}
 use Rattle.tally_base.specs.Settings.{ImageView}
 use Rattle.tally_base.specs.Tally.{History}
+use Rattle.event_block.specs.declared.block.Block.{Block}
+use Rattle.event_block.specs.Columns.{item, rows}
 use Rattle.marker_map.specs.declared.lines.Lines.{Lines}
 use Rattle.marker_map.specs.Lines.{Saw}
 use Rattle.scan_image.specs.ImageCounts.{markers, in_cell, count_outside}
@@ -11,3 +13,7 @@ pub record Counted (set : ImageView) (lines : Lines) (cells : List ℕ) (outside
   pub each : (x y : ℕ) → x < set.width → y < set.height → slice_index cells (y * set.width + x) ≡ in_cell set x y h
   pub rest : outside ≡ count_outside set h
   pub saw : Saw lines (markers h)
+
+-- events, and behind them the first so many of a block
+abbrev pub with_front : History → Block → ℕ → History
+with_front h block n = h ++ rows (item block) n

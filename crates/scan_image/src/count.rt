@@ -2,10 +2,10 @@
 ghost use Rattle.std.specs.Prelude.{◌≡◌, ◌+◌, ◌*◌, ◌^◌, ◌<◌, ◌≤◌, ◌++◌, ℕ, true, sum, length, slice_index, is_none, IfSome, if◌then◌else◌};
 ghost use Rattle.tally_base.specs.Settings.{image_view};
 ghost use Rattle.tally_base.specs.Tally.{History};
-ghost use Rattle.event_block.specs.Columns.{gathered, events_in, IsSorted};
+ghost use Rattle.event_block.specs.Columns.{count, code_at, time_at, gathered, events_in, IsSorted};
 ghost use Rattle.event_block.specs.Order.{floor_after, InOrder};
 ghost use Rattle.marker_map.specs.Lines.{image_of, markers_given, line_start};
-ghost use Rattle.scan_image.specs.Counted.{Counted};
+ghost use Rattle.scan_image.specs.Counted.{Counted, with_front};
 ghost use Rattle.scan_image.specs.ImageCounts.{is_at};
 
 use event_block::Block;
@@ -35,23 +35,70 @@ pub(crate) fn count_block(
     ensures begun { line_start lines.new
         ≤ floor_after true (line_start lines.old) (gathered block.now) }
 {
+    let len = block.len().min(64);
+    let mut outside = outside;
+    let mut from = 0;
+    'runs: loop {
+        let run = count_run(set, lines, cells, outside, block, from);
+        if run.at >= len {
+            return run.outside;
+        }
+        lines.marker((block.code(run.at) % 256) as u8, block.time(run.at));
+        outside = run.outside;
+        from = run.at + 1;
+    }
+}
+
+/// How far the photons of a block are counted.
+#[derive(Clone, Copy)]
+struct Run {
+    /// Where the next marker stands, or the end of the block.
+    at: usize,
+    /// How many photons are outside the image now.
+    outside: u64,
+}
+
+/// Counts the photons of a block from a place on, up to the next marker. They are all on one line.
+#[inline(always)]
+fn count_run(
+    set: &ImageSet,
+    lines: &Lines,
+    cells: &mut [u64],
+    outside: u64,
+    block: &Block,
+    from: usize,
+) -> Run
+    requires sorted { IsSorted block.now }
+    requires within { from ≤ count block.now }
+    requires sized { length cells.old ≡ set.now.width * set.now.height }
+    requires room { sum cells.old + outside + count block.now ≤ 2 ^ 40 + from }
+    requires of_set { image_of lines.now ≡ image_view set.now }
+    requires in_time { (i : ℕ) → from ≤ i → i < count block.now
+        → line_start lines.now ≤ time_at block.now i }
+    ensures follows { (h : History)
+        → Counted (image_view set.now) lines.now cells.old outside (with_front h block.now from)
+        → Counted (image_view set.now) lines.now cells.new result.outside
+        (with_front h block.now result.at) }
+    ensures onward { from ≤ result.at }
+    ensures inside { result.at ≤ count block.now }
+    ensures marker { result.at < count block.now → 256 ≤ code_at block.now result.at }
+    ensures few { sum cells.new + result.outside + from ≤ sum cells.old + outside + result.at }
+{
     // Copies, so that no field is read again for each photon.
     let own = *set;
-    let mut strip = lines.strip();
+    let strip = lines.strip();
+    let len = block.len().min(64);
     let mut outside = outside;
-    for at in 0..block.len().min(64) {
-        let code = block.code(at);
-        if code < 256 {
-            // No branch on the group, which is as good as random from photon to photon.
-            let more = block.photons_in(at, own.group);
-            let place = strip.place(block.time(at));
-            outside += put(&own, cells, place, more);
-        } else {
-            lines.marker((code % 256) as u8, block.time(at));
-            strip = lines.strip();
+    for at in from..len {
+        if block.code(at) >= 256 {
+            return Run { at, outside };
         }
+        // No branch on the group, which is as good as random from photon to photon.
+        let more = block.photons_in(at, own.group);
+        let place = strip.place(block.time(at));
+        outside += put(&own, cells, place, more);
     }
-    outside
+    Run { at: len, outside }
 }
 
 /// Adds to the cell of a place, or answers what is to be added outside the image.

@@ -8,4 +8,6 @@ pub mod laws;
 pub use image::Image;
 
 #[cfg(test)]
+mod greatest_tests;
+#[cfg(test)]
 mod tests;

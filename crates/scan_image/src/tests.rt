@@ -12,19 +12,19 @@ use std::test::Fail;
 use tally_base::{Event, EventKind, ImageSet, Steps, Tally};
 
 /// A time, what comes then, and its groups.
-type Given = (u16, EventKind, u64);
+pub(crate) type Given = (u16, EventKind, u64);
 
-fn photon(time: u16, groups: u64) -> Given {
+pub(crate) fn photon(time: u16, groups: u64) -> Given {
     (time, EventKind::Photon { input: 0, dtime: 0 }, groups)
 }
 
 /// A marker, were it in all groups.
-fn marker(time: u16, bits: u8) -> Given {
+pub(crate) fn marker(time: u16, bits: u8) -> Given {
     (time, EventKind::Marker { bits }, u64::MAX)
 }
 
 /// An image of group 1 of dwell 10, whose lines have bit 1.
-fn of_first(width: u32, height: u32, frame: Option<u8>, stop: Option<u8>) -> ImageSet
+pub(crate) fn of_first(width: u32, height: u32, frame: Option<u8>, stop: Option<u8>) -> ImageSet
     requires some_width { (0 < width) × (width ≤ 2048) }
     requires some_height { (0 < height) × (height ≤ 2048) }
     requires some_frame { ForSome frame (λ bit. (0 < bit) × (bit ≤ 4)) }
@@ -38,11 +38,12 @@ fn of_first(width: u32, height: u32, frame: Option<u8>, stop: Option<u8>) -> Ima
         line: 1,
         frame,
         stop,
+        serpentine: false,
     }
 }
 
 /// A closed image that was given these events.
-fn filled<L: Ledger>(
+pub(crate) fn filled<L: Ledger>(
     alloc: Global,
     blank: Blank,
     set: ImageSet,
@@ -73,7 +74,7 @@ fn filled<L: Ledger>(
 }
 
 /// All cells of an image, row by row, and then what lies outside.
-fn counts(alloc: Global, table: &Image) -> Result<Vec<u64>, Fail> {
+pub(crate) fn counts(alloc: Global, table: &Image) -> Result<Vec<u64>, Fail> {
     let mut counts = Vec::new(alloc);
     for y in 0..table.set().height {
         for x in 0..table.set().width {

@@ -1,6 +1,6 @@
 -- Reports of known runs.
 use Rattle.std.proofs.Common.{◌≡◌, ℕ, List, [], ◌∷◌, ◌++◌, None, Some, refl}
-use Rattle.std.specs.Prelude.{pos, codes}
+use Rattle.std.specs.Prelude.{pos, codes, false}
 use Rattle.std.specs.Fmt.{digits}
 use Rattle.tally_base.specs.declared.event.Event.{Event}
 use Rattle.tally_base.specs.declared.event.EventKind.TheVariants.{Photon, Marker}
@@ -122,7 +122,7 @@ abbrev framed : ℕ → ℕ → Event × ℕ
 framed place time = (record { place = place; kind = Marker 3; time = time }, 0)
 
 -- The photons at 100 and 119 are in the first row, and the one at 120 is past the last column.
-pub row-image : parts_text ((ImageSettings (record { group = 1; width = 2; height = 2; dwell = 10; line = 1; frame = Some 2; stop = None }), framed 1 100 ∷ timed 2 100 ∷ timed 3 119 ∷ timed 4 120 ∷ []) ∷ [])
+pub row-image : parts_text ((ImageSettings (record { group = 1; width = 2; height = 2; dwell = 10; line = 1; frame = Some 2; stop = None; serpentine = false }), framed 1 100 ∷ timed 2 100 ∷ timed 3 119 ∷ timed 4 120 ∷ []) ∷ [])
     ≡ codes "image 1 width 2 height 2 dwell 10\n0 0 1\n1 0 1\noutside 1\n"
 unfolding image_printed digits
 row-image = refl

@@ -8,9 +8,10 @@ use Rattle.tally_base.specs.declared.header.Mode.{Mode}
 use Rattle.tally_base.specs.declared.header.Mode.TheVariants.{T2, T3}
 use Rattle.tally_base.specs.declared.tally.Tally.{Ghosts}
 use Rattle.tally_base.specs.Events.{is_ordered}
-use Rattle.tally_base.specs.Settings.{GroupView, is_strict}
+use Rattle.tally_base.specs.Settings.{is_strict}
 use Rattle.tally_base.specs.Tally.{moves_floor}
 use Rattle.ptu_definitions.specs.Kept.{Marked, floor_of}
+use Rattle.gate_plan.specs.Shifting.{Sorting}
 use Rattle.record_stream.specs.Blocks.{orders_markers, on_time}
 use Rattle.record_stream.proofs.Adding.{moves_by}
 use Rattle.event_block.specs.Order.{floor_after, InOrder}
@@ -62,9 +63,9 @@ module _ {T : Type 0} (g : Ghosts T) where
   }
 
   -- what waited was given, and then the block
-  pub moves_two : (groups : List GroupView) (es more none : List Event) (old mid new : T) → none ≡ [] → Took g es (with_groups groups es) old mid → Took g more (with_groups groups more) mid new → Moves g groups es none more old new
-  moves_two groups es more none old mid new empty first second = rw empty (record {
-    follows = λ h held. (h ++ with_groups groups more, sym (append-nil (h ++ with_groups groups more)), second.follows h (rw held.1 (first.follows held.0 held.2)));
+  pub moves_two : (by : Sorting) (es more none : List Event) (old mid new : T) → none ≡ [] → Took g es (with_groups by es) old mid → Took g more (with_groups by more) mid new → Moves g by es none more old new
+  moves_two by es more none old mid new empty first second = rw empty (record {
+    follows = λ h held. (h ++ with_groups by more, sym (append-nil (h ++ with_groups by more)), second.follows h (rw held.1 (first.follows held.0 held.2)));
     still_open = second.still_open;
     count = omega (arith, first.count, second.count, length-append es more);
     moved = second.moved ∙ rw (first.same_settings, first.moved) (sym (floor-append (is_strict (g.settings old)) (g.floor old) es more));
@@ -82,9 +83,9 @@ module _ {T : Type 0} (g : Ghosts T) where
         in_order = order-append strict (g.floor t) es more w.in_order (order-looser (orders_markers mode) strict (floor_after strict (g.floor t) es) floor more (fewer mode strict w.suits) w.before order).0;
       }
 
-  pub waits_block : (groups : List GroupView) (mode : Mode) (taken next floor now : ℕ) (es es' more : List Event) (old new : T) → Waits g mode taken floor es old → Moves g groups es es' more old new
+  pub waits_block : (by : Sorting) (mode : Mode) (taken next floor now : ℕ) (es es' more : List Event) (old new : T) → Waits g mode taken floor es old → Moves g by es es' more old new
       → InOrder (orders_markers mode) floor more → next ≡ taken + length more → now ≡ floor_after (orders_markers mode) floor more → Waits g mode next now es' new
-  waits_block groups mode taken next floor now es es' more old new w m order counted moves =
+  waits_block by mode taken next floor now es es' more old new w m order counted moves =
       let strict = is_strict (g.settings old) in
       let below = (order-looser (orders_markers mode) strict (floor_after strict (g.floor old) es) floor more (fewer mode strict w.suits) w.before order).1 in
       record {
@@ -95,20 +96,20 @@ module _ {T : Type 0} (g : Ghosts T) where
         in_order = rw m.same_settings m.in_order;
       }
 
-  pub gave_block : (groups groups' : List GroupView) (mode mode' : Mode) (taken taken' next floor floor' now : ℕ) (es0 es es' more : List Event) (first old new : List T) (l : Marked)
-      → Gave g groups groups' mode mode' taken taken' floor floor' es0 es first old l → length new ≡ length old
-      → ((k : ℕ) (d : T) → k < length old → Moves g groups' es es' more (slice_index_or old k d) (slice_index_or new k d))
+  pub gave_block : (by by' : Sorting) (mode mode' : Mode) (taken taken' next floor floor' now : ℕ) (es0 es es' more : List Event) (first old new : List T) (l : Marked)
+      → Gave g by by' mode mode' taken taken' floor floor' es0 es first old l → length new ≡ length old
+      → ((k : ℕ) (d : T) → k < length old → Moves g by' es es' more (slice_index_or old k d) (slice_index_or new k d))
       → InOrder (orders_markers mode') floor' more → next ≡ taken' + length more → now ≡ floor_after (orders_markers mode') floor' more
-      → Gave g groups groups' mode mode' taken next floor now es0 es' first new (l ++ on_time more)
-  gave_block groups groups' mode mode' taken taken' next floor floor' now es0 es es' more first old new l gave same moves order counted is = record {
-    same_groups = gave.same_groups;
+      → Gave g by by' mode mode' taken next floor now es0 es' first new (l ++ on_time more)
+  gave_block by by' mode mode' taken taken' next floor floor' now es0 es es' more first old new l gave same moves order counted is = record {
+    same_sorting = gave.same_sorting;
     same_mode = gave.same_mode;
     counted = omega (arith, counted, gave.counted, length-append l (on_time more), length-on_time more);
     moved = is ∙ floor_of-block mode' l more floor floor' (rw gave.same_mode gave.moved) order ∙ rw gave.same_mode refl;
     follows = λ h held. λ k d inside.
         let within : k < length old = omega (arith, same, inside) in
-        rw (unmarked-block l more, with_groups-two groups (unmarked l) more, ← append_assoc h) ((rw gave.same_groups at (moves k d within)).follows _ (gave.follows h held k d within));
+        rw (unmarked-block l more, with_groups-two by (unmarked l) more, ← append_assoc h) ((rw gave.same_sorting at (moves k d within)).follows _ (gave.follows h held k d within));
   }
     where
-      with_groups-two : (groups : List GroupView) (es more : List Event) → with_groups groups (es ++ more) ≡ with_groups groups es ++ with_groups groups more
-      with_groups-two groups es more = rw map-append refl
+      with_groups-two : (by : Sorting) (es more : List Event) → with_groups by (es ++ more) ≡ with_groups by es ++ with_groups by more
+      with_groups-two by es more = rw (map-append, map-append) refl

@@ -6,7 +6,6 @@ use Rattle.std.proofs.lemmas.List.{map-append}
 use Rattle.std.proofs.lemmas.List.Elements.{filter-append}
 use Rattle.tally_base.specs.declared.fault.Fault.{Fault}
 use Rattle.tally_base.specs.declared.fault.Fault.TheVariants.{WriteFault}
-use Rattle.tally_base.specs.Settings.{GroupView}
 use Rattle.tally_base.specs.Tally.{History}
 use Rattle.ptu_definitions.specs.declared.records.Summary.{Summary}
 use Rattle.ptu_definitions.specs.Kept.{Marked, kept}
@@ -18,6 +17,7 @@ use Rattle.record_stream.specs.declared.taker.EventTaker.{Ghosts}
 use Rattle.record_stream.specs.Feeding.{GaveOn, BrokeOn, Fed}
 use Rattle.record_stream.specs.Standing.{Stands}
 use Rattle.tally_base.specs.Faults.{fault_in}
+use Rattle.gate_plan.specs.Shifting.{Sorting}
 use Rattle.tally_engine.specs.Histories.{with_groups, unmarked, history}
 
 -- a taker that never breaks was given all that the words call for
@@ -31,18 +31,18 @@ fed_whole g how old new words now (Err fault) none unbroken fed =
     fed
 
 -- the kept list is what was given and isn't marked late
-history-given : (groups : List GroupView) (how : Reading) (clock : Clock) (sum : Summary) (count : ℕ) (carried : List ℕ) (refused : Option Fault) (bytes : List ℕ) → Stands how clock sum count carried refused bytes → refused ≡ None
-    → history groups how (words_of bytes) ≡ with_groups groups (unmarked (given how (words_of bytes)))
+history-given : (by : Sorting) (how : Reading) (clock : Clock) (sum : Summary) (count : ℕ) (carried : List ℕ) (refused : Option Fault) (bytes : List ℕ) → Stands how clock sum count carried refused bytes → refused ≡ None
+    → history by how (words_of bytes) ≡ with_groups by (unmarked (given how (words_of bytes)))
 unfolding history kept
-history-given groups how clock sum count carried None bytes h none = rw (given-clear how (words_of bytes) h.1.clear) refl
-history-given groups how clock sum count carried (Some fault) bytes h none = cc
+history-given by how clock sum count carried None bytes h none = rw (given-clear how (words_of bytes) h.1.clear) refl
+history-given by how clock sum count carried (Some fault) bytes h none = cc
 
-with_groups-append : (groups : List GroupView) (l m : Marked) → with_groups groups (unmarked (l ++ m)) ≡ with_groups groups (unmarked l) ++ with_groups groups (unmarked m)
-with_groups-append groups l m = rw (filter-append, map-append, map-append) refl
+with_groups-append : (by : Sorting) (l m : Marked) → with_groups by (unmarked (l ++ m)) ≡ with_groups by (unmarked l) ++ with_groups by (unmarked m)
+with_groups-append by l m = rw (filter-append, map-append, map-append, map-append) refl
 
-history-adds : (groups : List GroupView) (how : Reading) (before now : List ℕ) (more : Marked) → given how now ≡ given how before ++ more
-    → with_groups groups (unmarked (given how now)) ≡ with_groups groups (unmarked (given how before)) ++ with_groups groups (unmarked more)
-history-adds groups how before now more adds = ap (λ l. with_groups groups (unmarked l)) adds ∙ with_groups-append groups (given how before) more
+history-adds : (by : Sorting) (how : Reading) (before now : List ℕ) (more : Marked) → given how now ≡ given how before ++ more
+    → with_groups by (unmarked (given how now)) ≡ with_groups by (unmarked (given how before)) ++ with_groups by (unmarked more)
+history-adds by how before now more adds = ap (λ l. with_groups by (unmarked l)) adds ∙ with_groups-append by (given how before) more
 
 pub at_same : {A : Type 0} (P : A → Type 0) (x y : A) → P x → x ≡ y → P y
 at_same P x y h is = subst P is h
@@ -51,19 +51,19 @@ on_ok : {X : Type 0} {A : Type 0} (r : Result X Fault) → ((x : X) → r ≡ Ok
 on_ok (Ok x) f = f x refl
 on_ok (Err fault) f = tt
 
-module _ (groups : List GroupView) (how : Reading) {X : Type 0} (r : Result X Fault) (before after : History → Type 0) (bytes piece : List ℕ) where
+module _ (by : Sorting) (how : Reading) {X : Type 0} (r : Result X Fault) (before after : History → Type 0) (bytes piece : List ℕ) where
   -- the events of a piece behind those that were given
   counts_more : (clock clock' : Clock) (sum sum' : Summary) (count count' : ℕ) (carried carried' : List ℕ) (refused' : Option Fault) → Stands how clock sum count carried None bytes → Stands how clock' sum' count' carried' refused' (bytes ++ piece) → refused' ≡ None
-      → (more : Marked) → given how (words_of (bytes ++ piece)) ≡ given how (words_of bytes) ++ more → ((h : History) → before h → after (h ++ with_groups groups (unmarked more)))
-      → before (history groups how (words_of bytes)) → after (history groups how (words_of (bytes ++ piece)))
+      → (more : Marked) → given how (words_of (bytes ++ piece)) ≡ given how (words_of bytes) ++ more → ((h : History) → before h → after (h ++ with_groups by (unmarked more)))
+      → before (history by how (words_of bytes)) → after (history by how (words_of (bytes ++ piece)))
   counts_more clock clock' sum sum' count count' carried carried' refused' stands stands' none more adds follows so_far =
-      let is = history-given groups how _ _ _ _ None bytes stands refl in
-      rw (history-given groups how _ _ _ _ _ (bytes ++ piece) stands' none, history-adds groups how (words_of bytes) (words_of (bytes ++ piece)) more adds, ← is) (follows _ so_far)
+      let is = history-given by how _ _ _ _ None bytes stands refl in
+      rw (history-given by how _ _ _ _ _ (bytes ++ piece) stands' none, history-adds by how (words_of bytes) (words_of (bytes ++ piece)) more adds, ← is) (follows _ so_far)
 
   pub counts_on : (clock clock' : Clock) (sum sum' : Summary) (count count' : ℕ) (carried carried' : List ℕ) (refused refused' : Option Fault) → Stands how clock sum count carried refused bytes → Stands how clock' sum' count' carried' refused' (bytes ++ piece)
       → refused' ≡ fault_in r → ((fault : Fault) → refused ≡ Some fault → r ≡ Err fault)
-      → (refused ≡ None → (more : Marked) × (given how (words_of (bytes ++ piece)) ≡ given how (words_of bytes) ++ more) × ((h : History) → before h → after (h ++ with_groups groups (unmarked more))))
-      → OnOk r (before (history groups how (words_of bytes)) → after (history groups how (words_of (bytes ++ piece))))
+      → (refused ≡ None → (more : Marked) × (given how (words_of (bytes ++ piece)) ≡ given how (words_of bytes) ++ more) × ((h : History) → before h → after (h ++ with_groups by (unmarked more))))
+      → OnOk r (before (history by how (words_of bytes)) → after (history by how (words_of (bytes ++ piece))))
   counts_on clock clock' sum sum' count count' carried carried' (Some fault) refused' stands stands' is kept fed = rw (kept fault refl) tt
   counts_on clock clock' sum sum' count count' carried carried' None refused' stands stands' is kept fed =
       let e = fed refl in

@@ -1,6 +1,7 @@
 pub mod Takes
 pub mod Aheads
 pub mod Sorts
+pub mod Shifts
 pub mod Feeds
 pub mod Slices
 pub mod Refusals

@@ -9,12 +9,13 @@ use Rattle.tally_base.specs.declared.header.Mode.{Mode}
 use Rattle.tally_base.specs.declared.header.Mode.TheVariants.{T2}
 use Rattle.std.specs.Prelude.{sum_by, flat_map}
 use Rattle.std.proofs.lemmas.List.Sums.{sum_by-cons}
-use Rattle.tally_base.specs.Settings.{GroupView, entries, is_strict, PartSettings}
+use Rattle.tally_base.specs.Settings.{entries, is_strict, PartSettings}
 use Rattle.tally_base.specs.Tally.{History, greatest_time}
 use Rattle.ptu_definitions.specs.declared.records.Summary.{Summary}
 use Rattle.ptu_definitions.specs.Kept.{marked, kept}
 use Rattle.ptu_definitions.specs.Times.{events}
 use Rattle.ptu_definitions.specs.Streams.{Reading, summary}
+use Rattle.gate_plan.specs.Shifting.{Sorting}
 use Rattle.abs_time.specs.declared.clock.Clock.{Clock}
 use Rattle.record_stream.specs.Standing.{Stands}
 use Rattle.tau_cascade.proofs.Work.{work_within}
@@ -28,9 +29,9 @@ use Rattle.tally_engine.specs.Part.{laws_of}
 use Rattle.tally_engine.specs.Parts.{settings_in, entries_in, IsOpened, IsWithinWork, AllOpened}
 use Rattle.tally_engine.specs.Taker.{Standing}
 
-pub history-none : (groups : List GroupView) (how : Reading) → history groups how [] ≡ []
+pub history-none : (by : Sorting) (how : Reading) → history by how [] ≡ []
 unfolding history kept marked events
-history-none groups how = refl
+history-none by how = refl
 
 pub none_taken : (how : Reading) (clock : Clock) (sum : Summary) (count : ℕ) (carried : List ℕ) (refused : Option Fault) → Stands how clock sum count carried refused [] → refused ≡ None → 4 * sum.records + length carried ≡ 0
 unfolding summary

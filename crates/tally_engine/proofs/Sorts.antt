@@ -1,17 +1,16 @@
 -- Rows that are sorted, and tables that are given something one by one.
 use Rattle.std.proofs.Common.{◌≡◌, ◌+◌, ◌≤◌, ◌<◌, ℕ, zero, suc, List, [], ◌∷◌, refl, arith, length, get_or, set, ◌⊎◌, ⊎_elim}
 use Rattle.std.proofs.lemmas.Grind.{common_steps}
-use Rattle.std.proofs.lemmas.List.{get_or-set_same}
+use Rattle.std.proofs.lemmas.List.{get_or-set_same, map-append}
 use Rattle.tally_base.specs.declared.event.Event.{Event}
 use Rattle.tally_base.specs.Settings.{GroupView}
 use Rattle.event_block.specs.Columns.{rows}
-use Rattle.gate_plan.specs.Groups.{groups_in}
-use Rattle.tally_engine.specs.Histories.{with_groups}
-use Rattle.tally_engine.proofs.Takes.{with_groups-push}
+use Rattle.gate_plan.specs.Taking.{groups_by}
+use Rattle.tally_engine.specs.Histories.{grouped}
 
-pub sorted_rows : (groups : List GroupView) (f : ℕ → Event × ℕ) (e : ℕ → Event) (n : ℕ) → ((i : ℕ) → i < n → f i ≡ (e i, groups_in groups (e i))) → rows f n ≡ with_groups groups (rows e n)
+pub sorted_rows : (groups : List GroupView) (f : ℕ → Event × ℕ) (e : ℕ → Event) (n : ℕ) → ((i : ℕ) → i < n → f i ≡ (e i, groups_by groups (e i))) → rows f n ≡ grouped groups (rows e n)
 sorted_rows groups f e zero is = refl
-sorted_rows groups f e (suc n) is = rw (with_groups-push groups (rows e n) (e n), ← sorted_rows groups f e n (λ i lt. is i (omega (arith, lt))), is n (omega arith)) refl
+sorted_rows groups f e (suc n) is = rw (map-append, ← sorted_rows groups f e n (λ i lt. is i (omega (arith, lt))), is n (omega arith)) refl
 
 other : {X : Type 0} (xs : List X) (n k : ℕ) (v d : X) → k < n → get_or (set xs n v) k d ≡ get_or xs k d
 other xs n k v d lt = grind (arith, common_steps)
@@ -39,3 +38,11 @@ given_more R old now i v e inside before left here k d lt =
 pub left_more : {X : Type 0} (old now : List X) (i : ℕ) (v : X) → ((k : ℕ) (d : X) → i ≤ k → get_or now k d ≡ get_or old k d)
     → (k : ℕ) (d : X) → i + 1 ≤ k → get_or (set now i v) k d ≡ get_or old k d
 left_more old now i v left k d above = rw (behind now i k v d (omega (arith, above))) (left k d (omega (arith, above)))
+
+-- one place more that has what it is to have
+pub set_more : (P : ℕ → ℕ → Type 0) (xs : List ℕ) (n v : ℕ) → n < length xs → ((i : ℕ) → i < n → P i (get_or xs i 0)) → P n v → (i : ℕ) → i < n + 1 → P i (get_or (set xs n v) i 0)
+set_more P xs n v inside before here i lt =
+    ⊎_elim
+    (λ (is : i ≡ n). rw (is, get_or-set_same xs n v 0 inside) here)
+    (λ (below : i < n). rw (other xs n i v 0 below) (before i below))
+    (last_or i n lt)

@@ -7,7 +7,7 @@ use Rattle.tally_base.specs.declared.header.Mode.TheVariants.{T2, T3}
 use Rattle.tally_base.specs.Settings.{is_strict, PartSettings}
 use Rattle.tally_base.specs.Settings.PartSettings.{ImageSettings}
 use Rattle.toml_rules.specs.Rules.{or_next}
-use Rattle.plan_text.specs.Fits.{fits, misfit, refusal, groups_fit, parts_fit}
+use Rattle.plan_text.specs.Fits.{fits, misfit, refusal, groups_fit, shifts_fit, parts_fit}
 use Rattle.plan_text.specs.Plan.{PlanView, parts_of}
 use Rattle.plan_text.proofs.Misfits.{suits_by}
 use Rattle.tally_engine.specs.declared.part.Part.{Part}
@@ -38,7 +38,9 @@ all_loose (part ∷ parts) fit =
 
 loose_parts : (plan : PlanView) → fits T2 plan ≡ Ok (tt {0}) → AllByRecursion Loose (parts_of plan)
 unfolding fits
-loose_parts plan fit = all_loose plan.parts (next_ok (groups_fit T2 plan.groups) (parts_fit T2 plan.parts) fit)
+loose_parts plan fit =
+    let behind = next_ok (groups_fit T2 plan.groups) (or_next (shifts_fit T2 plan.shifts) (parts_fit T2 plan.parts)) fit in
+    all_loose plan.parts (next_ok (shifts_fit T2 plan.shifts) (parts_fit T2 plan.parts) behind)
 
 all_at : (parts : List Part) (k : ℕ) (d : Part) → k < length parts → AllByRecursion Loose (settings_in parts) → is_strict (ghosts.settings (get_or parts k d)) ≡ false
 all_at [] k d within all = absurd (omega (arith, within))

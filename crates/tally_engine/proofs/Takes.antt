@@ -1,5 +1,5 @@
 -- One event more for all tables.
-use Rattle.std.proofs.Common.{◌≡◌, ◌+◌, ◌≤◌, ◌<◌, ℕ, List, [], ◌∷◌, ◌++◌, Bool, true, false, refl, sym, ap, ◌^◌, ◌∙◌, append_assoc, append-nil, arith, length, length-append}
+use Rattle.std.proofs.Common.{◌≡◌, ◌+◌, ◌≤◌, ◌<◌, ℕ, List, [], ◌∷◌, ◌++◌, Bool, true, false, refl, sym, ap, ◌^◌, ◌∙◌, map, append_assoc, append-nil, arith, length, length-append}
 use Rattle.std.specs.Prelude.{◌&&◌, not, IsTrue, if◌then◌else◌, slice_index_or}
 use Rattle.std.proofs.lemmas.List.{map-append}
 use Rattle.std.proofs.lemmas.List.Elements.{filter-append}
@@ -8,11 +8,12 @@ use Rattle.tally_base.specs.declared.header.Mode.{Mode}
 use Rattle.tally_base.specs.declared.header.Mode.TheVariants.{T2, T3}
 use Rattle.tally_base.specs.declared.tally.Tally.{Ghosts}
 use Rattle.tally_base.specs.Events.{is_ordered}
-use Rattle.tally_base.specs.Settings.{GroupView, is_strict}
+use Rattle.tally_base.specs.Settings.{is_strict}
 use Rattle.tally_base.specs.Tally.{History, moves_floor}
 use Rattle.ptu_definitions.specs.Kept.{Marked}
-use Rattle.gate_plan.specs.Groups.{groups_in}
-use Rattle.tally_engine.specs.Histories.{with_groups, unmarked}
+use Rattle.gate_plan.specs.Shifting.{Sorting, shifted}
+use Rattle.gate_plan.specs.Taking.{groups_by, groups_in}
+use Rattle.tally_engine.specs.Histories.{grouped, with_groups, unmarked}
 use Rattle.record_stream.proofs.Floors.{moved_floor-push}
 use Rattle.event_block.specs.Order.{floor_after, InOrder}
 use Rattle.event_block.proofs.Order.{floor-push, order-push, order-front, order-last}
@@ -25,15 +26,16 @@ unmarked-late l e = rw (filter-append, append-nil) refl
 unmarked-push : (l : Marked) (e : Event) → unmarked (l ++ (e, false) ∷ []) ≡ unmarked l ++ e ∷ []
 unmarked-push l e = rw (filter-append, map-append) refl
 
-pub with_groups-push : (groups : List GroupView) (es : List Event) (e : Event) → with_groups groups (es ++ e ∷ []) ≡ with_groups groups es ++ (e, groups_in groups e) ∷ []
-with_groups-push groups es e = rw map-append refl
+pub with_groups-more : (by : Sorting) (es more : List Event) → with_groups by (es ++ more) ≡ with_groups by es ++ with_groups by more
+with_groups-more by es more =
+    ap (grouped by.groups) (map-append (shifted by) es more) ∙ map-append (λ (e : Event). (e, groups_by by.groups e)) (map (shifted by) es) (map (shifted by) more)
+
+pub with_groups-push : (by : Sorting) (es : List Event) (e : Event) → with_groups by (es ++ e ∷ []) ≡ with_groups by es ++ (shifted by e, groups_in by e) ∷ []
+with_groups-push by es e = with_groups-more by es (e ∷ [])
 
 unmarked-more : (l : Marked) (e : Event) (late : Bool) → unmarked (l ++ (e, late) ∷ []) ≡ unmarked l ++ kept_of late e
 unmarked-more l e true = unmarked-late l e ∙ sym (append-nil (unmarked l))
 unmarked-more l e false = unmarked-push l e
-
-with_groups-more : (groups : List GroupView) (es more : List Event) → with_groups groups (es ++ more) ≡ with_groups groups es ++ with_groups groups more
-with_groups-more groups es more = rw map-append refl
 
 -- what moves the floor of a table is in the order of its mode
 ordered : (mode : Mode) (strict : Bool) (e : Event) → (mode ≡ T2 → strict ≡ false) → IsTrue (moves_floor strict e) → IsTrue (is_ordered mode e)
@@ -59,8 +61,8 @@ module _ {T : Type 0} (g : Ghosts T) where
   pub can_front : (es : List Event) (e : Event) (t : T) → CanTake g (es ++ e ∷ []) t → CanTake g es t
   can_front es e t can = record { open' = can.open'; room = omega (arith, can.room, length-append es (e ∷ [])); in_order = order-front (is_strict (g.settings t)) (g.floor t) es e can.in_order }
 
-  pub moves_none : (groups : List GroupView) (es : List Event) (t : T) → g.closed t ≡ false → InOrder (is_strict (g.settings t)) (g.floor t) es → Moves g groups es es [] t t
-  moves_none groups es t still order = record {
+  pub moves_none : (by : Sorting) (es : List Event) (t : T) → g.closed t ≡ false → InOrder (is_strict (g.settings t)) (g.floor t) es → Moves g by es es [] t t
+  moves_none by es t still order = record {
     follows = λ h held. (held.0, append-nil h ∙ held.1, held.2);
     still_open = still;
     count = rw (append-nil es) refl;
@@ -69,9 +71,9 @@ module _ {T : Type 0} (g : Ghosts T) where
     same_settings = refl;
   }
 
-  pub moves_all : (groups : List GroupView) (es none : List Event) (old new : T) → none ≡ [] → Took g es (with_groups groups es) old new → Moves g groups es none [] old new
-  moves_all groups es none old new empty took = rw empty (record {
-    follows = λ h held. (held.0 ++ with_groups groups es, append-nil h ∙ held.1 ∙ sym (append-nil (held.0 ++ with_groups groups es)), took.follows held.0 held.2);
+  pub moves_all : (by : Sorting) (es none : List Event) (old new : T) → none ≡ [] → Took g es (with_groups by es) old new → Moves g by es none [] old new
+  moves_all by es none old new empty took = rw empty (record {
+    follows = λ h held. (held.0 ++ with_groups by es, append-nil h ∙ held.1 ∙ sym (append-nil (held.0 ++ with_groups by es)), took.follows held.0 held.2);
     still_open = took.still_open;
     count = rw (append-nil es) (omega (arith, took.count));
     moved = rw (append-nil es) took.moved;
@@ -79,15 +81,15 @@ module _ {T : Type 0} (g : Ghosts T) where
     same_settings = took.same_settings;
   })
 
-  pub moves_push : (groups : List GroupView) (es es' now : List Event) (e : Event) (old new : T) → CanTake g (es ++ e ∷ []) old → now ≡ es' ++ e ∷ [] → Moves g groups es es' [] old new → Moves g groups es now (e ∷ []) old new
-  moves_push groups es es' now e old new can pushed m =
+  pub moves_push : (by : Sorting) (es es' now : List Event) (e : Event) (old new : T) → CanTake g (es ++ e ∷ []) old → now ≡ es' ++ e ∷ [] → Moves g by es es' [] old new → Moves g by es now (e ∷ []) old new
+  moves_push by es es' now e old new can pushed m =
       let strict = is_strict (g.settings old) in
       let same : floor_after strict (g.floor new) es' ≡ floor_after strict (g.floor old) es = m.moved ∙ ap (floor_after strict (g.floor old)) (append-nil es) in
       let next = order-last strict (g.floor old) es e can.in_order in
       rw pushed (record {
         follows = λ h held.
             let w = m.follows h held in
-            (w.0, rw (with_groups-push groups es' e, ← append_assoc w.0, ← w.1, append-nil h) refl, w.2);
+            (w.0, rw (with_groups-push by es' e, ← append_assoc w.0, ← w.1, append-nil h) refl, w.2);
         still_open = m.still_open;
         count = omega (arith, m.count, ap length (append-nil es), length-append es (e ∷ []), length-append es' (e ∷ []));
         moved = floor-push strict (g.floor new) es' e ∙ rw same (sym (floor-push strict (g.floor old) es e));
@@ -112,9 +114,9 @@ module _ {T : Type 0} (g : Ghosts T) where
   few_kept es e true = omega (arith, ap length (append-nil es))
   few_kept es e false = omega (arith, length-append es (e ∷ []))
 
-  pub waits_on : (groups : List GroupView) (mode : Mode) (taken next floor now : ℕ) (es es' : List Event) (e : Event) (late : Bool) (old new : T) → Waits g mode taken floor es old → Moves g groups es es' (kept_of late e) old new
+  pub waits_on : (by : Sorting) (mode : Mode) (taken next floor now : ℕ) (es es' : List Event) (e : Event) (late : Bool) (old new : T) → Waits g mode taken floor es old → Moves g by es es' (kept_of late e) old new
       → (IsTrue (is_ordered mode e && not late) → floor ≤ e.time) → next ≡ taken + 1 → now ≡ (if is_ordered mode e && not late then e.time else floor) → Waits g mode next now es' new
-  waits_on groups mode taken next floor now es es' e late old new w m order one moves = record {
+  waits_on by mode taken next floor now es es' e late old new w m order one moves = record {
     still_open = m.still_open;
     few = omega (arith, w.few, m.count, few_kept es e late, one);
     before = rw (m.same_settings, m.moved, moves) (waits_floor mode taken floor es e late old w order);
@@ -122,26 +124,26 @@ module _ {T : Type 0} (g : Ghosts T) where
     in_order = rw m.same_settings m.in_order;
   }
 
-  pub gave_more : (groups groups' : List GroupView) (mode mode' : Mode) (taken taken' next floor floor' now : ℕ) (es0 es es' : List Event) (first old new : List T) (l : Marked) (e : Event) (late : Bool)
-      → Gave g groups groups' mode mode' taken taken' floor floor' es0 es first old l → length new ≡ length old
-      → ((k : ℕ) (d : T) → k < length old → Moves g groups' es es' (kept_of late e) (slice_index_or old k d) (slice_index_or new k d))
+  pub gave_more : (by by' : Sorting) (mode mode' : Mode) (taken taken' next floor floor' now : ℕ) (es0 es es' : List Event) (first old new : List T) (l : Marked) (e : Event) (late : Bool)
+      → Gave g by by' mode mode' taken taken' floor floor' es0 es first old l → length new ≡ length old
+      → ((k : ℕ) (d : T) → k < length old → Moves g by' es es' (kept_of late e) (slice_index_or old k d) (slice_index_or new k d))
       → (IsTrue (is_ordered mode' e && not late) → floor' ≤ e.time) → next ≡ taken' + 1 → now ≡ (if is_ordered mode' e && not late then e.time else floor')
-      → Gave g groups groups' mode mode' taken next floor now es0 es' first new (l ++ (e, late) ∷ [])
-  gave_more groups groups' mode mode' taken taken' next floor floor' now es0 es es' first old new l e late gave same moves in_order one is = record {
-    same_groups = gave.same_groups;
+      → Gave g by by' mode mode' taken next floor now es0 es' first new (l ++ (e, late) ∷ [])
+  gave_more by by' mode mode' taken taken' next floor floor' now es0 es es' first old new l e late gave same moves in_order one is = record {
+    same_sorting = gave.same_sorting;
     same_mode = gave.same_mode;
     counted = omega (arith, one, gave.counted, length-append l ((e, late) ∷ []));
     moved = is ∙ rw gave.same_mode (moved_floor-push mode floor floor' l e late gave.moved (rw gave.same_mode at in_order));
     follows = λ h held. λ k d inside.
         let within : k < length old = omega (arith, same, inside) in
-        rw (unmarked-more l e late, with_groups-more groups (unmarked l) (kept_of late e), ← append_assoc h) ((rw gave.same_groups at (moves k d within)).follows _ (gave.follows h held k d within));
+        rw (unmarked-more l e late, with_groups-more by (unmarked l) (kept_of late e), ← append_assoc h) ((rw gave.same_sorting at (moves k d within)).follows _ (gave.follows h held k d within));
   }
 
-  pub holding_none : (groups : List GroupView) (none : List Event) (t : T) (h : History) → none ≡ [] → g.holds t h → Holding g groups none t h
-  holding_none groups none t h empty held = rw empty (h, sym (append-nil h), held)
+  pub holding_none : (by : Sorting) (none : List Event) (t : T) (h : History) → none ≡ [] → g.holds t h → Holding g by none t h
+  holding_none by none t h empty held = rw empty (h, sym (append-nil h), held)
 
-  pub holding_all : (groups : List GroupView) (es : List Event) (old new : T) (h : History) → Holding g groups es old h → Took g es (with_groups groups es) old new → g.holds new h
-  holding_all groups es old new h held took = rw held.1 (took.follows held.0 held.2)
+  pub holding_all : (by : Sorting) (es : List Event) (old new : T) (h : History) → Holding g by es old h → Took g es (with_groups by es) old new → g.holds new h
+  holding_all by es old new h held took = rw held.1 (took.follows held.0 held.2)
 
   -- A table that was given the events that wait for it stands where they lead.
   pub standing_took : (mode : Mode) (taken floor given top : ℕ) (es : List Event) (more : History) (old new : T) → Waits g mode taken floor es old → Took g es more old new → taken ≤ given → floor ≤ top → Standing g mode given top new

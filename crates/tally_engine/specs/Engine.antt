@@ -3,12 +3,13 @@ use Rattle.std.specs.Prelude.{◌≡◌, ℕ, All, ◌+◌, List, length, sum_by
 use Rattle.std.specs.declared.option.Option.{Option}
 use Rattle.tally_base.specs.declared.fault.Fault.{Fault}
 use Rattle.tally_base.specs.declared.header.Header.{Header}
-use Rattle.tally_base.specs.Settings.{GroupView, PartSettings, entries}
+use Rattle.tally_base.specs.Settings.{PartSettings, entries}
 use Rattle.ptu_definitions.specs.Streams.{Reading, streamed}
 use Rattle.ptu_definitions.specs.Words.{words_of}
 use Rattle.record_stream.specs.Standing.{how_of, refused_with, carried_by, bytes_in, HasStreamed}
 use Rattle.plan_text.specs.Plan.{PlanView, parts_of}
-use Rattle.gate_plan.specs.Groups.{groups_of}
+use Rattle.gate_plan.specs.Shifting.{Sorting, sorting}
+use Rattle.gate_plan.specs.Groups.{sorting_of}
 use Rattle.tally_engine.specs.Histories.{history}
 use Rattle.tally_engine.specs.Parts.{settings_in, AllHold, AllClosed, IsWithinWork, entries_in}
 use Rattle.tally_engine.specs.Plans.{reading_by}
@@ -20,8 +21,9 @@ use Rattle.tally_engine.specs.declared.engine.Results.{Results}
 abbrev pub header_of : Engine → Header
 header_of engine = engine.header
 
-abbrev pub engine_groups : Engine → List GroupView
-engine_groups engine = groups_of engine.gates
+-- how it sorts the photons
+abbrev pub engine_sorting : Engine → Sorting
+engine_sorting engine = sorting_of engine.gates
 
 -- how it reads the records
 abbrev pub reading_of : Engine → Reading
@@ -34,14 +36,14 @@ parts_in engine = settings_in engine.parts.items
 -- The engine is one of this plan and this header.
 pub record IsFor (engine : Engine) (plan : PlanView) (header : Header) : Type 0 where
   pub header_is : header_of engine ≡ header
-  pub groups_are : engine_groups engine ≡ plan.groups
+  pub sorting_is : engine_sorting engine ≡ sorting plan
   pub parts_are : parts_in engine ≡ parts_of plan
   pub reads : reading_of engine ≡ reading_by plan header
 
 -- Both were opened with the same.
 pub record SameEngine (old new : Engine) : Type 0 where
   pub same_header : header_of new ≡ header_of old
-  pub same_groups : engine_groups new ≡ engine_groups old
+  pub same_sorting : engine_sorting new ≡ engine_sorting old
   pub same_parts : parts_in new ≡ parts_in old
   pub same_reading : reading_of new ≡ reading_of old
 
@@ -55,9 +57,9 @@ refused_by engine = refused_with engine.stream
 abbrev pub bytes_fed : Engine → ℕ
 bytes_fed engine = bytes_in engine.stream
 
--- The engine was given these bytes: where it refused none, each table holds the kept list.
+-- The engine was given these bytes: where it refused none, each table holds the list that tables count over (`history`).
 abbrev pub HasFed : Engine → List ℕ → Type 0
-HasFed engine bytes = HasStreamed engine.stream bytes × (refused_by engine ≡ None → AllHold engine.parts.items (history (engine_groups engine) (reading_of engine) (words_of bytes)))
+HasFed engine bytes = HasStreamed engine.stream bytes × (refused_by engine ≡ None → AllHold engine.parts.items (history (engine_sorting engine) (reading_of engine) (words_of bytes)))
 
 -- ## How much it keeps
 
@@ -80,8 +82,8 @@ pub record IsCounted (engine : Engine) (bytes : List ℕ) (results : Results) : 
   pub summary_is : streamed (reading_of engine) bytes ≡ Ok results.summary
   pub parts_are : settings_of results ≡ parts_in engine
   pub closed : AllClosed results.parts.items
-  pub counts : AllHold results.parts.items (history (engine_groups engine) (reading_of engine) (words_of bytes))
-  pub worked : All (IsWithinWork (history (engine_groups engine) (reading_of engine) (words_of bytes))) results.parts.items
+  pub counts : AllHold results.parts.items (history (engine_sorting engine) (reading_of engine) (words_of bytes))
+  pub worked : All (IsWithinWork (history (engine_sorting engine) (reading_of engine) (words_of bytes))) results.parts.items
 
 abbrev pub Finishes : Engine → List ℕ → Result Results Fault → Type 0
 Finishes engine bytes (Ok results) = IsCounted engine bytes results

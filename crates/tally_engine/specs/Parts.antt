@@ -1,8 +1,9 @@
 -- The tables of an engine.
 use Rattle.std.specs.Prelude.{◌≡◌, ◌≤◌, ⊤, ℕ, List, [], All, map, sum_by, true, false}
-use Rattle.tally_base.specs.Settings.{GroupView, PartSettings, correlation_view}
+use Rattle.tally_base.specs.Settings.{PartSettings, correlation_view}
 use Rattle.ptu_definitions.specs.Streams.{Reading}
 use Rattle.tally_base.specs.Tally.{History}
+use Rattle.gate_plan.specs.Shifting.{Sorting}
 use Rattle.tau_cascade.specs.Cascade.{set_of, spent_by}
 use Rattle.tau_cascade.specs.Work.{work}
 use Rattle.tally_engine.specs.Histories.{history}
@@ -19,8 +20,8 @@ abbrev pub AllHold : List Part → History → Type 0
 AllHold parts h = All (λ p. ghosts.holds p h) parts
 
 -- Where the old tables hold the events of these words, the new ones hold those of more words.
-abbrev pub HoldOn : List GroupView → Reading → List ℕ → List ℕ → List Part → List Part → Type 0
-HoldOn groups how words now old new = AllHold old (history groups how words) → AllHold new (history groups how now)
+abbrev pub HoldOn : Sorting → Reading → List ℕ → List ℕ → List Part → List Part → Type 0
+HoldOn by how words now old new = AllHold old (history by how words) → AllHold new (history by how now)
 
 -- Every table is closed: its cells are the counts.
 abbrev pub AllClosed : List Part → Type 0

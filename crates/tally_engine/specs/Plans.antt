@@ -1,11 +1,10 @@
 -- What a plan asks of an engine.
-use Rattle.std.specs.Prelude.{◌≡◌, ℕ, ◌+◌, sum_by, ◌⊎◌, Result, Ok, Err}
+use Rattle.std.specs.Prelude.{◌≡◌, ◌⊎◌, Result, Ok, Err}
 use Rattle.tally_base.specs.declared.event.Policy.{Policy}
 use Rattle.tally_base.specs.declared.fault.Fault.{Fault}
 use Rattle.tally_base.specs.declared.fault.Fault.TheVariants.{OutOfMemory}
 use Rattle.tally_base.specs.declared.header.Header.{Header}
-use Rattle.tally_base.specs.Settings.{entries}
-use Rattle.plan_text.specs.Plan.{PlanView, parts_of}
+use Rattle.plan_text.specs.Plan.{PlanView}
 use Rattle.ptu_definitions.specs.Streams.{Reading, reading}
 
 abbrev pub policy_of : PlanView → Policy
@@ -14,10 +13,6 @@ policy_of plan = record { order = plan.order; reserved = plan.reserved; records 
 -- how a plan reads the records behind a header
 abbrev pub reading_by : PlanView → Header → Reading
 reading_by plan header = reading header.record_type (policy_of plan)
-
--- How many entries an engine of the plan keeps at most: the carried bytes, and the entries of each table.
-abbrev pub plan_bound : PlanView → ℕ
-plan_bound plan = 48 + sum_by entries (parts_of plan)
 
 -- An engine is opened where the parts suit the mode, or else their fault is answered. Only memory may be wanting.
 abbrev pub OpensAs : {A : Type 0} → Result (Unit {0}) Fault → Result A Fault → Type 0

@@ -5,9 +5,10 @@ use Rattle.tally_base.specs.declared.event.Event.{Event}
 use Rattle.tally_base.specs.declared.header.Mode.{Mode}
 use Rattle.tally_base.specs.declared.header.Mode.TheVariants.{T2}
 use Rattle.tally_base.specs.declared.tally.Tally.{Ghosts}
-use Rattle.tally_base.specs.Settings.{GroupView, is_strict}
+use Rattle.tally_base.specs.Settings.{is_strict}
 use Rattle.tally_base.specs.Tally.{History}
 use Rattle.ptu_definitions.specs.Kept.{Marked, floor_of}
+use Rattle.gate_plan.specs.Shifting.{Sorting}
 use Rattle.event_block.specs.Order.{floor_after, InOrder}
 use Rattle.tally_engine.specs.Give.{Holding}
 use Rattle.tally_engine.specs.Histories.{with_groups, unmarked}
@@ -29,12 +30,12 @@ module _ {T : Type 0} (g : Ghosts T) where
     pub in_order : InOrder (is_strict (g.settings t)) (g.floor t) es
 
   -- With those that wait for them, the tables were given those of these events that aren't marked late, each with its groups.
-  pub record Gave (groups groups' : List GroupView) (mode mode' : Mode) (taken taken' floor floor' : ℕ) (es es' : List Event) (old new : List T) (l : Marked) : Type 0 where
-    pub same_groups : groups' ≡ groups
+  pub record Gave (by by' : Sorting) (mode mode' : Mode) (taken taken' floor floor' : ℕ) (es es' : List Event) (old new : List T) (l : Marked) : Type 0 where
+    pub same_sorting : by' ≡ by
     pub same_mode : mode' ≡ mode
     pub counted : taken' ≡ taken + length l
     pub moved : floor' ≡ max floor (floor_of mode l)
-    pub follows : (h : History) → All (λ t. Holding g groups es t h) old → All (λ t. Holding g groups es' t (h ++ with_groups groups (unmarked l))) new
+    pub follows : (h : History) → All (λ t. Holding g by es t h) old → All (λ t. Holding g by es' t (h ++ with_groups by (unmarked l))) new
 
-  pub gave_none : (groups : List GroupView) (mode : Mode) (taken floor : ℕ) (es : List Event) (old : List T) → Gave groups groups mode mode taken taken floor floor es es old old []
-  gave_none groups mode taken floor es old = record { same_groups = refl; same_mode = refl; counted = omega arith; moved = omega arith; follows = λ h held. rw (append-nil h) held }
+  pub gave_none : (by : Sorting) (mode : Mode) (taken floor : ℕ) (es : List Event) (old : List T) → Gave by by mode mode taken taken floor floor es es old old []
+  gave_none by mode taken floor es old = record { same_sorting = refl; same_mode = refl; counted = omega arith; moved = omega arith; follows = λ h held. rw (append-nil h) held }

@@ -49,7 +49,8 @@ impl Engine {
     ghost use Rattle.std.specs.Prelude.{◌+◌, ◌*◌, ◌^◌, ◌<◌, ◌≤◌, [], ◌++◌, length, Err, OnOk, IfOk, IfErr};
     ghost use Rattle.plan_text.specs.Fits.{fits};
     ghost use Rattle.plan_text.specs.Reading.{plan_view};
-    ghost use Rattle.tally_engine.specs.Plans.{plan_bound, OpensAs};
+    ghost use Rattle.tally_engine.specs.Plans.{OpensAs};
+    ghost use Rattle.plan_text.specs.Bound.{bound as plan_bound};
     ghost use Rattle.ptu_definitions.specs.Shown.{Shows};
     ghost use Rattle.ptu_definitions.specs.Streams.{record_refusal, streamed};
     ghost use Rattle.ptu_definitions.specs.Words.{words_of};
@@ -84,7 +85,8 @@ impl Engine {
         }
     }
 
-    /// Takes a piece of the bytes behind the header, and gives each event that isn't late to every table.
+    /// Takes a piece of the bytes behind the header, and gives each event that isn't late to every
+    /// table, a photon with its shifted dtime.
     ///
     /// Refuses one record more than the greatest number, and a wrap that makes the sum of wraps greater
     /// than 2^62. By the policy it refuses a reserved record or a late event. After a refusal it answers

@@ -1,15 +1,17 @@
 // A block of events to every table.
-ghost use Rattle.std.specs.Prelude.{◌≡◌, ℕ, ◌+◌, ◌^◌, ◌<◌, ◌≤◌, ◌++◌, ◌∷◌, [], All, false, length, if◌then◌else◌};
+ghost use Rattle.std.specs.Prelude.{◌≡◌, ℕ, ◌+◌, ◌^◌, ◌<◌, ◌≤◌, ◌++◌, ◌∷◌, [], All, false, map, length, if◌then◌else◌};
 ghost use Rattle.tally_base.specs.declared.event.Event.{Event};
 ghost use Rattle.event_block.specs.Codes.{kind_of};
 ghost use Rattle.event_block.specs.Columns.{sorted, gathered, events_in, IsSorted};
-ghost use Rattle.gate_plan.specs.Groups.{groups_of, groups_in};
+ghost use Rattle.gate_plan.specs.Groups.{sorting_of};
+ghost use Rattle.gate_plan.specs.Shifting.{shifted, shifted_dtime};
+ghost use Rattle.gate_plan.specs.Taking.{groups_by};
 ghost use Rattle.gate_plan.specs.Parting.{plain_bits, gated_bits};
 ghost use Rattle.tally_base.specs.Events.{is_ordered};
 ghost use Rattle.record_stream.specs.Floors.{moved_floor};
 ghost use Rattle.tally_engine.specs.Ahead.{taken_with, floor_with};
 ghost use Rattle.tally_engine.specs.Give.{Each, CanTake, Took, Moves, Closed, kept_of};
-ghost use Rattle.tally_engine.specs.Histories.{with_groups};
+ghost use Rattle.tally_engine.specs.Histories.{grouped, with_groups};
 
 use crate::part::Part;
 use crate::reached::Reached;
@@ -35,7 +37,7 @@ pub(crate) fn gather<L: Ledger>(
     requires room { taken_with reached.old (gathered block.old) < 2 ^ 40 }
     requires idle { length parts.old ≡ 0 → gathered block.old ≡ [] }
     requires unsorted { sorted block.old ≡ 0 }
-    ensures moves { Each (Moves ⟦<Part as Tally>⟧ (groups_of gates.now) (gathered block.old)
+    ensures moves { Each (Moves ⟦<Part as Tally>⟧ (sorting_of gates.now) (gathered block.old)
         (gathered block.new) (kept_of late event.now)) parts.old parts.new }
     ensures taken { taken_with reached.new (gathered block.new)
         ≡ taken_with reached.old (gathered block.old) + 1 }
@@ -65,7 +67,7 @@ fn gather_one<L: Ledger>(
     requires may { All (CanTake ⟦<Part as Tally>⟧ (gathered block.old ++ event.now ∷ [])) parts.old }
     requires room { taken_with reached.old (gathered block.old) < 2 ^ 40 }
     requires unsorted { sorted block.old ≡ 0 }
-    ensures moves { Each (Moves ⟦<Part as Tally>⟧ (groups_of gates.now) (gathered block.old)
+    ensures moves { Each (Moves ⟦<Part as Tally>⟧ (sorting_of gates.now) (gathered block.old)
         (gathered block.new) (event.now ∷ [])) parts.old parts.new }
     ensures taken { taken_with reached.new (gathered block.new)
         ≡ taken_with reached.old (gathered block.old) + 1 }
@@ -92,7 +94,7 @@ fn make_room<L: Ledger>(
     requires room { taken_with reached.old (gathered block.old) ≤ 2 ^ 40 }
     requires unsorted { sorted block.old ≡ 0 }
     ensures room { length (gathered block.new) < 64 }
-    ensures moves { Each (Moves ⟦<Part as Tally>⟧ (groups_of gates.now) (gathered block.old)
+    ensures moves { Each (Moves ⟦<Part as Tally>⟧ (sorting_of gates.now) (gathered block.old)
         (gathered block.new) []) parts.old parts.new }
     ensures taken { taken_with reached.new (gathered block.new)
         ≡ taken_with reached.old (gathered block.old) }
@@ -105,7 +107,8 @@ fn make_room<L: Ledger>(
     }
 }
 
-/// Gives the events of a block to every table, each with its groups.
+/// Gives the events of a block to every table, each photon with its shifted dtime, and each event with its
+/// groups.
 #[inline(never)]
 pub(crate) fn flush<L: Ledger>(
     gates: &Gates,
@@ -120,39 +123,78 @@ pub(crate) fn flush<L: Ledger>(
     requires unsorted { sorted block.old ≡ 0 }
     ensures empty { gathered block.new ≡ [] }
     ensures took { Each (Took ⟦<Part as Tally>⟧ (gathered block.old)
-        (with_groups (groups_of gates.now) (gathered block.old))) parts.old parts.new }
+        (with_groups (sorting_of gates.now) (gathered block.old))) parts.old parts.new }
     ensures taken { reached.new.taken ≡ taken_with reached.old (gathered block.old) }
     ensures floor { reached.new.floor ≡ floor_with mode reached.old (gathered block.old) }
     ensures unsorted { sorted block.new ≡ 0 }
 {
+    shift(gates, block);
     sort(gates, block);
     give_all(parts, block, steps);
     reached.pass_block(mode, block);
     block.clear();
 }
 
-/// Finds the groups of the events of a block.
+/// Shifts the dtimes of the photons of a block, if an input has a shift.
+fn shift(gates: &Gates, block: &mut Block)
+    requires { sorted block.old ≡ 0 }
+    ensures shifted { gathered block.new ≡ map (shifted (sorting_of gates.now)) (gathered block.old) }
+    ensures unsorted { sorted block.new ≡ 0 }
+{
+    if gates.has_shifts() {
+        shift_each(gates, block);
+    }
+}
+
+/// Shifts the dtimes of the photons of a block.
+fn shift_each(gates: &Gates, block: &mut Block)
+    requires { sorted block.old ≡ 0 }
+    ensures shifted { gathered block.new ≡ map (shifted (sorting_of gates.now)) (gathered block.old) }
+    ensures unsorted { sorted block.new ≡ 0 }
+{
+    for at in 0..block.len().min(64) {
+        let dtime = dtime_behind(gates, block.code(at), block.dtime(at));
+        block.set_dtime(at, dtime);
+    }
+}
+
+/// The shifted dtime of an event in a block.
+#[inline(always)]
+fn dtime_behind(gates: &Gates, code: u16, dtime: u16) -> u16
+    ensures { (e : Event) → e.kind ≡ kind_of code dtime
+        → kind_of code result ≡ (shifted (sorting_of gates.now) e).kind }
+{
+    if code < 256 {
+        gates.shifted_dtime(code as u8, dtime)
+    } else {
+        dtime
+    }
+}
+
+/// Finds the groups of the events of a block, whose dtimes are shifted.
 fn sort(gates: &Gates, block: &mut Block)
     requires { sorted block.old ≡ 0 }
     ensures same { gathered block.new ≡ gathered block.old }
     ensures sorted { events_in block.new
-        ≡ with_groups (groups_of gates.now) (gathered block.old) }
+        ≡ grouped (sorting_of gates.now).groups (gathered block.old) }
     ensures ready { IsSorted block.new }
 {
     let gated = gates.has_gates();
+    // Of its own: a number behind the groups of a block is written again for each of them.
+    let mut groups = [0; 64];
     for at in 0..block.len().min(64) {
-        let groups = groups_at(gates, gated, block.code(at), block.dtime(at));
-        block.put(at, groups);
+        groups[at] = groups_at(gates, gated, block.code(at), block.dtime(at));
     }
+    block.put_all(&groups);
 }
 
 /// The groups of an event in a block.
 #[inline(always)]
 fn groups_at(gates: &Gates, gated: bool, code: u16, dtime: u16) -> u64
-    requires { gated ≡ false → (input dtime : ℕ) → gated_bits (groups_of gates.now) input dtime ≡ 0 }
+    requires { gated ≡ false → (input dtime : ℕ) → gated_bits (sorting_of gates.now).groups input dtime ≡ 0 }
     ensures marker { 256 ≤ code → result ≡ 0 }
     ensures value { (e : Event) → e.kind ≡ kind_of code dtime
-        → result ≡ groups_in (groups_of gates.now) e }
+        → result ≡ groups_by (sorting_of gates.now).groups e }
 {
     if code < 256 {
         photon_groups(gates, gated, code as u8, dtime)
@@ -164,9 +206,9 @@ fn groups_at(gates: &Gates, gated: bool, code: u16, dtime: u16) -> u64
 /// The groups of a photon.
 #[inline(always)]
 fn photon_groups(gates: &Gates, gated: bool, input: u8, dtime: u16) -> u64
-    requires { gated ≡ false → (input dtime : ℕ) → gated_bits (groups_of gates.now) input dtime ≡ 0 }
-    ensures { result ≡ plain_bits (groups_of gates.now) input
-        + gated_bits (groups_of gates.now) input dtime }
+    requires { gated ≡ false → (input dtime : ℕ) → gated_bits (sorting_of gates.now).groups input dtime ≡ 0 }
+    ensures { result ≡ plain_bits (sorting_of gates.now).groups input
+        + gated_bits (sorting_of gates.now).groups input dtime }
 {
     if gated {
         gates.of_photon(input, dtime)

@@ -1,11 +1,11 @@
 // A block of events to every table, behind events that wait.
-ghost use Rattle.std.specs.Prelude.{◌≡◌, ℕ, ◌+◌, ◌^◌, ◌<◌, ◌≤◌, ◌++◌, [], All, length, slice_index_or};
+ghost use Rattle.std.specs.Prelude.{◌≡◌, ℕ, ◌+◌, ◌^◌, ◌<◌, ◌≤◌, ◌++◌, [], All, false, length, slice_index_or};
 ghost use Rattle.event_block.specs.Columns.{sorted, gathered};
 ghost use Rattle.event_block.specs.Order.{floor_after};
-ghost use Rattle.gate_plan.specs.Groups.{groups_of};
+ghost use Rattle.gate_plan.specs.Groups.{sorting_of};
 ghost use Rattle.record_stream.specs.Blocks.{orders_markers};
 ghost use Rattle.tally_engine.specs.Ahead.{taken_with, floor_with};
-ghost use Rattle.tally_engine.specs.Give.{CanTake, Took, Moves};
+ghost use Rattle.tally_engine.specs.Give.{CanTake, Each, Took, Moves};
 ghost use Rattle.tally_engine.specs.Histories.{with_groups};
 
 use crate::give::flush;
@@ -32,7 +32,7 @@ pub(crate) fn give_behind<L: Ledger>(
     requires unsorted { sorted block.old ≡ 0 }
     requires more_unsorted { sorted more.old ≡ 0 }
     ensures moves { (k : ℕ) (d : Part) → k < length parts.old
-        → Moves ⟦<Part as Tally>⟧ (groups_of gates.now) (gathered block.old)
+        → Moves ⟦<Part as Tally>⟧ (sorting_of gates.now) (gathered block.old)
         (gathered block.new) (gathered more.old) (slice_index_or parts.old k d)
         (slice_index_or parts.new k d) }
     ensures taken { taken_with reached.new (gathered block.new)
@@ -52,7 +52,7 @@ pub(crate) fn give_behind<L: Ledger>(
 }
 
 /// Gives the events of a block to every table, if there are any.
-fn flush_waiting<L: Ledger>(
+pub(crate) fn flush_waiting<L: Ledger>(
     gates: &Gates,
     mode: Mode,
     parts: &mut [Part],
@@ -60,14 +60,15 @@ fn flush_waiting<L: Ledger>(
     block: &mut Block,
     steps: &mut Steps<L>,
 )
-    requires may { All (CanTake ⟦<Part as Tally>⟧ (gathered block.old)) parts.old }
-    requires room { taken_with reached.old (gathered block.old) ≤ 2 ^ 40 }
+    requires open { All (λ t. ⟦<Part as Tally>⟧.closed t ≡ false) parts.old }
     requires unsorted { sorted block.old ≡ 0 }
+    requires may { 0 < length (gathered block.old)
+        → All (CanTake ⟦<Part as Tally>⟧ (gathered block.old)) parts.old }
+    requires room { 0 < length (gathered block.old)
+        → taken_with reached.old (gathered block.old) ≤ 2 ^ 40 }
     ensures empty { gathered block.new ≡ [] }
-    ensures took { (k : ℕ) (d : Part) → k < length parts.old
-        → Took ⟦<Part as Tally>⟧ (gathered block.old)
-        (with_groups (groups_of gates.now) (gathered block.old)) (slice_index_or parts.old k d)
-        (slice_index_or parts.new k d) }
+    ensures took { Each (Took ⟦<Part as Tally>⟧ (gathered block.old)
+        (with_groups (sorting_of gates.now) (gathered block.old))) parts.old parts.new }
     ensures taken { reached.new.taken ≡ taken_with reached.old (gathered block.old) }
     ensures floor { reached.new.floor ≡ floor_with mode reached.old (gathered block.old) }
     ensures unsorted { sorted block.new ≡ 0 }

@@ -10,7 +10,7 @@ ghost use Rattle.tally_base.specs.Faults.{fault_in};
 ghost use Rattle.tally_engine.specs.Histories.{with_groups};
 ghost use Rattle.tally_engine.specs.Parts.{HoldOn};
 ghost use Rattle.tally_engine.specs.Same.{SameTables};
-ghost use Rattle.gate_plan.specs.Groups.{groups_of};
+ghost use Rattle.gate_plan.specs.Groups.{sorting_of};
 ghost use Rattle.event_block.specs.Columns.{sorted, gathered};
 ghost use Rattle.event_block.proofs.Props.{in_order-prop};
 ghost use Rattle.std.proofs.Props.{props};
@@ -18,8 +18,8 @@ ghost use Rattle.tally_engine.specs.Ahead.{taken_with, floor_with};
 ghost use Rattle.tally_engine.specs.Give.{Each, CanTake, Took};
 ghost use Rattle.tally_engine.specs.Taker.{Standing, Waits};
 
-use crate::give::{flush, gather};
-use crate::give_behind::give_behind;
+use crate::give::gather;
+use crate::give_behind::{flush_waiting, give_behind};
 use crate::part::Part;
 use crate::reached::Reached;
 use event_block::Block;
@@ -50,7 +50,7 @@ impl<'g, 'p, 's, L: Ledger> EventTaker for PartTaker<'g, 'p, 's, L> {
     ghost use Rattle.tally_engine.specs.Same.{SameTaker, same_taker_none, same_taker_more};
     ghost use Rattle.tally_engine.specs.Taker.{Gave, gave_none};
 
-    ghost got = { λ s t l. Gave ⟦<Part as Tally>⟧ (groups_of s.gates.now) (groups_of t.gates.now) s.mode
+    ghost got = { λ s t l. Gave ⟦<Part as Tally>⟧ (sorting_of s.gates.now) (sorting_of t.gates.now) s.mode
         t.mode (taken_with s.reached (gathered s.block)) (taken_with t.reached (gathered t.block))
         (floor_with s.mode s.reached (gathered s.block)) (floor_with t.mode t.reached (gathered t.block))
         (gathered s.block) (gathered t.block) s.parts.now t.parts.now l };
@@ -126,7 +126,7 @@ pub(crate) fn feed_parts<L: Ledger>(
     ensures answer { (bytes : List ℕ) → HasStreamed stream.old bytes
         → fault_in result ≡ record_refusal (how_of stream.old) (words_of (bytes ++ piece.now)) }
     ensures counts { (bytes : List ℕ) → HasStreamed stream.old bytes
-        → OnOk result (HoldOn (groups_of gates.now) (how_of stream.old) (words_of bytes)
+        → OnOk result (HoldOn (sorting_of gates.now) (how_of stream.old) (words_of bytes)
         (words_of (bytes ++ piece.now)) parts.old parts.new) }
     ensures refused { refused_with stream.new ≡ fault_in result }
     ensures standing { OnOk result (All (Standing ⟦<Part as Tally>⟧ mode (given_by stream.new)
@@ -159,31 +159,6 @@ pub(crate) fn feed_parts<L: Ledger>(
         mut reached,
         mut block,
     } = taker;
-    give_rest(gates, mode, parts, &mut reached, &mut block, steps);
+    flush_waiting(gates, mode, parts, &mut reached, &mut block, steps);
     fed
-}
-
-/// Gives the last events of a piece to every table.
-fn give_rest<L: Ledger>(
-    gates: &Gates,
-    mode: Mode,
-    parts: &mut [Part],
-    reached: &mut Reached,
-    block: &mut Block,
-    steps: &mut Steps<L>,
-)
-    requires open { All (λ t. ⟦<Part as Tally>⟧.closed t ≡ false) parts.old }
-    requires unsorted { sorted block.old ≡ 0 }
-    requires may { 0 < length (gathered block.old)
-        → All (CanTake ⟦<Part as Tally>⟧ (gathered block.old)) parts.old }
-    requires room { 0 < length (gathered block.old)
-        → taken_with reached.old (gathered block.old) ≤ 2 ^ 40 }
-    ensures took { Each (Took ⟦<Part as Tally>⟧ (gathered block.old)
-        (with_groups (groups_of gates.now) (gathered block.old))) parts.old parts.new }
-    ensures taken { reached.new.taken ≡ taken_with reached.old (gathered block.old) }
-    ensures floor { reached.new.floor ≡ floor_with mode reached.old (gathered block.old) }
-{
-    if block.len() > 0 {
-        flush(gates, mode, parts, reached, block, steps);
-    }
 }

@@ -4,7 +4,7 @@ use Rattle.tally_base.specs.Events.{is_ordered}
 use Rattle.event_block.specs.Columns.{gathered}
 use Rattle.tally_engine.specs.Ahead.{floor_with}
 use Rattle.tally_engine.proofs.Aheads.{pushed_floor}
-use Rattle.gate_plan.specs.Groups.{groups_of}
+use Rattle.gate_plan.specs.Groups.{sorting_of}
 use Rattle.tally_engine.specs.contracts.part.PartTally.TheImpl.{ghosts}
 use Rattle.tally_engine.proofs.Takes.{can_front, moves_push}
 use Rattle.tally_engine.proofs.give.gather_one.Goals as goal
@@ -18,7 +18,7 @@ returns g c =
     let e = c.args.event.now in
     let room = c.make_room.ensures in
     record {
-      moves = λ k d within. moves_push ghosts (groups_of c.args.gates.now) (gathered c.args.block.now) es (gathered c.push.new.self) e _ _ (c.requires.may k d within) c.push.ensures.more (room.moves k d within);
+      moves = λ k d within. moves_push ghosts (sorting_of c.args.gates.now) (gathered c.args.block.now) es (gathered c.push.new.self) e _ _ (c.requires.may k d within) c.push.ensures.more (room.moves k d within);
       taken = omega (arith, ap length c.push.ensures.more, length-append es (e ∷ []), room.taken);
       floor = ap (floor_with c.args.mode c.make_room.new.reached) c.push.ensures.more ∙ pushed_floor c.args.mode c.make_room.new.reached es e ∙ ap (λ n. if is_ordered c.args.mode e then e.time else n) room.floor;
       unsorted = c.push.ensures.unsorted ∙ room.unsorted;

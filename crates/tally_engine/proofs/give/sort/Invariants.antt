@@ -1,12 +1,13 @@
-use Rattle.std.proofs.Common.{ℕ, ◌≡◌, ◌<◌}
-use Rattle.event_block.specs.Columns.{count, sorted, event_at, groups_at}
-use Rattle.gate_plan.specs.Groups.{groups_of, groups_in}
+use Rattle.std.proofs.Common.{length, ℕ, ◌≡◌, ◌<◌, ◌≤◌}
+use Rattle.std.specs.Prelude.{slice_index}
+use Rattle.event_block.specs.Columns.{event_at, code_at}
+use Rattle.gate_plan.specs.Groups.{sorting_of}
+use Rattle.gate_plan.specs.Taking.{groups_by}
 use Rattle.tally_engine.proofs.give.sort.Given as goal
 
 abbrev pub invariant-loop-at : goal.invariant-loop-at
 invariant-loop-at l = record {
-  same : (i : ℕ) → event_at l.block i ≡ event_at l.initial.block i;
-  same_count : count l.block ≡ count l.initial.block;
-  so_far : sorted l.block ≡ l.at;
-  sorted : (i : ℕ) → i < l.at → groups_at l.block i ≡ groups_in (groups_of l.gates) (event_at l.initial.block i);
+  sized : length l.groups ≡ 64;
+  sorted : (i : ℕ) → i < l.at → slice_index l.groups i ≡ groups_by (sorting_of l.gates).groups (event_at l.block i);
+  markers : (i : ℕ) → i < l.at → 256 ≤ code_at l.block i → slice_index l.groups i ≡ 0;
 }

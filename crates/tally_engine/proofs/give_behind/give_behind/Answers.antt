@@ -1,7 +1,7 @@
 use Rattle.std.proofs.Common.{◌≡◌, ◌∙◌, ap, arith, length, [], ◌<◌, rules}
 use Rattle.event_block.specs.Columns.{gathered}
 use Rattle.event_block.specs.Order.{floor_after}
-use Rattle.gate_plan.specs.Groups.{groups_of}
+use Rattle.gate_plan.specs.Groups.{sorting_of}
 use Rattle.record_stream.specs.Blocks.{orders_markers}
 use Rattle.tally_engine.specs.Ahead.{floor_with}
 use Rattle.tally_engine.specs.contracts.part.PartTally.TheImpl.{ghosts}
@@ -10,8 +10,9 @@ use Rattle.tally_engine.proofs.give_behind.give_behind.Goals as goal
 
 pub flush_waiting-requires : goal.flush_waiting-requires
 flush_waiting-requires g c = record {
-  may = λ k d within. can_parts ghosts (gathered c.args.block.now) (gathered c.args.more.now) _ (c.requires.may k d within);
-  room = omega (arith, c.requires.room);
+  «open» = λ k d within. (c.requires.may k d within).open';
+  may = λ some k d within. can_parts ghosts (gathered c.args.block.now) (gathered c.args.more.now) _ (c.requires.may k d within);
+  room = λ some. omega (arith, c.requires.room);
   unsorted = c.requires.unsorted;
 }
 
@@ -33,7 +34,7 @@ returns g c =
     record {
       moves = λ k d within.
           let inside : k < length c.flush_waiting.new.parts = omega (arith, same, within) in
-          moves_two ghosts (groups_of c.args.gates.now) (gathered c.args.block.now) (gathered c.args.more.now) (gathered c.flush_waiting.new.block) _ _ _ waiting.empty (waiting.took k d within) (c.flush.ensures.took k d inside);
+          moves_two ghosts (sorting_of c.args.gates.now) (gathered c.args.block.now) (gathered c.args.more.now) (gathered c.flush_waiting.new.block) _ _ _ waiting.empty (waiting.took k d within) (c.flush.ensures.took k d inside);
       taken = omega (arith, c.flush.ensures.taken, waiting.taken, ap length waiting.empty);
       floor = ap (floor_with c.args.mode c.flush.new.reached) waiting.empty ∙ c.flush.ensures.floor ∙ ap (λ n. floor_after (orders_markers c.args.mode) n (gathered c.args.more.now)) waiting.floor;
       empty = waiting.empty;

@@ -51,7 +51,7 @@ returns-clause-same g c =
     let all : c.args.self.now.parts.len ≡ length c.args.self.now.parts.items = search rules in
     record {
       same_header = refl;
-      same_groups = refl;
+      same_sorting = refl;
       same_parts = rw (whole_slice _ _ _ count all) (same_map _ _ _ count (rw c.deref_mut.ensures.value at tables.settings));
       same_reading = c.feed_parts.ensures.same_how;
     }

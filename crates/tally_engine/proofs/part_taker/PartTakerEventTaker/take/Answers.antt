@@ -1,6 +1,6 @@
 use Rattle.std.proofs.Common.{rules, arith, ◌≡◌, ◌<◌, length}
 use Rattle.event_block.specs.Columns.{gathered}
-use Rattle.gate_plan.specs.Groups.{groups_of}
+use Rattle.gate_plan.specs.Groups.{sorting_of}
 use Rattle.tally_engine.specs.Ahead.{taken_with, floor_with}
 use Rattle.tally_engine.specs.contracts.part.PartTally.TheImpl.{ghosts}
 use Rattle.tally_engine.proofs.Takes.{can_take, waits_on, gave_more}
@@ -25,7 +25,7 @@ invariant_of-self g c =
     record {
       waiting = λ k d inside.
           let within : k < length t.parts.now = omega (arith, same, inside) in
-          waits_on ghosts (groups_of t.gates.now) t.mode (taken_with t.reached es) _ (floor_with t.mode t.reached es) _ es (gathered c.gather.new.block) c.args.event.now c.args.late _ _ (t.waiting k d within) (c.gather.ensures.moves k d within) c.requires.in_order c.gather.ensures.taken c.gather.ensures.floor;
+          waits_on ghosts (sorting_of t.gates.now) t.mode (taken_with t.reached es) _ (floor_with t.mode t.reached es) _ es (gathered c.gather.new.block) c.args.event.now c.args.late _ _ (t.waiting k d within) (c.gather.ensures.moves k d within) c.requires.in_order c.gather.ensures.taken c.gather.ensures.floor;
       limit = λ some. omega (arith, c.requires.room, c.gather.ensures.taken);
       idle = c.gather.ensures.idle;
       unsorted = c.gather.ensures.unsorted;

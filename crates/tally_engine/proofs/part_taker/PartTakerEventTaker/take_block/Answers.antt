@@ -1,6 +1,6 @@
 use Rattle.std.proofs.Common.{rules, arith, ◌≡◌, ◌<◌, length}
 use Rattle.event_block.specs.Columns.{gathered}
-use Rattle.gate_plan.specs.Groups.{groups_of}
+use Rattle.gate_plan.specs.Groups.{sorting_of}
 use Rattle.tally_engine.specs.Ahead.{taken_with, floor_with}
 use Rattle.tally_engine.specs.contracts.part.PartTally.TheImpl.{ghosts}
 use Rattle.tally_engine.proofs.Behind.{can_block, waits_block, gave_block}
@@ -26,7 +26,7 @@ invariant_of-self g c =
     record {
       waiting = λ k d inside.
           let within : k < length t.parts.now = omega (arith, same, inside) in
-          waits_block ghosts (groups_of t.gates.now) t.mode (taken_with t.reached es) _ (floor_with t.mode t.reached es) _ es (gathered c.give_behind.new.block) (gathered c.args.block.now) _ _ (t.waiting k d within) (c.give_behind.ensures.moves k d within) c.requires.in_order c.give_behind.ensures.taken c.give_behind.ensures.floor;
+          waits_block ghosts (sorting_of t.gates.now) t.mode (taken_with t.reached es) _ (floor_with t.mode t.reached es) _ es (gathered c.give_behind.new.block) (gathered c.args.block.now) _ _ (t.waiting k d within) (c.give_behind.ensures.moves k d within) c.requires.in_order c.give_behind.ensures.taken c.give_behind.ensures.floor;
       limit = λ some. omega (arith, c.requires.room, c.give_behind.ensures.taken);
       idle = λ _. c.give_behind.ensures.empty;
       unsorted = c.give_behind.ensures.unsorted;

@@ -1,0 +1,12 @@
+use Rattle.std.proofs.Common.{◌≤◌, ◌+◌, ◌++◌, sum}
+use Rattle.tally_base.specs.Settings.{image_view}
+use Rattle.tally_base.specs.Tally.{History}
+use Rattle.event_block.specs.Columns.{item, rows}
+use Rattle.scan_image.specs.Counted.{Counted}
+use Rattle.scan_image.proofs.count.count_run.Given as goal
+
+abbrev pub invariant-loop-at : goal.invariant-loop-at
+invariant-loop-at l = record {
+  counted : (h : History) → Counted (image_view l.set) l.lines l.fn.cells l.fn.outside (h ++ rows (item l.block) l.from) → Counted (image_view l.set) l.lines l.cells l.outside (h ++ rows (item l.block) l.at);
+  few : sum l.cells + l.outside + l.from ≤ sum l.fn.cells + l.fn.outside + l.at;
+}

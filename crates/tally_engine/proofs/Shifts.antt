@@ -1,0 +1,84 @@
+-- Shifted events come in the order of the events.
+use Rattle.std.proofs.Common.{◌≡◌, ◌≢◌, ◌∙◌, ◌+◌, ◌≤◌, ◌<◌, ◌⊎◌, ⊎_elim, ℕ, zero, suc, Bool, true, false, List, [], ◌∷◌, refl, ap, sym, map, arith, length}
+use Rattle.std.specs.Prelude.{IsTrue, if◌then◌else◌}
+use Rattle.std.proofs.lemmas.List.{length-map, map-append}
+use Rattle.tally_base.specs.declared.event.Event.{Event}
+use Rattle.tally_base.specs.declared.event.EventKind.{EventKind}
+use Rattle.tally_base.specs.declared.event.EventKind.TheVariants.{Photon, Marker}
+use Rattle.tally_base.specs.declared.tally.Tally.{Ghosts}
+use Rattle.tally_base.specs.Events.{is_photon, is_photon_kind}
+use Rattle.tally_base.specs.Settings.{ShiftView, is_strict}
+use Rattle.tally_base.specs.Tally.{History, moves_floor}
+use Rattle.event_block.specs.Columns.{rows}
+use Rattle.event_block.specs.Order.{floor_after, InOrder}
+use Rattle.gate_plan.specs.Shifting.{Sorting, shifted, shifted_kind}
+use Rattle.tally_engine.specs.Give.{CanTake, Took}
+
+photon_kind : (by : Sorting) (kind : EventKind) → is_photon_kind (shifted_kind by kind) ≡ is_photon_kind kind
+photon_kind by (Photon input dtime) = refl
+photon_kind by (Marker bits) = refl
+
+moves_shifted : (strict : Bool) (by : Sorting) (e : Event) → moves_floor strict (shifted by e) ≡ moves_floor strict e
+moves_shifted true by e = refl
+moves_shifted false by e = photon_kind by e.kind
+
+pub floor-shifted : (strict : Bool) (by : Sorting) (floor : ℕ) (es : List Event) → floor_after strict floor (map (shifted by) es) ≡ floor_after strict floor es
+floor-shifted strict by floor [] = refl
+floor-shifted strict by floor (e ∷ es) =
+    floor-shifted strict by (if moves_floor strict (shifted by e) then e.time else floor) es
+    ∙ ap (λ b. floor_after strict (if b then e.time else floor) es) (moves_shifted strict by e)
+
+pub order-shifted : (strict : Bool) (by : Sorting) (floor : ℕ) (es : List Event) → InOrder strict floor es → InOrder strict floor (map (shifted by) es)
+order-shifted strict by floor [] order = tt
+order-shifted strict by floor (e ∷ es) order =
+    (order.0, rw (moves_shifted strict by e) order.1, rw (moves_shifted strict by e) (order-shifted strict by (if moves_floor strict e then e.time else floor) es order.2))
+
+same_kind : (by : Sorting) (kind : EventKind) → by.shifts ≡ [] → shifted_kind by kind ≡ kind
+same_kind by (Photon input dtime) none = rw none refl
+same_kind by (Marker bits) none = refl
+
+pub same_event : (by : Sorting) (e : Event) → by.shifts ≡ [] → shifted by e ≡ e
+same_event by e none = ap (λ kind. record { place = e.place; kind = kind; time = e.time }) (same_kind by e.kind none)
+
+-- Without shifts events stay as they are.
+pub same_events : (by : Sorting) (es : List Event) → by.shifts ≡ [] → es ≡ map (shifted by) es
+same_events by [] none = refl
+same_events by (e ∷ es) none = ap (λ one. one ∷ es) (sym (same_event by e none)) ∙ ap (λ more. shifted by e ∷ more) (same_events by es none)
+
+-- the events of rows, one by one
+pub shifted_rows : (by : Sorting) (f e : ℕ → Event) (n : ℕ) → ((i : ℕ) → i < n → f i ≡ shifted by (e i)) → rows f n ≡ map (shifted by) (rows e n)
+shifted_rows by f e zero is = refl
+shifted_rows by f e (suc n) is = rw (map-append, ← shifted_rows by f e n (λ i lt. is i (omega (arith, lt))), is n (omega arith)) refl
+
+last_or : (i n : ℕ) → i < n + 1 → (i ≡ n) ⊎ (i < n)
+last_or i n lt = grind (arith, lt)
+
+-- one event more is shifted, and those behind it are left
+pub shifted_more : (by : Sorting) (old now next : ℕ → Event) (at : ℕ) → ((i : ℕ) → i < at → now i ≡ shifted by (old i)) → ((i : ℕ) → at ≤ i → now i ≡ old i) → next at ≡ shifted by (now at) → ((i : ℕ) → i ≢ at → next i ≡ now i)
+    → (i : ℕ) → i < at + 1 → next i ≡ shifted by (old i)
+shifted_more by old now next at before left here others i lt =
+    ⊎_elim
+    (λ (is : i ≡ at). rw is (here ∙ ap (shifted by) (left at (omega arith))))
+    (λ (below : i < at). others i (λ is. omega (arith, below, is)) ∙ before i below)
+    (last_or i at lt)
+
+pub left_behind : (old now next : ℕ → Event) (at : ℕ) → ((i : ℕ) → at ≤ i → now i ≡ old i) → ((i : ℕ) → i ≢ at → next i ≡ now i) → (i : ℕ) → at + 1 ≤ i → next i ≡ old i
+left_behind old now next at left others i above = others i (λ is. omega (arith, above, is)) ∙ left i (omega (arith, above))
+
+module _ {T : Type 0} (g : Ghosts T) where
+  -- A table that may be given events may be given them with shifted dtimes.
+  pub can_take-shifted : (by : Sorting) (es es' : List Event) (t : T) → es' ≡ map (shifted by) es → CanTake g es t → CanTake g es' t
+  can_take-shifted by es es' t is can = rw is (record {
+    open' = can.open';
+    room = let same : length (map (shifted by) es) ≡ length es = simp length-map in omega (arith, same, can.room);
+    in_order = order-shifted (is_strict (g.settings t)) by (g.floor t) es can.in_order;
+  })
+
+  pub took-shifted : (by : Sorting) (es es' : List Event) (more : History) (old new : T) → es' ≡ map (shifted by) es → Took g es' more old new → Took g es more old new
+  took-shifted by es es' more old new is took = record {
+    follows = took.follows;
+    still_open = took.still_open;
+    count = let same : length (map (shifted by) es) ≡ length es = simp length-map in omega (arith, same, ap length is, took.count);
+    moved = took.moved ∙ ap (floor_after (is_strict (g.settings old)) (g.floor old)) is ∙ floor-shifted (is_strict (g.settings old)) by (g.floor old) es;
+    same_settings = took.same_settings;
+  }

@@ -1,0 +1,13 @@
+use Rattle.std.proofs.Common.{ℕ, ◌≡◌, ◌<◌, ◌≤◌}
+use Rattle.event_block.specs.Columns.{count, sorted, event_at}
+use Rattle.gate_plan.specs.Groups.{sorting_of}
+use Rattle.gate_plan.specs.Shifting.{shifted}
+use Rattle.tally_engine.proofs.give.shift_each.Given as goal
+
+abbrev pub invariant-loop-at : goal.invariant-loop-at
+invariant-loop-at l = record {
+  same_count : count l.block ≡ count l.initial.block;
+  unsorted : sorted l.block ≡ 0;
+  shifted : (i : ℕ) → i < l.at → event_at l.block i ≡ shifted (sorting_of l.gates) (event_at l.initial.block i);
+  left : (i : ℕ) → l.at ≤ i → event_at l.block i ≡ event_at l.initial.block i;
+}
