@@ -8,6 +8,7 @@ use Rattle.tally_base.specs.declared.fault.Fault.TheVariants.{Usage, OpenFault, 
 use Rattle.tally_base.specs.Faults.{is_outside, status_of, HasReason}
 use Rattle.tally_base.specs.FaultCounts.{Rose}
 use Rattle.bench_io.specs.Inputs.{File, InputState}
+use Rattle.bench_io.proofs.Bytes.{Appends-nil, Keeps-from_none}
 use Rattle.plan_text.specs.Plan.{PlanView}
 use Rattle.plan_text.specs.Reading.{plan_answer}
 use Rattle.ptu_cli.specs.Commands.{Request}
@@ -93,6 +94,13 @@ ends-answered does before after fault result old new err_old err_new faults now 
 ends-answered does before after fault result old new err_old err_new faults now is (inr some) told own =
     files-map does before after _ (λ (end : Outcome). EndsBy end result old new err_old err_new faults now)
     (λ end ends. (is ∙ ap status ends.same, ends.text, subst (λ (o : Option Fault). TellsFault err_old err_new faults now o) ends.same told)) some
+
+-- a run without a fault ends by its files, and tells nothing
+pub ok-answered : (does : Behaviour) (before after : InputState) (old new err : Option (List ℕ)) (faults now : ℕ) → Answers does before after (Ok tt) old new → ForSomeFiles does before after (λ end. EndsBy end 0 old new err err faults now)
+ok-answered does before after old new err faults now (inl none) = absurd none
+ok-answered does before after old new err faults now (inr some) =
+    files-map does before after _ (λ (end : Outcome). EndsBy end 0 old new err err faults now)
+    (λ end ends. (ap status ends.same, ends.text, subst (λ (o : Option Fault). TellsFault err err faults now o) ends.same (Keeps-from_none err err (Appends-nil err)))) some
 
 -- ## Nothing but memory is wanting
 

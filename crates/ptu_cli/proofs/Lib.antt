@@ -27,3 +27,7 @@ pub mod RunTold
 pub mod Demos
 pub mod Numbers
 pub mod Few
+pub mod Cases
+pub mod Causes
+pub mod Shown
+pub mod Statuses

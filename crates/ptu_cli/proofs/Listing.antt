@@ -1,5 +1,5 @@
 -- One line more, and the lines of a piece.
-use Rattle.std.proofs.Common.{◌≡◌, ◌+◌, ◌≤◌, ℕ, List, [], ◌∷◌, ◌++◌, Bool, true, false, Ok, Err, Some, max, refl, sym, ap, subst, ◌∙◌, inl, inr, ⊎_elim, append_assoc, append-nil, arith, length, length-append}
+use Rattle.std.proofs.Common.{◌≡◌, ◌+◌, ◌≤◌, ℕ, List, [], ◌∷◌, ◌++◌, Bool, Ok, Err, Some, refl, sym, ap, subst, ◌∙◌, inl, inr, ⊎_elim, append_assoc, append-nil, arith, length, length-append}
 use Rattle.std.specs.Prelude.{◌&&◌, not, IsTrue, OnOk, if◌then◌else◌}
 use Rattle.std.specs.declared.option.Option.{Option}
 use Rattle.std.specs.declared.result.Result.{Result}
@@ -12,7 +12,7 @@ use Rattle.tally_base.specs.Events.{is_ordered}
 use Rattle.tally_base.specs.FaultCounts.{Rose}
 use Rattle.bench_io.specs.Sinks.{AppendsShort, PassesOn}
 use Rattle.bench_io.proofs.Bytes.{PassesOn-trans, Appends-flushed, AppendsShort-passed, AppendsShort-flushed, AppendsShort-more, AppendsShort-kept, Keeps-from_none}
-use Rattle.ptu_definitions.specs.Kept.{Marked, floor_of}
+use Rattle.ptu_definitions.specs.Kept.{Marked}
 use Rattle.ptu_definitions.specs.Streams.{Reading, record_refusal, given}
 use Rattle.table_out.specs.EventText.{event_text, events_text}
 use Rattle.record_stream.specs.declared.taker.EventTaker.{Ghosts}

@@ -2,7 +2,6 @@
 use Rattle.std.proofs.Common.{◌≡◌, ℕ, List, ◌++◌, false, None, Some, Ok, Err, refl, sym, ap, ◌∙◌, subst, inl, inr}
 use Rattle.std.specs.Prelude.{Result}
 use Rattle.std.specs.declared.option.Option.{Option}
-use Rattle.std.specs.Io.KnownBytes.{Consumes}
 use Rattle.tally_base.specs.declared.fault.Fault.{Fault}
 use Rattle.tally_base.specs.declared.slot.Slot.TheVariants.{Plan as PlanSlot, Data}
 use Rattle.tally_base.specs.Faults.{is_outside, fault_in}
@@ -17,7 +16,7 @@ use Rattle.ptu_cli.specs.Outcomes.{Outcome, refused}
 use Rattle.ptu_cli.specs.PlanPieces.{IsRead, AnswersPlan, PlanReason}
 use Rattle.ptu_cli.specs.Behaviours.{Work, Writing, AtEnd, AsItReads, under, Memory, Behaviour, ByPlan}
 use Rattle.ptu_cli.specs.Works.{AnswersWork, WorkReason}
-use Rattle.ptu_cli.specs.Endings.{IsPlan, HasPlan, TakesPlan, EndsWith, Answers, Cuts, WantsBehind, Span, HasCauses, on_file, outcome}
+use Rattle.ptu_cli.specs.Endings.{TakenOf, IsPlan, HasPlan, TakesPlan, EndsWith, Answers, Cuts, WantsBehind, Span, HasCauses, on_file, outcome}
 use Rattle.ptu_cli.proofs.WorkTold.{taken-told, may_be_read, stops-told}
 
 -- a plan that was read is that of a file
@@ -53,7 +52,7 @@ none-lacking (Some fault) told is never = absurd (never fault is)
 pub takes-later : (before mid after : InputState) (plan : List ℕ) → TakesPlan before mid plan → KeepsOther Data mid after → TakesPlan before after plan
 takes-later before mid after plan takes kept opened =
     let h = takes (sym kept.opened ∙ opened) in
-    (h.0, λ bytes known. subst (λ (r : Option (List ℕ)). Consumes (Some bytes) r h.0) (sym kept.rest) (h.1 bytes known), h.2)
+    (h.0, λ known told. subst (λ (r : Option (List ℕ)). TakenOf known r h.0) (sym kept.rest) (h.1 known told), h.2)
 
 module _ (plan_name name : List ℕ) (writing : Writing (PlanView → List ℕ → List ℕ)) (memory : Memory) (lacks : PlanView → Option Fault) (work : PlanView → Work) where
   abbrev does : Behaviour
@@ -158,7 +157,7 @@ plan-causes plan_name name writing memory lacks work view contents before span f
             (cuts-under writing view ((work view).outcome bytes) span.old span.new w.1.cut);
       },
     ))
-    (λ want. (want.keeps, inr (view, has, record { taken = want.taken; is_taken = λ bytes told. taken-told contents _ _ want.taken bytes is_opened want.consumes (sym same ∙ told); wants = want.wants })))
+    (λ want. (want.keeps, inr (view, has, record { taken = want.taken; is_taken = λ known told. taken-told contents _ _ want.taken known is_opened want.consumes (sym same ∙ told); wants = want.wants })))
     reason
 
 -- a plan that lacks something has no cause outside

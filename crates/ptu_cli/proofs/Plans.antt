@@ -48,7 +48,7 @@ plan_told None rest new taken r opened took ended answer =
     read_of None (Some taken) r (λ told e. cc) (answers (Some taken) taken r refl (λ enough. sym (answer enough)))
 plan_told (Some None) rest new taken r opened took ended answer = let none = opened.1 in cc
 plan_told (Some (Some bytes)) rest new taken r opened took ended answer =
-    read_of (Some (Some bytes)) (Some bytes) r (λ told e. cc) (answers (Some bytes) bytes r refl (λ enough. read_told bytes taken new (taken-told (Some (Some bytes)) rest new taken bytes opened took refl) ended ∙ sym (answer enough)))
+    read_of (Some (Some bytes)) (Some bytes) r (λ told e. cc) (answers (Some bytes) bytes r refl (λ enough. read_told bytes taken new (taken-told (Some (Some bytes)) rest new taken (Some bytes) opened took refl) ended ∙ sym (answer enough)))
 
 pub plan_reason : (opening reading : Slot → Type 0) (writing : Type 0) (fault : Fault) → (fault ≢ OutOfMemory → is_outside fault ≡ false) → HasReason opening reading writing (Unit {0}) fault
 plan_reason o r w (OpenFault slot) h = let inside = h (λ e. cc) in cc

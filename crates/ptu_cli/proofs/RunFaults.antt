@@ -1,5 +1,5 @@
 -- No refusal of a plan, or of a file by a plan, is that of a bad command line.
-use Rattle.std.proofs.Common.{◌≡◌, ℕ, List, Bool, true, false, None, Some, Ok, Err, refl, inl, inr, arith}
+use Rattle.std.proofs.Common.{◌≡◌, ℕ, List, Bool, true, false, None, Some, Ok, Err, refl, arith}
 use Rattle.std.specs.Prelude.{◌≢◌, ◌==◌, Result, length, nat_le, if◌then◌else◌}
 use Rattle.std.specs.declared.option.Option.{Option}
 use Rattle.tally_base.specs.declared.fault.Fault.{Fault}
@@ -19,7 +19,7 @@ use Rattle.plan_text.specs.Plan.{PlanView, plan_rules, plan}
 use Rattle.plan_text.specs.Reading.{document, if_kept, plan_of_document, plan_answer}
 use Rattle.plan_text.specs.Fits.{fits, IsMisfit}
 use Rattle.plan_text.proofs.Rise.{plan_rules_rise}
-use Rattle.plan_text.proofs.Misfits.{misfit_named}
+use Rattle.plan_text.proofs.Misfits.{misfit_named, names_part}
 use Rattle.ptu_cli.specs.Outcomes.{status, report_outcome}
 use Rattle.tally_engine.specs.Plans.{reading_by}
 use Rattle.ptu_cli.specs.Reports.{report_of, if_fits, report_behind, file_report}
@@ -47,8 +47,7 @@ unfolding plan_answer
 plan_answer-bytes text = short-bytes (nat_le (length text) 65536) (plan_of_document (document text)) (document-bytes (document text))
 
 misfit-bytes : (mode : Mode) (view : PlanView) (fault : Fault) → IsMisfit mode view fault → status_of fault ≢ 1
-misfit-bytes mode view fault (inl (number, is, first)) = rw is (λ e. omega arith)
-misfit-bytes mode view fault (inr (kind, is, first, none)) = rw is (λ e. omega arith)
+misfit-bytes mode view fault misfit = rw (names_part mode view fault misfit).2 (λ e. omega arith)
 
 report_of-bytes : (view : PlanView) (header : Header) (bytes : List ℕ) (r : Result Summary Fault) → status (fault_in r) ≢ 1 → IsOfBytes (report_of view header bytes r)
 report_of-bytes view header bytes (Ok summary) h = tt

@@ -19,10 +19,10 @@ use Rattle.ptu_definitions.specs.Shown.{Shows}
 use Rattle.ptu_definitions.specs.Streams.{record_refusal, streamed}
 use Rattle.plan_text.specs.Plan.{PlanView}
 use Rattle.plan_text.specs.Fits.{fits, IsMisfit}
-use Rattle.plan_text.proofs.Misfits.{misfit_named}
+use Rattle.plan_text.proofs.Misfits.{misfit_named, names_part}
 use Rattle.tally_engine.specs.declared.engine.Engine.{Engine}
 use Rattle.tally_engine.specs.declared.engine.Results.{Results}
-use Rattle.tally_engine.specs.Engine.{engine_groups, reading_of, IsFor, SameEngine, IsCounted, Finishes}
+use Rattle.tally_engine.specs.Engine.{engine_sorting, reading_of, IsFor, SameEngine, IsCounted, Finishes}
 use Rattle.tally_engine.specs.Plans.{reading_by, OpensAs}
 use Rattle.tally_engine.specs.Histories.{history}
 use Rattle.tally_engine.specs.Parts.{settings_in}
@@ -66,7 +66,7 @@ counted-report : (plan : PlanView) (header : Header) (engine : Engine) (taken be
 counted-report plan header engine taken behind next left results shows fit is counted end =
     let how = reading_by plan header in
     let bytes = behind ++ next in
-    let events = history (engine_groups engine) (reading_of engine) (words_of bytes) in
+    let events = history (engine_sorting engine) (reading_of engine) (words_of bytes) in
     let answer : streamed how bytes ≡ Ok results.summary = rw is.reads at counted.summary_is in
     record {
       tables = with_events (settings_in results.parts.items) events;
@@ -75,7 +75,7 @@ counted-report plan header engine taken behind next left results shows fit is co
       says = Says-at_end (file_report plan) (taken ++ next) left _ end
           (file-behind plan header taken behind shows fit next
           ∙ ap (report_of plan header bytes) answer
-          ∙ rw (counted.header_is, counted.parts_are, is.header_is, is.parts_are, is.groups_are, is.reads) refl);
+          ∙ rw (counted.header_is, counted.parts_are, is.header_is, is.parts_are, is.sorting_is, is.reads) refl);
     }
 
 pub answers-run : (plan : PlanView) (header : Header) (engine : Engine) (taken behind next : List ℕ) (left : Option (List ℕ)) (r : Result Results Fault) → ShowsHeader taken header behind → fits (mode_of header.record_type) plan ≡ Ok tt
@@ -119,17 +119,17 @@ counted-same old new bytes results same counted = record {
   summary_is = rw same.same_reading at counted.summary_is;
   parts_are = counted.parts_are ∙ same.same_parts;
   closed = counted.closed;
-  counts = rw (same.same_groups, same.same_reading) at counted.counts;
-  worked = rw (same.same_groups, same.same_reading) at counted.worked;
+  counts = rw (same.same_sorting, same.same_reading) at counted.counts;
+  worked = rw (same.same_sorting, same.same_reading) at counted.worked;
 }
 
 pub SameEngine-refl : (engine : Engine) → SameEngine engine engine
-SameEngine-refl engine = record { same_header = refl; same_groups = refl; same_parts = refl; same_reading = refl }
+SameEngine-refl engine = record { same_header = refl; same_sorting = refl; same_parts = refl; same_reading = refl }
 
 pub SameEngine-trans : (a b c : Engine) → SameEngine a b → SameEngine b c → SameEngine a c
 SameEngine-trans a b c p q = record {
   same_header = q.same_header ∙ p.same_header;
-  same_groups = q.same_groups ∙ p.same_groups;
+  same_sorting = q.same_sorting ∙ p.same_sorting;
   same_parts = q.same_parts ∙ p.same_parts;
   same_reading = q.same_reading ∙ p.same_reading;
 }
@@ -152,8 +152,7 @@ pub report-open : (plan : PlanView) (header : Header) (taken behind next : List 
 report-open plan header taken behind next shows fit goes = rw (file-behind plan header taken behind shows fit next) (report_of-open plan header (behind ++ next) (streamed (reading_by plan header) (behind ++ next)) goes)
 
 fits-inside : (mode : Mode) (plan : PlanView) (fault : Fault) → IsMisfit mode plan fault → is_outside fault ≡ false
-fits-inside mode plan fault (inl (number, is, first)) = rw is refl
-fits-inside mode plan fault (inr (kind, is, first, none)) = rw is refl
+fits-inside mode plan fault misfit = rw (names_part mode plan fault misfit).2 refl
 
 -- why no engine was opened: the plan does not suit the file, or memory was refused behind the header
 pub unopened-reason : (plan : PlanView) (header : Header) (taken behind : List ℕ) (before after : InputState) (fault : Fault) → ShowsHeader taken header behind → length behind < piece_limit → Consumes (before.rest Data) (after.rest Data) taken

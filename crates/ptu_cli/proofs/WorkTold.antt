@@ -1,6 +1,6 @@
 -- What the work on a file leaves where the inputs tell the file.
 use Rattle.std.proofs.Common.{◌≡◌, ℕ, List, [], ◌++◌, true, None, Some, Ok, Err, refl, sym, ◌∙◌, subst, inl, inr}
-use Rattle.std.specs.Prelude.{◌⊎◌, Result, OnOk, OnErr, IfErr}
+use Rattle.std.specs.Prelude.{◌⊎◌, Result, IsSome, OnOk, OnErr, IfErr}
 use Rattle.std.specs.declared.option.Option.{Option}
 use Rattle.std.specs.Io.KnownBytes.{Appends, Consumes}
 use Rattle.tally_base.specs.declared.fault.Fault.{Fault}
@@ -17,14 +17,15 @@ use Rattle.ptu_cli.specs.Told.{MayBe, Says}
 use Rattle.ptu_cli.specs.Outcomes.{Outcome, refused, written}
 use Rattle.ptu_cli.specs.Behaviours.{Work, Writing, AtEnd, OnFile}
 use Rattle.ptu_cli.specs.Works.{AnswersWork, ReadsWork, WantsNone, WorkReason, TakesFew}
-use Rattle.ptu_cli.specs.Endings.{MayBeRead, outcome, Answers, EndsWith, StopsIn, Cuts, Span, TakesData, HasCauses}
+use Rattle.ptu_cli.specs.Endings.{TakenOf, MayBeRead, outcome, Answers, EndsWith, StopsIn, Cuts, Span, TakesData, HasCauses}
 use Rattle.ptu_cli.proofs.Told.{file-parts}
 
 -- the bytes taken from a file that is told
-pub taken-told : (contents : Option File) (rest new : Option (List ℕ)) (taken bytes : List ℕ) → IsOpened contents rest → Consumes rest new taken → contents ≡ Some (Some bytes) → Consumes (Some bytes) new taken
-taken-told None rest new taken bytes opened took known = cc
-taken-told (Some file) rest new taken bytes opened took known =
-    let same : file ≡ Some bytes = cc in
+pub taken-told : (contents : Option File) (rest new : Option (List ℕ)) (taken : List ℕ) (file : File) → IsOpened contents rest → Consumes rest new taken → contents ≡ Some file → TakenOf file new taken
+taken-told None rest new taken file opened took known = cc
+taken-told (Some own) rest new taken None opened took known = let same : own ≡ None = cc in let there = subst IsSome same opened.1 in cc
+taken-told (Some own) rest new taken (Some bytes) opened took known =
+    let same : own ≡ Some bytes = cc in
     subst (λ (r : Option (List ℕ)). Consumes r new taken) (opened.0 ∙ same) took
 
 -- the bytes taken and some behind them may be the file
@@ -33,7 +34,7 @@ pub may_be_read : (contents : Option File) (before after : InputState) (name : L
 may_be_read contents before after name rest taken more same opened took may_be = record {
   may_be = λ known e. file-parts contents rest (after.rest Data) taken more opened took may_be known (sym same ∙ e);
   taken = taken;
-  is_taken = λ bytes known. taken-told contents rest (after.rest Data) taken bytes opened took (sym same ∙ known);
+  is_taken = λ known told. taken-told contents rest (after.rest Data) taken known opened took (sym same ∙ told);
   more = more;
   is_left = may_be;
   parts = refl;
@@ -55,7 +56,7 @@ pub stops-told : (writing : Writing (List ℕ → List ℕ)) (work : Work) (cont
     → ReadsWork writing work (opened.rest Data) (after.rest Data) old new → StopsIn writing work before after file old new
 stops-told writing work contents before opened after file old new same is_opened h = record {
   taken = h.taken;
-  is_taken = λ bytes known. taken-told contents _ _ h.taken bytes is_opened h.consumes (sym same ∙ known);
+  is_taken = λ known told. taken-told contents _ _ h.taken known is_opened h.consumes (sym same ∙ told);
   goes_on = h.goes_on;
   text = h.written;
 }
@@ -85,7 +86,7 @@ pub few-told : (work : Work) (contents : Option File) (before opened after : Inp
 few-told work contents before opened after file same is_opened h = record {
   front = h.front;
   last = h.last;
-  is_taken = λ bytes known. taken-told contents _ _ (h.front ++ h.last) bytes is_opened h.consumes (sym same ∙ known);
+  is_taken = λ known told. taken-told contents _ _ (h.front ++ h.last) known is_opened h.consumes (sym same ∙ told);
   goes_on = h.goes;
   few = h.few;
 }

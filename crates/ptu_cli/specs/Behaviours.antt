@@ -1,11 +1,12 @@
 -- What each command does, told once.
-use Rattle.std.specs.Prelude.{ℕ, ◌≡◌, ◌≤◌, List, [], length, None, Some, Ok}
+use Rattle.std.specs.Prelude.{ℕ, ◌≡◌, ◌≤◌, ◌⊎◌, List, [], length, None, Some, Ok}
 use Rattle.std.specs.declared.option.Option.{Option}
 use Rattle.tally_base.specs.declared.fault.Fault.{Fault}
 use Rattle.tally_base.specs.declared.header.Header.{Header}
 use Rattle.tally_base.specs.RecordTypes.{mode_of}
 use Rattle.tally_base.specs.Faults.{fault_in}
 use Rattle.ptu_definitions.specs.Headers.{header_answer}
+use Rattle.ptu_definitions.specs.Shown.{Shows}
 use Rattle.ptu_definitions.specs.Words.{words_of, rest_of}
 use Rattle.ptu_definitions.specs.Counted.{record_limit}
 use Rattle.ptu_definitions.specs.Streams.{Reading, record_refusal}
@@ -30,6 +31,10 @@ pub record Work : Type 1 where
   pub goes_on : List ℕ → Type 0
   -- a file of these bytes is a good one
   pub good : List ℕ → Type 0
+
+-- The bytes call for no end by themselves, or for one that stays whatever comes behind them.
+abbrev pub GoesOnOrShows : Work → List ℕ → Type 0
+GoesOnOrShows work bytes = work.goes_on bytes ⊎ Shows work.outcome bytes (work.outcome bytes)
 
 -- When a text is written: at the end, and only where the run ends well; or while the file is read. Then it is told what has been written of the bytes so far.
 pub data Writing (A : Type 0) : Type 0 where

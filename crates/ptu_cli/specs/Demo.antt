@@ -1,11 +1,12 @@
 -- What `demo` counts, and its report.
-use Rattle.std.specs.Prelude.{ℕ, List, [], ◌∷◌, None, codes}
+use Rattle.std.specs.Prelude.{ℕ, List, [], ◌∷◌, codes}
 use Rattle.tally_base.specs.declared.event.Order.TheVariants.{Drop}
 use Rattle.tally_base.specs.declared.event.OnReserved.TheVariants.{Skip}
 use Rattle.tally_base.specs.Settings.PartSettings.{TraceSettings, StartStopSettings, CoincidenceSettings, CorrelationSettings}
 use Rattle.ptu_definitions.specs.Counted.{record_limit}
 use Rattle.ptu_definitions.specs.Streams.{Reading, summary}
 use Rattle.plan_text.specs.Plan.{PlanView, parts_of}
+use Rattle.gate_plan.specs.Shifting.{sorting}
 use Rattle.tally_engine.specs.Histories.{history}
 use Rattle.tally_engine.specs.Plans.{reading_by}
 use Rattle.table_out.specs.Report.{report, with_events}
@@ -22,7 +23,9 @@ demo_plan = record {
   order = Drop;
   reserved = Skip;
   records = record_limit;
-  groups = record { inputs = 2; gate = None } ∷ record { inputs = 4; gate = None } ∷ [];
+  period = 1;
+  shifts = [];
+  groups = record { inputs = 2; gates = [] } ∷ record { inputs = 4; gates = [] } ∷ [];
   parts =
       TraceSettings (record { group = 1; origin = 0; width = 1048576; bins = 64 })
       ∷ StartStopSettings (record { start = 1; stop = 2; width = 64; bins = 64 })
@@ -38,4 +41,4 @@ demo_reading = reading_by demo_plan made_header
 -- the report of this plan over the made file of a seed and a number of photons
 unfoldable pub demo_report : ℕ → ℕ → List ℕ
 demo_report seed count =
-    report made_header (summary demo_reading (made_words seed count)) (with_events (parts_of demo_plan) (history demo_plan.groups demo_reading (made_words seed count)))
+    report made_header (summary demo_reading (made_words seed count)) (with_events (parts_of demo_plan) (history (sorting demo_plan) demo_reading (made_words seed count)))

@@ -10,6 +10,8 @@ use Rattle.tally_base.specs.Faults.{line_of, is_outside, fault_in, HasReason}
 use Rattle.tally_base.specs.FaultCounts.{Rose}
 use Rattle.bench_io.specs.Sinks.{AppendsShort}
 use Rattle.bench_io.specs.Inputs.{File, InputState}
+use Rattle.bench_io.specs.declared.inputs.Inputs.{Ghosts as InputGhosts}
+use Rattle.bench_io.specs.declared.sink.Sink.{Ghosts as SinkGhosts}
 use Rattle.tally_base.specs.declared.header.Header.{Header}
 use Rattle.ptu_definitions.specs.Headers.{header_answer}
 use Rattle.tally_base.specs.RecordTypes.{mode_of}
@@ -63,9 +65,14 @@ pub record HasPlan (state : InputState) (name : List ℕ) (lacks : PlanView → 
   pub is_plan : IsPlan plan_file plan
   pub whole : lacks plan ≡ None
 
+-- These bytes were taken from a file: it is there, and they are its first, with those that are left behind them. Nothing is taken from a file that isn't there.
+abbrev pub TakenOf : File → Option (List ℕ) → List ℕ → Type 0
+TakenOf None left taken = ⊥
+TakenOf (Some bytes) left taken = Consumes (Some bytes) left taken
+
 -- These are the bytes that were taken from the file of a name, where the inputs tell it.
 abbrev pub IsTakenFrom : Slot → InputState → InputState → List ℕ → List ℕ → Type 0
-IsTakenFrom slot before after name taken = (bytes : List ℕ) → before.contents name ≡ Some (Some bytes) → Consumes (Some bytes) (after.rest slot) taken
+IsTakenFrom slot before after name taken = (file : File) → before.contents name ≡ Some file → TakenOf file (after.rest slot) taken
 
 abbrev pub IsTaken : InputState → InputState → List ℕ → List ℕ → Type 0
 IsTaken = IsTakenFrom Data
@@ -225,6 +232,28 @@ pub record Span : Type 0 where
   pub new : Option (List ℕ)
   pub faults_before : ℕ
   pub faults_after : ℕ
+
+-- those of these inputs and of this output
+abbrev pub span : {I O : Type 0} → InputGhosts I → SinkGhosts O → I → I → O → O → Span
+span i o before after old new = record {
+  before = i.state before;
+  after = i.state after;
+  old = o.written old;
+  new = o.written new;
+  faults_before = o.faults old;
+  faults_after = o.faults new;
+}
+
+-- those of this output, where the inputs stay as they are
+abbrev pub alone_span : {O : Type 0} → SinkGhosts O → InputState → O → O → Span
+alone_span o state old new = record {
+  before = state;
+  after = state;
+  old = o.written old;
+  new = o.written new;
+  faults_before = o.faults old;
+  faults_after = o.faults new;
+}
 
 -- An opening failed: the command came to the slot, the count of its openings that failed rose, and nothing was written.
 abbrev pub FailsOpening : Behaviour → Slot → InputState → InputState → Option (List ℕ) → Option (List ℕ) → Type 0

@@ -6,6 +6,8 @@ use Rattle.tally_base.specs.declared.header.Mode.{Mode}
 use Rattle.tally_base.specs.declared.fault.Fault.{Fault}
 use Rattle.tally_base.specs.declared.fault.Fault.TheVariants.{WriteFault}
 use Rattle.bench_io.specs.Sinks.{AppendsShort}
+use Rattle.bench_io.specs.declared.sink.Sink.{Ghosts}
+use Rattle.ptu_definitions.specs.Words.{words_of}
 use Rattle.tally_base.specs.FaultCounts.{Rose}
 use Rattle.ptu_definitions.specs.Counted.{record_limit}
 use Rattle.record_stream.specs.declared.stream.RecordStream.{RecordStream}
@@ -46,3 +48,9 @@ pub record WroteShort (how : Reading) (old new : Option (List ℕ)) (before afte
 abbrev pub Writes : {X : Type 0} → Reading → Option (List ℕ) → Option (List ℕ) → ℕ → ℕ → List ℕ → List ℕ → Result X Fault → Type 0
 Writes how old new before after words now (Ok x) = (record_refusal how now ≡ None) × Wrote how old new words now
 Writes how old new before after words now (Err fault) = ((record_refusal how now ≡ Some fault) × Wrote how old new words now) ⊎ ((fault ≡ WriteFault) × WroteShort how old new before after words now)
+
+-- what feeding a piece to a stream that has refused nothing wrote on an output
+abbrev pub WritesPiece : {O X : Type 0} → Ghosts O → RecordStream → List ℕ → O → O → Result X Fault → Type 0
+WritesPiece o stream piece old new result =
+    refused_with stream ≡ None → (bytes : List ℕ) → HasStreamed stream bytes
+    → Writes (how_of stream) (o.written old) (o.written new) (o.faults old) (o.faults new) (words_of bytes) (words_of (bytes ++ piece)) result

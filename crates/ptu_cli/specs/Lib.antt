@@ -15,6 +15,9 @@ pub mod BodyPieces
 pub mod Printing
 pub mod Requests
 pub mod Endings
+pub mod Runs
+pub mod Cases
+pub mod Causes
 pub mod Edge
 pub mod EventRuns
 pub mod PlanPieces

@@ -9,13 +9,14 @@ use Rattle.ptu_definitions.specs.Words.{words_of}
 use Rattle.ptu_definitions.specs.Streams.{streamed}
 use Rattle.plan_text.specs.Plan.{PlanView, parts_of}
 use Rattle.plan_text.specs.Fits.{fits}
+use Rattle.gate_plan.specs.Shifting.{sorting}
 use Rattle.tally_engine.specs.Histories.{history}
 use Rattle.tally_engine.specs.Plans.{reading_by}
 use Rattle.table_out.specs.Report.{report, with_events}
 
 -- the report of the records behind a header, where none is refused
 abbrev pub report_of : PlanView → Header → List ℕ → Result Summary Fault → Result (List ℕ) Fault
-report_of plan header bytes (Ok summary) = Ok (report header summary (with_events (parts_of plan) (history plan.groups (reading_by plan header) (words_of bytes))))
+report_of plan header bytes (Ok summary) = Ok (report header summary (with_events (parts_of plan) (history (sorting plan) (reading_by plan header) (words_of bytes))))
 report_of plan header bytes (Err fault) = Err fault
 
 -- the same, by whether the plan's parts suit the file

@@ -1,5 +1,5 @@
 -- What counting the records of a file by a plan leaves.
-use Rattle.std.specs.Prelude.{ℕ, ◌≡◌, ◌⊎◌, ◌<◌, List, [], true, None, Result, Ok, Err}
+use Rattle.std.specs.Prelude.{ℕ, ◌≡◌, ◌⊎◌, ◌<◌, List, [], ◌++◌, true, None, Result, Ok, Err}
 use Rattle.std.specs.declared.option.Option.{Option}
 use Rattle.std.specs.Io.KnownBytes.{Consumes, IsAtEnd}
 use Rattle.tally_base.specs.declared.slot.Slot.TheVariants.{Data}
@@ -34,6 +34,11 @@ pub record IsFresh (engine : Engine) : Type 0 where
 abbrev pub EndsEngine : Engine → List ℕ → Option (List ℕ) → Result Results Fault → Type 0
 EndsEngine engine bytes left (Ok results) = IsCounted engine bytes results × IsAtEnd left
 EndsEngine engine bytes left (Err fault) = (is_outside fault ≡ true) ⊎ Says (streamed (reading_of engine)) bytes left (Err fault)
+
+-- It ends so by some bytes with those taken behind them.
+abbrev pub EndsBehind : Engine → List ℕ → Option (List ℕ) → Option (List ℕ) → Result Results Fault → Type 0
+EndsBehind engine bytes rest_before rest_after result =
+    (taken : List ℕ) × Consumes rest_before rest_after taken × EndsEngine engine (bytes ++ taken) rest_after result
 
 -- The tables are closed and each stands for some events, and the report of the file is that of these.
 pub record IsReport (plan : PlanView) (taken : List ℕ) (left : Option (List ℕ)) (results : Results) : Type 0 where

@@ -6,9 +6,10 @@ use Rattle.tally_base.specs.declared.slot.Slot.TheVariants.{Data}
 use Rattle.tally_base.specs.declared.fault.Fault.{Fault}
 use Rattle.tally_base.specs.FaultCounts.{Rose}
 use Rattle.tally_base.specs.Faults.{is_outside, fault_in, HasReason}
+use Rattle.plan_text.specs.Plan.{PlanView}
 use Rattle.ptu_cli.specs.Told.{MayBe, Says}
-use Rattle.ptu_cli.specs.Behaviours.{piece_limit, Work, Writing, so_far}
-use Rattle.ptu_cli.specs.Endings.{Cuts, Span}
+use Rattle.ptu_cli.specs.Behaviours.{piece_limit, Work, Writing, so_far, under, Memory}
+use Rattle.ptu_cli.specs.Endings.{Cuts, Span, WantsBehind}
 
 -- The bytes taken and those left end so, and this text was written.
 pub record EndsWork (work : Work) (rest_before rest_after old new : Option (List ℕ)) (fault : Option Fault) : Type 0 where
@@ -55,6 +56,10 @@ WorkReason writing wanting work span = HasReason
     (λ slot. (slot ≡ Data) × Rose (span.before.read_faults slot) (span.after.read_faults slot) × ReadsWork writing work (span.before.rest Data) (span.after.rest Data) span.old span.new)
     (Rose span.faults_before span.faults_after × CutsWork writing work (span.before.rest Data) (span.after.rest Data) span.old span.new)
     (WantsWork wanting (span.before.rest Data) (span.after.rest Data) span.old span.new)
+
+-- Why the work by a plan ended by a fault from outside.
+abbrev pub PlanReason : Memory → Writing (PlanView → List ℕ → List ℕ) → (PlanView → Work) → PlanView → Span → Fault → Type 0
+PlanReason memory writing work plan span = WorkReason (under plan writing) (WantsBehind memory plan) (work plan) span
 
 -- The bytes taken are some that call for no end by themselves, and no more behind them than one read gives.
 pub record TakesFew (goes_on : List ℕ → Type 0) (rest_before rest_after : Option (List ℕ)) : Type 0 where

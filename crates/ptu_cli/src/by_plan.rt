@@ -9,9 +9,9 @@ ghost use Rattle.bench_io.specs.Inputs.{OnlyReads};
 ghost use Rattle.ptu_definitions.specs.Counted.{record_limit};
 ghost use Rattle.plan_text.specs.Plan.{PlanView};
 ghost use Rattle.plan_text.specs.Reading.{plan_view};
-ghost use Rattle.ptu_cli.specs.Behaviours.{Work, Writing, under, Memory, ByPlan};
-ghost use Rattle.ptu_cli.specs.Endings.{WantsBehind, Does};
-ghost use Rattle.ptu_cli.specs.Works.{AnswersWork, TakesFew, WorkReason};
+ghost use Rattle.ptu_cli.specs.Behaviours.{Work, Writing, Memory, ByPlan};
+ghost use Rattle.ptu_cli.specs.Endings.{Does, span};
+ghost use Rattle.ptu_cli.specs.Works.{AnswersWork, TakesFew, PlanReason};
 
 use crate::plan::plan_of;
 use bench_io::{Inputs, Sink};
@@ -49,15 +49,8 @@ pub(crate) trait PlanWork {
         ensures answer { AnswersWork (work self.now (plan_view plan.now))
             ((I.state inputs.old).rest Data) ((I.state inputs.new).rest Data)
             (O.written out.old) (O.written out.new) result }
-        ensures reason { IfErr result (WorkReason (under (plan_view plan.now) (writing self.now))
-            (WantsBehind memory (plan_view plan.now)) (work self.now (plan_view plan.now)) (record {
-              before = I.state inputs.old;
-              after = I.state inputs.new;
-              old = O.written out.old;
-              new = O.written out.new;
-              faults_before = O.faults out.old;
-              faults_after = O.faults out.new;
-            })) }
+        ensures reason { IfErr result (PlanReason memory (writing self.now) (work self.now)
+            (plan_view plan.now) (span I.Inputs O.Sink inputs.old inputs.new out.old out.new)) }
         ensures few { TakesFew (work self.now (plan_view plan.now)).goes_on
             ((I.state inputs.old).rest Data) ((I.state inputs.new).rest Data) };
 }
@@ -76,14 +69,8 @@ pub(crate) fn by_plan<W: PlanWork, I: Inputs, O: Sink>(
     requires meant_data { (I.state inputs.old).meant Data data_name.now ≡ true }
     requires first { (slot : Slot) → (I.state inputs.old).asked slot ≡ false }
     ensures { Does (ByPlan plan_name.now data_name.now (W.writing work.now) W.memory
-        (W.lacking work.now) (W.work work.now)) (record {
-          before = I.state inputs.old;
-          after = I.state inputs.new;
-          old = O.written out.old;
-          new = O.written out.new;
-          faults_before = O.faults out.old;
-          faults_after = O.faults out.new;
-        }) result }
+        (W.lacking work.now) (W.work work.now))
+        (span I.Inputs O.Sink inputs.old inputs.new out.old out.new) result }
 {
     let plan = plan_of(alloc, inputs, plan_name)?;
     if let Some(fault) = work.lacks(&plan) {

@@ -1,19 +1,18 @@
 // Reads the data of a command in pieces.
-ghost use Rattle.std.specs.Prelude.{◌≡◌, ◌≤◌, ◌++◌, List, ℕ, length, true, IfErr, IfOk};
+ghost use Rattle.std.specs.Prelude.{◌≡◌, ◌≤◌, List, ℕ, true, IfErr, IfOk};
 ghost use Rattle.std.specs.Io.KnownBytes.{Consumes};
 ghost use Rattle.tally_base.specs.declared.slot.Slot.TheVariants.{Data};
 ghost use Rattle.tally_base.specs.declared.header.RecordType.{RecordType};
 ghost use Rattle.bench_io.specs.Inputs.{OnlyReads};
-ghost use Rattle.ptu_definitions.specs.Words.{words_of};
-ghost use Rattle.ptu_definitions.specs.Counted.{counted, record_limit};
+ghost use Rattle.ptu_definitions.specs.Counted.{counted};
 ghost use Rattle.table_out.specs.HeaderText.{header_text};
-ghost use Rattle.ptu_cli.specs.Outcomes.{file_counts, MayChange};
+ghost use Rattle.ptu_cli.specs.Endings.{span};
+ghost use Rattle.ptu_cli.specs.Outcomes.{file_counts};
 ghost use Rattle.ptu_cli.specs.Behaviours.{AsItReads, counting, printing, events_so_far, listing_all};
 ghost use Rattle.ptu_cli.specs.Works.{AnswersWork, TakesFew, WantsNone, WorkReason};
-ghost use Rattle.ptu_cli.specs.Pieces.{ReadReason, AnswersAs, IsReady, StopsSoon};
+ghost use Rattle.ptu_cli.specs.Pieces.{ReadReason, AnswersAs, AnswersBehind, IsReady, StopsSoon, StopsCounting};
 ghost use Rattle.ptu_cli.specs.HeaderPieces.{EndsIn, HeaderEnds};
 ghost use Rattle.ptu_cli.specs.Outcomes.{IsCut};
-ghost use Rattle.tally_base.specs.Faults.{fault_in};
 ghost use Rattle.record_layout.specs.Counting.{HasCounted};
 
 use crate::events::{list_piece, list_rest};
@@ -51,13 +50,11 @@ fn count_rest<I: Inputs>(
     ensures reads { OnlyReads Data (I.state inputs.old) (I.state inputs.new) }
     ensures reason { IfErr result (ReadReason (I.state inputs.old) (I.state inputs.new)) }
     ensures answer { (record_type : RecordType) (bytes : List ℕ)
-        → HasCounted counter record_type bytes → (taken : List ℕ)
-        × Consumes ((I.state inputs.old).rest Data) ((I.state inputs.new).rest Data) taken
-        × AnswersAs (counted record_type) (bytes ++ taken) ((I.state inputs.new).rest Data) result }
-    ensures stops { (record_type : RecordType) (bytes : List ℕ)
-        → HasCounted counter record_type bytes → length (words_of bytes) ≤ record_limit
-        → StopsSoon (λ front. MayChange (fault_in (counted record_type (bytes ++ front))))
-        ((I.state inputs.old).rest Data) ((I.state inputs.new).rest Data) result }
+        → HasCounted counter record_type bytes
+        → AnswersBehind (counted record_type) bytes ((I.state inputs.old).rest Data)
+        ((I.state inputs.new).rest Data) result }
+    ensures stops { StopsCounting counter ((I.state inputs.old).rest Data)
+        ((I.state inputs.new).rest Data) result }
 {
     'pieces: loop {
         let Ok(len) = inputs.read(Slot::Data, buffer) else {
@@ -135,14 +132,8 @@ pub(crate) fn print_data<I: Inputs, O: Sink>(inputs: &mut I, out: &mut O) -> Res
     ensures reads { OnlyReads Data (I.state inputs.old) (I.state inputs.new) }
     ensures answer { AnswersWork printing ((I.state inputs.old).rest Data)
         ((I.state inputs.new).rest Data) (O.written out.old) (O.written out.new) result }
-    ensures reason { IfErr result (WorkReason (AsItReads header_text) WantsNone printing (record {
-      before = I.state inputs.old;
-      after = I.state inputs.new;
-      old = O.written out.old;
-      new = O.written out.new;
-      faults_before = O.faults out.old;
-      faults_after = O.faults out.new;
-    })) }
+    ensures reason { IfErr result (WorkReason (AsItReads header_text) WantsNone printing
+        (span I.Inputs O.Sink inputs.old inputs.new out.old out.new)) }
     ensures few { TakesFew IsCut ((I.state inputs.old).rest Data)
         ((I.state inputs.new).rest Data) }
     ensures later { O.faults out.old ≤ O.faults out.new }
@@ -172,14 +163,7 @@ pub(crate) fn list_data<I: Inputs, O: Sink>(inputs: &mut I, out: &mut O) -> Resu
     ensures answer { AnswersWork listing_all ((I.state inputs.old).rest Data)
         ((I.state inputs.new).rest Data) (O.written out.old) (O.written out.new) result }
     ensures reason { IfErr result (WorkReason (AsItReads events_so_far) WantsNone listing_all
-        (record {
-          before = I.state inputs.old;
-          after = I.state inputs.new;
-          old = O.written out.old;
-          new = O.written out.new;
-          faults_before = O.faults out.old;
-          faults_after = O.faults out.new;
-        })) }
+        (span I.Inputs O.Sink inputs.old inputs.new out.old out.new)) }
     ensures later { O.faults out.old ≤ O.faults out.new }
     ensures few { TakesFew listing_all.goes_on ((I.state inputs.old).rest Data)
         ((I.state inputs.new).rest Data) }

@@ -8,7 +8,7 @@ ghost use Rattle.ptu_made.specs.Made.{made_state};
 ghost use Rattle.ptu_made.specs.Generator.{photon_limit};
 ghost use Rattle.ptu_cli.specs.Commands.{Demo};
 ghost use Rattle.ptu_cli.specs.Behaviours.{behaviour};
-ghost use Rattle.ptu_cli.specs.Endings.{Answers, HasCauses};
+ghost use Rattle.ptu_cli.specs.Endings.{Answers, HasCauses, alone_span};
 
 use crate::run::run_data;
 use bench_io::{Inputs, Sink};
@@ -63,14 +63,8 @@ pub(crate) fn demo<O: Sink>(alloc: Global, out: &mut O, seed: u64, count: u64) -
     ensures answer { (state : InputState) → Answers (behaviour (Some (Demo seed count))) state state
         result (O.written out.old) (O.written out.new) }
     ensures causes { (state : InputState)
-        → IfErr result (HasCauses (behaviour (Some (Demo seed count))) (record {
-          before = state;
-          after = state;
-          old = O.written out.old;
-          new = O.written out.new;
-          faults_before = O.faults out.old;
-          faults_after = O.faults out.new;
-        })) }
+        → IfErr result (HasCauses (behaviour (Some (Demo seed count)))
+        (alone_span O.Sink state out.old out.new)) }
 {
     let plan = read_plan(alloc, PLAN)?;
     let mut made = made_data(seed, count);

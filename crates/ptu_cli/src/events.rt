@@ -1,25 +1,22 @@
 // The lines of the events of a file, written while it is read.
-ghost use Rattle.std.specs.Prelude.{◌≡◌, ◌≤◌, ◌++◌, List, ℕ, None, OnOk};
-ghost use Rattle.ptu_definitions.specs.Words.{words_of};
-ghost use Rattle.record_stream.specs.Standing.{how_of, refused_with, HasStreamed};
+ghost use Rattle.std.specs.Prelude.{◌≡◌, ◌≤◌, List, ℕ, OnOk};
+ghost use Rattle.record_stream.specs.Standing.{how_of, HasStreamed};
+ghost use Rattle.ptu_cli.specs.Endings.{span};
 ghost use Rattle.ptu_cli.specs.EventLines.{ListsNone};
-ghost use Rattle.ptu_cli.specs.EventPieces.{IsOpenIn, TakesOn, StaysOpen, Writes};
-ghost use Rattle.ptu_cli.specs.Pieces.{IsReady};
+ghost use Rattle.ptu_cli.specs.EventPieces.{IsOpenIn, TakesOn, StaysOpen, WritesPiece};
+ghost use Rattle.ptu_cli.specs.Pieces.{IsReady, MayChangeBehind};
 ghost use Rattle.std.specs.Prelude.{IfErr};
 ghost use Rattle.tally_base.specs.declared.slot.Slot.TheVariants.{Data};
-ghost use Rattle.tally_base.specs.Faults.{fault_in};
 ghost use Rattle.bench_io.specs.Inputs.{OnlyReads};
 ghost use Rattle.ptu_definitions.specs.Streams.{streamed};
-ghost use Rattle.ptu_cli.specs.Outcomes.{MayChange};
 ghost use Rattle.ptu_cli.specs.Works.{TakesFew};
 ghost use Rattle.ptu_cli.specs.EventRuns.{AnswersLines, LinesReason};
 
+use crate::data::READ_FAULT;
 use bench_io::{Block, Inputs, Sink};
 use record_stream::{EventTaker, RecordStream, moved_floor};
 use table_out::{EVENT_LINE_SIZE, format_event};
 use tally_base::{Event, Failed, Fault, Mode, Slot};
-
-const READ_FAULT: Fault = Fault::ReadFault { slot: Slot::Data };
 
 /// Writes the line of each event that it is given, through a block. It lives for one piece.
 #[derive(Drop)]
@@ -82,11 +79,8 @@ fn feed_lines<'o, O: Sink>(
     requires mode { lines.old.mode ≡ (how_of stream.old).mode }
     requires none { ListsNone lines.old.taken lines.old.floor lines.old.block }
     ensures fed { TakesOn stream.old stream.new piece.now }
-    ensures writes { refused_with stream.old ≡ None → (bytes : List ℕ)
-        → HasStreamed stream.old bytes
-        → Writes (how_of stream.old) (O.written lines.old.out.now) (O.written lines.new.out.now)
-        (O.faults lines.old.out.now) (O.faults lines.new.out.now)
-        (words_of bytes) (words_of (bytes ++ piece.now)) result }
+    ensures writes { WritesPiece O.Sink stream.old piece.now lines.old.out.now lines.new.out.now
+        result }
     ensures going { OnOk result (StaysOpen stream.old stream.new piece.now) }
     ensures later { O.faults lines.old.out.now ≤ O.faults lines.new.out.now }
     ensures same { lines.new.out.ghost_name ≡ lines.old.out.ghost_name }
@@ -107,11 +101,7 @@ pub(crate) fn list_piece<O: Sink>(
 ) -> Result<(), Fault>
     requires { mode ≡ (how_of stream.old).mode }
     ensures fed { TakesOn stream.old stream.new piece.now }
-    ensures writes { refused_with stream.old ≡ None → (bytes : List ℕ)
-        → HasStreamed stream.old bytes
-        → Writes (how_of stream.old) (O.written out.old) (O.written out.new)
-        (O.faults out.old) (O.faults out.new)
-        (words_of bytes) (words_of (bytes ++ piece.now)) result }
+    ensures writes { WritesPiece O.Sink stream.old piece.now out.old out.new result }
     ensures going { OnOk result (StaysOpen stream.old stream.new piece.now) }
     ensures later { O.faults out.old ≤ O.faults out.new }
 {
@@ -141,17 +131,11 @@ pub(crate) fn list_rest<I: Inputs, O: Sink>(
         → AnswersLines (how_of stream) bytes ((I.state inputs.old).rest Data)
         ((I.state inputs.new).rest Data) (O.written out.old) (O.written out.new) result }
     ensures reason { (bytes : List ℕ) → HasStreamed stream bytes
-        → IfErr result (LinesReason (how_of stream) bytes (record {
-          before = I.state inputs.old;
-          after = I.state inputs.new;
-          old = O.written out.old;
-          new = O.written out.new;
-          faults_before = O.faults out.old;
-          faults_after = O.faults out.new;
-        })) }
+        → IfErr result (LinesReason (how_of stream) bytes
+        (span I.Inputs O.Sink inputs.old inputs.new out.old out.new)) }
     ensures later { O.faults out.old ≤ O.faults out.new }
     ensures few { (bytes : List ℕ) → HasStreamed stream bytes
-        → TakesFew (λ front. MayChange (fault_in (streamed (how_of stream) (bytes ++ front))))
+        → TakesFew (MayChangeBehind (streamed (how_of stream)) bytes)
         ((I.state inputs.old).rest Data)
         ((I.state inputs.new).rest Data) }
 {

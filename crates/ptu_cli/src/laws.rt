@@ -1,10 +1,19 @@
 // Laws of the outcomes, each as the contract of a function that does nothing.
-ghost use Rattle.std.specs.Prelude.{◌≡◌, ◌≤◌, ℕ, List, None, Some};
+ghost use Rattle.std.specs.Prelude.{◌≡◌, ◌≤◌, ◌↔◌, ◌⊎◌, ℕ, List, None, Some};
+ghost use Rattle.std.specs.declared.option.Option.{Option};
+ghost use Rattle.bench_io.specs.Inputs.{File};
 ghost use Rattle.ptu_made.specs.ShortFile.{made_file};
 ghost use Rattle.ptu_made.specs.Generator.{photon_limit};
-ghost use Rattle.ptu_cli.specs.Commands.{Run, Demo};
+ghost use Rattle.tally_base.specs.declared.fault.Fault.{Fault};
+ghost use Rattle.tally_base.specs.declared.fault.Fault.TheVariants.{Usage};
+ghost use Rattle.ptu_cli.specs.Commands.{Request, Count, Header, Events, Run, Demo};
+ghost use Rattle.ptu_cli.specs.Outcomes.{Outcome};
+ghost use Rattle.ptu_cli.specs.Cases.{IsOutcome};
+ghost use Rattle.ptu_cli.specs.Runs.{Around, Runs};
+ghost use Rattle.ptu_cli.specs.Causes.{EndsWithFault, IsIn, StatusIn, Absent, NoPlan, Misfits, NoHeader, Cut, Refused};
 ghost use Rattle.ptu_cli.specs.Demo.{demo_text};
-ghost use Rattle.ptu_cli.specs.Behaviours.{behaviour};
+ghost use Rattle.plan_text.specs.Plan.{PlanView};
+ghost use Rattle.ptu_cli.specs.Behaviours.{GoesOnOrShows, behaviour, counting, printing, listing_all, reporting};
 ghost use Rattle.ptu_cli.specs.Endings.{outcome};
 
 /// A `demo` ends as `run` does on the text of its plan and the made file.
@@ -13,4 +22,85 @@ pub fn demo_is_a_run()
         → outcome (behaviour (Some (Run plan_name name))) (Some demo_text)
         (Some (made_file seed count))
         ≡ outcome (behaviour (Some (Demo seed count))) None None }
+{}
+
+/// The outcome of a command over its files is the one that the table of cases calls for, and no other.
+pub fn one_outcome()
+    ensures { (request : Option Request) (plan_file data_file : File) (end : Outcome)
+        → IsOutcome request plan_file data_file end
+        ↔ (outcome (behaviour request) plan_file data_file ≡ end) }
+{}
+
+/// A command ends with a fault exactly where its cause is: with status 1 where the words are no command,
+/// with 2 where a file is not there, 6 to 8 where PLAN is no plan, 9 where a part of it doesn't suit, 10 to
+/// 16 where FILE is refused as a header, 17 where it ends within a record, 18 to 21 where a record is refused.
+pub fn exactly_where()
+    ensures words { (request : Option Request) (plan_file data_file : File)
+        → EndsWithFault request plan_file data_file Usage ↔ (request ≡ None) }
+    ensures absent { (request : Option Request) (plan_file data_file : File) (fault : Fault)
+        → StatusIn 2 2 fault → EndsWithFault request plan_file data_file fault
+        ↔ Absent request plan_file data_file fault }
+    ensures plan { (request : Option Request) (plan_file data_file : File) (fault : Fault)
+        → StatusIn 6 8 fault → EndsWithFault request plan_file data_file fault
+        ↔ NoPlan request plan_file fault }
+    ensures mode { (request : Option Request) (plan_file data_file : File) (fault : Fault)
+        → StatusIn 9 9 fault → EndsWithFault request plan_file data_file fault
+        ↔ Misfits request plan_file data_file fault }
+    ensures header { (request : Option Request) (plan_file data_file : File) (fault : Fault)
+        → StatusIn 10 16 fault → EndsWithFault request plan_file data_file fault
+        ↔ NoHeader request plan_file data_file fault }
+    ensures cut { (request : Option Request) (plan_file data_file : File) (fault : Fault)
+        → StatusIn 17 17 fault → EndsWithFault request plan_file data_file fault
+        ↔ Cut request plan_file data_file fault }
+    ensures refused { (request : Option Request) (plan_file data_file : File) (fault : Fault)
+        → StatusIn 18 21 fault → EndsWithFault request plan_file data_file fault
+        ↔ Refused request plan_file data_file fault }
+{}
+
+/// The faults that the words and files of each command may call for, by their statuses. Beside these a run
+/// may end with 0, and with 2 to 5 for what fails outside.
+pub fn statuses_of_commands()
+    ensures none { (plan_file data_file : File) (fault : Fault)
+        → EndsWithFault None plan_file data_file fault → fault ≡ Usage }
+    ensures count { (file : List ℕ) (plan_file data_file : File) (fault : Fault)
+        → EndsWithFault (Some (Count file)) plan_file data_file fault
+        → StatusIn 2 2 fault ⊎ (StatusIn 10 17 fault ⊎ StatusIn 20 20 fault) }
+    ensures header { (file : List ℕ) (plan_file data_file : File) (fault : Fault)
+        → EndsWithFault (Some (Header file)) plan_file data_file fault
+        → StatusIn 2 2 fault ⊎ StatusIn 10 16 fault }
+    ensures events { (file : List ℕ) (plan_file data_file : File) (fault : Fault)
+        → EndsWithFault (Some (Events file)) plan_file data_file fault
+        → StatusIn 2 2 fault ⊎ (StatusIn 10 17 fault ⊎ StatusIn 20 21 fault) }
+    ensures run { (plan_name file : List ℕ) (plan_file data_file : File) (fault : Fault)
+        → EndsWithFault (Some (Run plan_name file)) plan_file data_file fault
+        → StatusIn 2 2 fault ⊎ StatusIn 6 21 fault }
+    ensures demo { (seed count : ℕ) (plan_file data_file : File) (fault : Fault)
+        → EndsWithFault (Some (Demo seed count)) plan_file data_file fault → ⊥ }
+{}
+
+/// Bytes of FILE call for no end by themselves, or the run ends as they say whatever comes behind them: a
+/// refusal of a header, also a whole header for `header`, a plan that doesn't suit it, and a refused record.
+pub fn an_end_that_is_shown_stays()
+    ensures count { (bytes : List ℕ) → GoesOnOrShows counting bytes }
+    ensures header { (bytes : List ℕ) → GoesOnOrShows printing bytes }
+    ensures events { (bytes : List ℕ) → GoesOnOrShows listing_all bytes }
+    ensures run { (plan : PlanView) (bytes : List ℕ) → GoesOnOrShows (reporting plan) bytes }
+{}
+
+/// The statuses that a run of each command may end with, whatever fails.
+pub fn statuses_of_runs()
+    ensures none { (run : Around) (result : ℕ) → Runs None run result → result ≡ 1 }
+    ensures count { (file : List ℕ) (run : Around) (result : ℕ)
+        → Runs (Some (Count file)) run result
+        → (result ≡ 0) ⊎ (IsIn 2 4 result ⊎ (IsIn 10 17 result ⊎ IsIn 20 20 result)) }
+    ensures header { (file : List ℕ) (run : Around) (result : ℕ)
+        → Runs (Some (Header file)) run result
+        → (result ≡ 0) ⊎ (IsIn 2 4 result ⊎ IsIn 10 16 result) }
+    ensures events { (file : List ℕ) (run : Around) (result : ℕ)
+        → Runs (Some (Events file)) run result
+        → (result ≡ 0) ⊎ (IsIn 2 4 result ⊎ (IsIn 10 17 result ⊎ IsIn 20 21 result)) }
+    ensures run { (plan_name file : List ℕ) (run : Around) (result : ℕ)
+        → Runs (Some (Run plan_name file)) run result → (result ≡ 0) ⊎ IsIn 2 21 result }
+    ensures demo { (seed count : ℕ) (run : Around) (result : ℕ)
+        → Runs (Some (Demo seed count)) run result → (result ≡ 0) ⊎ IsIn 4 5 result }
 {}

@@ -15,9 +15,11 @@ mod plan;
 mod print;
 mod run;
 mod top;
+mod whole;
 mod words;
 
 pub use counts::write_counts;
 pub use edge::{FileInputs, StreamSink};
 pub use top::{ptu_main, tell};
+pub use whole::{exit_of, program, words_behind_name};
 pub use words::{Command, read_words};

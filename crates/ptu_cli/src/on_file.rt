@@ -4,7 +4,7 @@ ghost use Rattle.tally_base.specs.declared.slot.Slot.{Slot};
 ghost use Rattle.tally_base.specs.declared.slot.Slot.TheVariants.{Data};
 ghost use Rattle.bench_io.specs.Inputs.{OnlyReads};
 ghost use Rattle.ptu_cli.specs.Behaviours.{Work, Writing, OnFile};
-ghost use Rattle.ptu_cli.specs.Endings.{Does};
+ghost use Rattle.ptu_cli.specs.Endings.{Does, span};
 ghost use Rattle.ptu_cli.specs.Works.{AnswersWork, TakesFew, WantsNone, WorkReason};
 
 use bench_io::{Inputs, Sink};
@@ -22,14 +22,8 @@ pub(crate) trait FileWork {
         ensures reads { OnlyReads Data (I.state inputs.old) (I.state inputs.new) }
         ensures answer { AnswersWork work ((I.state inputs.old).rest Data)
             ((I.state inputs.new).rest Data) (O.written out.old) (O.written out.new) result }
-        ensures reason { IfErr result (WorkReason writing WantsNone work (record {
-          before = I.state inputs.old;
-          after = I.state inputs.new;
-          old = O.written out.old;
-          new = O.written out.new;
-          faults_before = O.faults out.old;
-          faults_after = O.faults out.new;
-        })) }
+        ensures reason { IfErr result (WorkReason writing WantsNone work
+            (span I.Inputs O.Sink inputs.old inputs.new out.old out.new)) }
         ensures few { TakesFew work.goes_on ((I.state inputs.old).rest Data)
             ((I.state inputs.new).rest Data) };
 }
@@ -43,14 +37,8 @@ pub(crate) fn on_file<W: FileWork, I: Inputs, O: Sink>(
 ) -> Result<(), Fault>
     requires meant { (I.state inputs.old).meant Data file.now ≡ true }
     requires first { (slot : Slot) → (I.state inputs.old).asked slot ≡ false }
-    ensures { Does (OnFile file.now W.writing W.work) (record {
-      before = I.state inputs.old;
-      after = I.state inputs.new;
-      old = O.written out.old;
-      new = O.written out.new;
-      faults_before = O.faults out.old;
-      faults_after = O.faults out.new;
-    }) result }
+    ensures { Does (OnFile file.now W.writing W.work)
+        (span I.Inputs O.Sink inputs.old inputs.new out.old out.new) result }
 {
     match inputs.open(Slot::Data, file) {
         Err(Failed) => Err(Fault::OpenFault { slot: Slot::Data }),

@@ -1,18 +1,16 @@
 // Counts the records of a file by a plan.
-ghost use Rattle.std.specs.Prelude.{◌≡◌, ◌⊎◌, ◌≤◌, ◌<◌, ◌++◌, List, ℕ, slice_range, true, false, None, IfErr, IfOk, IsErrAnd};
+ghost use Rattle.std.specs.Prelude.{◌≡◌, ◌≤◌, ◌<◌, List, ℕ, slice_range, true, None, IfErr, IfOk};
 ghost use Rattle.std.specs.Io.KnownBytes.{Consumes};
 ghost use Rattle.tally_base.specs.declared.slot.Slot.TheVariants.{Data};
-ghost use Rattle.tally_base.specs.Faults.{fault_in, is_outside};
 ghost use Rattle.bench_io.specs.Inputs.{OnlyReads};
 ghost use Rattle.ptu_definitions.specs.Counted.{record_limit};
 ghost use Rattle.ptu_definitions.specs.Streams.{streamed};
 ghost use Rattle.plan_text.specs.Reading.{plan_view};
 ghost use Rattle.tally_engine.specs.Engine.{HasFed, reading_of, refused_by};
-ghost use Rattle.ptu_cli.specs.Pieces.{ReadReason, IsReady, HoldsPart, StopsSoon};
-ghost use Rattle.ptu_cli.specs.Outcomes.{MayChange};
+ghost use Rattle.ptu_cli.specs.Pieces.{ReadReason, IsReady, HoldsPart, MayChangeBehind, StopsSoon, StopsEarly};
 ghost use Rattle.ptu_cli.specs.Behaviours.{reporting};
 ghost use Rattle.ptu_cli.specs.Works.{TakesFew};
-ghost use Rattle.ptu_cli.specs.RunPieces.{IsLedger, IsFresh, EndsEngine, AnswersReport, RunReason};
+ghost use Rattle.ptu_cli.specs.RunPieces.{IsLedger, IsFresh, EndsBehind, AnswersReport, RunReason};
 
 use crate::data::{PIECE, READ_FAULT, read_header};
 use bench_io::Inputs;
@@ -34,11 +32,11 @@ fn feed_rest<I: Inputs, L: Ledger>(
     requires going { refused_by engine ≡ None }
     ensures reads { OnlyReads Data (I.state inputs.old) (I.state inputs.new) }
     ensures reason { IfErr result (ReadReason (I.state inputs.old) (I.state inputs.new)) }
-    ensures answer { (bytes : List ℕ) → HasFed engine bytes → (taken : List ℕ)
-        × Consumes ((I.state inputs.old).rest Data) ((I.state inputs.new).rest Data) taken
-        × EndsEngine engine (bytes ++ taken) ((I.state inputs.new).rest Data) result }
+    ensures answer { (bytes : List ℕ) → HasFed engine bytes
+        → EndsBehind engine bytes ((I.state inputs.old).rest Data)
+        ((I.state inputs.new).rest Data) result }
     ensures stops { (bytes : List ℕ) → HasFed engine bytes
-        → StopsSoon (λ front. MayChange (fault_in (streamed (reading_of engine) (bytes ++ front))))
+        → StopsSoon (MayChangeBehind (streamed (reading_of engine)) bytes)
         ((I.state inputs.old).rest Data) ((I.state inputs.new).rest Data) result }
 {
     'pieces: loop {
@@ -67,15 +65,10 @@ fn feed_data<I: Inputs, L: Ledger>(
     requires fresh { IsFresh engine }
     ensures reads { OnlyReads Data (I.state inputs.old) (I.state inputs.new) }
     ensures reason { IfErr result (ReadReason (I.state inputs.old) (I.state inputs.new)) }
-    ensures answer { (taken : List ℕ)
-        × Consumes ((I.state inputs.old).rest Data) ((I.state inputs.new).rest Data) taken
-        × EndsEngine engine (slice_range buffer.old used len ++ taken)
-        ((I.state inputs.new).rest Data) result }
-    // What was there is refused and no piece was read; or few bytes were taken.
-    ensures stops { (((I.state inputs.new).rest Data ≡ (I.state inputs.old).rest Data)
-        × IsErrAnd result (λ fault. is_outside fault ≡ false))
-        ⊎ StopsSoon (λ front. MayChange (fault_in (streamed (reading_of engine)
-        (slice_range buffer.old used len ++ front))))
+    ensures answer { EndsBehind engine (slice_range buffer.old used len)
+        ((I.state inputs.old).rest Data) ((I.state inputs.new).rest Data) result }
+    ensures stops { StopsEarly
+        (MayChangeBehind (streamed (reading_of engine)) (slice_range buffer.old used len))
         ((I.state inputs.old).rest Data) ((I.state inputs.new).rest Data) result }
 {
     let mut steps = Steps::<L>::new(blank);

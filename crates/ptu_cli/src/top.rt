@@ -1,15 +1,9 @@
 // The top call.
-ghost use Rattle.std.specs.Prelude.{◌≡◌, ◌⊎◌, ◌↔◌, ◌≤◌, ◌<◌, false, None, Some, Err, IfErr};
-ghost use Rattle.std.specs.declared.option.Option.{Option};
+ghost use Rattle.std.specs.Prelude.{◌≡◌, false, None, Some, Err};
 ghost use Rattle.tally_base.specs.declared.slot.Slot.{Slot};
-ghost use Rattle.tally_base.specs.declared.fault.Fault.{Fault};
-ghost use Rattle.tally_base.specs.declared.slot.Slot.TheVariants.{Plan};
-ghost use Rattle.tally_base.specs.declared.fault.Fault.TheVariants.{OpenFault, ReadFault, WriteFault, OutOfMemory};
-ghost use Rattle.tally_base.specs.FaultCounts.{Rose};
-ghost use Rattle.bench_io.specs.Inputs.{File};
-ghost use Rattle.ptu_cli.specs.Outcomes.{status};
-ghost use Rattle.ptu_cli.specs.Endings.{IsMeant, ForSomeFiles, Tells, TellsFault, EndsBy, FailsOpening, FailsReading, CutsOutcome, Does, RunsOut, Asks, LacksMemory, NoneRose, IsGood};
+ghost use Rattle.ptu_cli.specs.Endings.{IsMeant, TellsFault, Does, span};
 ghost use Rattle.ptu_cli.specs.Requests.{request_in, behaviour_of};
+ghost use Rattle.ptu_cli.specs.Runs.{Runs, around};
 
 use crate::by_plan::by_plan;
 use crate::command::{Counting, Listing, Printing, Reporting};
@@ -31,14 +25,8 @@ fn obey<I: Inputs, O: Sink>(
 ) -> Result<(), Fault>
     requires meant { IsMeant (I.state inputs.old) (behaviour_of words.now) }
     requires first { (slot : Slot) → (I.state inputs.old).asked slot ≡ false }
-    ensures does { Does (behaviour_of words.now) (record {
-      before = I.state inputs.old;
-      after = I.state inputs.new;
-      old = O.written out.old;
-      new = O.written out.new;
-      faults_before = O.faults out.old;
-      faults_after = O.faults out.new;
-    }) result }
+    ensures does { Does (behaviour_of words.now)
+        (span I.Inputs O.Sink inputs.old inputs.new out.old out.new) result }
     ensures usage { request_in words.now ≡ None → result ≡ Err Fault.Usage }
 {
     let Some(command) = read_words(words) else {
@@ -86,6 +74,8 @@ pub fn tell<E: Sink>(fault: &Fault, err: &mut E)
 /// is read (`header`, `events`), what the bytes read call for. After 4 the text is cut short; one
 /// that is written at the end is written only where the run would have ended with 0.
 ///
+/// All that is promised is `Runs`, a fact for each of these, with its name.
+///
 /// Nothing may have been asked of the inputs before, and the words FILE and PLAN of the command
 /// must be meant for the slots Data and Plan.
 pub fn ptu_main<I: Inputs, O: Sink, E: Sink>(
@@ -97,70 +87,9 @@ pub fn ptu_main<I: Inputs, O: Sink, E: Sink>(
 ) -> u8
     requires meant { IsMeant (I.state inputs.old) (behaviour_of words.now) }
     requires first { (slot : Slot) → (I.state inputs.old).asked slot ≡ false }
-
-    // Where nothing outside failed, the run ends as some files of PLAN and FILE call for: those
-    // that are told, where they are told.
-    ensures answered { (2 ≤ result → 5 < result)
-        → ForSomeFiles (behaviour_of words.now) (I.state inputs.old) (I.state inputs.new)
-        (λ end. EndsBy end result (O.written out.old) (O.written out.new)
-        (E.written err.old) (E.written err.new) (E.faults err.old) (E.faults err.new)) }
-
-    // The status is 0, or that of one fault, whose line is told. With 0 nothing is told.
-    ensures told { (fault : Option Fault)
-        × (result ≡ status fault)
-        × TellsFault (E.written err.old) (E.written err.new)
-        (E.faults err.old) (E.faults err.new) fault }
-
-    // The command line is bad exactly where the words are no command.
-    ensures usage { (result ≡ 1) ↔ (request_in words.now ≡ None) }
-
-    // An opening failed.
-    ensures unopened { result ≡ 2
-        → (slot : Slot)
-        × FailsOpening (behaviour_of words.now) slot (I.state inputs.old) (I.state inputs.new)
-        (O.written out.old) (O.written out.new)
-        × TellsFault (E.written err.old) (E.written err.new)
-        (E.faults err.old) (E.faults err.new) (Some (OpenFault slot)) }
-
-    // A read failed.
-    ensures unread { result ≡ 3
-        → (slot : Slot)
-        × FailsReading (behaviour_of words.now) slot (I.state inputs.old) (I.state inputs.new)
-        (O.written out.old) (O.written out.new)
-        × TellsFault (E.written err.old) (E.written err.new)
-        (E.faults err.old) (E.faults err.new) (Some (ReadFault slot)) }
-
-    // A write failed.
-    ensures unwritten { result ≡ 4
-        → Rose (O.faults out.old) (O.faults out.new)
-        × CutsOutcome (behaviour_of words.now) (I.state inputs.old) (I.state inputs.new)
-        (O.written out.old) (O.written out.new)
-        × TellsFault (E.written err.old) (E.written err.new)
-        (E.faults err.old) (E.faults err.new) (Some WriteFault) }
-
-    // Memory was refused.
-    ensures memory { result ≡ 5
-        → RunsOut (behaviour_of words.now) (I.state inputs.old) (I.state inputs.new)
-        (O.written out.old) (O.written out.new)
-        × TellsFault (E.written err.old) (E.written err.new)
-        (E.faults err.old) (E.faults err.new) (Some OutOfMemory) }
-
-    // What the run asked for and took, whatever its status is.
-    ensures asks { Asks (behaviour_of words.now) (I.state inputs.old) (I.state inputs.new) }
-
-    // Where no count of the inputs and of `out` rose, the run ends as the files call for or for
-    // want of memory, and well where they are told and good.
-    ensures complete { NoneRose (I.state inputs.old) (I.state inputs.new)
-        → ¬ (Rose (O.faults out.old) (O.faults out.new))
-        → LacksMemory (behaviour_of words.now) result
-        ⊎ ForSomeFiles (behaviour_of words.now) (I.state inputs.old) (I.state inputs.new)
-        (λ end. result ≡ status end.fault) }
-    ensures good { (plan_file data_file : File)
-        → Tells (I.state inputs.old) (behaviour_of words.now) plan_file data_file
-        → IsGood (behaviour_of words.now) plan_file data_file
-        → NoneRose (I.state inputs.old) (I.state inputs.new)
-        → ¬ (Rose (O.faults out.old) (O.faults out.new))
-        → LacksMemory (behaviour_of words.now) result ⊎ (result ≡ 0) }
+    ensures { Runs (request_in words.now)
+        (around I.Inputs O.Sink E.Sink inputs.old inputs.new out.old out.new err.old err.new)
+        result }
 {
     match obey(alloc, words, inputs, out) {
         Ok(()) => 0,

@@ -8,6 +8,7 @@ pub mod WordsLemmas
 pub mod RecordRows
 pub mod Nests
 pub mod SeenLaws
+pub mod Stays
 pub mod Longest
 pub mod FoursLemmas
 pub mod PrefixLemmas

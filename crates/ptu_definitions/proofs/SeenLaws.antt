@@ -125,10 +125,10 @@ seen-none bytes none = elim (cases_lt (length bytes) 16) [
 abbrev ShowsAll : List ℕ → List ℕ → Type 0
 ShowsAll bytes more = (seen_preamble (bytes ++ more) ≡ seen_preamble bytes) × (seen (bytes ++ more) ≡ seen bytes)
 
-other-append : (bytes more : List ℕ) → IsOtherFile bytes → IsOtherFile (bytes ++ more)
+pub other-append : (bytes more : List ℕ) → IsOtherFile bytes → IsOtherFile (bytes ++ more)
 other-append bytes more h = record { long = omega (arith, h.long, length-append bytes more); differs = λ e. h.differs (sym (take-append-le 6 bytes more h.long) ∙ e) }
 
-behind_tag : (front tag rest more : List ℕ) → (front ++ (tag ++ rest)) ++ more ≡ front ++ (tag ++ (rest ++ more))
+pub behind_tag : (front tag rest more : List ℕ) → (front ++ (tag ++ rest)) ++ more ≡ front ++ (tag ++ (rest ++ more))
 behind_tag front tag rest more = append_assoc front (tag ++ rest) more ∙ ap (λ l. front ++ l) (append_assoc tag rest more)
 
 -- where the same is shown of a tag with any bytes behind it
@@ -171,8 +171,11 @@ seen-answered bytes more fits answered =
     let shows = ending-shows bytes (take room more) (ending bytes) (ending-applies bytes) none in
     (ap seen_preamble head ∙ shows.0, ap seen head ∙ shows.1)
 
-abbrev refusal : Fault → Result (Header × List ℕ) Fault
+abbrev pub refusal : Fault → Result (Header × List ℕ) Fault
 refusal fault = Err fault
+
+pub err_is : (a b : Fault) → refusal a ≡ refusal b → a ≡ b
+err_is a b e = cc
 
 -- A header's fields never say that it is cut.
 not_cut-header : (rest version : List ℕ) (found : Found) (count : ℕ) → with_rest rest (header_of version found) ≢ Err (TruncatedHeader count)
@@ -188,7 +191,7 @@ not_cut-header rest version found count = by found.record_type
     by (Some value) e = typed value (type_with value) e
 
 -- a cut header's number of bytes
-cut-size : (file : List ℕ) (count : ℕ) → header_answer file ≡ Err (TruncatedHeader count) → (count ≡ length (head_of file)) × (length (head_of file) ≢ 2 ^ 24)
+pub cut-size : (file : List ℕ) (count : ℕ) → header_answer file ≡ Err (TruncatedHeader count) → (count ≡ length (head_of file)) × (length (head_of file) ≢ 2 ^ 24)
 unfolding header_answer
 cut-size file count e = by (ending (head_of file)) e
   where
@@ -227,6 +230,3 @@ seen-refused bytes more fault fits h =
     let answer : header_answer bytes ≡ Err fault = ap header_answer (sym (append-nil bytes)) ∙ h [] in
     seen-answered bytes more fits
     (λ count cut. let same : fault ≡ TruncatedHeader count = err_is fault (TruncatedHeader count) (sym answer ∙ cut) in Shows-cut bytes count (subst (λ f. Shows header_answer bytes (Err f)) same h))
-  where
-    err_is : (a b : Fault) → refusal a ≡ refusal b → a ≡ b
-    err_is a b e = cc

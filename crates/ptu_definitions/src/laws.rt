@@ -1,5 +1,5 @@
 // Laws of the definitions, each as the contract of a function that does nothing.
-ghost use Rattle.std.specs.Prelude.{◌≡◌, ◌≢◌, ◌↔◌, ◌⊎◌, ◌++◌, ◌∷◌, [], ◌<◌, ◌≤◌, ◌^◌, ℕ, List, Result, length, take, get_or};
+ghost use Rattle.std.specs.Prelude.{◌≡◌, ◌≢◌, ◌↔◌, ◌⊎◌, ◌++◌, ◌∷◌, [], ◌<◌, ◌≤◌, ◌^◌, ℕ, List, Result, Ok, length, take, get_or};
 ghost use Rattle.tally_base.specs.declared.fault.Fault.TheVariants as Fault;
 ghost use Rattle.tally_base.specs.declared.fault.Fault.{Fault};
 ghost use Rattle.tally_base.specs.declared.header.Header.{Header};
@@ -86,6 +86,17 @@ pub fn seen_answered()
 pub fn no_cut_is_shown()
     ensures { (bytes : List ℕ) (count : ℕ)
         → Shows header_answer bytes (Err (Fault.TruncatedHeader count)) → ⊥ }
+{}
+
+/// Bytes behind a file leave its header's answer, unless it is that the header is cut: a refusal stays,
+/// and so does a header, with these bytes behind it.
+pub fn an_answer_stays()
+    ensures refused { (file more : List ℕ) (fault : Fault) → header_answer file ≡ Err fault
+        → ((count : ℕ) → fault ≢ Fault.TruncatedHeader count)
+        → header_answer (file ++ more) ≡ Err fault }
+    ensures header { (file more behind : List ℕ) (header : Header)
+        → header_answer file ≡ Ok (header, behind)
+        → header_answer (file ++ more) ≡ Ok (header, behind ++ more) }
 {}
 
 /// A stream is refused for its least record that is refused, and for that record whenever there is

@@ -5,6 +5,8 @@
 mod fields;
 mod fill;
 mod reader;
+#[cfg(test)]
+mod refused_tests;
 mod step;
 #[cfg(test)]
 mod tests;

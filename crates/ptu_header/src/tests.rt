@@ -6,9 +6,9 @@ use std::alloc::AllocError;
 use std::test::Fail;
 use tally_base::{Fault, Header, RecordType};
 
-const EMPTY: u32 = 0xFFFF_0008;
+pub(crate) const EMPTY: u32 = 0xFFFF_0008;
 
-const BOOL: u32 = 0x0000_0008;
+pub(crate) const BOOL: u32 = 0x0000_0008;
 
 const INT: u32 = 0x1000_0008;
 
@@ -20,7 +20,7 @@ const DATE: u32 = 0x2100_0008;
 
 const FLOATS: u32 = 0x2001_FFFF;
 
-const TEXT: u32 = 0x4001_FFFF;
+pub(crate) const TEXT: u32 = 0x4001_FFFF;
 
 const WIDE: u32 = 0x4002_FFFF;
 
@@ -40,7 +40,7 @@ const SHORT_HEADER: Header = Header {
 };
 
 /// Writes a tag that is no element of an array.
-fn put(bytes: &mut Vec<u8>, name: &[u8], code: u32, value: u64) -> Result<(), AllocError>
+pub(crate) fn put(bytes: &mut Vec<u8>, name: &[u8], code: u32, value: u64) -> Result<(), AllocError>
     requires { length name.now ≤ 32 }
 {
     put_at(bytes, name, u32::MAX, code, value)
@@ -132,7 +132,7 @@ fn put_result(bytes: &mut Vec<u8>) -> Result<(), AllocError> {
 }
 
 /// Feeds a piece until the reader has no other step for it. Answers how many bytes are behind the header.
-fn feed_piece(reader: &mut HeaderReader, piece: &[u8]) -> usize {
+pub(crate) fn feed_piece(reader: &mut HeaderReader, piece: &[u8]) -> usize {
     let mut rest = piece;
     for _ in 0..piece.len() + 1 {
         match reader.feed(rest) {

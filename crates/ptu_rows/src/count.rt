@@ -1,10 +1,10 @@
 // What `count` answers.
-use crate::files::{
+use std::alloc::{AllocError, Global};
+use whole_runs::files::{
     ANSI_STRING, BLOB, BOOL8, EMPTY8, INT8, behind_great_wraps, bench, put_end, put_item,
     put_words, short, with_item,
 };
-use crate::run::{Run, Wrong, leaves};
-use std::alloc::{AllocError, Global};
+use whole_runs::run::{Run, Wrong, leaves};
 
 const PICO_T2: [u32; 4] = [0x0000_0000, 0x5000_0000, 0xF000_0000, 0xF000_0001];
 

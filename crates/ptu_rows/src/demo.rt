@@ -1,5 +1,5 @@
 // What `demo` prints.
-use crate::run::{Run, Wrong};
+use whole_runs::run::{Run, Wrong};
 
 const ONE: &[u8] = b"type HydraHarp2T2\n\
 announced -\n\

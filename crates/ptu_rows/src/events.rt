@@ -1,17 +1,10 @@
 // What `events` prints.
-use crate::files::{
+use std::alloc::Global;
+use whole_runs::bench::BENCH_EVENTS;
+use whole_runs::files::{
     ANSI_STRING, BOOL8, EMPTY8, behind_great_wraps, bench, put_end, short, with_item,
 };
-use crate::run::{Run, Wrong, leaves};
-use std::alloc::Global;
-
-pub(crate) const BENCH_EVENTS: &[u8] = b"2 marker 3 1030\n\
-3 photon 0 1030 100\n\
-4 photon 1 1032 200\n\
-5 photon 0 1044 4100\n\
-6 photon 1 1045 5000\n\
-8 marker 4 2048\n\
-9 photon 0 2050 100\n";
+use whole_runs::run::{Run, Wrong, leaves};
 
 /// A record type, words of a file, and the lines of its events.
 struct Row {

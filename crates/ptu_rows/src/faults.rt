@@ -1,8 +1,8 @@
 // What faults outside leave.
-use crate::files::{bench, short};
-use crate::reports::{BENCH_PLAN, BENCH_REPORT};
-use crate::run::{Run, Wrong};
 use std::alloc::Global;
+use whole_runs::bench::{BENCH_EVENTS, BENCH_PLAN, BENCH_REPORT, BENCH_TEXT};
+use whole_runs::files::{bench, short};
+use whole_runs::run::{Run, Wrong};
 
 const NO_COMMANDS: [&[&str]; 11] = [
     &[],
@@ -42,24 +42,66 @@ fn a_file_that_cannot_be_opened(rt: HostRuntime) -> Result<(), Wrong> {
     Ok(())
 }
 
-const HEADER_READ: &[u8] = b"magic 5051545454520000\nversion 312E302E30300000\n\
-tag File_GUID -1 tyAnsiString 40 {00000000-0000-0000-0000-00000000000";
+/// A call that fails in pieces of 100 bytes, and how many bytes of the header's text were printed before.
+struct Failing {
+    call: u64,
+    printed: usize,
+}
 
+const FAILING: [Failing; 8] = [
+    Failing {
+        call: 2,
+        printed: 0,
+    },
+    Failing {
+        call: 3,
+        printed: 117,
+    },
+    Failing {
+        call: 4,
+        printed: 211,
+    },
+    Failing {
+        call: 5,
+        printed: 254,
+    },
+    Failing {
+        call: 6,
+        printed: 328,
+    },
+    Failing {
+        call: 7,
+        printed: 432,
+    },
+    Failing {
+        call: 8,
+        printed: 576,
+    },
+    Failing {
+        call: 9,
+        printed: 648,
+    },
+];
+
+/// The 747 bytes of the header and the records behind it take eight reads, and the end of the file one more.
 #[test]
 fn a_read_that_fails(rt: HostRuntime) -> Result<(), Wrong> {
     let alloc = rt.alloc();
     let file = bench(alloc)?;
     let line = b"ptu: cannot read the data\n";
-    for call in 2u64..10 {
-        Run::new(&["count", "f"], b"", file.as_slice())
-            .in_pieces(&[100])
-            .failing(&[call])
-            .leaves(alloc, 3, b"", line)?;
+    let count = Run::new(&["count", "f"], b"", file.as_slice()).in_pieces(&[100]);
+    let header = Run::new(&["header", "f"], b"", file.as_slice()).in_pieces(&[100]);
+    let events = Run::new(&["events", "f"], b"", file.as_slice()).in_pieces(&[100]);
+    for row in &FAILING {
+        let printed = BENCH_TEXT.get(..row.printed).unwrap_or(b"");
+        count.failing(&[row.call]).leaves(alloc, 3, b"", line)?;
+        header.failing(&[row.call]).leaves(alloc, 3, printed, line)?;
+        events.failing(&[row.call]).leaves(alloc, 3, b"", line)?;
     }
-    Run::new(&["header", "f"], b"", file.as_slice())
-        .in_pieces(&[100])
-        .failing(&[3])
-        .leaves(alloc, 3, HEADER_READ, line)
+    count.failing(&[10]).leaves(alloc, 3, b"", line)?;
+    header.failing(&[10]).leaves(alloc, 0, BENCH_TEXT, b"")?;
+    events.failing(&[10]).leaves(alloc, 3, BENCH_EVENTS, line)?;
+    events.failing(&[11]).leaves(alloc, 0, BENCH_EVENTS, b"")
 }
 
 #[test]
@@ -81,9 +123,13 @@ fn a_write_that_fails(rt: HostRuntime) -> Result<(), Wrong> {
 
 #[test]
 fn a_line_that_cannot_be_told(rt: HostRuntime) -> Result<(), Wrong> {
+    let alloc = rt.alloc();
     Run::new(&["count", "g"], b"", b"")
         .told_in_room(10)
-        .leaves(rt.alloc(), 2, b"", b"ptu: canno")
+        .leaves(alloc, 2, b"", b"ptu: canno")?;
+    Run::new(&["count"], b"", b"")
+        .told_in_room(5)
+        .leaves(alloc, 1, b"", b"ptu: ")
 }
 
 #[test]
@@ -140,12 +186,32 @@ fn a_report_that_cannot_be_written(rt: HostRuntime) -> Result<(), Wrong> {
     let file = bench(alloc)?;
     let run = Run::new(&["run", "p", "f"], BENCH_PLAN, file.as_slice());
     let line = b"ptu: cannot write\n";
-    run.in_room(10).leaves(alloc, 4, b"type Hydra", line)?;
-    let short_by_one = BENCH_REPORT.split_at(BENCH_REPORT.len() - 1).0;
-    run.in_room(short_by_one.len())
-        .leaves(alloc, 4, short_by_one, line)?;
+    for room in 0..BENCH_REPORT.len() {
+        run.in_room(room)
+            .leaves(alloc, 4, BENCH_REPORT.split_at(room).0, line)?;
+    }
     run.in_room(BENCH_REPORT.len())
         .leaves(alloc, 0, BENCH_REPORT, b"")
+}
+
+/// One write fails, and the next would not: it isn't tried again.
+#[test]
+fn a_failed_write_is_not_tried_again(rt: HostRuntime) -> Result<(), Wrong> {
+    let alloc = rt.alloc();
+    let file = bench(alloc)?;
+    let commands: [&[&str]; 5] = [
+        &["count", "f"],
+        &["header", "f"],
+        &["events", "f"],
+        &["run", "p", "f"],
+        &["demo", "0", "1"],
+    ];
+    for words in commands {
+        Run::new(words, BENCH_PLAN, file.as_slice())
+            .failing_writes(&[1])
+            .leaves(alloc, 4, b"", b"ptu: cannot write\n")?;
+    }
+    Ok(())
 }
 
 /// Reading ends with the plan, or with one byte more than a plan may have.

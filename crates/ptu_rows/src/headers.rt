@@ -1,23 +1,9 @@
 // What `header` prints.
-use crate::files::{BIT_SET64, BLOB, INT8, PREAMBLE, bench, put_end, put_item, put_tag, short};
-use crate::run::{Wrong, leaves};
-
-pub(crate) const BENCH_TEXT: &[u8] = b"magic 5051545454520000\n\
-version 312E302E30300000\n\
-tag File_GUID -1 tyAnsiString 40 {00000000-0000-0000-0000-000000000001}\n\
-tag File_CreatingTime -1 tyTDateTime 40E6000000000000\n\
-tag CreatorSW_Name -1 tyAnsiString 8 TestSW\n\
-tag HW_Type -1 tyAnsiString 8 Bench\n\
-tag HWInpChan_Enabled 0 tyBool8 true\n\
-tag HWInpChan_Enabled 1 tyBool8 true\n\
-tag MeasDesc_AcquisitionTime -1 tyInt8 60000\n\
-tag MeasDesc_GlobalResolution -1 tyFloat8 3E6AD7F29ABCAF48\n\
-tag MeasDesc_Resolution -1 tyFloat8 3DC19799812DEA11\n\
-tag TTResultFormat_TTTRRecType -1 tyInt8 16843524\n\
-tag TTResult_NumberOfRecords -1 tyInt8 9\n\
-tag Bench_Blob -1 tyBinaryBlob 3 0102FF\n\
-tag Fast_Load_End -1 tyEmpty8 -\n\
-tag Header_End -1 tyEmpty8 -\n";
+use whole_runs::bench::BENCH_TEXT;
+use whole_runs::files::{
+    BIT_SET64, BLOB, INT8, PREAMBLE, bench, put_end, put_item, put_tag, short,
+};
+use whole_runs::run::{Wrong, leaves};
 
 #[test]
 fn whole_headers(rt: HostRuntime) -> Result<(), Wrong> {

@@ -1,10 +1,6 @@
-//! Whole runs of the program over memory, as tables of files and what they are answered.
+//! Runs of the commands over files, as tables of files and what they are answered.
 #![tactic(auto)]
 
-#[cfg(test)]
-mod coincidences;
-#[cfg(test)]
-mod correlations;
 #[cfg(test)]
 mod count;
 #[cfg(test)]
@@ -14,22 +10,10 @@ mod events;
 #[cfg(test)]
 mod faults;
 #[cfg(test)]
-mod files;
+mod header_limits;
 #[cfg(test)]
 mod headers;
 #[cfg(test)]
-mod images;
-#[cfg(test)]
 mod pieces;
-#[cfg(test)]
-mod refusals;
-#[cfg(test)]
-mod reports;
-#[cfg(test)]
-mod run;
-#[cfg(test)]
-mod startstops;
-#[cfg(test)]
-mod traces;
 #[cfg(test)]
 mod written;

@@ -1,7 +1,7 @@
 // What `events` prints of words that come in pieces.
-use crate::files::short;
-use crate::run::{Run, Wrong};
 use std::alloc::{AllocError, Global};
+use whole_runs::files::short;
+use whole_runs::run::{Run, Wrong};
 
 /// A record type, and a word that is one wrap there.
 struct Layout {

@@ -34,7 +34,7 @@ pub returns-in_err-len-clause-takes : goal.returns-in_err-len-clause-takes
 returns-in_err-len-clause-takes g c = λ opened.
     let h = c.in_err-len.ensures.unread in
     let size = c.requires.size in
-    (h.0, λ bytes known. taken-told _ _ _ _ bytes c.in-Ok.ensures.file h.1 known, omega (arith, h.2, size))
+    (h.0, λ known told. taken-told _ _ _ _ known c.in-Ok.ensures.file h.1 told, omega (arith, h.2, size))
 
 pub returns-clause-takes : goal.returns-clause-takes
 returns-clause-takes g c = λ opened.
@@ -42,4 +42,4 @@ returns-clause-takes g c = λ opened.
     let size : length text ≡ 65537 = Prim.search rules in
     let room = c.in_ok-len.ensures.room in
     let short : length (take c.in_ok-len.len text) ≡ c.in_ok-len.len = length-take-le c.in_ok-len.len text room in
-    (take c.in_ok-len.len text, λ bytes known. taken-told _ _ _ _ bytes c.in-Ok.ensures.file c.in_ok-len.ensures.taken known, omega (arith, size, room, short))
+    (take c.in_ok-len.len text, λ known told. taken-told _ _ _ _ known c.in-Ok.ensures.file c.in_ok-len.ensures.taken told, omega (arith, size, room, short))

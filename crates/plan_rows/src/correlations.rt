@@ -1,6 +1,6 @@
 // What `run` reports of correlations.
 use crate::reports::{Row, report_each};
-use crate::run::Wrong;
+use whole_runs::run::Wrong;
 
 const ROWS: [Row; 5] = [
     // One group, whose pairs of the second level are in bins that are open at the end.

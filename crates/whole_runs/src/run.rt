@@ -8,21 +8,15 @@ const PIECES: [&[usize]; 4] = [&[], &[1], &[3], &[47, 5]];
 
 /// What a run left.
 #[derive(Drop)]
-pub(crate) struct Left {
-    pub(crate) status: u8,
-    pub(crate) out: Vec<u8>,
-    pub(crate) err: Vec<u8>,
+pub struct Left {
+    pub status: u8,
+    pub out: Vec<u8>,
+    pub err: Vec<u8>,
 }
 
 impl Left {
     /// Whether it is this.
-    pub(crate) fn is(
-        &self,
-        alloc: Global,
-        status: u8,
-        out: &[u8],
-        err: &[u8],
-    ) -> Result<(), Wrong> {
+    pub fn is(&self, alloc: Global, status: u8, out: &[u8], err: &[u8]) -> Result<(), Wrong> {
         if self.status == status && self.out.as_slice() == out && self.err.as_slice() == err {
             return Ok(());
         }
@@ -44,7 +38,7 @@ fn text_of(alloc: Global, bytes: &[u8]) -> Result<String, AllocError> {
 
 /// What a run left in place of what it must leave, or want of memory.
 #[derive(Debug, Drop)]
-pub(crate) enum Wrong {
+pub enum Wrong {
     Memory,
     Left {
         status: u8,
@@ -60,7 +54,7 @@ impl From<AllocError> for Wrong {
 }
 
 /// The words of a command line.
-pub(crate) fn words_of(alloc: Global, words: &[&str]) -> Result<Vec<String>, AllocError> {
+pub fn words_of(alloc: Global, words: &[&str]) -> Result<Vec<String>, AllocError> {
     let mut line = Vec::new(alloc);
     for word in words {
         line.push(String::from_str(alloc, word)?)?;
@@ -70,62 +64,70 @@ pub(crate) fn words_of(alloc: Global, words: &[&str]) -> Result<Vec<String>, All
 
 /// A run on the plan `p` and the file `f`.
 #[derive(Clone, Copy)]
-pub(crate) struct Run<'a> {
+pub struct Run<'a> {
     words: &'a [&'a str],
     plan: &'a [u8],
     file: &'a [u8],
     pieces: &'a [usize],
     failing: &'a [u64],
+    failing_writes: &'a [u64],
     out_room: usize,
     err_room: usize,
 }
 
 impl<'a> Run<'a> {
     /// Nothing fails, and there is room.
-    pub(crate) fn new(words: &'a [&'a str], plan: &'a [u8], file: &'a [u8]) -> Run<'a> {
+    pub fn new(words: &'a [&'a str], plan: &'a [u8], file: &'a [u8]) -> Run<'a> {
         Run {
             words,
             plan,
             file,
             pieces: &[],
             failing: &[],
+            failing_writes: &[],
             out_room: 4096,
             err_room: 96,
         }
     }
 
     /// The bytes of both come in pieces of these sizes.
-    pub(crate) fn in_pieces(mut self, pieces: &'a [usize]) -> Run<'a> {
+    pub fn in_pieces(mut self, pieces: &'a [usize]) -> Run<'a> {
         self.pieces = pieces;
         self
     }
 
     /// The calls of the inputs with these numbers fail.
-    pub(crate) fn failing(mut self, failing: &'a [u64]) -> Run<'a> {
+    pub fn failing(mut self, failing: &'a [u64]) -> Run<'a> {
         self.failing = failing;
         self
     }
 
+    /// The writes of standard output with these numbers fail.
+    pub fn failing_writes(mut self, failing: &'a [u64]) -> Run<'a> {
+        self.failing_writes = failing;
+        self
+    }
+
     /// Standard output has this room.
-    pub(crate) fn in_room(mut self, out_room: usize) -> Run<'a> {
+    pub fn in_room(mut self, out_room: usize) -> Run<'a> {
         self.out_room = out_room;
         self
     }
 
     /// Standard error has this room.
-    pub(crate) fn told_in_room(mut self, err_room: usize) -> Run<'a> {
+    pub fn told_in_room(mut self, err_room: usize) -> Run<'a> {
         self.err_room = err_room;
         self
     }
 
     /// Runs it.
-    pub(crate) fn left(&self, alloc: Global) -> Result<Left, AllocError> {
+    pub fn left(&self, alloc: Global) -> Result<Left, AllocError> {
         let mut files = Vec::new(alloc);
         files.push(MemoryFile::new(String::from_str(alloc, "p")?, self.plan.to_vec(alloc)?))?;
         files.push(MemoryFile::new(String::from_str(alloc, "f")?, self.file.to_vec(alloc)?))?;
         let pieces = self.pieces.to_vec(alloc)?;
         let mut inputs = MemoryInputs::new(files, pieces, self.failing.to_vec(alloc)?);
-        let mut out = MemorySink::new(alloc, self.out_room, Vec::new(alloc))?;
+        let mut out = MemorySink::new(alloc, self.out_room, self.failing_writes.to_vec(alloc)?)?;
         let mut err = MemorySink::new(alloc, self.err_room, Vec::new(alloc))?;
         let line = words_of(alloc, self.words)?;
         let status = ptu_main(alloc, line.as_slice(), &mut inputs, &mut out, &mut err);
@@ -137,18 +139,12 @@ impl<'a> Run<'a> {
     }
 
     /// It leaves this.
-    pub(crate) fn leaves(
-        &self,
-        alloc: Global,
-        status: u8,
-        out: &[u8],
-        err: &[u8],
-    ) -> Result<(), Wrong> {
+    pub fn leaves(&self, alloc: Global, status: u8, out: &[u8], err: &[u8]) -> Result<(), Wrong> {
         self.left(alloc)?.is(alloc, status, out, err)
     }
 
     /// It leaves this, however the bytes of the plan and of the file come.
-    pub(crate) fn always_leaves(
+    pub fn always_leaves(
         &self,
         alloc: Global,
         status: u8,
@@ -163,7 +159,7 @@ impl<'a> Run<'a> {
 }
 
 /// A command on a file leaves this, however its bytes come.
-pub(crate) fn leaves(
+pub fn leaves(
     alloc: Global,
     command: &str,
     file: &[u8],
@@ -175,7 +171,7 @@ pub(crate) fn leaves(
 }
 
 /// A plan on a file leaves this, however their bytes come.
-pub(crate) fn run_leaves(
+pub fn run_leaves(
     alloc: Global,
     plan: &[u8],
     file: &[u8],

@@ -1,6 +1,6 @@
 // What `run` reports of start-stop tables.
 use crate::reports::{Row, report_each};
-use crate::run::Wrong;
+use whole_runs::run::Wrong;
 
 const ROWS: [Row; 6] = [
     // One group: the photons at 0, 4, 4 and 20.

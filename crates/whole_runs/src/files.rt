@@ -1,26 +1,26 @@
 // Files for the runs, in memory.
 use std::alloc::{AllocError, Global};
 
-pub(crate) const EMPTY8: u32 = 0xFFFF_0008;
+pub const EMPTY8: u32 = 0xFFFF_0008;
 
-pub(crate) const BOOL8: u32 = 0x0000_0008;
+pub const BOOL8: u32 = 0x0000_0008;
 
-pub(crate) const INT8: u32 = 0x1000_0008;
+pub const INT8: u32 = 0x1000_0008;
 
-pub(crate) const BIT_SET64: u32 = 0x1100_0008;
+pub const BIT_SET64: u32 = 0x1100_0008;
 
-pub(crate) const FLOAT8: u32 = 0x2000_0008;
+pub const FLOAT8: u32 = 0x2000_0008;
 
-pub(crate) const DATE_TIME: u32 = 0x2100_0008;
+pub const DATE_TIME: u32 = 0x2100_0008;
 
-pub(crate) const ANSI_STRING: u32 = 0x4001_FFFF;
+pub const ANSI_STRING: u32 = 0x4001_FFFF;
 
-pub(crate) const BLOB: u32 = 0xFFFF_FFFF;
+pub const BLOB: u32 = 0xFFFF_FFFF;
 
-pub(crate) const PREAMBLE: [u8; 16] = *b"PQTTTR\0\01.0.00\0\0";
+pub const PREAMBLE: [u8; 16] = *b"PQTTTR\0\01.0.00\0\0";
 
 /// Appends the 48 bytes of a tag.
-pub(crate) fn put_tag(
+pub fn put_tag(
     file: &mut Vec<u8>,
     ident: &[u8],
     index: u32,
@@ -38,7 +38,7 @@ pub(crate) fn put_tag(
 }
 
 /// Appends a tag that is no element of an array, and its body.
-pub(crate) fn put_item(
+pub fn put_item(
     file: &mut Vec<u8>,
     ident: &[u8],
     code: u32,
@@ -50,12 +50,12 @@ pub(crate) fn put_item(
 }
 
 /// Appends the tag that ends a header.
-pub(crate) fn put_end(file: &mut Vec<u8>) -> Result<(), AllocError> {
+pub fn put_end(file: &mut Vec<u8>) -> Result<(), AllocError> {
     put_item(file, b"Header_End", EMPTY8, 0, b"")
 }
 
 /// Appends words, each with its lowest byte first.
-pub(crate) fn put_words(file: &mut Vec<u8>, words: &[u32]) -> Result<(), AllocError> {
+pub fn put_words(file: &mut Vec<u8>, words: &[u32]) -> Result<(), AllocError> {
     for word in words {
         file.extend_from_slice(word.to_le_bytes().as_slice())?;
     }
@@ -63,7 +63,7 @@ pub(crate) fn put_words(file: &mut Vec<u8>, words: &[u32]) -> Result<(), AllocEr
 }
 
 /// A preamble and one item behind it.
-pub(crate) fn with_item(
+pub fn with_item(
     alloc: Global,
     ident: &[u8],
     code: u32,
@@ -75,7 +75,7 @@ pub(crate) fn with_item(
 }
 
 /// The shortest file of a record type, with these words behind its header of 112 bytes.
-pub(crate) fn short(alloc: Global, code: u64, words: &[u32]) -> Result<Vec<u8>, AllocError> {
+pub fn short(alloc: Global, code: u64, words: &[u32]) -> Result<Vec<u8>, AllocError> {
     let mut file = PREAMBLE.as_slice().to_vec(alloc)?;
     put_item(&mut file, b"TTResultFormat_TTTRRecType", INT8, code, b"")?;
     put_end(&mut file)?;
@@ -84,7 +84,7 @@ pub(crate) fn short(alloc: Global, code: u64, words: &[u32]) -> Result<Vec<u8>, 
 }
 
 /// A file with fourteen tags and nine records, of 783 bytes.
-pub(crate) fn bench(alloc: Global) -> Result<Vec<u8>, AllocError> {
+pub fn bench(alloc: Global) -> Result<Vec<u8>, AllocError> {
     let mut file = PREAMBLE.as_slice().to_vec(alloc)?;
     let guid = b"{00000000-0000-0000-0000-000000000001}\0\0";
     put_item(&mut file, b"File_GUID", ANSI_STRING, 40, guid)?;
@@ -141,7 +141,7 @@ const BENCH_WORDS: [u32; 9] = [
 ];
 
 /// A file of 4096 wraps, each of the greatest amount, which make 2^62 - 2^37, and words behind them.
-pub(crate) fn behind_great_wraps(alloc: Global, last: &[u32]) -> Result<Vec<u8>, AllocError> {
+pub fn behind_great_wraps(alloc: Global, last: &[u32]) -> Result<Vec<u8>, AllocError> {
     let mut words = vec![in alloc; u32::MAX; 4096]?;
     words.extend_from_slice(last)?;
     short(alloc, 0x0101_0204, words.as_slice())

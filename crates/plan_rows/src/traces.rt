@@ -1,7 +1,7 @@
 // What `run` reports of traces.
-use crate::files::behind_great_wraps;
 use crate::reports::{Row, report_each};
-use crate::run::{Wrong, run_leaves};
+use whole_runs::files::behind_great_wraps;
+use whole_runs::run::{Wrong, run_leaves};
 
 /// Photons of channel 0 at these syncs, before, in and behind a trace.
 const SYNCS: [u32; 5] = [

@@ -1,8 +1,8 @@
 // What `run` is refused for.
-use crate::files::{behind_great_wraps, short};
 use crate::reports::EMPTY_REPORT;
-use crate::run::{Wrong, run_leaves};
 use std::alloc::{AllocError, Global};
+use whole_runs::files::{behind_great_wraps, short};
+use whole_runs::run::{Wrong, run_leaves};
 
 /// `run` with the plan on the file is refused so, with nothing on standard output.
 fn is_refused(
@@ -32,7 +32,7 @@ const BROKEN: [Broken; 11] = [
         line: b"ptu: plan breaks rule 1 at 0\n",
     },
     Broken {
-        plan: b"version = 2\n",
+        plan: b"version = 3\n",
         line: b"ptu: plan breaks rule 2 at 0\n",
     },
     Broken {

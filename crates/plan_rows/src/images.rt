@@ -1,6 +1,6 @@
 // What `run` reports of images.
 use crate::reports::{Row, report_each};
-use crate::run::Wrong;
+use whole_runs::run::Wrong;
 
 const ROWS: [Row; 4] = [
     // Frame and line in one record.

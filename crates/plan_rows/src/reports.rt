@@ -1,62 +1,8 @@
 // What `run` reports.
-use crate::files::{bench, short};
-use crate::run::{Wrong, run_leaves};
 use std::alloc::Global;
-
-pub(crate) const BENCH_PLAN: &[u8] = b"[[group]]
-inputs = [0]
-[[group]]
-inputs = [1]
-gate = [0, 4096]
-[[histogram]]
-group = 1
-width = 64
-bins = 64
-[[trace]]
-group = 1
-width = 1024
-bins = 2
-[[image]]
-group = 1
-width = 2
-height = 2
-dwell = 10
-line = 1
-frame = 2
-stop = 3
-[[correlation]]
-first = 1
-second = 2
-lags = 4
-levels = 2
-";
-
-pub(crate) const BENCH_REPORT: &[u8] = b"type HydraHarp2T3
-announced 9
-global 3E6AD7F29ABCAF48
-resolution 3DC19799812DEA11
-records 9
-photons 5
-markers 2
-wraps 2
-reserved 0
-late 0
-first 1030
-last 2050
-histogram 1 width 64 bins 64
-1 2
-over 1
-trace 1 origin 0 width 1024 bins 2
-1 2
-before 0
-beyond 1
-image 1 width 2 height 2 dwell 10
-0 0 1
-1 0 1
-outside 1
-correlation 1 lags 4 levels 2
-0 2 1
-";
+use whole_runs::bench::{BENCH_PLAN, BENCH_REPORT};
+use whole_runs::files::{bench, short};
+use whole_runs::run::{Wrong, run_leaves};
 
 /// The bench plan with a histogram of the second group, whose gate leaves out one of its two photons.
 const GATED_PLAN: &[u8] = b"[[group]]

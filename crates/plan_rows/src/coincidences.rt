@@ -1,6 +1,6 @@
 // What `run` reports of coincidences.
 use crate::reports::{Row, report_each};
-use crate::run::Wrong;
+use whole_runs::run::Wrong;
 
 const ROWS: [Row; 4] = [
     // One group: no photon is paired with itself, and the two at 3 are paired twice.

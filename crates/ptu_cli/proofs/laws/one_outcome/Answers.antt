@@ -1,0 +1,5 @@
+use Rattle.ptu_cli.proofs.Cases.{one-outcome}
+use Rattle.ptu_cli.proofs.laws.one_outcome.Goals as goal
+
+pub returns : goal.returns
+returns c = one-outcome

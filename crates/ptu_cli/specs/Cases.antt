@@ -1,0 +1,194 @@
+-- What a run of the program ends with, as a table of cases over whole lists: relations, plain counts and the texts of lines. No function is cited that finds an answer for the program (`header_answer`, `plan_answer`, `fits`, `counted`, `record_refusal`, `streamed`, `given`, `seen`).
+use Rattle.std.specs.Prelude.{ℕ, ◌≡◌, ◌≢◌, ◌⊎◌, ◌<◌, ◌≤◌, List, [], ◌∷◌, ◌++◌, length, take, get_or, map, flat_map, codes, decimal, nat_le, count_by, ◌+◌, ◌/◌, ◌==◌, None, Some, Result, Ok, Err}
+use Rattle.std.specs.declared.option.Option.{Option}
+use Rattle.toml.specs.Data.{Members, table}
+use Rattle.tally_base.specs.declared.slot.Slot.TheVariants.{Plan, Data}
+use Rattle.tally_base.specs.declared.fault.Fault.{Fault}
+use Rattle.tally_base.specs.declared.fault.Fault.TheVariants.{Usage, OpenFault, OutOfMemory, RecordLimit, TruncatedRecord}
+use Rattle.tally_base.specs.declared.header.Header.{Header}
+use Rattle.tally_base.specs.Faults.{fault_in}
+use Rattle.tally_base.specs.RecordTypes.{mode_of}
+use Rattle.tally_base.specs.Settings.{PartSettings, StartStopView}
+use Rattle.tally_base.specs.Settings.PartSettings.{HistSettings, TraceSettings, StartStopSettings, CoincidenceSettings, ImageSettings, CorrelationSettings}
+use Rattle.bench_io.specs.Inputs.{File}
+use Rattle.ptu_definitions.specs.declared.records.Summary.{Summary}
+use Rattle.ptu_definitions.specs.TagList.{Item, IsHeader}
+use Rattle.ptu_definitions.specs.Headers.{HasAnswer, head_of}
+use Rattle.ptu_definitions.specs.Seen.{begun, IsLongestFront, HasNoFront}
+use Rattle.ptu_definitions.specs.Words.{words_of, rest_of}
+use Rattle.ptu_definitions.specs.Layouts.{meaning_of}
+use Rattle.ptu_definitions.specs.Kinds.{counts_of}
+use Rattle.ptu_definitions.specs.Counted.{record_limit}
+use Rattle.ptu_definitions.specs.Prefixes.{each}
+use Rattle.ptu_definitions.specs.Times.{events}
+use Rattle.ptu_definitions.specs.Streams.{Reading, refusal, events_in, summary_of}
+use Rattle.ptu_definitions.specs.Firsts.{IsFirst}
+use Rattle.plan_text.specs.Plan.{PlanView, plan, parts_of}
+use Rattle.plan_text.specs.Reading.{document, IsValid, IsCalledFor}
+use Rattle.plan_text.specs.Fits.{IsMisfit}
+use Rattle.coincidence.specs.Places.{count_pairs}
+use Rattle.gate_plan.specs.Shifting.{sorting}
+use Rattle.tally_engine.specs.Histories.{history}
+use Rattle.tally_engine.specs.Plans.{reading_by}
+use Rattle.table_out.specs.HeaderText.{preamble_text, item_text}
+use Rattle.table_out.specs.EventText.{events_text}
+use Rattle.table_out.specs.Lines.{line}
+use Rattle.table_out.specs.Printed.{Printed, cell_line, table_lines}
+use Rattle.table_out.specs.Histogram.{histogram_printed}
+use Rattle.table_out.specs.Trace.{trace_printed}
+use Rattle.table_out.specs.StartStop.{startstop_printed}
+use Rattle.table_out.specs.Coincidence.{coincidence_printed}
+use Rattle.table_out.specs.Image.{image_printed}
+use Rattle.table_out.specs.Correlation.{correlation_printed}
+use Rattle.table_out.specs.Report.{head_text, same_kind, Table, with_events}
+use Rattle.ptu_made.specs.Generator.{made_words}
+use Rattle.ptu_made.specs.Records.{made_header}
+use Rattle.ptu_cli.specs.CountText.{counts_text}
+use Rattle.ptu_cli.specs.Commands.{Request, Count, Header as HeaderOf, Events, Run, Demo}
+use Rattle.ptu_cli.specs.Demo.{demo_plan}
+use Rattle.ptu_cli.specs.Outcomes.{Outcome, refused, written, listing}
+
+-- ## Files, headers and records
+
+-- There is no such file, or it is these bytes and they end so.
+abbrev pub FileCase : (List ℕ → Outcome → Type 0) → File → Outcome → Type 0
+FileCase case None end = end ≡ refused (OpenFault Data)
+FileCase case (Some bytes) end = case bytes end
+
+-- The bytes are refused as a header, or have one, and end as it and the bytes behind it do.
+abbrev pub HeaderCase : (Header → List ℕ → Outcome → Type 0) → List ℕ → Outcome → Type 0
+HeaderCase case bytes end =
+    ((fault : Fault) × HasAnswer bytes (Err fault) × (end ≡ refused fault))
+    ⊎ ((header : Header) × (behind : List ℕ) × HasAnswer bytes (Ok (header, behind)) × case header behind end)
+
+-- Bytes of a record that is cut are refused. Where there are none the text is written.
+abbrev pub WholeCase : List ℕ → List ℕ → Outcome → Type 0
+WholeCase behind text end =
+    ((rest_of behind ≢ []) × (end ≡ refused (TruncatedRecord (length (rest_of behind)))))
+    ⊎ ((rest_of behind ≡ []) × (end ≡ written text))
+
+-- No word is refused behind those before it.
+abbrev pub NoneRefused : Reading → List ℕ → Type 0
+NoneRefused how words = (k d : ℕ) → k < length words → refusal how (take k words) (get_or words k d) ≡ None
+
+-- ## count
+
+abbrev pub CountCase : Header → List ℕ → Outcome → Type 0
+CountCase header behind end =
+    ((record_limit < length (words_of behind)) × (end ≡ refused (RecordLimit record_limit)))
+    ⊎ ((length (words_of behind) ≤ record_limit)
+    × WholeCase behind (counts_text header (counts_of (map (meaning_of header.record_type) (words_of behind)))) end)
+
+-- ## header
+
+-- The longest front of the bytes, and the item that has begun behind it, are printed so.
+pub record PrintsFront (bytes text : List ℕ) : Type 0 where
+  pub start : List ℕ
+  pub items : List Item
+  pub front : List ℕ
+  pub rest : List ℕ
+  pub longest : IsLongestFront bytes start items front rest
+  pub text_is : text ≡ preamble_text start ++ flat_map item_text (items ++ begun rest)
+
+-- The header that the bytes begin with is printed so.
+pub record PrintsHeader (bytes text : List ℕ) : Type 0 where
+  pub start : List ℕ
+  pub inner : List Item
+  pub last : Item
+  pub header : List ℕ
+  pub rest : List ℕ
+  pub is_header : IsHeader start inner last header
+  pub bytes_are : bytes ≡ header ++ rest
+  pub text_is : text ≡ preamble_text start ++ flat_map item_text (inner ++ last ∷ [])
+
+abbrev pub Prints : List ℕ → List ℕ → Type 0
+Prints bytes text = (HasNoFront bytes × (text ≡ [])) ⊎ (PrintsFront bytes text ⊎ PrintsHeader bytes text)
+
+-- Whatever the answer is, the first bytes are printed as far as they go.
+pub record PrintCase (bytes : List ℕ) (end : Outcome) : Type 0 where
+  pub answer : Result (Header × List ℕ) Fault
+  pub is_answer : HasAnswer bytes answer
+  pub fault_is : end.fault ≡ fault_in answer
+  pub prints : Prints (head_of bytes) end.text
+
+-- ## events
+
+-- The lines are those of the events before the least record that is refused.
+pub record RefusedLines (how : Reading) (words : List ℕ) (end : Outcome) : Type 0 where
+  pub fault : Fault
+  pub least : IsFirst how fault [] words
+  pub end_is : end ≡ record { text = events_text (events_in how least.front); fault = Some fault }
+
+-- the fault of bytes that are left over
+abbrev pub LeftOver : List ℕ → Option Fault → Type 0
+LeftOver rest fault = ((rest ≢ []) × (fault ≡ Some (TruncatedRecord (length rest)))) ⊎ ((rest ≡ []) × (fault ≡ None))
+
+abbrev pub ListCase : Header → List ℕ → Outcome → Type 0
+ListCase header behind end =
+    RefusedLines (listing header) (words_of behind) end
+    ⊎ (NoneRefused (listing header) (words_of behind) × (end.text ≡ events_text (events_in (listing header) (words_of behind))) × LeftOver (rest_of behind) end.fault)
+
+-- ## run
+
+-- A start-stop table whose cells count pairs of places of its events.
+abbrev pub startstop_by_places : StartStopView → Printed
+startstop_by_places set = record {
+  word = (startstop_printed set).word;
+  settings = (startstop_printed set).settings;
+  rows = (startstop_printed set).rows;
+  columns = (startstop_printed set).columns;
+  cell = λ row b h. cell_line b (count_pairs set (λ time. time / set.width == b) h);
+  rest = λ h. line (codes "over") (decimal (count_pairs set (λ time. nat_le set.bins (time / set.width)) h));
+}
+
+-- How a table is printed whose cells count places, or pairs of places, of its events.
+abbrev pub by_places : PartSettings → Printed
+by_places (HistSettings set) = histogram_printed set
+by_places (TraceSettings set) = trace_printed set
+by_places (StartStopSettings set) = startstop_by_places set
+by_places (CoincidenceSettings set) = coincidence_printed set
+by_places (ImageSettings set) = image_printed set
+by_places (CorrelationSettings set) = correlation_printed set
+
+-- a table behind others, by its number among those of its kind
+abbrev pub placed_text : List Table → Table → List ℕ
+placed_text before it = table_lines (by_places it.0) (count_by (λ other. same_kind it.0 other.0) before + 1) it.1
+
+abbrev pub report_by_places : Header → Summary → List Table → List ℕ
+report_by_places header summary tables = head_text header summary ++ each placed_text tables
+
+-- the report of these words by a plan
+abbrev pub words_report : PlanView → Header → List ℕ → List ℕ
+words_report view header words =
+    let how = reading_by view header in
+    report_by_places header (summary_of how.mode (map how.meaning words) (events (map how.meaning words))) (with_events (parts_of view) (history (sorting view) how words))
+
+-- The least record that is refused ends the run. Where none is the report is written, unless a record is cut.
+abbrev pub StreamCase : PlanView → Header → List ℕ → Outcome → Type 0
+StreamCase view header behind end =
+    ((fault : Fault) × IsFirst (reading_by view header) fault [] (words_of behind) × (end ≡ refused fault))
+    ⊎ (NoneRefused (reading_by view header) (words_of behind) × WholeCase behind (words_report view header (words_of behind)) end)
+
+-- The first part that does not suit the file's mode ends the run.
+abbrev pub ReportCase : PlanView → Header → List ℕ → Outcome → Type 0
+ReportCase view header behind end =
+    ((fault : Fault) × IsMisfit (mode_of header.record_type) view fault × (end ≡ refused fault))
+    ⊎ (((fault : Fault) → IsMisfit (mode_of header.record_type) view fault → ⊥) × StreamCase view header behind end)
+
+-- The bytes of PLAN call for a refusal, or are the plan of a document that breaks no rule. Only then FILE is looked at.
+abbrev pub PlanCase : File → File → Outcome → Type 0
+PlanCase None data_file end = end ≡ refused (OpenFault Plan)
+PlanCase (Some text) data_file end =
+    ((fault : Fault) × IsCalledFor text fault × (fault ≢ OutOfMemory) × (end ≡ refused fault))
+    ⊎ ((ms : Members) × IsValid text × (document text ≡ Some ms) × FileCase (HeaderCase (ReportCase (plan (table ms)))) data_file end)
+
+-- ## All commands
+
+-- The request ends so over these files of its words PLAN and FILE.
+abbrev pub IsOutcome : Option Request → File → File → Outcome → Type 0
+IsOutcome None plan_file data_file end = end ≡ refused Usage
+IsOutcome (Some (Count file)) plan_file data_file end = FileCase (HeaderCase CountCase) data_file end
+IsOutcome (Some (HeaderOf file)) plan_file data_file end = FileCase PrintCase data_file end
+IsOutcome (Some (Events file)) plan_file data_file end = FileCase (HeaderCase ListCase) data_file end
+IsOutcome (Some (Run plan_name file)) plan_file data_file end = PlanCase plan_file data_file end
+IsOutcome (Some (Demo seed count)) plan_file data_file end = end ≡ written (words_report demo_plan made_header (made_words seed count))

@@ -1,0 +1,76 @@
+-- What a run of the whole program leaves, by what its words ask for.
+use Rattle.std.specs.Prelude.{ℕ, ◌≡◌, ◌⊎◌, ◌↔◌, ◌≤◌, ◌<◌, List, None, Some}
+use Rattle.std.specs.declared.option.Option.{Option}
+use Rattle.tally_base.specs.declared.slot.Slot.{Slot}
+use Rattle.tally_base.specs.declared.fault.Fault.{Fault}
+use Rattle.tally_base.specs.declared.fault.Fault.TheVariants.{OpenFault, ReadFault, WriteFault, OutOfMemory}
+use Rattle.tally_base.specs.FaultCounts.{Rose}
+use Rattle.bench_io.specs.Inputs.{File, InputState}
+use Rattle.bench_io.specs.declared.inputs.Inputs.{Ghosts as InputGhosts}
+use Rattle.bench_io.specs.declared.sink.Sink.{Ghosts as SinkGhosts}
+use Rattle.ptu_cli.specs.Commands.{Request}
+use Rattle.ptu_cli.specs.Outcomes.{Outcome, status}
+use Rattle.ptu_cli.specs.Behaviours.{behaviour}
+use Rattle.ptu_cli.specs.Endings.{ForSomeFiles, Tells, TellsFault, EndsBy, FailsOpening, FailsReading, CutsOutcome, RunsOut, Asks, LacksMemory, NoneRose, IsGood}
+
+-- The states before a run and behind it: of the inputs, of standard output and of standard error, each with the count of its failed writes.
+pub record Around : Type 0 where
+  pub before : InputState
+  pub after : InputState
+  pub out_before : Option (List ℕ)
+  pub out_after : Option (List ℕ)
+  pub out_faults_before : ℕ
+  pub out_faults_after : ℕ
+  pub err_before : Option (List ℕ)
+  pub err_after : Option (List ℕ)
+  pub err_faults_before : ℕ
+  pub err_faults_after : ℕ
+
+-- those of these inputs, of this standard output and of this standard error
+abbrev pub around : {I O E : Type 0} → InputGhosts I → SinkGhosts O → SinkGhosts E → I → I → O → O → E → E → Around
+around i o e before after out_before out_after err_before err_after = record {
+  before = i.state before;
+  after = i.state after;
+  out_before = o.written out_before;
+  out_after = o.written out_after;
+  out_faults_before = o.faults out_before;
+  out_faults_after = o.faults out_after;
+  err_before = e.written err_before;
+  err_after = e.written err_after;
+  err_faults_before = e.faults err_before;
+  err_faults_after = e.faults err_after;
+}
+
+-- this fault's line is on standard error, or a prefix of it where a write there failed; without a fault nothing is
+abbrev pub TellsOn : Around → Option Fault → Type 0
+TellsOn run fault = TellsFault run.err_before run.err_after run.err_faults_before run.err_faults_after fault
+
+-- standard output and standard error hold what the outcome says, and the status is its
+abbrev pub EndsIn : Around → ℕ → Outcome → Type 0
+EndsIn run result end = EndsBy end result run.out_before run.out_after run.err_before run.err_after run.err_faults_before run.err_faults_after
+
+-- No count of the inputs and of standard output rose.
+abbrev pub NothingFailed : Around → Type 0
+NothingFailed run = NoneRose run.before run.after × ¬ (Rose run.out_faults_before run.out_faults_after)
+
+-- The promise of the whole program.
+pub record Runs (request : Option Request) (run : Around) (result : ℕ) : Type 0 where
+  -- Where nothing outside failed, it ends as some files of PLAN and FILE call for: those that are told, where they are told.
+  pub answered : (2 ≤ result → 5 < result) → ForSomeFiles (behaviour request) run.before run.after (λ end. EndsIn run result end)
+  -- The status is 0, or that of one fault, whose line is told. With 0 nothing is told.
+  pub told : (fault : Option Fault) × (result ≡ status fault) × TellsOn run fault
+  -- The command line is bad exactly where the words are no command.
+  pub usage : (result ≡ 1) ↔ (request ≡ None)
+  -- An opening failed.
+  pub unopened : result ≡ 2 → (slot : Slot) × FailsOpening (behaviour request) slot run.before run.after run.out_before run.out_after × TellsOn run (Some (OpenFault slot))
+  -- A read failed.
+  pub unread : result ≡ 3 → (slot : Slot) × FailsReading (behaviour request) slot run.before run.after run.out_before run.out_after × TellsOn run (Some (ReadFault slot))
+  -- A write failed.
+  pub unwritten : result ≡ 4 → Rose run.out_faults_before run.out_faults_after × CutsOutcome (behaviour request) run.before run.after run.out_before run.out_after × TellsOn run (Some WriteFault)
+  -- Memory was refused.
+  pub memory : result ≡ 5 → RunsOut (behaviour request) run.before run.after run.out_before run.out_after × TellsOn run (Some OutOfMemory)
+  -- What it asked for and took, whatever its status is.
+  pub asks : Asks (behaviour request) run.before run.after
+  -- Where no count of the inputs and of standard output rose, it ends as the files call for or for want of memory, and well where they are told and good.
+  pub complete : NothingFailed run → LacksMemory (behaviour request) result ⊎ ForSomeFiles (behaviour request) run.before run.after (λ end. result ≡ status end.fault)
+  pub good : (plan_file data_file : File) → Tells run.before (behaviour request) plan_file data_file → IsGood (behaviour request) plan_file data_file → NothingFailed run → LacksMemory (behaviour request) result ⊎ (result ≡ 0)
