@@ -1,43 +1,174 @@
 #!/usr/bin/env python3
-"""Prints the report of 'ptu run' by brute force: brute.py PLAN FILE
+"""All commands of ptu by brute force: brute.py count FILE, header FILE, events FILE, run PLAN FILE, demo SEED COUNT
 
-The file is of type HydraHarp2T2 or HydraHarp2T3, whole and not bad, and the plan suits it. It should have a few
-thousand photons at most: whatever can be counted by looking at everything is counted so. All pairs of photons
-are looked at for coincidences and correlations, and all markers before each photon of an image. It shares no
-code with anything, and needs python 3.11 for its reader of TOML.
+It says what ptu says, on standard output and standard error, and ends with its status. It should be given a few
+thousand records at most: whatever can be counted by looking at everything is counted so. All pairs of photons are
+looked at for coincidences and correlations, and all markers before each photon of an image. It shares no code with
+anything. Its reader of TOML is that of python 3.11, which reads TOML 1.0, where ptu reads TOML 1.1.
+
+bench/fuzz.py calls what stands here. PTU_PLAN_VERSION=1 in the environment is for a program that reads only plans of
+version 1.
 """
 
+import math
+import os
+import re
 import struct
 import sys
 import tomllib
 from collections import Counter, namedtuple
 
-Event = namedtuple("Event", "is_photon number dtime time")  # the input of a photon, or the bits of a marker
+GREATEST_VERSION = int(os.environ.get("PTU_PLAN_VERSION", "2"))
 
-TYPES = {0x01010204: "HydraHarp2T2", 0x01010304: "HydraHarp2T3"}
-WITH_BODY = (0x2001FFFF, 0x4001FFFF, 0x4002FFFF, 0xFFFFFFFF)
-NUMBER, FLOAT = 0x10000008, 0x20000008
+Event = namedtuple("Event", "place is_photon number dtime time")  # the input of a photon, or the bits of a marker
+
+TYPES = {
+    0x00010303: ("PicoHarpT3", "pico", 3, None),
+    0x00010203: ("PicoHarpT2", "pico", 2, None),
+    0x00010304: ("HydraHarpT3", "hydra", 3, True),
+    0x00010204: ("HydraHarpT2", "hydra", 2, True),
+    0x01010304: ("HydraHarp2T3", "hydra", 3, False),
+    0x01010204: ("HydraHarp2T2", "hydra", 2, False),
+    0x00010305: ("TimeHarp260NT3", "hydra", 3, False),
+    0x00010205: ("TimeHarp260NT2", "hydra", 2, False),
+    0x00010306: ("TimeHarp260PT3", "hydra", 3, False),
+    0x00010206: ("TimeHarp260PT2", "hydra", 2, False),
+    0x00010307: ("MultiHarpT3", "hydra", 3, False),
+    0x00010207: ("MultiHarpT2", "hydra", 2, False),
+}
+TAG_TYPES = {
+    0xFFFF0008: "tyEmpty8",
+    0x00000008: "tyBool8",
+    0x10000008: "tyInt8",
+    0x11000008: "tyBitSet64",
+    0x12000008: "tyColor8",
+    0x20000008: "tyFloat8",
+    0x21000008: "tyTDateTime",
+    0x2001FFFF: "tyFloat8Array",
+    0x4001FFFF: "tyAnsiString",
+    0x4002FFFF: "tyWideString",
+    0xFFFFFFFF: "tyBinaryBlob",
+}
+WITH_BODY = ("tyFloat8Array", "tyAnsiString", "tyWideString", "tyBinaryBlob")
+HEADER_LIMIT = 2**24
+PLAN_LIMIT = 65536
+DEMO_PLAN = b"""[[group]]
+inputs = [1]
+[[group]]
+inputs = [2]
+[[trace]]
+group = 1
+width = 1048576
+bins = 64
+[[startstop]]
+start = 1
+stop = 2
+width = 64
+bins = 64
+[[coincidence]]
+first = 1
+second = 2
+reach = 256
+width = 64
+[[correlation]]
+first = 1
+second = 2
+lags = 4
+levels = 8
+"""
 
 
-def read_header(data):
-    """The first value of each name and type of tag, and where the records begin."""
-    assert data[:6] == b"PQTTTR"
-    tags, at, name = {}, 16, ""
-    while name != "Header_End":
-        name = data[at : at + 32].split(b"\0")[0].decode("latin-1")
-        kind, value = struct.unpack_from("<Iq", data, at + 36)
+class Refused(Exception):
+    """A fault: the status and the line without its front."""
+
+    def __init__(self, status, line):
+        super().__init__(line)
+        self.status, self.line = status, line
+
+
+class NotCompared(Exception):
+    """A text of which the two readers of TOML may think differently."""
+
+
+# Headers.
+
+
+def printable(data, first):
+    return "".join(chr(b) if first <= b <= 0x7E and b != 0x5C else f"\\x{b:02X}" for b in data)
+
+
+def shown_value(kind, value, body):
+    """The value of a tag as it is printed, with as much of its body as there is."""
+    if kind in WITH_BODY:
+        return f"{value} " + (printable(body.split(b"\0")[0], 0x20) if kind == "tyAnsiString" else body.hex().upper())
+    if kind == "tyEmpty8":
+        return "-"
+    if kind == "tyBool8":
+        return "true" if value else "false"
+    return str(value) if kind == "tyInt8" else f"{value % 2**64:016X}"
+
+
+def read_header(data, out):
+    """Puts the text of each item behind out, and gives the first value of each name and type, and where records begin."""
+    whole = len(data)
+    data = data[:HEADER_LIMIT]
+
+    def ends(early=""):
+        """What is refused where an item passes the end."""
+        if early:
+            out.append(early)
+        if whole >= HEADER_LIMIT:
+            raise Refused(16, "header longer than 16777216 bytes")
+        raise Refused(11, f"header cut after {whole} bytes")
+
+    if len(data) >= 6 and data[:6] != b"PQTTTR":
+        raise Refused(10, "not a PTU file")
+    if len(data) < 16:
+        ends()
+    out.append(f"magic {data[:8].hex().upper()}\nversion {data[8:16].hex().upper()}\n")
+    tags, at, number, name = {}, 16, 0, None
+    while name != b"Header_End":
+        if at + 48 > len(data):
+            ends()
+        number += 1
+        ident, index, code, value = struct.unpack_from("<32siIq", data, at)
+        name, at = ident.split(b"\0")[0], at + 48
+        if code not in TAG_TYPES:
+            raise Refused(12, f"tag {number} has type {code:08X}")
+        kind = TAG_TYPES[code]
         tags.setdefault((name, kind), value)
-        at += 48 + (value if kind in WITH_BODY else 0)
+        length = value if kind in WITH_BODY else 0
+        if length < 0:
+            raise Refused(13, f"tag {number} has length {length}")
+        body = data[at : at + length]
+        line = f"tag {printable(name, 0x21)} {index} {kind} {shown_value(kind, value, body)}"
+        if len(body) < length:
+            ends(line)
+        out.append(line + "\n")
+        at += length
+    code = tags.get((b"TTResultFormat_TTTRRecType", "tyInt8"))
+    if code is None:
+        raise Refused(14, "no record type")
+    if code not in TYPES:
+        raise Refused(15, f"record type {code % 2**64:016X}")
     return tags, at
 
 
-def meaning(word, is_t2):
-    """What a word is: its kind, its number, its dtime and its time field, or the amount of a wrap."""
+def type_of(tags):
+    return TYPES[tags[b"TTResultFormat_TTTRRecType", "tyInt8"]]
+
+
+# Records.
+
+
+def hydra_meaning(word, is_t2, is_old):
     special, channel = word >> 31, word >> 25 & 63
     time = word & 0x1FFFFFF if is_t2 else word & 1023
     dtime = 0 if is_t2 else word >> 10 & 32767
     if special == 0:
         return "photon", channel + 1 if is_t2 else channel, dtime, time
+    if channel == 63 and is_old:
+        return "wrap", 0, 0, 33552000 if is_t2 else 1024
     if channel == 63:
         return "wrap", 0, 0, max(time, 1) * (2**25 if is_t2 else 2**10)
     if channel == 0 and is_t2:
@@ -47,70 +178,291 @@ def meaning(word, is_t2):
     return "reserved", 0, 0, 0
 
 
-def read_records(data, start, is_t2):
-    """How many records there are of each kind, and the events in the order of the file."""
-    kinds, events, base = Counter(), [], 0
-    for (word,) in struct.iter_unpack("<I", data[start:]):
-        kind, number, dtime, time = meaning(word, is_t2)
+def pico_meaning(word, is_t2):
+    channel = word >> 28
+    time = word & 0xFFFFFFF if is_t2 else word & 0xFFFF
+    bits = word & 15 if is_t2 else word >> 16 & 15
+    if channel <= 4:
+        return "photon", channel, 0 if is_t2 else word >> 16 & 4095, time
+    if channel <= 14:
+        return "reserved", 0, 0, 0
+    if bits == 0:
+        return "wrap", 0, 0, 210698240 if is_t2 else 65536
+    return "marker", bits, 0, time
+
+
+def meaning(record_type, word):
+    """What a word is: its kind, its number, its dtime and its time field, or the amount of a wrap."""
+    _, family, mode, is_old = record_type
+    return pico_meaning(word, mode == 2) if family == "pico" else hydra_meaning(word, mode == 2, is_old)
+
+
+def words_of(data, start):
+    end = start + (len(data) - start) // 4 * 4
+    return [word for (word,) in struct.iter_unpack("<I", data[start:end])]
+
+
+def left_over(data, start):
+    rest = (len(data) - start) % 4
+    if rest:
+        raise Refused(17, f"{rest} bytes of a record at the end")
+
+
+def read_records(record_type, words, policy, take):
+    """Gives each event with whether it is late, and answers how many records there are of each kind."""
+    kinds, base, greatest = Counter(), 0, 0
+    for place, word in enumerate(words, 1):
+        if place > policy["records"]:
+            raise Refused(20, f"more than {policy['records']} records")
+        kind, number, dtime, time = meaning(record_type, word)
         kinds[kind] += 1
-        if kind == "wrap":
+        if kind == "reserved":
+            if policy["reserved"] == "stop":
+                raise Refused(18, f"record {place} is reserved: {word:08X}")
+        elif kind == "wrap":
             base += time
-        elif kind != "reserved":
-            events.append(Event(kind == "photon", number, dtime, base + time))
-    return kinds, events
+            if base > 2**62:
+                raise Refused(21, f"record {place} passes the greatest time")
+        else:
+            event = Event(place, kind == "photon", number, dtime, base + time)
+            is_ordered = event.is_photon or record_type[2] == 3
+            is_late = is_ordered and event.time < greatest
+            if is_late and policy["order"] == "stop":
+                raise Refused(19, f"record {place} goes back from {greatest} to {event.time}")
+            if is_ordered:
+                greatest = max(greatest, event.time)
+            take(event, is_late)
+    return kinds
 
 
-def in_time(events, is_t2):
-    """The events that aren't late. In T2 markers neither are late nor make others late."""
-    kept, greatest = [], 0
-    for event in events:
-        if is_t2 and not event.is_photon:
-            kept.append(event)
-        elif event.time >= greatest:
-            kept.append(event)
-            greatest = event.time
-    return kept
+NO_POLICY = {"order": "drop", "reserved": "skip", "records": 2**40}
+
+
+def count_of(kinds):
+    return f"records {sum(kinds.values())}\n" + "".join(f"{kind}s {kinds[kind]}\n" for kind in ("photon", "marker", "wrap")) + f"reserved {kinds['reserved']}\n"
+
+
+def count(data, out):
+    tags, start = read_header(data, [])
+    kinds = Counter(meaning(type_of(tags), word)[0] for word in words_of(data, start))
+    left_over(data, start)
+    out.append(f"type {type_of(tags)[0]}\nannounced {announced(tags)}\n{count_of(kinds)}")
+
+
+def events(data, out):
+    tags, start = read_header(data, [])
+
+    def take(event, is_late):
+        late = " late" if is_late else ""
+        if event.is_photon:
+            out.append(f"{event.place} photon {event.number} {event.time} {event.dtime}{late}\n")
+        else:
+            out.append(f"{event.place} marker {event.number} {event.time}{late}\n")
+
+    read_records(type_of(tags), words_of(data, start), NO_POLICY, take)
+    left_over(data, start)
+
+
+# Plans.
+
+
+def as_float(text):
+    number = float(text)
+    if math.isinf(number) and "inf" not in text:
+        raise Refused(7, "plan is not TOML")  # ptu refuses a float that is too large
+    return number
+
+
+def look_at_numbers(value, depth):
+    """Refuses integers that don't fit 64 bits. What nests deeper than 80 is not compared."""
+    if depth > 80:
+        raise NotCompared("it nests deep")
+    if type(value) is int and not -(2**63) <= value < 2**63:
+        raise Refused(7, "plan is not TOML")
+    for inner in value.values() if type(value) is dict else value if type(value) is list else ():
+        look_at_numbers(inner, depth + 1)
+
+
+# What TOML 1.1 allows and TOML 1.0 doesn't: \e and \x, times without seconds, newlines and a last comma in {}.
+NEW_IN_1_1 = re.compile(r"\\[ex]|\d\d:\d\d(?![:\d])|\{[^}\n]*\n|,[ \t]*\}")
+
+
+def nests_deep(text):
+    """Whether there may be 80 brackets in one another, or 80 points in a key."""
+    depth = deepest = 0
+    for c in text:
+        depth += (c in "[{") - (c in "]}")
+        deepest = max(depth, deepest)
+    return deepest >= 80 or any(line.count(".") >= 80 for line in text.split("\n"))
+
+
+def read_document(text):
+    try:
+        text = text.decode("utf-8")
+    except UnicodeDecodeError:
+        raise Refused(7, "plan is not TOML") from None
+    text = text.removeprefix("\ufeff")
+    try:
+        document = tomllib.loads(text, parse_float=as_float)
+    except (tomllib.TOMLDecodeError, RecursionError):
+        if nests_deep(text):
+            raise NotCompared("it nests deep") from None
+        if NEW_IN_1_1.search(text):
+            raise NotCompared("it may be TOML 1.1") from None
+        raise Refused(7, "plan is not TOML") from None
+    look_at_numbers(document, 0)
+    return document
+
+
+def is_within(value, least, greatest):
+    return type(value) is int and least <= value <= greatest
+
+
+def has_keys(table, needed, other=()):
+    return all(key in table for key in needed) and all(key in needed or key in other for key in table)
+
+
+def is_gate(value):
+    return type(value) is list and len(value) == 2 and all(is_within(n, 0, 32768) for n in value) and value[0] < value[1]
+
+
+def are_inputs(value):
+    good = type(value) is list and 1 <= len(value) <= 65 and all(is_within(n, 0, 64) for n in value)
+    return good and all(a < b for a, b in zip(value, value[1:]))
+
+
+def are_gates(value):
+    good = type(value) is list and 1 <= len(value) <= 8 and all(is_gate(gate) for gate in value)
+    return good and all(a[1] <= b[0] for a, b in zip(value, value[1:]))
+
+
+def are_shifts(tables, at, period):
+    shift = tables[at]
+    before = tables[at - 1]["input"] if at > 0 else -1
+    return is_within(shift["input"], before + 1, 64) and is_within(shift["shift"], 0, period - 1)
+
+
+MOST = {"group": 64, "histogram": 32, "trace": 32, "startstop": 16, "coincidence": 16, "image": 8, "correlation": 16}
+
+
+def broken_rules(document):
+    """Each broken rule of a document with its index, where those before it hold, in their order."""
+    has_new = document.get("version") == 2 and type(document.get("version")) is int and GREATEST_VERSION >= 2
+    most = MOST | ({"shift": 65} if has_new else {})
+    known = ["version", "order", "reserved", "limits", *most] + (["period"] if has_new else [])
+    yield 1, 0, all(key in known for key in document)
+    yield 2, 0, is_within(document.get("version", 1), 1, GREATEST_VERSION)
+    yield 3, 0, document.get("order", "drop") in ("drop", "stop")
+    yield 4, 0, document.get("reserved", "skip") in ("skip", "stop")
+    limits = document.get("limits", {})
+    yield 5, 0, type(limits) is dict and has_keys(limits, (), ("records",)) and is_within(limits.get("records", 1), 1, 2**40)
+    for at, key in enumerate(most, 1):
+        tables = document.get(key, [])
+        yield 6, at, type(tables) is list and all(type(table) is dict for table in tables)
+    for at, key in enumerate(most, 1):
+        yield 7, at, len(document.get(key, [])) <= most[key]
+    groups = document.get("group", [])
+    gate = "gates" if has_new else "gate"
+    for at, group in enumerate(groups, 1):
+        yield 8, at, has_keys(group, ("inputs",), (gate,))
+    for at, group in enumerate(groups, 1):
+        yield 9, at, are_inputs(group["inputs"])
+    for at, group in enumerate(groups, 1):
+        yield 10, at, gate not in group or (are_gates if has_new else is_gate)(group[gate])
+
+    one_group = (1, len(groups))
+    serpentine = ("serpentine",) if has_new else ()
+    big = (1, 2**62)
+    kinds = [
+        ("histogram", 11, {"group": one_group, "width": (1, 32768), "bins": (1, 32768)}, {}),
+        ("trace", 13, {"group": one_group, "width": big, "bins": (1, 2**20)}, {"origin": (0, 2**62)}),
+        ("startstop", 15, {"start": one_group, "stop": one_group, "width": big, "bins": (1, 32768)}, {}),
+        ("coincidence", 17, {"first": one_group, "second": one_group, "reach": (1, 2**20), "width": (1, 2**21)}, {}),
+        ("image", 19, {"group": one_group, "width": (1, 2048), "height": (1, 2048), "dwell": big, "line": (1, 4)},
+         {"frame": (1, 4), "stop": (1, 4)}),
+        ("correlation", 21, {"first": one_group, "second": one_group, "lags": (2, 128), "levels": (1, 40)}, {}),
+    ]
+    for key, rule, needed, other in kinds:
+        tables = document.get(key, [])
+        more = serpentine if key == "image" else ()
+        for at, table in enumerate(tables, 1):
+            yield rule, at, has_keys(table, tuple(needed), tuple(other) + more)
+        for at, table in enumerate(tables, 1):
+            ranges = needed | other
+            good = all(is_within(table[name], *ranges[name]) for name in table if name in ranges)
+            good = good and type(table.get("serpentine", False)) is bool
+            yield rule + 1, at, good and (key != "correlation" or table["lags"] % 2 == 0)
+    if has_new:
+        shifts = document.get("shift", [])
+        period = document.get("period", 1)
+        yield 23, 0, is_within(period, 1, 32768) and (not shifts or "period" in document)
+        for at, shift in enumerate(shifts, 1):
+            yield 24, at, has_keys(shift, ("input", "shift"))
+        for at, shift in enumerate(shifts):
+            yield 25, at + 1, are_shifts(shifts, at, period)
+
+
+def read_plan(text):
+    """The document of a plan that is good."""
+    if len(text) > PLAN_LIMIT:
+        raise Refused(6, "plan longer than 65536 bytes")
+    document = read_document(text)
+    for rule, index, holds in broken_rules(document):
+        if not holds:
+            raise Refused(8, f"plan breaks rule {rule} at {index}")
+    return document
+
+
+def fits(plan, mode):
+    """Refuses the first part that suits only the other mode."""
+    gated = [at for at, group in enumerate(plan.get("group", []), 1) if "gate" in group or "gates" in group]
+    only = {"gate": gated, "shift": plan.get("shift", []), "histogram": plan.get("histogram", []), "image": plan.get("image", [])}
+    if mode == 3:
+        only = {"startstop": plan.get("startstop", []), "coincidence": plan.get("coincidence", [])}
+    for kind, parts in only.items():
+        if parts:
+            raise Refused(9, f"{kind} {parts[0] if kind == 'gate' else 1} does not suit T{mode}")
+
+
+# Tables.
 
 
 def takes(group, event):
-    low, high = group.get("gate", (0, 32768))
-    return event.is_photon and event.number in group["inputs"] and low <= event.dtime < high
+    gates = [group["gate"]] if "gate" in group else group.get("gates")
+    passes = gates is None or any(low <= event.dtime < high for low, high in gates)
+    return event.is_photon and event.number in group["inputs"] and passes
 
 
-def print_cells(cells):
-    for cell in sorted(cells):
-        print(cell, cells[cell])
+def cell_lines(cells):
+    return "".join(f"{cell} {cells[cell]}\n" for cell in sorted(cells))
 
 
-def print_binned(values, bins):
-    """The cells of those that are in a bin. It gives how many are past the last one."""
-    print_cells(Counter(value for value in values if value < bins))
-    return sum(value >= bins for value in values)
+def binned(values, bins):
+    """The lines of those that are in a bin, and how many are past the last one."""
+    return cell_lines(Counter(value for value in values if value < bins)), sum(value >= bins for value in values)
 
 
 def histogram(number, table, events, groups):
     width, bins = table["width"], table["bins"]
-    print("histogram", number, "width", width, "bins", bins)
-    over = print_binned([e.dtime // width for e in events if takes(groups[table["group"] - 1], e)], bins)
-    print("over", over)
+    lines, over = binned([e.dtime // width for e in events if takes(groups[table["group"] - 1], e)], bins)
+    return f"histogram {number} width {width} bins {bins}\n{lines}over {over}\n"
 
 
 def trace(number, table, events, groups):
     origin, width, bins = table.get("origin", 0), table["width"], table["bins"]
-    print("trace", number, "origin", origin, "width", width, "bins", bins)
     times = [e.time for e in events if takes(groups[table["group"] - 1], e)]
-    beyond = print_binned([(time - origin) // width for time in times if time >= origin], bins)
-    print("before", sum(time < origin for time in times))
-    print("beyond", beyond)
+    lines, beyond = binned([(time - origin) // width for time in times if time >= origin], bins)
+    before = sum(time < origin for time in times)
+    return f"trace {number} origin {origin} width {width} bins {bins}\n{lines}before {before}\nbeyond {beyond}\n"
 
 
 def start_stop(number, table, events, groups):
     start, stop = groups[table["start"] - 1], groups[table["stop"] - 1]
-    print("startstop", number, "width", table["width"], "bins", table["bins"])
     photons = [e for e in events if takes(start, e) or takes(stop, e)]
     neighbours = zip(photons, photons[1:])
     between = [b.time - a.time for a, b in neighbours if takes(start, a) and takes(stop, b)]
-    print("over", print_binned([time // table["width"] for time in between], table["bins"]))
+    lines, over = binned([time // table["width"] for time in between], table["bins"])
+    return f"startstop {number} width {table['width']} bins {table['bins']}\n{lines}over {over}\n"
 
 
 def members(table, events, groups):
@@ -123,19 +475,18 @@ def members(table, events, groups):
 
 def coincidence(number, table, events, groups):
     reach, width = table["reach"], table["width"]
-    print("coincidence", number, "reach", reach, "width", width)
     firsts, seconds = members(table, events, groups)
     cells = Counter()
     for i, t_i in firsts:
         for j, t_j in seconds:
             if i != j and abs(t_j - t_i) <= reach:
                 cells[(t_j - t_i + reach) // width] += 1
-    print_cells(cells)
+    return f"coincidence {number} reach {reach} width {width}\n{cell_lines(cells)}"
 
 
 def correlation(number, table, events, groups):
     lags, levels = table["lags"], table["levels"]
-    print("correlation", number, "lags", lags, "levels", levels)
+    lines = f"correlation {number} lags {lags} levels {levels}\n"
     firsts, seconds = members(table, events, groups)
     for level in range(levels):
         bins_i = [time // 2**level for _, time in firsts]
@@ -143,7 +494,8 @@ def correlation(number, table, events, groups):
         cells = Counter(j - i for i in bins_i for j in bins_j)
         for lag in range(1 if level == 0 else lags // 2 + 1, lags + 1):
             if cells[lag] > 0:
-                print(level, lag, cells[lag])
+                lines += f"{level} {lag} {cells[lag]}\n"
+    return lines
 
 
 def has(event, bit):
@@ -168,20 +520,22 @@ def place_of(photon, earlier, table):
     if frame is None:
         row %= table["height"]
     column = (photon.time - earlier[line].time) // table["dwell"]
-    return (column, row) if column < table["width"] and row < table["height"] else None
+    if column >= table["width"] or row >= table["height"]:
+        return None
+    return (table["width"] - 1 - column if table.get("serpentine") and row % 2 == 1 else column, row)
 
 
 def image(number, table, events, groups):
-    print("image", number, "width", table["width"], "height", table["height"], "dwell", table["dwell"])
     group = groups[table["group"] - 1]
     cells = Counter()
     for place, event in enumerate(events):
         if takes(group, event):
             cells[place_of(event, events[:place], table)] += 1
     outside = cells.pop(None, 0)
+    lines = f"image {number} width {table['width']} height {table['height']} dwell {table['dwell']}\n"
     for x, y in sorted(cells, key=lambda cell: (cell[1], cell[0])):
-        print(x, y, cells[x, y])
-    print("outside", outside)
+        lines += f"{x} {y} {cells[x, y]}\n"
+    return lines + f"outside {outside}\n"
 
 
 KINDS = {
@@ -194,36 +548,125 @@ KINDS = {
 }
 
 
-def bits(value):
+def announced(tags):
+    return tags.get((b"TTResult_NumberOfRecords", "tyInt8"), "-")
+
+
+def float_bits(tags, name):
+    value = tags.get((name, "tyFloat8"))
     return "-" if value is None else f"{value % 2**64:016X}"
 
 
-def print_head(tags, kinds, events, kept):
-    print("type", TYPES[tags["TTResultFormat_TTTRRecType", NUMBER]])
-    print("announced", tags.get(("TTResult_NumberOfRecords", NUMBER), "-"))
-    print("global", bits(tags.get(("MeasDesc_GlobalResolution", FLOAT))))
-    print("resolution", bits(tags.get(("MeasDesc_Resolution", FLOAT))))
-    print("records", sum(kinds.values()))
-    for kind, word in (("photon", "photons"), ("marker", "markers"), ("wrap", "wraps"), ("reserved", "reserved")):
-        print(word, kinds[kind])
-    print("late", len(events) - len(kept))
-    print("first", kept[0].time if kept else "-")
-    print("last", kept[-1].time if kept else "-")
+def run(plan_text, data, out):
+    plan = read_plan(plan_text)
+    report(plan, data, out)
+
+
+def shifted(event, plan):
+    """The photon with the dtime that its input's shift gives it."""
+    shifts = [shift["shift"] for shift in plan.get("shift", []) if shift["input"] == event.number]
+    if not event.is_photon or not shifts:
+        return event
+    return event._replace(dtime=(event.dtime + shifts[0]) % plan["period"])
+
+
+def report(plan, data, out):
+    tags, start = read_header(data, [])
+    record_type = type_of(tags)
+    fits(plan, record_type[2])
+    policy = {key: plan.get(key, NO_POLICY[key]) for key in ("order", "reserved")}
+    policy["records"] = plan.get("limits", {}).get("records", 2**40)
+    taken = []
+    kinds = read_records(record_type, words_of(data, start), policy, lambda event, is_late: taken.append((event, is_late)))
+    left_over(data, start)
+    kept = [shifted(event, plan) for event, is_late in taken if not is_late]
+    out.append(f"type {record_type[0]}\nannounced {announced(tags)}\n")
+    out.append(f"global {float_bits(tags, b'MeasDesc_GlobalResolution')}\nresolution {float_bits(tags, b'MeasDesc_Resolution')}\n")
+    out.append(count_of(kinds))
+    out.append(f"late {len(taken) - len(kept)}\nfirst {kept[0].time if kept else '-'}\nlast {kept[-1].time if kept else '-'}\n")
+    for kind, text in KINDS.items():
+        for number, table in enumerate(plan.get(kind, []), 1):
+            out.append(text(number, table, kept, plan["group"]))
+
+
+def short_file(code, words, more=b""):
+    """A file of a record type and these words, with other tags before the last."""
+    tag = struct.pack("<32siIq", b"TTResultFormat_TTTRRecType", -1, 0x10000008, code)
+    end = struct.pack("<32siIq", b"Header_End", -1, 0xFFFF0008, 0)
+    return b"PQTTTR\0\0001.0.00\0\0" + tag + more + end + struct.pack(f"<{len(words)}I", *words)
+
+
+def demo(seed, number, out):
+    state, time, words = seed, 0, []
+    for _ in range(number):
+        state = (state * 6364136223846793005 + 1442695040888963407) % 2**64
+        gap, channel = state // 2**33 % 512, state // 2**33 // 512 % 2
+        if (time + gap) // 2**25 > time // 2**25:
+            words.append(0xFE000001)
+        time += gap
+        words.append(channel * 2**25 + time % 2**25)
+    run(DEMO_PLAN, short_file(0x01010204, words), out)
+
+
+# The program.
+
+
+def contents(name, slot):
+    try:
+        file = open(name, "rb")
+    except OSError as error:
+        if not isinstance(error, IsADirectoryError):
+            raise Refused(2, f"cannot open the {slot}") from None
+        raise Refused(3, f"cannot read the {slot}") from None
+    with file:
+        return file.read()
+
+
+def is_number(word, most):
+    return re.fullmatch(b"[0-9]{1,20}", word) is not None and int(word) <= most
+
+
+def answer_words(words, out):
+    what = words[0] if words else b""
+    if any(not is_text(word) for word in words):
+        raise Refused(1, "bad command line")
+    if len(words) == 2 and what in (b"count", b"header", b"events"):
+        data = contents(words[1], "data")
+        {b"count": count, b"header": read_header, b"events": events}[what](data, out)
+    elif len(words) == 3 and what == b"run":
+        plan = read_plan(contents(words[1], "plan"))
+        report(plan, contents(words[2], "data"), out)
+    elif len(words) == 3 and what == b"demo" and is_number(words[1], 2**64 - 1) and is_number(words[2], 10_000_000):
+        demo(int(words[1]), int(words[2]), out)
+    else:
+        raise Refused(1, "bad command line")
+
+
+def is_text(word):
+    try:
+        word.decode("utf-8")
+    except UnicodeDecodeError:
+        return False
+    return True
+
+
+def answer(words):
+    """The status, standard output and standard error of some words."""
+    out = []
+    try:
+        answer_words(words, out)
+    except Refused as refused:
+        text = "".join(out) if words[:1] in ([b"header"], [b"events"]) else ""
+        return refused.status, text.encode("latin-1"), f"ptu: {refused.line}\n".encode()
+    return 0, "".join(out).encode("latin-1"), b""
 
 
 def main():
-    with open(sys.argv[1], "rb") as file:
-        plan = tomllib.load(file)
-    with open(sys.argv[2], "rb") as file:
-        data = file.read()
-    tags, start = read_header(data)
-    is_t2 = TYPES[tags["TTResultFormat_TTTRRecType", NUMBER]].endswith("T2")
-    kinds, events = read_records(data, start, is_t2)
-    kept = in_time(events, is_t2)
-    print_head(tags, kinds, events, kept)
-    for kind, count in KINDS.items():
-        for number, table in enumerate(plan.get(kind, []), 1):
-            count(number, table, kept, plan["group"])
+    status, text, error = answer([os.fsencode(word) for word in sys.argv[1:]])
+    sys.stdout.buffer.write(text)
+    sys.stderr.buffer.write(error)
+    sys.exit(status)
 
 
-main()
+if __name__ == "__main__":
+    main()
