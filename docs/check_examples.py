@@ -15,7 +15,8 @@ The blocks of a page are tried in their order, in a folder of their own that has
 examples, docs and bench, ./ptu, FILE and PLAN, which are the sample of a scan and its plan, the same as big.ptu,
 big.ptu.gz and plan.toml, and the folder data with three such files. A block with a program that isn't on this machine is
 left out, and that is said. PROGRAM is ./ptu of this tree by default. What differs is shown, and so is each link to a
-file or a title that isn't there; it ends with 1 if there is any.
+file or a title that isn't there; it ends with 1 if there is any. The scripts of examples/ want NumPy and Matplotlib: call it
+by a Python that has them.
 """
 
 import difflib

@@ -14,7 +14,7 @@ import sys
 import tomllib
 
 ROOT = os.path.dirname(os.path.dirname(os.path.abspath(__file__)))
-KINDS = ["group", "histogram", "trace", "startstop", "coincidence", "image", "correlation"]
+KINDS = ["group", "histogram", "trace", "startstop", "coincidence", "image", "correlation", "shift"]
 
 
 def sections():
@@ -31,28 +31,37 @@ def rules(text):
 
 
 def keys(text):
-    return re.findall(r"^\| `(\w+)` \|", text, flags=re.M)
+    """The keys of a table, each with the only version that has it, or none where both have it."""
+    return dict(re.findall(r"^\| `(\w+)` \| (?:in version (\d): )?", text, flags=re.M))
 
 
 def known_keys(pages):
     """The keys of the document and of each kind of table."""
     titles = {title.split(" ")[-1].replace("-", ""): text for title, text in pages.items() if title.startswith("Keys of")}
     known = {kind: keys(titles[kind]) for kind in KINDS}
-    known["document"] = [key for key in keys(titles["document"]) if key != "records"]
+    known["document"] = keys(titles["document"])
+    del known["document"]["records"]
     return known
 
 
 def unknown(plan, known):
     """Each key that is not known where it stands."""
+    version = "2" if plan.get("version") == 2 else "1"
     for key in plan:
-        if key not in known["document"]:
-            yield f"{key} is no key of a plan"
+        yield from said(key, "plan", known["document"], version)
     for kind in KINDS:
         tables = plan.get(kind, [])
         for number, table in enumerate(tables if isinstance(tables, list) else [], 1):
             for key in table if isinstance(table, dict) else []:
-                if key not in known[kind]:
-                    yield f"{key} is no key of a {kind} ({kind} {number})"
+                yield from (f"{words} ({kind} {number})" for words in said(key, kind, known[kind], version))
+
+
+def said(key, of, known, version):
+    """What is said of a key that is not known in a plan of the version."""
+    if key not in known:
+        yield f"{key} is no key of a {of}"
+    elif known[key] not in ("", version):
+        yield f"{key} is a key of a {of} in version {known[key]} only"
 
 
 def part(plan, rule, index, kinds_of_rules):

@@ -16,12 +16,13 @@ import sys
 
 CODES = {"HydraHarp2T2": 0x01010204, "HydraHarp2T3": 0x01010304}
 TIME_BITS = {"HydraHarp2T2": 25, "HydraHarp2T3": 10}  # of the time field of a record
-INTEGER, FLOAT, EMPTY = 0x10000008, 0x20000008, 0xFFFF0008
+INTEGER, FLOAT, TRUTH, EMPTY = 0x10000008, 0x20000008, 0x00000008, 0xFFFF0008
 
 
 def tag(name, value):
-    """A tag of a whole number, of a floating-point number, or with no value."""
-    code, form = (EMPTY, "q") if value is None else (FLOAT, "d") if isinstance(value, float) else (INTEGER, "q")
+    """A tag of a whole number, of a floating-point number, of a truth value, or with no value."""
+    code = {float: FLOAT, bool: TRUTH, type(None): EMPTY}.get(type(value), INTEGER)
+    form = "d" if code == FLOAT else "q"
     return struct.pack(f"<32siI{form}", name.encode(), -1, code, value or 0)
 
 

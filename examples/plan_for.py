@@ -5,7 +5,8 @@ It asks 'ptu header' for the tags and 'ptu events' for the first million events,
 
 - a group for each input that occurs, and one of all of them, which has the last number;
 - of a T3 file a histogram of each input over the whole sync period, a trace, and where the header tells of a scan,
-  an image of all inputs by its numbers of pixels, its marker bits and its pixel time;
+  an image of all inputs by its numbers of pixels, its marker bits and its pixel time; where that scan goes in both
+  directions, the plan is of version 2 and the image serpentine;
 - of a T2 file with two inputs or more a trace, and of the first two their numbers of photons, a start-stop, a
   coincidence and a correlation.
 
@@ -80,10 +81,21 @@ def time_of_pixel(header, marks, start, stop, width):
     return (statistics.median(lines) / width, "measured by the line markers") if lines else (None, "")
 
 
+def marker_bit(header, name):
+    """The number of a marker bit, or None: some programs write 0 or -1 where there is none."""
+    bit = header.get(f"ImgHdr_{name}")
+    return bit if bit in (1, 2, 3, 4) else None
+
+
+def both_ways(header):
+    """Whether the header says that a scan goes in both directions."""
+    return header.get("ImgHdr_BiDirect", 0) not in (0, "false")
+
+
 def image(header, marks, group):
     """The image of a scan, where the header tells of one."""
     width, height = header.get("ImgHdr_PixX"), header.get("ImgHdr_PixY")
-    start, stop, frame = (header.get(f"ImgHdr_{name}") for name in ("LineStart", "LineStop", "Frame"))
+    start, stop, frame = (marker_bit(header, name) for name in ("LineStart", "LineStop", "Frame"))
     if not (width and height and start):
         return ""
     dwell, source = time_of_pixel(header, marks, start, stop or start, width)
@@ -91,9 +103,12 @@ def image(header, marks, group):
         return "# the header tells of a scan, but not how long a pixel lasts: no image\n"
     settings = {"group": group, "width": width, "height": height, "dwell": max(1, round(dwell)), "line": start}
     settings |= {key: bit for key, bit in (("frame", frame), ("stop", stop)) if bit}
+    settings |= {"serpentine": "true"} if both_ways(header) else {}
     said = f"# a pixel lasts {dwell:g} sync periods ({source})"
     if abs(dwell - round(dwell)) > 1 / width:
         said += ": no whole number, so the columns are shifted within a line"
+    if both_ways(header):
+        said += "\n# lines go both ways, so every second row runs backwards"
     return f"{said}\n{table('image', **settings)}"
 
 
@@ -106,6 +121,7 @@ def plan(header, seen):
     counts = Counter(number for number, _, _ in photons)
     last, deepest = max(time for _, time, _ in photons), max(dtime for _, _, dtime in photons)
     parts = [f"# inputs: {', '.join(f'{n} ({counts[n]} photons)' for n in inputs)}\n"]
+    parts += ["version = 2\n"] if header["T3"] and both_ways(header) else []
     bits = Counter(bit for number, _ in marks for bit in range(1, 5) if number & 1 << (bit - 1))
     parts += [f"# marker bits: {', '.join(f'{bit} ({bits[bit]} times)' for bit in sorted(bits))}\n"] if bits else []
     parts += [table("group", inputs=[number]) for number in inputs]
@@ -124,7 +140,7 @@ def plan(header, seen):
         parts.append(table("trace", group=2, width=1 << 62, bins=1))
         parts.append("# a guess: how far apart photons are interesting, by the ticks of this device\n")
         parts.append(table("startstop", start=1, stop=2, width=64, bins=1024))
-        parts.append(table("coincidence", first=1, second=2, reach=32 * 129 + 64, width=129))
+        parts.append(table("coincidence", first=1, second=2, reach=31 * 129 + 64, width=129))
         parts.append(table("correlation", first=1, second=2, lags=16, levels=max(1, min(40, last.bit_length() - 4))))
     return "\n".join(part for part in parts if part)
 

@@ -398,7 +398,12 @@ def main():
     parser.add_argument("--json", metavar="OUT")
     parser.add_argument("--page", metavar="OUT.html", help="a page with the head and a plot of every table")
     given = parser.parse_args()
-    report = read_report(sys.stdin.read() if given.report == "-" else given.report, given.plan)
+    if not (given.csv or given.json or given.page):
+        parser.error("say what to make: --csv, --json or --page")
+    try:
+        report = read_report(sys.stdin.read() if given.report == "-" else given.report, given.plan)
+    except (OSError, ValueError, KeyError) as error:
+        sys.exit(f"ptu_report.py: {error}")
     if given.csv:
         write_csv(report, given.csv)
     if given.json:

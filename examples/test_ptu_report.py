@@ -2,6 +2,7 @@
 
 import os
 import subprocess
+import sys
 
 import numpy as np
 import pytest
@@ -116,9 +117,15 @@ def test_rows_of_a_table(tmp_path):
     assert list(rows(report.table("startstop"))) == [["ticks", "seconds", "count"], [0, 0.0, 1], [4, 4e-12, 0], [8, 8e-12, 0]]
 
 
-def test_a_text_that_is_no_report():
+def test_a_text_that_is_no_report(tmp_path):
     with pytest.raises(ValueError):
         read_report("ptu: plan is not TOML\n")
+    (tmp_path / "empty.txt").write_text("")
+    words = [sys.executable, f"{ROOT}/examples/ptu_report.py", tmp_path / "empty.txt"]
+    said = [subprocess.run([*words, *more], capture_output=True, text=True) for more in (["--csv", tmp_path], [])]
+    assert [one.returncode for one in said] == [1, 2]
+    assert said[0].stderr == "ptu_report.py: this is no report of ptu run\n"
+    assert "say what to make" in said[1].stderr
 
 
 def test_a_curve_by_its_plan(tmp_path):

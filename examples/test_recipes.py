@@ -25,7 +25,7 @@ def scan(path, dwell, **tags):
     ends = 200 + 4 * dwell
     events = [(200, marker(5)), *((200 + pixel * dwell, photon(T3, 0, 7)) for pixel in range(4)), (ends, marker(2))]
     events += [(ends + 50, marker(1)), (ends + 50 + 3 * dwell, photon(T3, 0, 7)), (ends + 50 + 4 * dwell, marker(2))]
-    write(path, T3, records(T3, events), SYNC, **SCAN, **tags)
+    write(path, T3, records(T3, events), SYNC, **(SCAN | tags))
 
 
 def proposed(folder, data):
@@ -50,6 +50,30 @@ def test_the_plan_of_a_scan_with_broken_pixels(tmp_path):
     assert "no whole number, so the columns are shifted" in proposed(tmp_path, tmp_path / "scan.ptu")[0]
 
 
+def test_the_plan_of_a_scan_that_goes_both_ways_without_frames(tmp_path):
+    scan(tmp_path / "scan.ptu", 32, ImgHdr_BiDirect=True, ImgHdr_Frame=-1)
+    plan, report = proposed(tmp_path, tmp_path / "scan.ptu")
+    assert "serpentine = true" in plan and "version = 2" in plan and "frame" not in plan
+    assert report.table("image").counts.sum() == 5
+
+
+def test_the_plan_of_a_scan_in_both_directions(tmp_path):
+    scan(tmp_path / "scan.ptu", 32, ImgHdr_BiDirect=1)
+    plan, report = proposed(tmp_path, tmp_path / "scan.ptu")
+    assert "version = 2\n" in plan and "serpentine = true\n" in plan
+    assert report.table("image").counts.tolist() == [[1, 1, 1, 1], [1, 0, 0, 0]]
+
+
+def test_the_sample_of_a_scan_in_both_directions(tmp_path):
+    assert script("make_two_way.py", tmp_path / "two_way.ptu").returncode == 0
+    plan = f"{ROOT}/examples/two_way.toml"
+    report = read_report(run("run", plan, str(tmp_path / "two_way.ptu")), plan)
+    first, second = (table.counts for table in report.tables if table.kind == "histogram")
+    assert abs(int(first.argmax()) - int(second.argmax())) <= 1  # the decays begin together
+    rows = report.table("image").counts[20:22]
+    assert rows[:, 10:18].sum(axis=1).min() > 5 * rows[:, 0:8].sum(axis=1).max()  # the stem is on one side in both
+
+
 def test_the_plan_of_two_inputs(tmp_path):
     write(tmp_path / "pairs.ptu", "HydraHarp2T2", t2_words([1, 500, 900], [2, 600]), 1e-12)
     plan, report = proposed(tmp_path, tmp_path / "pairs.ptu")
@@ -68,7 +92,7 @@ def test_no_plan_for_a_file_that_is_refused(tmp_path):
 GROUP = "group = [{ inputs = [0] }]\n"
 BROKEN = [
     (1, "colour = 1"),
-    (2, "version = 2"),
+    (2, "version = 3"),
     (3, 'order = "skip"'),
     (4, 'reserved = "drop"'),
     (5, "limits = { records = 0 }"),
@@ -89,6 +113,9 @@ BROKEN = [
     (20, GROUP + "image = [{ group = 1, width = 1, height = 1, dwell = 1, line = 5 }]"),
     (21, GROUP + "correlation = [{ first = 1, second = 1, lags = 4 }]"),
     (22, GROUP + "correlation = [{ first = 1, second = 1, lags = 3, levels = 1 }]"),
+    (23, "version = 2\nshift = [{ input = 0, shift = 0 }]"),
+    (24, "version = 2\nperiod = 7\nshift = [{ input = 0 }]"),
+    (25, "version = 2\nperiod = 7\nshift = [{ input = 0, shift = 7 }]"),
 ]
 
 
@@ -108,6 +135,13 @@ def test_keys_that_are_not_known(tmp_path):
     said = script("check_plan.py", tmp_path / "plan.toml", PTU).stdout
     assert "colour is no key of a plan\n" in said
     assert "shift is no key of a group (group 1)\n" in said
+
+
+def test_keys_of_the_other_version(tmp_path):
+    (tmp_path / "plan.toml").write_text("period = 7\ngroup = [{ inputs = [0], gates = [[0, 1]] }]\n")
+    said = script("check_plan.py", tmp_path / "plan.toml", PTU).stdout
+    assert "period is a key of a plan in version 2 only\n" in said
+    assert "gates is a key of a group in version 2 only (group 1)\n" in said
 
 
 def test_a_plan_that_is_no_toml(tmp_path):
