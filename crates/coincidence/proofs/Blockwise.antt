@@ -1,5 +1,5 @@
 -- The events of a block for a table of coincidences.
-use Rattle.std.proofs.Common.{◌≡◌, ◌∙◌, ℕ, zero, suc, ◌+◌, ◌^◌, ◌<◌, ◌≤◌, Bool, true, false, ◌&&◌, ◌||◌, List, [], ◌∷◌, ◌++◌, length, refl, sym, ap, arith, length-append, append-nil, append_assoc, ◌⊎◌, ⊎_elim}
+use Rattle.std.proofs.Common.{◌≡◌, ◌∙◌, ℕ, zero, suc, ◌+◌, ◌<◌, ◌≤◌, Bool, true, false, ◌&&◌, ◌||◌, List, [], ◌∷◌, ◌++◌, length, refl, sym, ap, arith, length-append, append-nil, append_assoc, ◌⊎◌, ⊎_elim}
 use Rattle.std.specs.Prelude.{nat_lt}
 use Rattle.std.proofs.lemmas.Bool.{false≢true}
 use Rattle.std.proofs.lemmas.List.Elements.{filter-append}
@@ -7,6 +7,7 @@ use Rattle.tally_base.specs.declared.event.Event.{Event}
 use Rattle.tally_base.specs.Events.{is_photon, is_in}
 use Rattle.tally_base.specs.Settings.{CoincidenceView}
 use Rattle.tally_base.specs.Tally.{History, greatest_time}
+use Rattle.tally_base.specs.Limits.{record_limit}
 use Rattle.event_block.specs.declared.block.Block.{Block}
 use Rattle.event_block.specs.Columns.{rows, item, event_at, code_at, groups_at, time_at, gathered, events_in}
 use Rattle.event_block.specs.Order.{floor_after, InOrder}
@@ -99,7 +100,7 @@ module _ (set : CoincidenceView) (p p' : Pairing) (b : Block) (h : History) (at 
   came_more p'' more = rw (one_more b h at, photons-push set (h ++ rows (item b) at) (item b at) photon (rw (first, second) either), came.2) more
 
 -- what a table that isn't closed may take
-pub may_events : (closed : Bool) → closed ≡ false → (set : CoincidenceView) (p : Pairing) (count time : ℕ) (h : History) (es : List Event) → StandsFor closed set p count time h → count + length es ≤ 2 ^ 40 → InOrder false time es → CanTake set p es h
+pub may_events : (closed : Bool) → closed ≡ false → (set : CoincidenceView) (p : Pairing) (count time : ℕ) (h : History) (es : List Event) → StandsFor closed set p count time h → count + length es ≤ record_limit → InOrder false time es → CanTake set p es h
 may_events true open' set p count time h es is few after = absurd (false≢true (sym open'))
 may_events false open' set p count time h es is few after = record { few = omega (arith, few, is.taken); was = is.photons; after = (rw is.floor at after) }
 

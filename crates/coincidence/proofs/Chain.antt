@@ -6,6 +6,7 @@ use Rattle.std.proofs.lemmas.Grind.{common_steps}
 use Rattle.std.proofs.lemmas.List.Sums.{sum_by-cons, sum_by_push}
 use Rattle.tally_base.specs.Settings.{CoincidenceView, coincidence_cells}
 use Rattle.tally_base.specs.Tally.{History}
+use Rattle.tally_base.specs.Limits.{record_limit}
 use Rattle.lag_ring.specs.declared.ring.Entry.{Entry}
 use Rattle.lag_ring.specs.Cells.{Cells}
 use Rattle.lag_ring.specs.Ring.{Ring, ring, IsRising}
@@ -106,16 +107,16 @@ module _ (set : CoincidenceView) where
 
     pub all_fit : (c : ℕ) → c < coincidence_cells set → get_or old.cells c 0 + all_pairs set c r.entries bins ≤ 2 ^ 80
     all_fit c in_range =
-        let few : length (closed ++ xs) ≤ 2 ^ 40 = rw (length-append closed xs) can.few in
-        let square : length (closed ++ xs) * length (closed ++ xs) ≤ 2 ^ 40 * 2 ^ 40 = mul-le-mul few few in
+        let few : length (closed ++ xs) ≤ record_limit = rw (length-append closed xs) can.few in
+        let square : length (closed ++ xs) * length (closed ++ xs) ≤ record_limit * record_limit = mul-le-mul few few in
         let most = pairs_in-le (is_coincidence set c) (closed ++ xs) in
         omega (arith, all_grown c, can.had.pairs c in_range, pairs_apart-in (is_coincidence set c) (closed ++ xs), most, square)
 
     pub all_count : set.reach ≤ 2 ^ 20 → length bins ≤ 64 → old.added + (2 * set.reach + length bins) < 2 ^ 64
     all_count small few =
         let each : 2 * set.reach + 1 ≤ 2 ^ 21 + 1 = omega arith in
-        let some_closed : length closed ≤ 2 ^ 40 = omega (arith, can.few) in
-        let product : (2 * set.reach + 1) * length closed ≤ (2 ^ 21 + 1) * 2 ^ 40 = mul-le-mul each some_closed in
+        let some_closed : length closed ≤ record_limit = omega (arith, can.few) in
+        let product : (2 * set.reach + 1) * length closed ≤ (2 ^ 21 + 1) * record_limit = mul-le-mul each some_closed in
         omega (arith, can.had.work, small, product, few)
 
     pub all_cells : (cells : Cells) → 0 < length bins → ((c : ℕ) → c < coincidence_cells set → get_or cells.cells c 0 ≡ get_or old.cells c 0 + all_pairs set c r.entries bins)

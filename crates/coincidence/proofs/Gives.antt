@@ -1,5 +1,5 @@
 -- What an event does to the photons of the two groups.
-use Rattle.std.proofs.Common.{◌≡◌, ℕ, ◌+◌, ◌^◌, ◌<◌, ◌≤◌, max, Bool, true, false, ◌&&◌, ◌||◌, cond, ◌⊎◌, inl, inr, [], ◌∷◌, ◌++◌, length, fold, refl, sym, ap, ◌∙◌, arith, length-append, zero-add}
+use Rattle.std.proofs.Common.{◌≡◌, ℕ, ◌+◌, ◌<◌, ◌≤◌, max, Bool, true, false, ◌&&◌, ◌||◌, cond, ◌⊎◌, inl, inr, [], ◌∷◌, ◌++◌, length, fold, refl, sym, ap, ◌∙◌, arith, length-append, zero-add}
 use Rattle.std.specs.Prelude.{IsTrue}
 use Rattle.std.specs.List.{AllByRecursion}
 use Rattle.std.proofs.lemmas.Bool.{false≢true}
@@ -9,6 +9,7 @@ use Rattle.tally_base.specs.declared.event.Event.{Event}
 use Rattle.tally_base.specs.Events.{is_photon, is_in}
 use Rattle.tally_base.specs.Settings.{CoincidenceView}
 use Rattle.tally_base.specs.Tally.{History, moves_floor, greatest_time}
+use Rattle.tally_base.specs.Limits.{record_limit}
 use Rattle.lag_ring.proofs.Lists.{all_both, all_filter, all_passed}
 use Rattle.coincidence.specs.declared.pairing.Pairing.{Pairing}
 use Rattle.coincidence.specs.StandsFor.{CanGive, StandsFor}
@@ -84,7 +85,7 @@ floor_more true time g t is after = let upto : time ≤ t = after refl in omega 
 floor_more false time g t is after = is
 
 -- what a table that isn't closed may be given
-pub may_give : (closed : Bool) → closed ≡ false → (set : CoincidenceView) (p : Pairing) (count time : ℕ) (h : History) (e : Event) → StandsFor closed set p count time h → count < 2 ^ 40 → (IsTrue (moves_floor false e) → time ≤ e.time) → CanGive set p e h
+pub may_give : (closed : Bool) → closed ≡ false → (set : CoincidenceView) (p : Pairing) (count time : ℕ) (h : History) (e : Event) → StandsFor closed set p count time h → count < record_limit → (IsTrue (moves_floor false e) → time ≤ e.time) → CanGive set p e h
 may_give true open' set p count time h e is few after = absurd (false≢true (sym open'))
 may_give false open' set p count time h e is few after = record {
   few = omega (arith, is.taken);
@@ -102,7 +103,7 @@ more_counts false open' set p p' count time h e groups is after came = record {
   photons = came;
 }
 
-pub may_end : (closed : Bool) → closed ≡ false → (set : CoincidenceView) (p : Pairing) (count time : ℕ) (h : History) → StandsFor closed set p count time h → count ≤ 2 ^ 40 → CanEnd set p (photons_of_groups set h)
+pub may_end : (closed : Bool) → closed ≡ false → (set : CoincidenceView) (p : Pairing) (count time : ℕ) (h : History) → StandsFor closed set p count time h → count ≤ record_limit → CanEnd set p (photons_of_groups set h)
 may_end true open' set p count time h is few = absurd (false≢true (sym open'))
 may_end false open' set p count time h is few = record { few = omega (arith, is.taken, few_photons set h); was = is.photons }
 

@@ -1,8 +1,9 @@
 -- One event more in a block.
-use Rattle.std.proofs.Common.{◌≡◌, ℕ, ◌+◌, ◌^◌, ◌≤◌, ◌++◌, ◌∷◌, [], Bool, true, false, length, ap, arith, length-append}
+use Rattle.std.proofs.Common.{◌≡◌, ℕ, ◌+◌, ◌≤◌, ◌++◌, ◌∷◌, [], Bool, true, false, length, ap, arith, length-append}
 use Rattle.std.specs.Prelude.{if◌then◌else◌}
 use Rattle.tally_base.specs.declared.event.Event.{Event}
 use Rattle.tally_base.specs.Tally.{moves_floor}
+use Rattle.tally_base.specs.Limits.{time_limit}
 use Rattle.event_block.specs.declared.block.Block.{Block}
 use Rattle.event_block.specs.Columns.{event_at, gathered}
 use Rattle.event_block.specs.Order.{floor_after, InOrder}
@@ -18,7 +19,7 @@ not_behind true time floor early = omega arith
 not_behind false time floor early = early
 
 pub order-more : (floor : ℕ) (b b' : Block) (e : Event) → gathered b' ≡ gathered b ++ e ∷ []
-    → InOrder false floor (gathered b) → floor_after false floor (gathered b) ≤ e.time → e.time ≤ 2 ^ 62 + 2 ^ 28 → InOrder false floor (gathered b')
+    → InOrder false floor (gathered b) → floor_after false floor (gathered b) ≤ e.time → e.time ≤ time_limit → InOrder false floor (gathered b')
 order-more floor b b' e more order early in_time = rw more (order-push false floor (gathered b) e order in_time (λ _. early))
 
 pub floor-more : (floor : ℕ) (b b' : Block) (e : Event) → gathered b' ≡ gathered b ++ e ∷ []

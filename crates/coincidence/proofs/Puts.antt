@@ -1,9 +1,10 @@
 -- What photons that come do to the bins.
-use Rattle.std.proofs.Common.{◌≡◌, ◌≢◌, ◌+◌, ◌<◌, ◌≤◌, Some, ◌++◌, length, ◌^◌, sym, arith, length-append, append_assoc}
+use Rattle.std.proofs.Common.{◌≡◌, ◌≢◌, ◌+◌, ◌<◌, ◌≤◌, Some, ◌++◌, length, sym, arith, length-append, append_assoc}
 use Rattle.std.specs.List.{AllByRecursion}
 use Rattle.std.proofs.lemmas.List.Sums.{sum_by-append}
 use Rattle.tally_base.specs.Settings.{CoincidenceView}
 use Rattle.tally_base.specs.Tally.{History}
+use Rattle.tally_base.specs.Limits.{record_limit}
 use Rattle.lag_ring.proofs.Rising.{all_weaker}
 use Rattle.lag_ring.proofs.Lists.{all_back, all_join, of_some}
 use Rattle.coincidence.specs.declared.pairing.Bin.{Bin}
@@ -35,7 +36,7 @@ module _ (set : CoincidenceView) where
       (all_weaker (λ x. x.0.time ≡ bin.weights.index) (λ x. x.0.time < new.weights.index) (λ x here. omega arith) open' is.weighs.here)
 
   -- the open bin may be closed
-  pub may_shut : (p : Pairing) (bin : Bin) → p.open ≡ Some bin → (closed open' : History) → PairingIs set p closed open' → length closed + length open' ≤ 2 ^ 40 → CanShut set p.ring p.cells bin closed open'
+  pub may_shut : (p : Pairing) (bin : Bin) → p.open ≡ Some bin → (closed open' : History) → PairingIs set p closed open' → length closed + length open' ≤ record_limit → CanShut set p.ring p.cells bin closed open'
   may_shut p bin is closed open' was few =
       let opened : BinIs set bin open' × AllByRecursion (λ x. x.0.time < bin.weights.index) closed = (rw is at was.opened) in
       record { few = few; keep = record { is = opened.0; after = opened.1; were = was.ring }; had = was.cells }
@@ -63,5 +64,5 @@ module _ (set : CoincidenceView) where
 
   pub end_shut : (p : Pairing) (bin : Bin) → p.open ≡ Some bin → (came : History) (can : CanEnd set p came) → CanShut set p.ring p.cells bin can.was.0 can.was.1
   end_shut p bin is came can =
-      let few : length (can.was.0 ++ can.was.1) ≤ 2 ^ 40 = (rw can.was.2 at can.few) in
+      let few : length (can.was.0 ++ can.was.1) ≤ record_limit = (rw can.was.2 at can.few) in
       may_shut p bin is can.was.0 can.was.1 can.was.3 (omega (arith, few, length-append can.was.0 can.was.1))

@@ -5,6 +5,7 @@ use Rattle.std.proofs.Math.Nat.{mul-le-mul, mul-le-mul_right}
 use Rattle.std.proofs.lemmas.Grind.{common_steps}
 use Rattle.tally_base.specs.Settings.{CoincidenceView, coincidence_cells}
 use Rattle.tally_base.specs.Tally.{History}
+use Rattle.tally_base.specs.Limits.{record_limit}
 use Rattle.lag_ring.specs.declared.ring.Entry.{Entry}
 use Rattle.lag_ring.specs.Cells.{Cells}
 use Rattle.lag_ring.specs.Ring.{Ring, ring, IsRising}
@@ -126,16 +127,16 @@ module _ (set : CoincidenceView) (r : Ring) (old : Cells) (bin : Bin) (closed xs
   -- no sum passes the greatest count
   pub may_fit : (c : ℕ) → c < coincidence_cells set → get_or old.cells c 0 + bin_pairs set c bin r.entries ≤ 2 ^ 80
   may_fit c in_range =
-      let few : length (closed ++ xs) ≤ 2 ^ 40 = rw (length-append closed xs) can.few in
-      let square : length (closed ++ xs) * length (closed ++ xs) ≤ 2 ^ 40 * 2 ^ 40 = mul-le-mul few few in
+      let few : length (closed ++ xs) ≤ record_limit = rw (length-append closed xs) can.few in
+      let square : length (closed ++ xs) * length (closed ++ xs) ≤ record_limit * record_limit = mul-le-mul few few in
       let most = pairs_in-le (is_coincidence set c) (closed ++ xs) in
       omega (arith, grown set r bin closed xs can.keep c, can.had.pairs c in_range, pairs_apart-in (is_coincidence set c) (closed ++ xs), most, square)
 
   pub may_count : set.reach ≤ 2 ^ 20 → old.added + (2 * length r.entries + 1) < 2 ^ 64
   may_count small =
       let each : 2 * set.reach + 1 ≤ 2 ^ 21 + 1 = omega arith in
-      let few : length closed ≤ 2 ^ 40 = omega (arith, can.few) in
-      let product : (2 * set.reach + 1) * length closed ≤ (2 ^ 21 + 1) * 2 ^ 40 = mul-le-mul each few in
+      let few : length closed ≤ record_limit = omega (arith, can.few) in
+      let product : (2 * set.reach + 1) * length closed ≤ (2 ^ 21 + 1) * record_limit = mul-le-mul each few in
       omega (arith, can.had.work, entries_within set r bin closed xs can.keep, small, product)
 
   -- the cells count the pairs of the bin too

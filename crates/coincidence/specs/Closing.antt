@@ -3,6 +3,7 @@ use Rattle.std.specs.Prelude.{◌≡◌, ℕ, ◌+◌, ◌-◌, ◌^◌, ◌<◌
 use Rattle.std.specs.List.{AllByRecursion, range_with_len}
 use Rattle.tally_base.specs.Settings.{CoincidenceView}
 use Rattle.tally_base.specs.Tally.{History}
+use Rattle.tally_base.specs.Limits.{record_limit}
 use Rattle.lag_ring.specs.declared.ring.Entry.{Entry}
 use Rattle.lag_ring.specs.declared.window.Side.{Side}
 use Rattle.lag_ring.specs.declared.window.Side.TheVariants.{First, Second}
@@ -80,7 +81,7 @@ module _ (set : CoincidenceView) where
 
   -- photons of one tick may come behind them
   pub record CanGather (last : Option Bin) (bins : List Bin) (bin : Bin) (closed came xs : History) : Type 0 where
-    pub few : length came + length xs ≤ 2 ^ 40
+    pub few : length came + length xs ≤ record_limit
     pub was : Gathered last bins closed came
     pub is : BinIs set bin xs
     pub after : AllByRecursion (λ x. x.0.time ≤ bin.weights.index) came
@@ -92,6 +93,6 @@ module _ (set : CoincidenceView) where
 
   -- and be paired with them
   pub record CanShutAll (ring : Ring) (cells : Cells) (bins : List Bin) (closed xs : History) : Type 0 where
-    pub few : length closed + length xs ≤ 2 ^ 40
+    pub few : length closed + length xs ≤ record_limit
     pub keep : CanKeepAll ring bins closed xs
     pub had : CellsAre set cells closed

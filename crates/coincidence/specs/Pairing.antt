@@ -3,6 +3,7 @@ use Rattle.std.specs.Prelude.{◌≡◌, ℕ, ◌+◌, ◌-◌, ◌*◌, ◌/◌
 use Rattle.std.specs.List.{AllByRecursion}
 use Rattle.tally_base.specs.Settings.{CoincidenceView, coincidence_cells}
 use Rattle.tally_base.specs.Tally.{History}
+use Rattle.tally_base.specs.Limits.{record_limit}
 use Rattle.lag_ring.specs.declared.ring.Entry.{Entry}
 use Rattle.lag_ring.specs.Cells.{Cells}
 use Rattle.lag_ring.specs.Ring.{Ring}
@@ -111,13 +112,13 @@ module _ (set : CoincidenceView) where
 
   -- and be paired with them
   pub record CanShut (ring : Ring) (cells : Cells) (bin : Bin) (closed xs : History) : Type 0 where
-    pub few : length closed + length xs ≤ 2 ^ 40
+    pub few : length closed + length xs ≤ record_limit
     pub keep : CanKeep ring bin closed xs
     pub had : CellsAre cells closed
 
   -- photons xs of one tick may come, after all that came
   pub record CanPut (p : Pairing) (bin : Bin) (closed open' xs : History) : Type 0 where
-    pub few : length closed + length open' + length xs ≤ 2 ^ 40
+    pub few : length closed + length open' + length xs ≤ record_limit
     pub was : PairingIs p closed open'
     pub is : BinIs bin xs
     pub after : AllByRecursion (λ x. x.0.time ≤ bin.weights.index) (closed ++ open')
@@ -131,5 +132,5 @@ module _ (set : CoincidenceView) where
   Puts old new bin = (closed open' xs : History) → CanPut old bin closed open' xs → Came new ((closed ++ open') ++ xs)
 
   pub record CanEnd (p : Pairing) (came : History) : Type 0 where
-    pub few : length came ≤ 2 ^ 40
+    pub few : length came ≤ record_limit
     pub was : Came p came

@@ -1,9 +1,10 @@
 -- What the fields of a table of coincidences stand for.
-use Rattle.std.specs.Prelude.{◌≡◌, ℕ, ◌+◌, ◌^◌, ◌<◌, ◌≤◌, Bool, true, false, IsTrue, Option, List, ◌++◌, length}
+use Rattle.std.specs.Prelude.{◌≡◌, ℕ, ◌+◌, ◌<◌, ◌≤◌, Bool, true, false, IsTrue, Option, List, ◌++◌, length}
 use Rattle.tally_base.specs.declared.event.Event.{Event}
 use Rattle.tally_base.specs.Events.{is_photon}
 use Rattle.tally_base.specs.Settings.{CoincidenceView}
 use Rattle.tally_base.specs.Tally.{History, greatest_time}
+use Rattle.tally_base.specs.Limits.{record_limit}
 use Rattle.event_block.specs.Order.{InOrder}
 use Rattle.lag_ring.specs.Cells.{Cells}
 use Rattle.lag_ring.specs.Ring.{Ring}
@@ -26,13 +27,13 @@ pub record StandsFor (closed : Bool) (set : CoincidenceView) (p : Pairing) (coun
 
 -- an event may be given, after those that were
 pub record CanGive (set : CoincidenceView) (p : Pairing) (e : Event) (h : History) : Type 0 where
-  pub few : length h < 2 ^ 40
+  pub few : length h < record_limit
   pub was : Came set p (photons_of_groups set h)
   pub after : IsTrue (is_photon e) → greatest_time false h ≤ e.time
 
 -- these events may be given, after those that were
 pub record CanTake (set : CoincidenceView) (p : Pairing) (es : List Event) (h : History) : Type 0 where
-  pub few : length h + length es ≤ 2 ^ 40
+  pub few : length h + length es ≤ record_limit
   pub was : Came set p (photons_of_groups set h)
   pub after : InOrder false (greatest_time false h) es
 

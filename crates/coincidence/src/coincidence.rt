@@ -1,7 +1,8 @@
 // A table of the pairs of photons of two groups by the difference of their times.
-ghost use Rattle.std.specs.Prelude.{◌≡◌, ◌+◌, ◌^◌, ◌≤◌, [], ◌∷◌, ◌++◌, if◌then◌else◌, false};
+ghost use Rattle.std.specs.Prelude.{◌≡◌, ◌+◌, ◌≤◌, [], ◌∷◌, ◌++◌, if◌then◌else◌, false};
 ghost use Rattle.tally_base.specs.Settings.{coincidence_view};
 ghost use Rattle.tally_base.specs.Tally.{History};
+ghost use Rattle.tally_base.specs.Limits.{record_limit, time_limit};
 ghost use Rattle.coincidence.specs.StandsFor.{StandsFor, CanGive};
 ghost use Rattle.coincidence.specs.Pairing.{Came};
 ghost use Rattle.coincidence.specs.Pairs.{photons_of_groups};
@@ -26,7 +27,7 @@ pub struct Coincidence {
     taken: u64,
     floor: u64,
     closed: bool,
-    ghost few: { taken ≤ 2 ^ 40 },
+    ghost few: { taken ≤ record_limit },
     ghost stands: { ∥ ((h : History)
         × StandsFor closed (coincidence_view set) pairing taken floor h) ∥₁ },
 }
@@ -89,7 +90,7 @@ impl Coincidence {
     pub fn events<L: Ledger>(&mut self, block: &Block, steps: &mut Steps<L>)
         requires sorted { IsSorted block.now }
         requires open { is_closed self.old ≡ false }
-        requires room { taken_by self.old + length (gathered block.now) ≤ 2 ^ 40 }
+        requires room { taken_by self.old + length (gathered block.now) ≤ record_limit }
         requires in_order { InOrder false (floor_by self.old) (gathered block.now) }
         ensures follows { (h : History) → Holds self.old h
             → Holds self.new (h ++ events_in block.now) }
@@ -132,7 +133,7 @@ fn put_photon<L: Ledger>(
 }
 
 impl Tally for Coincidence {
-    ghost use Rattle.std.specs.Prelude.{◌≡◌, ◌+◌, ◌<◌, ◌≤◌, ◌^◌, ◌++◌, ◌∷◌, [], true, false, IsTrue, if◌then◌else◌};
+    ghost use Rattle.std.specs.Prelude.{◌≡◌, ◌+◌, ◌<◌, ◌≤◌, ◌++◌, ◌∷◌, [], true, false, IsTrue, if◌then◌else◌};
     ghost use Rattle.tally_base.specs.Tally.{moves_floor};
     ghost use Rattle.coincidence.specs.Coincidence.{Holds, set_of, settings, is_closed, taken_by, floor_by, held, spent_by};
     ghost use Rattle.coincidence.specs.CoincidenceLaws.{taken_is, floor_is, within_bound};
@@ -157,8 +158,8 @@ impl Tally for Coincidence {
 
     fn event<L: Ledger>(&mut self, e: &Event, groups: u64, steps: &mut Steps<L>)
         requires open { is_closed self.old ≡ false }
-        requires room { taken_by self.old < 2 ^ 40 }
-        requires in_time { e.now.time ≤ 2 ^ 62 + 2 ^ 28 }
+        requires room { taken_by self.old < record_limit }
+        requires in_time { e.now.time ≤ time_limit }
         requires in_order { IsTrue (moves_floor false e.now) → floor_by self.old ≤ e.now.time }
         ensures follows { (h : History) → Holds self.old h
             → Holds self.new (h ++ (e.now, groups) ∷ []) }

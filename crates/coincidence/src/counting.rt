@@ -2,13 +2,14 @@
 ghost use Rattle.std.specs.Prelude.{◌≡◌, ◌+◌, ◌/◌, ◌^◌, ◌<◌, ◌≤◌, ◌++◌, ◌==◌, ℕ, false, length, nat_le, slice_index, sum, if◌then◌else◌};
 ghost use Rattle.tally_base.specs.Settings.{startstop_view};
 ghost use Rattle.tally_base.specs.Tally.{History};
+ghost use Rattle.tally_base.specs.Limits.{record_limit};
 ghost use Rattle.event_block.specs.Columns.{gathered, events_in, IsSorted};
 ghost use Rattle.event_block.specs.Order.{floor_after, InOrder};
 ghost use Rattle.coincidence.specs.Counted.{Counted};
 ghost use Rattle.coincidence.specs.Starts.{since_in};
 
 use crate::start::{Start, ended, start_behind};
-use event_block::Block;
+use event_block::{BLOCK_SIZE, Block};
 use tally_base::StartStopSet;
 
 /// Counts the intervals that the photons of a block end, and answers how many are now past the last bin.
@@ -21,7 +22,7 @@ pub(crate) fn count_block(
 ) -> u64
     requires sorted { IsSorted block.now }
     requires sized { length cells.old ≡ set.now.bins }
-    requires room { sum cells.old + over + length (gathered block.now) ≤ 2 ^ 40 }
+    requires room { sum cells.old + over + length (gathered block.now) ≤ record_limit }
     requires in_order { InOrder false (since_in start.old) (gathered block.now) }
     ensures follows { (h : History)
         → Counted (startstop_view set.now) set.now.bins cells.old over start.old h
@@ -34,7 +35,7 @@ pub(crate) fn count_block(
     let own = *set;
     let mut last = *start;
     let mut over = over;
-    for at in 0..block.len().min(64) {
+    for at in 0..block.len().min(BLOCK_SIZE) {
         if block.code(at) < 256 {
             // No branch on the groups, which are as good as random from photon to photon.
             let starts = block.has_photon(at, own.start);

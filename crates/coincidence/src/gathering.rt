@@ -12,14 +12,14 @@ ghost use Rattle.coincidence.specs.Closing.{Gathered, CanGather};
 
 use crate::pairing::Bin;
 use arrayvec::ArrayVec;
-use event_block::Block;
+use event_block::{BLOCK_SIZE, Block};
 use tally_base::CoincidenceSet;
 
 /// Takes photons of one tick, after all that came. They join the open bin, or put it behind those that
 /// are to be closed: the answer is the bin that is open then.
 #[inline(always)]
-fn gather_bin(waiting: Option<Bin>, bins: &mut ArrayVec<Bin, 64>, bin: Bin) -> Option<Bin>
-    requires room { array_vec_len bins.old < 64 }
+fn gather_bin(waiting: Option<Bin>, bins: &mut ArrayVec<Bin, BLOCK_SIZE>, bin: Bin) -> Option<Bin>
+    requires room { array_vec_len bins.old < BLOCK_SIZE }
     requires stands { ∥ ((set : CoincidenceView) × (closed : History) × (came : History)
         × (xs : History) × CanGather set waiting bins.old.items bin closed came xs) ∥₁ }
     ensures follows { (set : CoincidenceView) (closed came xs : History)
@@ -46,7 +46,7 @@ pub(crate) fn gather_block(
     set: &CoincidenceSet,
     waiting: Option<Bin>,
     block: &Block,
-    bins: &mut ArrayVec<Bin, 64>,
+    bins: &mut ArrayVec<Bin, BLOCK_SIZE>,
 ) -> Option<Bin>
     requires sorted { IsSorted block.now }
     requires empty { (bins.old.items ≡ []) × (array_vec_len bins.old ≡ 0) }
@@ -54,12 +54,12 @@ pub(crate) fn gather_block(
         (coincidence_view set.now) (pairing_of waiting ring cells) (gathered block.now) h) ∥₁ }
     ensures follows { Gathers (coincidence_view set.now) waiting result bins.new.items
         (gathered block.now) (events_in block.now) }
-    ensures few { array_vec_len bins.new ≤ 64 }
+    ensures few { array_vec_len bins.new ≤ BLOCK_SIZE }
 {
     // Copies, so that no field is read again for each photon.
     let own = *set;
     let mut open = waiting;
-    for at in 0..block.len().min(64) {
+    for at in 0..block.len().min(BLOCK_SIZE) {
         let first = block.has_photon(at, own.first);
         let second = block.has_photon(at, own.second);
         if first | second {

@@ -2,6 +2,7 @@
 ghost use Rattle.std.specs.Prelude.{◌≡◌, ◌+◌, ◌≤◌, vec_len, sum};
 ghost use Rattle.coincidence.specs.Starts.{since_in};
 ghost use Rattle.tally_base.specs.Tally.{History};
+ghost use Rattle.tally_base.specs.Limits.{record_limit};
 
 use crate::counting::{bin_of, count_block, put};
 use crate::start::{Start, ended, no_start, start_behind};
@@ -32,7 +33,7 @@ pub struct StartStop {
 }
 
 impl StartStop {
-    ghost use Rattle.std.specs.Prelude.{◌<◌, ◌^◌, ◌++◌, length, IfOk, [], false};
+    ghost use Rattle.std.specs.Prelude.{◌<◌, ◌++◌, length, IfOk, [], false};
     ghost use Rattle.event_block.specs.Columns.{gathered, events_in, IsSorted};
     ghost use Rattle.event_block.specs.Order.{floor_after, InOrder};
     ghost use Rattle.tally_base.specs.Settings.{startstop_view};
@@ -87,7 +88,7 @@ impl StartStop {
     pub fn events(&mut self, block: &Block)
         requires sorted { IsSorted block.now }
         requires open { ⟦<StartStop as Tally>⟧.closed self.old ≡ false }
-        requires room { ⟦<StartStop as Tally>⟧.taken self.old + length (gathered block.now) ≤ 2 ^ 40 }
+        requires room { ⟦<StartStop as Tally>⟧.taken self.old + length (gathered block.now) ≤ record_limit }
         requires in_order { InOrder false (⟦<StartStop as Tally>⟧.floor self.old)
             (gathered block.now) }
         ensures follows { (h : History) → Holds self.old h

@@ -9,7 +9,7 @@ use crate::closing::{MANY, shut_all};
 use crate::gathering::gather_block;
 use crate::pairing::{Bin, Pairing, put};
 use arrayvec::ArrayVec;
-use event_block::Block;
+use event_block::{BLOCK_SIZE, Block};
 use std::sync::ledger::Ledger;
 use tally_base::{CoincidenceSet, Steps};
 
@@ -72,7 +72,7 @@ fn take_each<L: Ledger>(
     // Copies, so that no field is read again for each photon.
     let own = *set;
     let mut open = pairing.open;
-    for at in 0..block.len().min(64) {
+    for at in 0..block.len().min(BLOCK_SIZE) {
         // No branch on which group it is, which is as good as random from photon to photon.
         let first = block.has_photon(at, own.first);
         let second = block.has_photon(at, own.second);

@@ -1,11 +1,12 @@
 // The photons of a block, counted by their times.
 ghost use Rattle.std.specs.Prelude.{◌≡◌, ◌+◌, ◌*◌, ◌^◌, ◌<◌, ◌≤◌, ◌==◌, ℕ, length, nat_le, slice_index, sum, if◌then◌else◌};
 ghost use Rattle.tally_base.specs.Settings.{trace_view};
+ghost use Rattle.tally_base.specs.Limits.{record_limit};
 ghost use Rattle.event_block.specs.Columns.{gathered, events_in, IsSorted};
 ghost use Rattle.count_trace.specs.TraceCounts.{in_trace_bin, count_before, count_beyond};
 
 use crate::bin::Bin;
-use event_block::Block;
+use event_block::{BLOCK_SIZE, Block};
 use tally_base::TraceSet;
 
 /// How many photons came outside a trace.
@@ -29,7 +30,7 @@ pub(crate) fn count_block(
     requires sized { length cells.old ≡ set.now.bins }
     requires edge { kept.old.low ≡ set.now.origin + kept.old.index * set.now.width }
     requires room { sum cells.old + outside.old.before + outside.old.beyond
-        + length (gathered block.now) ≤ 2 ^ 40 }
+        + length (gathered block.now) ≤ record_limit }
     ensures cells { (b : ℕ) → b < set.now.bins → slice_index cells.new b
         ≡ slice_index cells.old b + in_trace_bin (trace_view set.now) b (events_in block.now) }
     ensures before { outside.new.before
@@ -45,7 +46,7 @@ pub(crate) fn count_block(
     let own = *set;
     let mut bin = *kept;
     let mut rest = *outside;
-    for at in 0..block.len().min(64) {
+    for at in 0..block.len().min(BLOCK_SIZE) {
         // No branch on the group, which is as good as random from photon to photon.
         let more = block.photons_in(at, own.group);
         let time = block.time(at);

@@ -1,5 +1,6 @@
 // Traces of known events, where memory is had.
 ghost use Rattle.std.specs.Prelude.{◌≡◌, ◌<◌, ◌≤◌, ◌^◌, IfOk, length};
+ghost use Rattle.tally_base.specs.Limits.{wrap_limit};
 ghost use Rattle.count_trace.specs.Trace.{set_of};
 
 use super::Trace;
@@ -29,8 +30,8 @@ pub(crate) fn photon(time: u64) -> Given {
 
 /// A trace of group 1.
 pub(crate) fn of_first(origin: u64, width: u64, bins: u32) -> TraceSet
-    requires origin { origin ≤ 2 ^ 62 }
-    requires some_width { (0 < width) × (width ≤ 2 ^ 62) }
+    requires origin { origin ≤ wrap_limit }
+    requires some_width { (0 < width) × (width ≤ wrap_limit) }
     requires some_bins { (0 < bins) × (bins ≤ 2 ^ 20) }
     ensures { result.bins ≡ bins }
 {

@@ -1,6 +1,7 @@
 // A trace of photons over the time of the file.
 ghost use Rattle.std.specs.Prelude.{◌≡◌, ◌+◌, ◌*◌, ◌≤◌, vec_len, sum};
 ghost use Rattle.tally_base.specs.Tally.{History};
+ghost use Rattle.tally_base.specs.Limits.{record_limit};
 
 use crate::bin::Bin;
 use crate::counting::{Outside, count_block};
@@ -30,7 +31,7 @@ pub struct Trace {
 }
 
 impl Trace {
-    ghost use Rattle.std.specs.Prelude.{◌<◌, ◌^◌, ◌++◌, length, IfOk, [], false};
+    ghost use Rattle.std.specs.Prelude.{◌<◌, ◌++◌, length, IfOk, [], false};
     ghost use Rattle.event_block.specs.Columns.{gathered, events_in, IsSorted};
     ghost use Rattle.event_block.specs.Order.{floor_after, InOrder};
     ghost use Rattle.tally_base.specs.Settings.{trace_view};
@@ -98,7 +99,7 @@ impl Trace {
     pub fn events(&mut self, block: &Block)
         requires sorted { IsSorted block.now }
         requires open { ⟦<Trace as Tally>⟧.closed self.old ≡ false }
-        requires room { ⟦<Trace as Tally>⟧.taken self.old + length (gathered block.now) ≤ 2 ^ 40 }
+        requires room { ⟦<Trace as Tally>⟧.taken self.old + length (gathered block.now) ≤ record_limit }
         requires in_order { InOrder false (⟦<Trace as Tally>⟧.floor self.old) (gathered block.now) }
         ensures follows { (h : History) → Holds self.old h
             → Holds self.new (h ++ events_in block.now) }

@@ -1,8 +1,9 @@
 -- Events in order, one by one.
-use Rattle.std.proofs.Common.{◌≡◌, ◌∙◌, ℕ, zero, suc, ◌+◌, ◌<◌, ◌≤◌, ◌^◌, Bool, List, [], ◌∷◌, ◌++◌, ap, refl, arith, ◌⊎◌, ⊎_elim}
+use Rattle.std.proofs.Common.{◌≡◌, ◌∙◌, ℕ, zero, suc, ◌+◌, ◌<◌, ◌≤◌, Bool, List, [], ◌∷◌, ◌++◌, ap, refl, arith, ◌⊎◌, ⊎_elim}
 use Rattle.std.specs.Prelude.{IsTrue, if◌then◌else◌}
 use Rattle.tally_base.specs.declared.event.Event.{Event}
 use Rattle.tally_base.specs.Tally.{moves_floor}
+use Rattle.tally_base.specs.Limits.{time_limit}
 use Rattle.event_block.specs.Columns.{rows}
 use Rattle.event_block.specs.Order.{floor_after, InOrder}
 use Rattle.event_block.proofs.Rows.{more_rows}
@@ -16,9 +17,9 @@ floor-more strict floor f n = ap (floor_after strict floor) (more_rows f n) ∙ 
 
 -- what an event must be behind others
 abbrev pub Next : Bool → ℕ → List Event → Event → Type 0
-Next strict floor es e = (e.time ≤ 2 ^ 62 + 2 ^ 28) × (IsTrue (moves_floor strict e) → floor_after strict floor es ≤ e.time)
+Next strict floor es e = (e.time ≤ time_limit) × (IsTrue (moves_floor strict e) → floor_after strict floor es ≤ e.time)
 
-pub order-push : (strict : Bool) (floor : ℕ) (es : List Event) (e : Event) → InOrder strict floor es → e.time ≤ 2 ^ 62 + 2 ^ 28 → (IsTrue (moves_floor strict e) → floor_after strict floor es ≤ e.time) → InOrder strict floor (es ++ e ∷ [])
+pub order-push : (strict : Bool) (floor : ℕ) (es : List Event) (e : Event) → InOrder strict floor es → e.time ≤ time_limit → (IsTrue (moves_floor strict e) → floor_after strict floor es ≤ e.time) → InOrder strict floor (es ++ e ∷ [])
 order-push strict floor [] e all time order = (time, order, tt)
 order-push strict floor (x ∷ es) e all time order = (all.0, all.1, order-push strict (if moves_floor strict x then x.time else floor) es e all.2 time order)
 

@@ -1,3 +1,4 @@
+pub mod Size
 pub mod Codes
 pub mod Columns
 pub mod Order

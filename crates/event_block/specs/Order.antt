@@ -1,7 +1,8 @@
 -- Events behind other events.
-use Rattle.std.specs.Prelude.{ℕ, ◌+◌, ◌^◌, ◌≤◌, Bool, IsTrue, List, [], ◌∷◌, if◌then◌else◌}
+use Rattle.std.specs.Prelude.{ℕ, ◌+◌, ◌≤◌, Bool, IsTrue, List, [], ◌∷◌, if◌then◌else◌}
 use Rattle.tally_base.specs.declared.event.Event.{Event}
 use Rattle.tally_base.specs.Tally.{moves_floor}
+use Rattle.tally_base.specs.Limits.{time_limit}
 
 -- the time of the last event that comes in order, or this one
 abbrev pub floor_after : Bool → ℕ → List Event → ℕ
@@ -11,4 +12,4 @@ floor_after strict floor (e ∷ es) = floor_after strict (if moves_floor strict 
 -- no event comes before the greatest time so far, and none too late
 abbrev pub InOrder : Bool → ℕ → List Event → Type 0
 InOrder strict floor [] = Unit {0}
-InOrder strict floor (e ∷ es) = (e.time ≤ 2 ^ 62 + 2 ^ 28) × (IsTrue (moves_floor strict e) → floor ≤ e.time) × InOrder strict (if moves_floor strict e then e.time else floor) es
+InOrder strict floor (e ∷ es) = (e.time ≤ time_limit) × (IsTrue (moves_floor strict e) → floor ≤ e.time) × InOrder strict (if moves_floor strict e then e.time else floor) es

@@ -1,22 +1,26 @@
 // Events in columns.
 ghost use Rattle.std.specs.Prelude.{◌≡◌, ◌≤◌};
+ghost use Rattle.event_block.specs.Size.{block_size};
 ghost use Rattle.event_block.specs.Codes.{code_of, dtime_of, kind_of, IsByte, InNoGroup};
 
 use tally_base::{Event, EventKind, is_in};
+
+/// The most events of a block.
+pub const BLOCK_SIZE: usize = 64;
 
 /// Up to 64 events in columns, each with its groups, so that a table reads only the columns that it needs.
 #[derive(Clone, Copy)]
 pub struct Block {
     len: usize,
-    places: [u64; 64],
-    times: [u64; 64],
+    places: [u64; BLOCK_SIZE],
+    times: [u64; BLOCK_SIZE],
     // The input of a photon, or 256 and the bits of a marker.
-    codes: [u16; 64],
-    dtimes: [u16; 64],
-    groups: [u64; 64],
+    codes: [u16; BLOCK_SIZE],
+    dtimes: [u16; BLOCK_SIZE],
+    groups: [u64; BLOCK_SIZE],
     // How many have their groups.
     sorted: usize,
-    ghost few: { len ≤ 64 },
+    ghost few: { len ≤ block_size },
     ghost some: { sorted ≤ len },
     ghost markers: { InNoGroup sorted codes groups },
 }
@@ -34,11 +38,11 @@ impl Block {
     {
         Block {
             len: 0,
-            places: [0; 64],
-            times: [0; 64],
-            codes: [0; 64],
-            dtimes: [0; 64],
-            groups: [0; 64],
+            places: [0; BLOCK_SIZE],
+            times: [0; BLOCK_SIZE],
+            codes: [0; BLOCK_SIZE],
+            dtimes: [0; BLOCK_SIZE],
+            groups: [0; BLOCK_SIZE],
             sorted: 0,
         }
     }
@@ -48,7 +52,7 @@ impl Block {
     pub fn len(&self) -> usize
         ensures value { result ≡ length (gathered self.now) }
         ensures count { result ≡ count self.now }
-        ensures few { result ≤ 64 }
+        ensures few { result ≤ BLOCK_SIZE }
     {
         self.len
     }
@@ -127,7 +131,7 @@ impl Block {
     pub fn floor_after(&self, strict: bool, floor: u64) -> u64
         ensures { result ≡ floor_after strict floor (gathered self.now) }
     {
-        let mut at = self.len().min(64);
+        let mut at = self.len().min(BLOCK_SIZE);
         'back: while at > 0 {
             at -= 1;
             let moves = strict | (self.codes[at] < 256);
@@ -143,7 +147,7 @@ impl Block {
     #[inline(always)]
     pub fn write(&mut self, at: usize, place: u64, code: u16, dtime: u16, time: u64)
         requires behind { count self.old ≤ at }
-        requires room { at < 64 }
+        requires room { at < BLOCK_SIZE }
         ensures same { written self.new at ≡ written self.old at }
         ensures more { written self.new (at + 1)
             ≡ written self.old at ++ event_by place code dtime time ∷ [] }
@@ -160,7 +164,7 @@ impl Block {
     #[inline(always)]
     pub fn keep(&mut self, len: usize)
         requires behind { count self.old ≤ len }
-        requires room { len ≤ 64 }
+        requires room { len ≤ BLOCK_SIZE }
         ensures kept { gathered self.new ≡ written self.old len }
         ensures unsorted { sorted self.new ≡ sorted self.old }
     {
@@ -170,7 +174,7 @@ impl Block {
     /// Puts an event behind the others. There are fewer than 64. Its groups are to be put.
     #[inline(always)]
     pub fn push(&mut self, e: &Event)
-        requires { length (gathered self.old) < 64 }
+        requires { length (gathered self.old) < BLOCK_SIZE }
         ensures more { gathered self.new ≡ gathered self.old ++ e.now ∷ [] }
         ensures unsorted { sorted self.new ≡ sorted self.old }
     {
@@ -214,7 +218,7 @@ impl Block {
     /// Puts the groups of all events, each at its place. A marker has none. What stands behind the last event
     /// has no meaning.
     #[inline(always)]
-    pub fn put_all(&mut self, groups: &[u64; 64])
+    pub fn put_all(&mut self, groups: &[u64; BLOCK_SIZE])
         requires { (i : ℕ) → i < count self.old → 256 ≤ code_at self.old i
             → slice_index groups.now i ≡ 0 }
         ensures same { (i : ℕ) → event_at self.new i ≡ event_at self.old i }

@@ -3,4 +3,4 @@
 
 mod block;
 
-pub use block::Block;
+pub use block::{BLOCK_SIZE, Block};

@@ -1,5 +1,5 @@
 -- A counter's bytes grow.
-use Rattle.std.proofs.Common.{◌≡◌, ◌+◌, ◌-◌, ◌*◌, ◌^◌, ◌<◌, ◌≤◌, ℕ, List, [], ◌++◌, length, map, Ok, Err, refl, sym, ap, ◌∙◌, arith, length-append}
+use Rattle.std.proofs.Common.{◌≡◌, ◌+◌, ◌-◌, ◌*◌, ◌<◌, ◌≤◌, ℕ, List, [], ◌++◌, length, map, Ok, Err, refl, sym, ap, ◌∙◌, arith, length-append}
 use Rattle.std.specs.Int.{from_le_bytes, w32}
 use Rattle.std.specs.Prelude.{false, nat_lt, nat_eq}
 use Rattle.std.proofs.lemmas.List.{length-map, map-append}
@@ -60,13 +60,13 @@ module _ (record_type : RecordType) (carried : List ℕ) (counts : KindCounts) (
   unfolding counted
   counted-whole none =
       let rest : length (rest_of bytes) ≡ 0 = rw (← h.rest) none in
-      let few : nat_lt (2 ^ 40) (length (words_of bytes)) ≡ false = grind (arith, nat_tests, h.few) in
+      let few : nat_lt record_limit (length (words_of bytes)) ≡ false = grind (arith, nat_tests, h.few) in
       rw (few, rest) (ap Ok h.kinds)
 
   pub counted-cut : (length carried ≡ 0 → ⊥) → Err (TruncatedRecord (length carried)) ≡ counted record_type bytes
   unfolding counted
   counted-cut some =
-      let few : nat_lt (2 ^ 40) (length (words_of bytes)) ≡ false = grind (arith, nat_tests, h.few) in
+      let few : nat_lt record_limit (length (words_of bytes)) ≡ false = grind (arith, nat_tests, h.few) in
       let left : nat_eq (length (rest_of bytes)) 0 ≡ false = rw (← h.rest) (grind (arith, nat_tests)) in
       rw (few, left, h.rest) refl
 

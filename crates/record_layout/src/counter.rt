@@ -1,18 +1,18 @@
 // Counts the records of bytes that come in pieces.
-ghost use Rattle.std.specs.Prelude.{◌≡◌, ◌+◌, ◌<◌, ◌≤◌, ◌++◌, ◌↔◌, ◌^◌, [], List, ℕ, length, true, false, IsErr, IfErr, Err, OnOk, OnErr};
+ghost use Rattle.std.specs.Prelude.{◌≡◌, ◌+◌, ◌<◌, ◌≤◌, ◌++◌, ◌↔◌, [], List, ℕ, length, true, false, IsErr, IfErr, Err, OnOk, OnErr};
 ghost use Rattle.tally_base.specs.declared.header.RecordType.{RecordType};
+ghost use Rattle.tally_base.specs.Limits.{record_limit};
 ghost use Rattle.record_layout.specs.Sums.{IsSplit};
 
 use crate::begun::BegunWord;
 use crate::by_type::kinds;
 use crate::kinds::sum;
 use ptu_definitions::KindCounts;
-use tally_base::{Fault, RecordType};
+use tally_base::{Fault, RECORD_LIMIT, RecordType};
 
-/// The most records of a file.
-const MAX_RECORDS: u64 = 1 << 40;
-
-const LIMIT: Fault = Fault::RecordLimit { limit: MAX_RECORDS };
+const LIMIT: Fault = Fault::RecordLimit {
+    limit: RECORD_LIMIT,
+};
 
 /// Counts the records of a file by kind, from the bytes behind its header. These come in pieces of
 /// any sizes, and a record may lie in two of them.
@@ -22,13 +22,13 @@ pub struct Counter {
     carried: BegunWord,
     counts: KindCounts,
     refused: bool,
-    ghost few: { counts.records ≤ 2 ^ 40 },
+    ghost few: { counts.records ≤ record_limit },
     ghost split: { IsSplit counts },
 }
 
 impl Counter {
     ghost use Rattle.ptu_definitions.specs.Words.{words_of};
-    ghost use Rattle.ptu_definitions.specs.Counted.{counted, record_limit};
+    ghost use Rattle.ptu_definitions.specs.Counted.{counted};
     ghost use Rattle.ptu_definitions.specs.Shown.{Shows};
     ghost use Rattle.tally_base.specs.Faults.{is_outside};
     ghost use Rattle.record_layout.specs.Counting.{HasCounted, was_refused, room};
@@ -73,7 +73,7 @@ impl Counter {
         if self.refused {
             return Err(LIMIT);
         }
-        let room = 4 * (MAX_RECORDS - self.counts.records) + 3 - self.carried.len() as u64;
+        let room = 4 * (RECORD_LIMIT - self.counts.records) + 3 - self.carried.len() as u64;
         if piece.len() as u64 > room {
             self.refused = true;
             return Err(LIMIT);

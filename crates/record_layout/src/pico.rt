@@ -13,6 +13,12 @@ use crate::row::Row;
 use ptu_definitions::Raw;
 use tally_base::Mode;
 
+/// How many ticks later the times behind a wrap of a T2 file are.
+const T2_WRAP: u64 = 210_698_240;
+
+/// How many sync periods later the times behind a wrap of a T3 file are.
+const T3_WRAP: u64 = 65_536;
+
 /// T2 records of PicoHarp. The lowest four bits of a marker's time are the marker's own.
 pub struct PicoT2;
 
@@ -57,7 +63,7 @@ impl RecordLayout for PicoT2 {
 
     #[inline(always)]
     fn unit() -> u64 {
-        210_698_240
+        T2_WRAP
     }
 
     #[inline(always)]
@@ -74,9 +80,7 @@ impl RecordLayout for PicoT2 {
                 time,
                 dtime: 0,
             },
-            15 if time & 15 == 0 => Raw::Wrap {
-                amount: 210_698_240,
-            },
+            15 if time & 15 == 0 => Raw::Wrap { amount: T2_WRAP },
             15 => Raw::Marker {
                 bits: (time & 15) as u8,
                 time,
@@ -92,7 +96,7 @@ impl RecordLayout for PicoT2 {
             code: code_of(fields.top, marker),
             time: fields.time,
             dtime: 0,
-            amount: amount_of(210_698_240, fields.top, marker),
+            amount: amount_of(T2_WRAP, fields.top, marker),
         }
     }
 }
@@ -141,7 +145,7 @@ impl RecordLayout for PicoT3 {
 
     #[inline(always)]
     fn unit() -> u64 {
-        65_536
+        T3_WRAP
     }
 
     #[inline(always)]
@@ -158,7 +162,7 @@ impl RecordLayout for PicoT3 {
                 time,
                 dtime: fields.dtime,
             },
-            15 if fields.dtime & 15 == 0 => Raw::Wrap { amount: 65_536 },
+            15 if fields.dtime & 15 == 0 => Raw::Wrap { amount: T3_WRAP },
             15 => Raw::Marker {
                 bits: (fields.dtime & 15) as u8,
                 time,
@@ -174,7 +178,7 @@ impl RecordLayout for PicoT3 {
             code: code_of(fields.top, marker),
             time: fields.time,
             dtime: fields.dtime,
-            amount: amount_of(65_536, fields.top, marker),
+            amount: amount_of(T3_WRAP, fields.top, marker),
         }
     }
 }

@@ -3,6 +3,7 @@ pub mod RecordTypes
 pub mod Faults
 pub mod Events
 pub mod FaultCounts
+pub mod Limits
 pub mod Gates
 pub mod Settings
 pub mod Tally

@@ -23,6 +23,17 @@ pub struct Event {
     pub time: u64,
 }
 
+/// A marker of no bits at the beginning, which no file has.
+impl Default for Event {
+    fn default() -> Self {
+        Event {
+            place: 0,
+            kind: EventKind::Marker { bits: 0 },
+            time: 0,
+        }
+    }
+}
+
 impl Event {
     /// Whether it is a photon.
     pub fn is_photon(&self) -> bool
@@ -70,4 +81,7 @@ pub struct Policy {
     pub reserved: OnReserved,
     /// The greatest number of records. One record more is refused.
     pub records: u64,
+    /// How many earlier events in order may have a greater time than an event that isn't late, 0 to 64. Where
+    /// it isn't 0, such an event is put in its place.
+    pub settle: u32,
 }

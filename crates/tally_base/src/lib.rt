@@ -4,6 +4,7 @@
 mod event;
 mod fault;
 mod header;
+mod limits;
 mod line;
 mod part;
 mod settings;
@@ -14,6 +15,7 @@ mod tally;
 pub use event::{Event, EventKind, OnReserved, Order, Policy, is_in};
 pub use fault::{Fault, fault_line};
 pub use header::{Header, Mode, RecordType};
+pub use limits::{RECORD_LIMIT, WRAP_LIMIT};
 pub use line::{put_decimal, put_hexadecimal, put_signed, put_text};
 pub use part::PartKind;
 pub use settings::{

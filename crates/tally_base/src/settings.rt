@@ -2,6 +2,7 @@
 ghost use Rattle.std.specs.Prelude.{◌≡◌, ◌%◌, ◌^◌, ◌<◌, ◌≤◌};
 ghost use Rattle.std.specs.Option.{ForSome};
 ghost use Rattle.tally_base.specs.Gates.{AreGates, AreGates-prop};
+ghost use Rattle.tally_base.specs.Limits.{wrap_limit};
 
 use arrayvec::ArrayVec;
 
@@ -54,8 +55,8 @@ pub struct TraceSet {
     /// How many bins there are, 1 to 2^20.
     pub bins: u32,
     pub ghost of_group: { (0 < group) × (group ≤ 64) },
-    pub ghost some_origin: { origin ≤ 2 ^ 62 },
-    pub ghost some_width: { (0 < width) × (width ≤ 2 ^ 62) },
+    pub ghost some_origin: { origin ≤ wrap_limit },
+    pub ghost some_width: { (0 < width) × (width ≤ wrap_limit) },
     pub ghost some_bins: { (0 < bins) × (bins ≤ 2 ^ 20) },
 }
 
@@ -73,7 +74,7 @@ pub struct StartStopSet {
     pub bins: u32,
     pub ghost of_start: { (0 < start) × (start ≤ 64) },
     pub ghost of_stop: { (0 < stop) × (stop ≤ 64) },
-    pub ghost some_width: { (0 < width) × (width ≤ 2 ^ 62) },
+    pub ghost some_width: { (0 < width) × (width ≤ wrap_limit) },
     pub ghost some_bins: { (0 < bins) × (bins ≤ 32768) },
 }
 
@@ -116,7 +117,7 @@ pub struct ImageSet {
     pub ghost of_group: { (0 < group) × (group ≤ 64) },
     pub ghost some_width: { (0 < width) × (width ≤ 2048) },
     pub ghost some_height: { (0 < height) × (height ≤ 2048) },
-    pub ghost some_dwell: { (0 < dwell) × (dwell ≤ 2 ^ 62) },
+    pub ghost some_dwell: { (0 < dwell) × (dwell ≤ wrap_limit) },
     pub ghost some_line: { (0 < line) × (line ≤ 4) },
     pub ghost some_frame: { ForSome frame (λ bit. (0 < bit) × (bit ≤ 4)) },
     pub ghost some_stop: { ForSome stop (λ bit. (0 < bit) × (bit ≤ 4)) },

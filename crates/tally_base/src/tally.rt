@@ -1,8 +1,9 @@
 // What every table is.
-ghost use Rattle.std.specs.Prelude.{◌≡◌, ℕ, Bool, true, false, ◌+◌, ◌^◌, ◌<◌, ◌≤◌, List, [], ◌∷◌, ◌++◌, IsTrue, length, if◌then◌else◌};
+ghost use Rattle.std.specs.Prelude.{◌≡◌, ℕ, Bool, true, false, ◌+◌, ◌<◌, ◌≤◌, List, [], ◌∷◌, ◌++◌, IsTrue, length, if◌then◌else◌};
 ghost use Rattle.tally_base.specs.declared.event.Event.{Event};
 ghost use Rattle.tally_base.specs.Settings.{PartSettings, entries, is_strict};
 ghost use Rattle.tally_base.specs.Tally.{History, moves_floor, greatest_time};
+ghost use Rattle.tally_base.specs.Limits.{record_limit, time_limit};
 
 use crate::event::Event;
 use crate::steps::Steps;
@@ -36,8 +37,8 @@ pub trait Tally {
     /// comes at a smaller time than one before it.
     fn event<L: Ledger>(&mut self, e: &Event, groups: u64, steps: &mut Steps<L>)
         requires open { closed self.old ≡ false }
-        requires room { taken self.old < 2 ^ 40 }
-        requires in_time { e.now.time ≤ 2 ^ 62 + 2 ^ 28 }
+        requires room { taken self.old < record_limit }
+        requires in_time { e.now.time ≤ time_limit }
         requires in_order { IsTrue (moves_floor (is_strict (settings self.old)) e.now)
             → floor self.old ≤ e.now.time }
         ensures follows { (h : History) → holds self.old h

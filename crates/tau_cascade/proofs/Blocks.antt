@@ -1,5 +1,5 @@
 -- What a block of events does to the photons of the two groups.
-use Rattle.std.proofs.Common.{◌≡◌, ℕ, zero, suc, ◌+◌, ◌^◌, ◌<◌, ◌≤◌, Bool, true, false, ◌&&◌, ◌||◌, cond, ltb, List, [], ◌∷◌, ◌++◌, length, map, take, refl, sym, ap, ◌∙◌, append-nil, arith, length-append, zero-add}
+use Rattle.std.proofs.Common.{◌≡◌, ℕ, zero, suc, ◌+◌, ◌<◌, ◌≤◌, Bool, true, false, ◌&&◌, ◌||◌, cond, ltb, List, [], ◌∷◌, ◌++◌, length, map, take, refl, sym, ap, ◌∙◌, append-nil, arith, length-append, zero-add}
 use mir.Val.{bool_byte}
 use Rattle.std.specs.Prelude.{slice_set, nat_lt}
 use Rattle.std.specs.List.{AllByRecursion}
@@ -11,6 +11,7 @@ use Rattle.tally_base.specs.declared.settings.CorrelationSet.{CorrelationSet}
 use Rattle.tally_base.specs.Events.{is_photon, is_in}
 use Rattle.tally_base.specs.Settings.{CorrelationView, correlation_view}
 use Rattle.tally_base.specs.Tally.{History, greatest_time}
+use Rattle.tally_base.specs.Limits.{record_limit}
 use Rattle.event_block.specs.declared.block.Block.{Block}
 use Rattle.event_block.specs.Columns.{rows, item, event_at, code_at, groups_at, gathered, events_in}
 use Rattle.event_block.specs.Order.{floor_after, InOrder}
@@ -101,7 +102,7 @@ pub photons-append : (set : CorrelationView) (h es : History) → photons_of set
 photons-append set h es = filter-append (λ y. in_first set y || in_second set y) h es
 
 -- what a correlation that isn't closed may be given
-pub may_give_block : (closed : Bool) → closed ≡ false → (set : CorrelationSet) (ls : List Level) (count time : ℕ) (h : History) (b : Block) → StandsFor closed set ls count time h → count + length (gathered b) ≤ 2 ^ 40 → InOrder false time (gathered b) → CanGiveBlock (correlation_view set) ls b h
+pub may_give_block : (closed : Bool) → closed ≡ false → (set : CorrelationSet) (ls : List Level) (count time : ℕ) (h : History) (b : Block) → StandsFor closed set ls count time h → count + length (gathered b) ≤ record_limit → InOrder false time (gathered b) → CanGiveBlock (correlation_view set) ls b h
 may_give_block true still set ls count time h b is few order = absurd (false≢true (sym still))
 may_give_block false still set ls count time h b is few order = record {
   few = omega (arith, few, is.taken, length-rows (item b) b.len, length-rows (event_at b) b.len);

@@ -1,5 +1,5 @@
 -- What an event does to the photons of the two groups.
-use Rattle.std.proofs.Common.{◌≡◌, ℕ, ◌+◌, ◌^◌, ◌<◌, ◌≤◌, max, Bool, true, false, ◌&&◌, ◌||◌, cond, ◌⊎◌, List, [], ◌∷◌, ◌++◌, length, map, fold, refl, sym, ap, ◌∙◌, arith, length-append, append-nil, zero-add, inl, inr}
+use Rattle.std.proofs.Common.{◌≡◌, ℕ, ◌+◌, ◌<◌, ◌≤◌, max, Bool, true, false, ◌&&◌, ◌||◌, cond, ◌⊎◌, List, [], ◌∷◌, ◌++◌, length, map, fold, refl, sym, ap, ◌∙◌, arith, length-append, append-nil, zero-add, inl, inr}
 use mir.Val.{bool_byte}
 use Rattle.std.specs.Prelude.{IsTrue}
 use Rattle.std.specs.List.{AllByRecursion}
@@ -12,6 +12,7 @@ use Rattle.tally_base.specs.declared.settings.CorrelationSet.{CorrelationSet}
 use Rattle.tally_base.specs.Events.{is_photon, is_in}
 use Rattle.tally_base.specs.Settings.{CorrelationView, correlation_view}
 use Rattle.tally_base.specs.Tally.{History, moves_floor, greatest_time}
+use Rattle.tally_base.specs.Limits.{record_limit}
 use Rattle.lag_ring.proofs.Lists.{all_both, all_filter, all_passed}
 use Rattle.lag_ring.proofs.Rising.{all_weaker}
 use Rattle.tau_cascade.specs.declared.level.Level.{Level}
@@ -103,7 +104,7 @@ floor_more true time g last is after = let upto : time ≤ last = after refl in 
 floor_more false time g last is after = is
 
 -- what a correlation that isn't closed may be given
-pub may_give : (closed : Bool) → closed ≡ false → (set : CorrelationSet) (ls : List Level) (count time : ℕ) (h : History) (e : Event) → StandsFor closed set ls count time h → count < 2 ^ 40 → (IsTrue (moves_floor false e) → time ≤ e.time) → CanGive (correlation_view set) ls e h
+pub may_give : (closed : Bool) → closed ≡ false → (set : CorrelationSet) (ls : List Level) (count time : ℕ) (h : History) (e : Event) → StandsFor closed set ls count time h → count < record_limit → (IsTrue (moves_floor false e) → time ≤ e.time) → CanGive (correlation_view set) ls e h
 may_give true still set ls count time h e is few after = absurd (false≢true (sym still))
 may_give false still set ls count time h e is few after = record {
   few = omega (arith, is.taken);
@@ -122,7 +123,7 @@ more_counts false still set ls ls' count time h e groups is after through = reco
 }
 
 -- it may be closed
-pub may_end : (closed : Bool) → closed ≡ false → (set : CorrelationSet) (ls : List Level) (count time : ℕ) (h : History) → StandsFor closed set ls count time h → count ≤ 2 ^ 40 → CanEnd (correlation_view set) 0 ls (photons_of (correlation_view set) h)
+pub may_end : (closed : Bool) → closed ≡ false → (set : CorrelationSet) (ls : List Level) (count time : ℕ) (h : History) → StandsFor closed set ls count time h → count ≤ record_limit → CanEnd (correlation_view set) 0 ls (photons_of (correlation_view set) h)
 may_end true still set ls count time h is few = absurd (false≢true (sym still))
 may_end false still set ls count time h is few = record { few = omega (arith, is.taken, few_photons (correlation_view set) h); chain = is.through }
 

@@ -5,6 +5,7 @@ use Rattle.std.proofs.Math.Nat.{mul-le-mul}
 use Rattle.std.proofs.lemmas.List.Sums.{sum_by-append, sum_by_push}
 use Rattle.tally_base.specs.Settings.{CorrelationView}
 use Rattle.tally_base.specs.Tally.{History}
+use Rattle.tally_base.specs.Limits.{record_limit}
 use Rattle.lag_ring.specs.declared.ring.Entry.{Entry}
 use Rattle.lag_ring.specs.Cells.{Cells}
 use Rattle.lag_ring.specs.Ring.{Ring, IsRising}
@@ -82,8 +83,8 @@ module _ (set : CorrelationView) (level : ℕ) where
 
     pub all_fit : (p : ℕ) → p < set.lags - skipped → get_or cells.cells p 0 + paired (p + skipped + 1) r.entries es ≤ 2 ^ 80
     all_fit p inside =
-        let all : length (closed ++ xs) ≤ 2 ^ 40 = rw (length-append closed xs) can.few in
-        let square : length (closed ++ xs) * length (closed ++ xs) ≤ 2 ^ 40 * 2 ^ 40 = mul-le-mul all all in
+        let all : length (closed ++ xs) ≤ record_limit = rw (length-append closed xs) can.few in
+        let square : length (closed ++ xs) * length (closed ++ xs) ≤ record_limit * record_limit = mul-le-mul all all in
         let most = correlation-le set level (p + skipped + 1) (closed ++ xs) in
         omega (arith, all_more p inside, most, square)
 
@@ -92,9 +93,9 @@ module _ (set : CorrelationView) (level : ℕ) where
 
     pub all_count : set.lags ≤ 128 → cells.added + (set.lags - skipped) * length es < 2 ^ 64
     all_count lags =
-        let some : occupied level (closed ++ xs) ≤ 2 ^ 40 = few_occupied set level (closed ++ xs) (rw (length-append closed xs) can.few) in
+        let some : occupied level (closed ++ xs) ≤ record_limit = few_occupied set level (closed ++ xs) (rw (length-append closed xs) can.few) in
         let most : lag_count set level ≤ 128 = omega arith in
-        let product : lag_count set level * occupied level (closed ++ xs) ≤ 128 * 2 ^ 40 = mul-le-mul most some in
+        let product : lag_count set level * occupied level (closed ++ xs) ≤ 128 * record_limit = mul-le-mul most some in
         omega (arith, work_all, product)
 
     pub cells_all : (new : Cells) → ((p : ℕ) → p < set.lags - skipped → get_or new.cells p 0 ≡ get_or cells.cells p 0 + paired (p + skipped + 1) r.entries es)

@@ -1,10 +1,11 @@
 -- What the pairs of a bin with the ring do to the cells of a level.
-use Rattle.std.proofs.Common.{◌≡◌, ℕ, ◌+◌, ◌*◌, ◌^◌, ◌<◌, ◌≤◌, ◌++◌, length, map, get_or, ap, ◌∙◌, arith}
+use Rattle.std.proofs.Common.{◌≡◌, ℕ, ◌+◌, ◌*◌, ◌<◌, ◌≤◌, ◌++◌, length, map, get_or, ap, ◌∙◌, arith}
 use Rattle.std.specs.List.{count_by, AllByRecursion}
 use Rattle.std.proofs.lemmas.List.{length-map, map-append}
 use Rattle.std.proofs.lemmas.List.Sums.{sum_by-le, count_by-le-length}
 use Rattle.tally_base.specs.Settings.{CorrelationView}
 use Rattle.tally_base.specs.Tally.{History}
+use Rattle.tally_base.specs.Limits.{record_limit}
 use Rattle.lag_ring.proofs.Lists.{all_map}
 use Rattle.tau_cascade.specs.Correlation.{bin, is_pair, correlation}
 use Rattle.tau_cascade.specs.Work.{distinct, occupied}
@@ -22,5 +23,5 @@ module _ (set : CorrelationView) (level : ℕ) where
       ∙ distinct-late (map (bin level) closed) (map (bin level) xs) n (all_map (λ m. m < n) (bin level) closed before) (rw (length-map xs) some) (all_map (λ m. m ≡ n) (bin level) xs here)
 
   -- there are no more bins than photons
-  pub few_occupied : (xs : History) → length xs ≤ 2 ^ 40 → occupied level xs ≤ 2 ^ 40
+  pub few_occupied : (xs : History) → length xs ≤ record_limit → occupied level xs ≤ record_limit
   few_occupied xs few = let same : length (map (bin level) xs) ≡ length xs = length-map xs (bin level) in omega (arith, same, few, distinct-le-length (map (bin level) xs))

@@ -1,9 +1,10 @@
 -- What bins that come do to a level and those above it.
-use Rattle.std.proofs.Common.{◌≡◌, ℕ, zero, suc, ◌+◌, ◌<◌, ◌≤◌, ◌^◌, Some, List, [], ◌∷◌, ◌++◌, length, map, take, sym, ap, ◌∙◌, append_assoc, append-nil, arith, length-append, add-one}
+use Rattle.std.proofs.Common.{◌≡◌, ℕ, zero, suc, ◌+◌, ◌<◌, ◌≤◌, Some, List, [], ◌∷◌, ◌++◌, length, map, take, sym, ap, ◌∙◌, append_assoc, append-nil, arith, length-append, add-one}
 use Rattle.std.specs.List.{sum_by, AllByRecursion}
 use Rattle.std.proofs.lemmas.List.Sums.{count_by-le-length}
 use Rattle.tally_base.specs.Settings.{CorrelationView}
 use Rattle.tally_base.specs.Tally.{History}
+use Rattle.tally_base.specs.Limits.{record_limit}
 use Rattle.lag_ring.specs.declared.ring.Entry.{Entry}
 use Rattle.tau_cascade.specs.declared.level.Level.{Level}
 use Rattle.tau_cascade.specs.Correlation.{bin, in_first, in_second}
@@ -15,10 +16,10 @@ module _ (set : CorrelationView) (level : ℕ) (l : Level) (es : List Entry) (so
   onto : Follow set level closed (merged_onto l.open es) (open' ++ xs)
   onto = onto_follow set level l.open es closed open' xs some can.was.opened can.come
 
-  pub first_fit : sum_by (λ e. e.a) (merged_onto l.open es) ≤ 2 ^ 40
+  pub first_fit : sum_by (λ e. e.a) (merged_onto l.open es) ≤ record_limit
   first_fit = omega (arith, can.few, first_weights set level (merged_onto l.open es) closed (open' ++ xs) onto, count_by-le-length (in_first set) (open' ++ xs), length-append open' xs)
 
-  pub second_fit : sum_by (λ e. e.b) (merged_onto l.open es) ≤ 2 ^ 40
+  pub second_fit : sum_by (λ e. e.b) (merged_onto l.open es) ≤ record_limit
   second_fit = omega (arith, can.few, second_weights set level (merged_onto l.open es) closed (open' ++ xs) onto, count_by-le-length (in_second set) (open' ++ xs), length-append open' xs)
 
   module _ (shut : List Entry) (open'' : Entry) (is : shut ++ open'' ∷ [] ≡ merged_onto l.open es) where

@@ -3,6 +3,7 @@ use Rattle.std.specs.Prelude.{◌≡◌, ℕ, ◌+◌, ◌*◌, ◌/◌, ◌^◌
 use Rattle.std.specs.List.{AllByRecursion}
 use Rattle.tally_base.specs.Settings.{CorrelationView}
 use Rattle.tally_base.specs.Tally.{History, greatest_time}
+use Rattle.tally_base.specs.Limits.{record_limit}
 use Rattle.event_block.specs.declared.block.Block.{Block}
 use Rattle.event_block.specs.Columns.{gathered, events_in}
 use Rattle.event_block.specs.Order.{InOrder}
@@ -70,14 +71,14 @@ module _ (set : CorrelationView) (level : ℕ) where
 
   -- these bins of photons xs may be closed
   pub record CanShutAll (r : Ring) (cs : Cells) (es : List Entry) (closed xs : History) : Type 0 where
-    pub few : length closed + length xs ≤ 2 ^ 40
+    pub few : length closed + length xs ≤ record_limit
     pub ring : RingIs set level r closed
     pub cells : CellsAre set level cs closed
     pub bins : Follow closed es xs
 
   -- photons xs may come in these bins
   pub record CanTake (l : Level) (es : List Entry) (closed open' xs : History) : Type 0 where
-    pub few : length closed + length open' + length xs ≤ 2 ^ 40
+    pub few : length closed + length open' + length xs ≤ record_limit
     pub was : LevelIs set level l closed open'
     pub come : Come (closed ++ open') es xs
 
@@ -98,7 +99,7 @@ module _ (set : CorrelationView) (level : ℕ) where
 
 -- photons xs may come in these bins to a level and those above it
 pub record CanCome (set : CorrelationView) (level : ℕ) (ls : List Level) (es : List Entry) (came xs : History) : Type 0 where
-  pub few : length came + length xs ≤ 2 ^ 40
+  pub few : length came + length xs ≤ record_limit
   pub chain : Chain set level ls came
   pub come : Come set level came es xs
 
@@ -108,6 +109,6 @@ Carries set level old new es = (came xs : History) → CanCome set level old es 
 
 -- the events of a block may be given, after those that were
 pub record CanGiveBlock (set : CorrelationView) (ls : List Level) (block : Block) (h : History) : Type 0 where
-  pub few : length h + length (events_in block) ≤ 2 ^ 40
+  pub few : length h + length (events_in block) ≤ record_limit
   pub chain : Chain set 0 ls (photons_of set h)
   pub order : InOrder false (greatest_time false h) (gathered block)

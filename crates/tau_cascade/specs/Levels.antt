@@ -1,8 +1,9 @@
 -- What levels stand for: photons that came to them, in order, and how far they are paired.
-use Rattle.std.specs.Prelude.{◌≡◌, ℕ, ◌+◌, ◌-◌, ◌*◌, ◌/◌, ◌^◌, ◌<◌, ◌≤◌, suc, ⊤, ◌==◌, ◌&&◌, nat_lt, nat_le, count_by, sum_by, Option, None, Some, List, [], ◌∷◌, ◌++◌, length, slice_index}
+use Rattle.std.specs.Prelude.{◌≡◌, ℕ, ◌+◌, ◌-◌, ◌*◌, ◌/◌, ◌<◌, ◌≤◌, suc, ⊤, ◌==◌, ◌&&◌, nat_lt, nat_le, count_by, sum_by, Option, None, Some, List, [], ◌∷◌, ◌++◌, length, slice_index}
 use Rattle.std.specs.List.{AllByRecursion}
 use Rattle.tally_base.specs.Settings.{CorrelationView}
 use Rattle.tally_base.specs.Tally.{History}
+use Rattle.tally_base.specs.Limits.{record_limit}
 use Rattle.lag_ring.specs.declared.ring.Entry.{Entry}
 use Rattle.lag_ring.specs.Ring.{Ring, IsRising}
 use Rattle.lag_ring.specs.Cells.{Cells}
@@ -59,7 +60,7 @@ module _ (set : CorrelationView) (level : ℕ) where
 
   -- its open bin may be closed
   pub record CanFinish (l : Level) (closed open' : History) : Type 0 where
-    pub few : length closed + length open' ≤ 2 ^ 40
+    pub few : length closed + length open' ≤ record_limit
     pub was : LevelIs l closed open'
 
   -- no bin is open, and all that came is in closed ones
@@ -84,7 +85,7 @@ Complete set level (l ∷ ls) came = LevelDone set level l came × Complete set 
 
 -- the open bins may be closed, from the first level upwards
 pub record CanEnd (set : CorrelationView) (level : ℕ) (ls : List Level) (came : History) : Type 0 where
-  pub few : length came ≤ 2 ^ 40
+  pub few : length came ≤ record_limit
   pub chain : Chain set level ls came
 
 -- the additions that made the cells of these levels

@@ -1,10 +1,11 @@
 -- What the fields of a correlation stand for.
-use Rattle.std.specs.Prelude.{◌≡◌, ℕ, ◌+◌, ◌^◌, ◌<◌, ◌≤◌, Bool, true, false, is_some, IsTrue, List, length, if◌then◌else◌}
+use Rattle.std.specs.Prelude.{◌≡◌, ℕ, ◌+◌, ◌<◌, ◌≤◌, Bool, true, false, is_some, IsTrue, List, length, if◌then◌else◌}
 use Rattle.tally_base.specs.declared.event.Event.{Event}
 use Rattle.tally_base.specs.declared.settings.CorrelationSet.{CorrelationSet}
 use Rattle.tally_base.specs.Events.{is_photon}
 use Rattle.tally_base.specs.Settings.{CorrelationView, correlation_view}
 use Rattle.tally_base.specs.Tally.{History, greatest_time}
+use Rattle.tally_base.specs.Limits.{record_limit}
 use Rattle.tau_cascade.specs.declared.level.Level.{Level}
 use Rattle.tau_cascade.specs.Correlation.{photons_of}
 use Rattle.tau_cascade.specs.Levels.{Chain, Complete}
@@ -26,6 +27,6 @@ entries_of l = length l.ring.entries + length l.cells.cells + (if is_some l.open
 
 -- an event may be given, after those that were
 pub record CanGive (set : CorrelationView) (ls : List Level) (e : Event) (h : History) : Type 0 where
-  pub few : length h < 2 ^ 40
+  pub few : length h < record_limit
   pub chain : Chain set 0 ls (photons_of set h)
   pub after : IsTrue (is_photon e) → greatest_time false h ≤ e.time

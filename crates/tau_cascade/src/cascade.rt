@@ -1,7 +1,8 @@
 // A correlation over its levels.
-ghost use Rattle.std.specs.Prelude.{◌≡◌, ◌+◌, ◌^◌, ◌<◌, ◌≤◌, [], ◌∷◌, ◌++◌, false, length, vec_len, if◌then◌else◌};
+ghost use Rattle.std.specs.Prelude.{◌≡◌, ◌+◌, ◌<◌, ◌≤◌, [], ◌∷◌, ◌++◌, false, length, vec_len, if◌then◌else◌};
 ghost use Rattle.tally_base.specs.Settings.{correlation_view};
 ghost use Rattle.tally_base.specs.Tally.{History};
+ghost use Rattle.tally_base.specs.Limits.{record_limit, time_limit};
 ghost use Rattle.tau_cascade.specs.Correlation.{photons_of};
 ghost use Rattle.event_block.specs.Columns.{events_in, IsSorted};
 ghost use Rattle.tau_cascade.specs.StandsFor.{StandsFor, CanGive};
@@ -31,12 +32,12 @@ pub struct Cascade {
     floor: u64,
     closed: bool,
     ghost sized: { vec_len levels ≡ set.levels },
-    ghost few: { taken ≤ 2 ^ 40 },
+    ghost few: { taken ≤ record_limit },
     ghost stands: { ∥ ((h : History) × StandsFor closed set levels.items taken floor h) ∥₁ },
 }
 
 impl Cascade {
-    ghost use Rattle.std.specs.Prelude.{◌≡◌, ◌+◌, ◌-◌, ◌<◌, ◌≤◌, ◌^◌, ◌++◌, true, IfOk, None, Some, length, slice_index};
+    ghost use Rattle.std.specs.Prelude.{◌≡◌, ◌+◌, ◌-◌, ◌<◌, ◌≤◌, ◌++◌, true, IfOk, None, Some, length, slice_index};
     ghost use Rattle.std.specs.Option.{ForSome, option_map};
     ghost use Rattle.tally_base.specs.Settings.PartSettings.{CorrelationSettings};
     ghost use Rattle.event_block.specs.Columns.{gathered, events_in, IsSorted};
@@ -73,7 +74,7 @@ impl Cascade {
     pub fn events<L: Ledger>(&mut self, block: &Block, steps: &mut Steps<L>)
         requires sorted { IsSorted block.now }
         requires open { ⟦<Cascade as Tally>⟧.closed self.old ≡ false }
-        requires room { ⟦<Cascade as Tally>⟧.taken self.old + length (gathered block.now) ≤ 2 ^ 40 }
+        requires room { ⟦<Cascade as Tally>⟧.taken self.old + length (gathered block.now) ≤ record_limit }
         requires in_order { InOrder false (⟦<Cascade as Tally>⟧.floor self.old)
             (gathered block.now) }
         ensures follows { (h : History) → Holds self.old h
@@ -229,7 +230,7 @@ fn give_block<L: Ledger>(
 }
 
 impl Tally for Cascade {
-    ghost use Rattle.std.specs.Prelude.{◌≡◌, ◌+◌, ◌<◌, ◌≤◌, ◌^◌, ◌++◌, ◌∷◌, [], true, false, IsTrue, sum_by, if◌then◌else◌};
+    ghost use Rattle.std.specs.Prelude.{◌≡◌, ◌+◌, ◌<◌, ◌≤◌, ◌++◌, ◌∷◌, [], true, false, IsTrue, sum_by, if◌then◌else◌};
     ghost use Rattle.tally_base.specs.Tally.{moves_floor};
     ghost use Rattle.tau_cascade.specs.Cascade.{Holds, set_of, settings, is_closed, taken_by, floor_by, spent_by};
     ghost use Rattle.tau_cascade.specs.StandsFor.{entries_of};
@@ -255,8 +256,8 @@ impl Tally for Cascade {
 
     fn event<L: Ledger>(&mut self, e: &Event, groups: u64, steps: &mut Steps<L>)
         requires open { is_closed self.old ≡ false }
-        requires room { taken_by self.old < 2 ^ 40 }
-        requires in_time { e.now.time ≤ 2 ^ 62 + 2 ^ 28 }
+        requires room { taken_by self.old < record_limit }
+        requires in_time { e.now.time ≤ time_limit }
         requires in_order { IsTrue (moves_floor false e.now) → floor_by self.old ≤ e.now.time }
         ensures follows { (h : History) → Holds self.old h
             → Holds self.new (h ++ (e.now, groups) ∷ []) }

@@ -2,10 +2,11 @@
 ghost use Rattle.std.specs.Prelude.{◌≡◌, ◌+◌, ◌*◌, ◌/◌, ◌^◌, ◌<◌, ◌≤◌, ℕ, vec_len, sum, length, slice_index, nat_le, ◌==◌, if◌then◌else◌};
 ghost use Rattle.tally_base.specs.Settings.{hist_view};
 ghost use Rattle.tally_base.specs.Tally.{History};
+ghost use Rattle.tally_base.specs.Limits.{record_limit};
 ghost use Rattle.event_block.specs.Columns.{gathered, events_in, IsSorted};
 ghost use Rattle.tcspc_hist.specs.HistogramCounts.{in_bin, count_over};
 
-use event_block::Block;
+use event_block::{BLOCK_SIZE, Block};
 use std::alloc::{AllocError, Global};
 use std::sync::ledger::Ledger;
 use tally_base::{Event, EventKind, HistSet, Steps, Tally, is_in};
@@ -79,7 +80,7 @@ impl Hist {
     pub fn events(&mut self, block: &Block)
         requires sorted { IsSorted block.now }
         requires open { ⟦<Hist as Tally>⟧.closed self.old ≡ false }
-        requires room { ⟦<Hist as Tally>⟧.taken self.old + length (gathered block.now) ≤ 2 ^ 40 }
+        requires room { ⟦<Hist as Tally>⟧.taken self.old + length (gathered block.now) ≤ record_limit }
         requires in_order { InOrder false (⟦<Hist as Tally>⟧.floor self.old) (gathered block.now) }
         ensures follows { (h : History) → Holds self.old h
             → Holds self.new (h ++ events_in block.now) }
@@ -101,7 +102,7 @@ impl Hist {
 fn count_block(set: &HistSet, cells: &mut [u64], over: u64, block: &Block) -> u64
     requires sorted { IsSorted block.now }
     requires sized { length cells.old ≡ set.now.bins }
-    requires room { sum cells.old + over + length (gathered block.now) ≤ 2 ^ 40 }
+    requires room { sum cells.old + over + length (gathered block.now) ≤ record_limit }
     ensures cells { (b : ℕ) → b < set.now.bins → slice_index cells.new b
         ≡ slice_index cells.old b + in_bin (hist_view set.now) b (events_in block.now) }
     ensures over { result ≡ over + count_over (hist_view set.now) (events_in block.now) }
@@ -110,7 +111,7 @@ fn count_block(set: &HistSet, cells: &mut [u64], over: u64, block: &Block) -> u6
     let group = set.group;
     let width = set.width;
     let mut over = over;
-    for at in 0..block.len().min(64) {
+    for at in 0..block.len().min(BLOCK_SIZE) {
         // No branch on the group, which is as good as random from photon to photon.
         let more = block.photons_in(at, group);
         let bin = bin_of(width, block.dtime(at));
