@@ -64,3 +64,15 @@ Moves mode before now (InOrder e) = IsSmall mode e × (IsTrue (is_ordered mode e
 Moves mode before now (Late e top) = IsSmall mode e × (now ≡ before)
 Moves mode before now Wrap = now ≡ before
 Moves mode before now Reserved = now ≡ before
+
+-- the event of a placed record is the next one behind so many records
+abbrev pub IsAtPlace : ℕ → Placed → Type 0
+IsAtPlace count (InOrder e) = e.place ≡ count + 1
+IsAtPlace count (Late e top) = e.place ≡ count + 1
+IsAtPlace count Wrap = Unit {0}
+IsAtPlace count Reserved = Unit {0}
+
+-- One record more is placed, and its event, if it is one, has its number.
+pub record IsNext (before now : ℕ) (placed : Placed) : Type 0 where
+  pub count : now ≡ before + 1
+  pub place : IsAtPlace before placed

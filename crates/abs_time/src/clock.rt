@@ -34,7 +34,7 @@ pub struct Clock {
 }
 
 impl Clock {
-    ghost use Rattle.abs_time.specs.Placing.{IsClock, mode_of, placed_by, greatest_by, HasPlaced, base_of, against, place_answer, IsSmall, Moves};
+    ghost use Rattle.abs_time.specs.Placing.{IsClock, mode_of, placed_by, greatest_by, HasPlaced, base_of, against, place_answer, IsSmall, Moves, IsAtPlace, IsNext};
     ghost use Rattle.ptu_definitions.specs.Fitting.{Fits};
     ghost use Rattle.ptu_definitions.specs.Kept.{ordered_time};
 
@@ -112,6 +112,7 @@ impl Clock {
         ensures answer { (records : List Raw) → HasPlaced self.old records
             → result ≡ place_answer (mode_of self.old) records raw.now }
         ensures count { placed_by self.new ≤ placed_by self.old + 1 }
+        ensures next { IfOk result (IsNext (placed_by self.old) (placed_by self.new)) }
         ensures placed { (records : List Raw) → HasPlaced self.old records
             → OnOk result (HasPlaced self.new (records ++ raw.now ∷ [])) }
         ensures same_mode { mode_of self.new ≡ mode_of self.old }
@@ -162,6 +163,7 @@ impl Clock {
             (mode_of self.old) event) }
         ensures moves { IsSmall (mode_of self.old) event
             → Moves (mode_of self.old) (greatest_by self.old) (greatest_by self.new) result }
+        ensures place { (count : ℕ) → event.place ≡ count + 1 → IsAtPlace count result }
         ensures same_mode { mode_of self.new ≡ mode_of self.old }
         ensures same_count { placed_by self.new ≡ placed_by self.old }
         ensures same_base { base_of self.new ≡ base_of self.old }
@@ -181,7 +183,7 @@ impl Clock {
 }
 
 /// Whether the event must come in order of time.
-fn is_ordered(mode: Mode, event: &Event) -> bool
+pub fn is_ordered(mode: Mode, event: &Event) -> bool
     ensures { result ≡ is_ordered mode event.now }
 {
     match (mode, event.kind) {

@@ -3,4 +3,4 @@
 
 mod clock;
 
-pub use clock::{Clock, Placed};
+pub use clock::{Clock, Placed, is_ordered};

@@ -9,7 +9,8 @@ use Rattle.tally_base.specs.declared.fault.Fault.TheVariants.{RecordLimit, Reser
 use Rattle.tally_base.specs.Events.{stops_late, stops_reserved}
 use Rattle.ptu_definitions.specs.Kinds.{is_reserved}
 use Rattle.ptu_definitions.specs.Times.{events, event_after, passes}
-use Rattle.ptu_definitions.specs.Kept.{is_late, greatest}
+use Rattle.ptu_definitions.specs.Kept.{greatest}
+use Rattle.ptu_definitions.specs.Settled.{is_late_by}
 use Rattle.tally_base.specs.declared.fault.Fault.{Fault}
 use Rattle.ptu_definitions.specs.Prefixes.{each_after, listed, first}
 use Rattle.ptu_definitions.specs.Streams.{Reading, late_refusal, refusal, refusals, record_refusal, events_in, given}
@@ -114,9 +115,9 @@ late-inside : (b : Bool) (fault : Fault) → is_outside fault ≡ false → Insi
 late-inside true fault is = some-inside fault is
 late-inside false fault is = none-inside
 
-late_refusal-inside : (mode : Mode) (before es : List Event) → Inside (late_refusal mode before es)
-late_refusal-inside mode before [] = none-inside
-late_refusal-inside mode before (e ∷ es) = late-inside (is_late mode before e) (BackwardTime e.place e.time (greatest mode before)) refl
+late_refusal-inside : (k : ℕ) (mode : Mode) (before es : List Event) → Inside (late_refusal k mode before es)
+late_refusal-inside k mode before [] = none-inside
+late_refusal-inside k mode before (e ∷ es) = late-inside (is_late_by k mode before e) (BackwardTime e.place e.time (greatest mode before)) refl
 
 causes-inside : (full reserved passing stops : Bool) (limit place word : ℕ) (late : Option Fault) → Inside late
     → Inside (if full then Some (RecordLimit limit) else if reserved then Some (ReservedRecord place word) else if passing then Some (TimeLimit place) else if stops then late else None)
@@ -132,7 +133,7 @@ refusal-inside how before word =
     let records = map how.meaning before in
     let raw = how.meaning word in
     causes-inside (nat_le how.policy.records (length records)) (is_reserved raw && stops_reserved how.policy.reserved) (passes records raw) (stops_late how.policy.order) how.policy.records (length records + 1) word
-    (late_refusal how.mode (events records) (event_after records raw)) (late_refusal-inside how.mode (events records) (event_after records raw))
+    (late_refusal how.policy.settle how.mode (events records) (event_after records raw)) (late_refusal-inside how.policy.settle how.mode (events records) (event_after records raw))
 
 pub record_refusal-inside : (how : Reading) (words : List ℕ) (fault : Fault) → record_refusal how words ≡ Some fault → is_outside fault ≡ false
 record_refusal-inside how words fault h = let r = first-refusal how words fault h in refusal-inside how r.front r.word fault r.refused

@@ -16,3 +16,7 @@ pub mod StreamLemmas
 pub mod Firsts
 pub mod FittingLemmas
 pub mod StreamRows
+pub mod SettledLemmas
+pub mod SettlingLemmas
+pub mod SettledLaws
+pub mod DeliveredLaws

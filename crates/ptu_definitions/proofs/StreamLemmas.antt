@@ -15,9 +15,10 @@ use Rattle.ptu_definitions.specs.declared.records.Raw.{Raw}
 use Rattle.tally_base.specs.declared.fault.Fault.{Fault}
 use Rattle.ptu_definitions.specs.Prefixes.{each_after, listed, first}
 use Rattle.ptu_definitions.specs.Times.{event_after, events}
-use Rattle.ptu_definitions.specs.Kept.{floor_of, mark, marked, is_late, greatest, ordered_time, Marked, kept}
+use Rattle.ptu_definitions.specs.Kept.{floor_of, mark, marked, is_late, greatest, ordered_time, Marked}
 use Rattle.ptu_definitions.specs.Streams.{Reading, refusal, refusals, record_refusal, unless_refused, unrefused_after, events_in, given}
 use Rattle.ptu_definitions.proofs.PrefixLemmas.{each-push, each_after-append, first-append}
+use Rattle.ptu_definitions.proofs.DeliveredLaws.{delivered_after, delivered-append}
 
 pub events-push : (records : List Raw) (raw : Raw) → events (records ++ raw ∷ []) ≡ events records ++ event_after records raw
 unfolding events
@@ -39,14 +40,14 @@ pub greatest-push : (mode : Mode) (es : List Event) (e : Event) → greatest mod
 greatest-push mode [] e = omega arith
 greatest-push mode (x ∷ es) e = rw (greatest-push mode es e) (omega arith)
 
--- the marked events of words behind others
-pub events_in-append : (how : Reading) (ws more : List ℕ) → events_in how (ws ++ more) ≡ events_in how ws ++ each_after (mark how.mode) (events (map how.meaning ws)) (each_after event_after (map how.meaning ws) (map how.meaning more))
-unfolding events marked
-events_in-append how ws more = rw (map-append, each_after-append, each_after-append) refl
+-- what words behind others add to what is delivered
+pub events_in-append : (how : Reading) (ws more : List ℕ) → events_in how (ws ++ more) ≡ events_in how ws ++ delivered_after how.policy.settle how.mode (events (map how.meaning ws)) (each_after event_after (map how.meaning ws) (map how.meaning more))
+unfolding events
+events_in-append how ws more = rw (map-append, each_after-append) (delivered-append how.policy.settle how.mode _ _)
 
--- the marked event of the word behind these
+-- what the word behind these adds
 abbrev pub fresh : Reading → List ℕ → Raw → Marked
-fresh how ws raw = each_after (mark how.mode) (events (map how.meaning ws)) (event_after (map how.meaning ws) raw)
+fresh how ws raw = delivered_after how.policy.settle how.mode (events (map how.meaning ws)) (event_after (map how.meaning ws) raw)
 
 pub events_in-push : (how : Reading) (ws : List ℕ) (w : ℕ) → events_in how (ws ++ w ∷ []) ≡ events_in how ws ++ fresh how ws (how.meaning w)
 events_in-push how ws w = events_in-append how ws (w ∷ []) ∙ rw append-nil refl
@@ -121,18 +122,6 @@ unrefused-stays how before (w ∷ ws) more fault h = unless-stays w (refusal how
 pub given-stays : (how : Reading) (ws more : List ℕ) (fault : Fault) → record_refusal how ws ≡ Some fault → given how (ws ++ more) ≡ given how ws
 unfolding given refusals
 given-stays how ws more fault h = ap (events_in how) (unrefused-stays how [] ws more fault h)
-
--- The kept list and one more event.
-pub kept-late : (mode : Mode) (es : List Event) (e : Event) → is_late mode es e ≡ true → kept mode (es ++ e ∷ []) ≡ kept mode es
-unfolding kept
-kept-late mode es e late = rw (marked-push, filter-append, late, append-nil) refl
-
-pub kept-push : (mode : Mode) (es : List Event) (e : Event) → is_late mode es e ≡ false → kept mode (es ++ e ∷ []) ≡ kept mode es ++ e ∷ []
-unfolding kept
-kept-push mode es e late = rw (marked-push, filter-append, late, map-append) refl
-
-pub late_count-push : (mode : Mode) (es : List Event) (e : Event) → count_by (λ (x : Event × Bool). x.1) (marked mode (es ++ e ∷ [])) ≡ count_by (λ (x : Event × Bool). x.1) (marked mode es) + cond (is_late mode es e) 1 0
-late_count-push mode es e = rw marked-push (sum_by_push (λ (x : Event × Bool). cond x.1 1 0) (marked mode es) (e, is_late mode es e))
 
 -- The greatest time of the events that aren't late is that of all events.
 max-mark : (b l : Bool) (t top rest : ℕ) → l ≡ (b && nat_lt t top) → max top (max (cond (b && not l) t 0) rest) ≡ max (max top (cond b t 0)) rest

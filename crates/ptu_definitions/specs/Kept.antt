@@ -1,4 +1,4 @@
--- Which events are late, and the kept list.
+-- Which events are late, and the kept list, where no event is put in its place.
 use Rattle.std.specs.Prelude.{ℕ, ◌&&◌, Bool, nat_lt, max, List, [], ◌∷◌, map, filter, not, if◌then◌else◌}
 use Rattle.std.specs.List.{list_any}
 use Rattle.tally_base.specs.declared.event.Event.{Event}

@@ -17,3 +17,5 @@ pub mod Kept
 pub mod Streams
 pub mod Fitting
 pub mod Firsts
+pub mod Settled
+pub mod Settling

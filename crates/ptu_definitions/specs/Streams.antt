@@ -15,7 +15,8 @@ use Rattle.ptu_definitions.specs.Kinds.{is_photon, is_marker, is_wrap, is_reserv
 use Rattle.ptu_definitions.specs.Layouts.{meaning_of}
 use Rattle.ptu_definitions.specs.Prefixes.{each, listed, first, last}
 use Rattle.ptu_definitions.specs.Times.{event_after, events, passes}
-use Rattle.ptu_definitions.specs.Kept.{is_late, Marked, marked, kept, greatest}
+use Rattle.ptu_definitions.specs.Kept.{Marked, greatest}
+use Rattle.ptu_definitions.specs.Settled.{is_late_by, late_by, kept_by, delivered, delivered_last}
 use Rattle.ptu_definitions.specs.Words.{words_of, rest_of}
 
 -- how words are read
@@ -29,9 +30,9 @@ abbrev pub reading : RecordType → Policy → Reading
 reading record_type policy = record { mode = mode_of record_type; meaning = meaning_of record_type; policy = policy }
 
 -- the late event that is refused, among the events of one record
-abbrev pub late_refusal : Mode → List Event → List Event → Option Fault
-late_refusal mode before [] = None
-late_refusal mode before (e ∷ es) = if is_late mode before e then Some (BackwardTime e.place e.time (greatest mode before)) else None
+abbrev pub late_refusal : ℕ → Mode → List Event → List Event → Option Fault
+late_refusal k mode before [] = None
+late_refusal k mode before (e ∷ es) = if is_late_by k mode before e then Some (BackwardTime e.place e.time (greatest mode before)) else None
 
 -- why a record is refused behind these records, by the first cause that stands
 abbrev pub refusal_in : Reading → List Raw → Raw → ℕ → Option Fault
@@ -39,7 +40,7 @@ refusal_in how before raw word =
     if nat_le how.policy.records (length before) then Some (RecordLimit how.policy.records)
     else if is_reserved raw && stops_reserved how.policy.reserved then Some (ReservedRecord (length before + 1) word)
     else if passes before raw then Some (TimeLimit (length before + 1))
-    else if stops_late how.policy.order then late_refusal how.mode (events before) (event_after before raw)
+    else if stops_late how.policy.order then late_refusal how.policy.settle how.mode (events before) (event_after before raw)
     else None
 
 -- Why the word behind these is refused, or None where it is not.
@@ -63,11 +64,15 @@ abbrev pub unrefused_after : Reading → List ℕ → List ℕ → List ℕ
 unrefused_after how before [] = []
 unrefused_after how before (word ∷ more) = unless_refused word (unrefused_after how (before ++ word ∷ []) more) (refusal how before word)
 
--- the events of these words, with their marks
+-- What is delivered behind these words: the late events, marked, and of the others those that are settled.
 abbrev pub events_in : Reading → List ℕ → Marked
-events_in how words = marked how.mode (events (map how.meaning words))
+events_in how words = delivered how.policy.settle how.mode (events (map how.meaning words))
 
--- What a taker is given: the events before the first refusal, each with its mark.
+-- what is delivered at their end
+abbrev pub last_in : Reading → List ℕ → Marked
+last_in how words = delivered_last how.policy.settle how.mode (events (map how.meaning words))
+
+-- What a taker is given: the events delivered before the first refusal, each with its mark.
 unfoldable pub given : Reading → List ℕ → Marked
 given how words = events_in how (unrefused_after how [] words)
 
@@ -76,20 +81,20 @@ time_of None = None
 time_of (Some e) = Some e.time
 
 -- the summary of these records and their events
-abbrev pub summary_of : Mode → List Raw → List Event → Summary
-summary_of mode records es = record {
+abbrev pub summary_of : ℕ → Mode → List Raw → List Event → Summary
+summary_of k mode records es = record {
   records = length records;
   photons = count_by is_photon records;
   markers = count_by is_marker records;
   wraps = count_by is_wrap records;
   reserved = count_by is_reserved records;
-  late = count_by (λ x. x.1) (marked mode es);
-  first = time_of (first (kept mode es));
-  last = time_of (last (kept mode es));
+  late = length (late_by k mode es);
+  first = time_of (first (kept_by k mode es));
+  last = time_of (last (kept_by k mode es));
 }
 
 unfoldable pub summary : Reading → List ℕ → Summary
-summary how words = summary_of how.mode (map how.meaning words) (events (map how.meaning words))
+summary how words = summary_of how.policy.settle how.mode (map how.meaning words) (events (map how.meaning words))
 
 abbrev pub or_refusal : Option Fault → Result Summary Fault → Result Summary Fault
 or_refusal None answer = answer

@@ -1,7 +1,8 @@
 -- The absolute times of records.
-use Rattle.std.specs.Prelude.{ℕ, ◌+◌, ◌^◌, ◌&&◌, Bool, nat_lt, List, [], ◌∷◌, length, sum_by}
+use Rattle.std.specs.Prelude.{ℕ, ◌+◌, ◌&&◌, Bool, nat_lt, List, [], ◌∷◌, length, sum_by}
 use Rattle.tally_base.specs.declared.event.Event.{Event}
 use Rattle.tally_base.specs.declared.event.EventKind.TheVariants.{Photon as PhotonEvent, Marker as MarkerEvent}
+use Rattle.tally_base.specs.Limits.{wrap_limit}
 use Rattle.ptu_definitions.specs.declared.records.Raw.{Raw}
 use Rattle.ptu_definitions.specs.declared.records.Raw.TheVariants.{Photon, Marker, Wrap, Reserved}
 use Rattle.ptu_definitions.specs.Kinds.{is_wrap}
@@ -33,6 +34,6 @@ event_after before raw = event_of (length before + 1) (base before) raw
 unfoldable pub events : List Raw → List Event
 events records = each event_after records
 
--- The record behind these is a wrap that makes the base greater than 2^62.
+-- The record behind these is a wrap that makes the base greater than 2^62 (`wrap_limit`).
 abbrev pub passes : List Raw → Raw → Bool
-passes before raw = is_wrap raw && nat_lt (2 ^ 62) (base before + amount raw)
+passes before raw = is_wrap raw && nat_lt wrap_limit (base before + amount raw)

@@ -1,5 +1,5 @@
 // Laws of the definitions, each as the contract of a function that does nothing.
-ghost use Rattle.std.specs.Prelude.{◌≡◌, ◌≢◌, ◌↔◌, ◌⊎◌, ◌++◌, ◌∷◌, [], ◌<◌, ◌≤◌, ◌^◌, ℕ, List, Result, Ok, length, take, get_or};
+ghost use Rattle.std.specs.Prelude.{◌==◌, filter, ◌≡◌, ◌≢◌, ◌↔◌, ◌⊎◌, ◌++◌, ◌∷◌, [], ◌+◌, ◌<◌, ◌≤◌, ◌^◌, ℕ, List, Result, Ok, length, take, get_or};
 ghost use Rattle.tally_base.specs.declared.fault.Fault.TheVariants as Fault;
 ghost use Rattle.tally_base.specs.declared.fault.Fault.{Fault};
 ghost use Rattle.tally_base.specs.declared.header.Header.{Header};
@@ -11,7 +11,9 @@ ghost use Rattle.ptu_definitions.specs.Shown.{Shows};
 ghost use Rattle.ptu_definitions.specs.Endings.{Ending, EndsAs, HasHeader};
 ghost use Rattle.tally_base.specs.declared.event.Event.{Event};
 ghost use Rattle.tally_base.specs.declared.header.Mode.{Mode};
-ghost use Rattle.ptu_definitions.specs.Kept.{marked, greatest, floor_of};
+ghost use Rattle.std.specs.List.Sorted.{IsPermutation, IsNonDecreasingBy};
+ghost use Rattle.ptu_definitions.specs.Kept.{marked, kept, is_late, greatest, floor_of};
+ghost use Rattle.ptu_definitions.specs.Settled.{not_overtaken, in_time, is_late_by, ordered, kept_by, settled_by, late_by, delivered, delivered_last, not_marked, those_marked};
 ghost use Rattle.ptu_definitions.specs.Streams.{Reading, refusal, record_refusal, events_in, given};
 ghost use Rattle.ptu_definitions.specs.Firsts.{IsFirst};
 
@@ -100,8 +102,8 @@ pub fn an_answer_stays()
 {}
 
 /// A stream is refused for its least record that is refused, and for that record whenever there is
-/// one. What is given are the events of the records before it, and those of all records where none is
-/// refused. Whatever comes behind a refused record changes neither the refusal nor what is given.
+/// one. What is given is what the records before it deliver, and where none is refused what all records
+/// do. Whatever comes behind a refused record changes neither the refusal nor what is given.
 pub fn first_refusal()
     ensures first { (how : Reading) (words : List ℕ) (fault : Fault)
         → record_refusal how words ≡ Some fault → IsFirst how fault [] words }
@@ -124,4 +126,43 @@ pub fn first_refusal()
 pub fn late_events_are_no_greatest()
     ensures { (mode : Mode) (events : List Event)
         → floor_of mode (marked mode events) ≡ greatest mode events }
+{}
+
+/// The kept list of events in order that `k` may overtake: it has each event that is not late once, in
+/// order of time, and those of equal time in file order. None is late among `k` + 1 events or fewer.
+pub fn kept_list()
+    ensures once { (k : ℕ) (events : List Event)
+        → IsPermutation (not_overtaken k events) (in_time k events) }
+    ensures rising { (k : ℕ) (events : List Event)
+        → IsNonDecreasingBy (λ (e : Event). e.time) (in_time k events) }
+    ensures stable { (k time : ℕ) (events : List Event)
+        → filter (λ (e : Event). e.time == time) (in_time k events) ≡ filter
+        (λ (e : Event). e.time == time) (not_overtaken k events) }
+    ensures all { (k : ℕ) (events : List Event)
+        → length events ≤ k + 1 → not_overtaken k events ≡ events }
+{}
+
+/// Where `k` is 0, an event is late where some event in order before it has a greater time, and the kept
+/// list is that in file order: of the events in order it has the same list.
+pub fn kept_list_of_zero()
+    ensures late { (mode : Mode) (before : List Event) (e : Event)
+        → is_late_by 0 mode before e ≡ is_late mode before e }
+    ensures kept { (mode : Mode) (events : List Event)
+        → in_time 0 (ordered mode events) ≡ ordered mode (kept mode events) }
+    ensures settled { (mode : Mode) (events : List Event)
+        → settled_by 0 mode events ≡ kept mode events }
+    ensures delivered { (mode : Mode) (events : List Event)
+        → delivered 0 mode events ≡ marked mode events }
+    ensures rest { (mode : Mode) (events : List Event) → delivered_last 0 mode events ≡ [] }
+{}
+
+/// What is delivered behind some first events: of the events that aren't late the settled list, which
+/// the rest that is delivered at the end makes the kept list, and the late events in file order.
+pub fn delivered_once()
+    ensures settled { (k : ℕ) (mode : Mode) (events : List Event)
+        → not_marked (delivered k mode events) ≡ settled_by k mode events }
+    ensures kept { (k : ℕ) (mode : Mode) (events : List Event)
+        → not_marked (delivered k mode events ++ delivered_last k mode events) ≡ kept_by k mode events }
+    ensures late { (k : ℕ) (mode : Mode) (events : List Event)
+        → those_marked (delivered k mode events) ≡ late_by k mode events }
 {}

@@ -1,5 +1,5 @@
 -- One word more of which none is refused and no event is late.
-use Rattle.std.proofs.Common.{◌≡◌, ◌+◌, ◌<◌, ◌≤◌, ◌^◌, ℕ, List, [], ◌∷◌, ◌++◌, Bool, true, false, max, None, Ok, map, refl, sym, ap, subst, ◌∙◌, append_assoc, append-nil, arith, rules, add-zero}
+use Rattle.std.proofs.Common.{◌≡◌, ◌+◌, ◌<◌, ◌≤◌, ◌^◌, ℕ, List, [], ◌∷◌, ◌++◌, Bool, true, false, max, None, Ok, map, refl, sym, ap, subst, ◌∙◌, append_assoc, append-nil, arith, add-zero}
 use Rattle.std.specs.Prelude.{◌&&◌, IsTrue, nat_lt, if◌then◌else◌}
 use Rattle.std.proofs.lemmas.List.{map-append}
 use Rattle.std.proofs.lemmas.List.Elements.{All-push}
@@ -22,10 +22,10 @@ use Rattle.abs_time.specs.declared.clock.Placed.{Placed}
 use Rattle.abs_time.specs.declared.clock.Placed.TheVariants.{Event as InOrderPlaced, Late, Wrap as WrapPlaced, Reserved as ReservedPlaced}
 use Rattle.abs_time.specs.Placing.{IsClock, against, place_answer}
 use Rattle.abs_time.proofs.ClockLemmas.{IsClock-photon, IsClock-marker, IsClock-wrap, IsClock-reserved, answer-photon, answer-marker, answer-wrap, answer-reserved}
-use Rattle.event_block.specs.Order.{floor_after, InOrder}
 use Rattle.event_block.proofs.Order.{floor-push, order-push}
-use Rattle.record_stream.specs.Blocks.{orders_markers, on_time, AllFit, top_with, IsOnTime, Adds, IsInLine}
-use Rattle.record_stream.proofs.Placed.{refused_by, marks_of, refusal-placed, fresh-placed}
+use Rattle.record_stream.specs.Blocks.{orders_markers, on_time, top_with, IsOnTime, Adds, IsInLine}
+use Rattle.record_stream.specs.Recorded.{refused_late}
+use Rattle.record_stream.proofs.Placed.{refused_by, marks_of, refusal-ok, refused-plain, fresh-plain}
 
 pub moves_by : (mode : Mode) (e : Event) → moves_floor (orders_markers mode) e ≡ is_ordered mode e
 moves_by T2 e = refl
@@ -51,16 +51,17 @@ on_time-push : (es more : List Event) (l : Marked) → (l ++ on_time es) ++ on_t
 on_time-push es more l = append_assoc l (on_time es) (on_time more) ∙ ap (λ m. l ++ m) (sym (map-append (λ (e : Event). (e, false)) es more))
 
 module _ (how : Reading) (n base top : ℕ) (before ws : List ℕ) (w : ℕ) (es : List Event)
-    (a : Adds how n base top before ws es) (room : n < how.policy.records) where
+    (a : Adds how n base top before ws es) (room : n < how.policy.records) (plain : how.policy.settle ≡ 0) where
   adds-placed : (raw : Raw) (p : Placed) (more : List Event) (base' top' : ℕ)
       → raw ≡ how.meaning w → (is_reserved raw && stops_reserved how.policy.reserved) ≡ false
-      → Ok p ≡ place_answer how.mode (map how.meaning ws) raw → refused_by how (Ok p) ≡ None → marks_of p ≡ on_time more
+      → Ok p ≡ place_answer how.mode (map how.meaning ws) raw → refused_by how p ≡ None → marks_of p ≡ on_time more
       → IsClock how.mode (n + 1) base' top' (map how.meaning ws ++ raw ∷ [])
       → Adds how (n + 1) base' top' before (ws ++ w ∷ []) (es ++ more)
   adds-placed raw p more base' top' means go answers none marks clock =
-      let fresh_is : fresh how ws (how.meaning w) ≡ on_time more = ap (fresh how ws) (sym means) ∙ fresh-placed how ws raw p (sym answers) ∙ marks in
+      let fresh_is : fresh how ws (how.meaning w) ≡ on_time more = ap (fresh how ws) (sym means) ∙ fresh-plain how ws raw p plain (sym answers) ∙ marks in
+      let late : refused_late how (map how.meaning ws) (how.meaning w) ≡ None = ap (refused_late how (map how.meaning ws)) (sym means) ∙ refused-plain how (map how.meaning ws) raw p plain (sym answers) ∙ none in
       record {
-        clear = clear-push how ws w a.clear (refusal-placed how ws w n raw (Ok p) a.clock.placed room means go answers ∙ none);
+        clear = clear-push how ws w a.clear (refusal-ok how ws w n raw p a.clock.placed room means go (sym answers) ∙ late);
         clock = rw map-append (rw means at clock);
         events = events_in-push how ws w ∙ ap (λ m. events_in how ws ++ m) fresh_is ∙ ap (λ l. l ++ on_time more) a.events ∙ on_time-push es more (events_in how before);
       }

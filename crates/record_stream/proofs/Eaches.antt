@@ -1,5 +1,5 @@
 -- The events of a block, one by one.
-use Rattle.std.proofs.Common.{◌≡◌, ◌+◌, ◌<◌, ◌≤◌, ℕ, zero, suc, List, [], ◌∷◌, ◌++◌, Bool, true, false, All, length, map, get_or, refl, sym, ap, subst, ◌∙◌, append_assoc, arith, length-append, ◌⊎◌, ⊎_elim}
+use Rattle.std.proofs.Common.{◌≡◌, ◌+◌, ◌<◌, ℕ, zero, suc, List, [], ◌∷◌, ◌++◌, Bool, true, false, All, length, refl, sym, ap, subst, ◌∙◌, append_assoc, arith, length-append, ◌⊎◌, ⊎_elim}
 use Rattle.std.specs.Prelude.{◌&&◌, not, IsTrue, if◌then◌else◌}
 use Rattle.std.proofs.lemmas.Grind.{get_or_at_push}
 use Rattle.std.proofs.lemmas.List.{map-append, get_or_append_left}

@@ -1,11 +1,10 @@
 -- One word more in a block.
-use Rattle.std.proofs.Common.{◌≡◌, ◌+◌, ◌*◌, ◌^◌, ◌<◌, ◌≤◌, ℕ, List, [], ◌∷◌, ◌++◌, Bool, true, false, length, map, take, get_or, refl, sym, ap, subst, ◌∙◌, append_assoc, append-nil, arith, rules, ⊎_elim}
+use Rattle.std.proofs.Common.{◌≡◌, ◌+◌, ◌^◌, ◌<◌, ◌≤◌, ℕ, List, [], ◌∷◌, ◌++◌, Bool, true, false, length, map, get_or, refl, sym, ap, ◌∙◌, arith, ⊎_elim}
 use Rattle.std.specs.Prelude.{◌&&◌, nat_le, count_by, cond}
 use Rattle.std.specs.Int.{from_le_bytes, w32}
 use Rattle.std.proofs.lemmas.Bool.{cases_Bool}
 use Rattle.std.proofs.lemmas.List.Sums.{get_or-le-sum_by, sum_by-cons}
 use Rattle.tally_base.specs.declared.event.Event.{Event}
-use Rattle.tally_base.specs.declared.header.Mode.{Mode}
 use Rattle.tally_base.specs.Events.{stops_reserved}
 use Rattle.ptu_definitions.specs.declared.records.Raw.{Raw}
 use Rattle.ptu_definitions.specs.Kinds.{is_reserved}
@@ -70,14 +69,14 @@ module _ (how : Reading) (low base top base' top' n : ℕ) (in_order in_order' :
       let on = on_time-row (n + 1) base row how.mode top (rw top_is at two.1) in
       rw (top_is, events_are, ← (top-row (n + 1) base row how.mode top)) (in_line-push how.mode low top (n + 1) base es (raw_of row) (line two.0) (rw means fits) few on)
 
-  pub adds-more : (next : ℕ) (before ws : List ℕ) (w : ℕ) → next ≡ n + 1 → raw_of row ≡ how.meaning w → row.amount ≡ amount (how.meaning w) → n < how.policy.records → base + row.amount ≤ 2 ^ 62
+  pub adds-more : (next : ℕ) (before ws : List ℕ) (w : ℕ) → how.policy.settle ≡ 0 → next ≡ n + 1 → raw_of row ≡ how.meaning w → row.amount ≡ amount (how.meaning w) → n < how.policy.records → base + row.amount ≤ 2 ^ 62
       → (is_reserved (how.meaning w) && stops_reserved how.policy.reserved) ≡ false → (in_order ≡ true → Adds how n base top before ws es)
       → in_order' ≡ true → Adds how next base' top' before (ws ++ w ∷ []) es'
-  adds-more next before ws w counted means amounts room few go adds sure =
+  adds-more next before ws w plain counted means amounts room few go adds sure =
       let two = both in_order (nat_le top top') (sym in_order_is ∙ sure) in
       let on = on_time-row (n + 1) base row how.mode top (rw top_is at two.1) in
       let same : row.amount ≡ amount (raw_of row) = amounts ∙ ap amount (sym means) in
-      let pushed = adds-push how n base top before ws w es (adds two.0) room (raw_of row) means (rw means go) (rw (← same) few) on in
+      let pushed = adds-push how n base top before ws w es (adds two.0) room plain (raw_of row) means (rw means go) (rw (← same) few) on in
       let sum : base' ≡ base + amount (raw_of row) = base_is ∙ ap (λ k. base + k) same in
       let greatest : top' ≡ top_with how.mode top (event_of (n + 1) base (raw_of row)) = top_is ∙ sym (top-row (n + 1) base row how.mode top) in
       rw (counted, sum, greatest, events_are) pushed

@@ -1,5 +1,5 @@
 -- A block that is given to a taker.
-use Rattle.std.proofs.Common.{◌≡◌, ◌+◌, ◌<◌, ◌≤◌, ℕ, List, [], ◌∷◌, ◌++◌, true, false, None, Ok, Err, OnOk, OnErr, length, map, refl, sym, ap, ◌∙◌, append_assoc, arith, length-append}
+use Rattle.std.proofs.Common.{◌≡◌, ◌+◌, ◌≤◌, ℕ, List, [], ◌∷◌, ◌++◌, true, false, None, Ok, Err, OnOk, OnErr, length, map, refl, sym, ap, ◌∙◌, arith, length-append}
 use Rattle.std.specs.Prelude.{is_err}
 use Rattle.std.specs.declared.result.Result.{Result}
 use Rattle.std.proofs.lemmas.List.{map-append}
@@ -10,7 +10,7 @@ use Rattle.ptu_definitions.specs.declared.records.KindCounts.{KindCounts}
 use Rattle.ptu_definitions.specs.declared.records.Summary.{Summary}
 use Rattle.ptu_definitions.specs.Kinds.{counts_of}
 use Rattle.ptu_definitions.specs.Kept.{Marked}
-use Rattle.ptu_definitions.specs.Streams.{Reading, refusals, record_refusal, given, events_in, summary}
+use Rattle.ptu_definitions.specs.Streams.{Reading, refusals, record_refusal, given, events_in}
 use Rattle.ptu_definitions.proofs.StreamLemmas.{given-clear}
 use Rattle.abs_time.specs.declared.clock.Clock.{Clock}
 use Rattle.abs_time.specs.Placing.{mode_of, placed_by, base_of, greatest_by}
@@ -20,7 +20,8 @@ use Rattle.record_stream.specs.declared.taker.EventTaker.{Ghosts}
 use Rattle.record_stream.specs.OneMore.{with_block}
 use Rattle.record_stream.specs.Blocks.{orders_markers, on_time, Adds, BrokeAmong}
 use Rattle.record_stream.specs.Feeding.{IsAt, GaveOn, BrokeOn}
-use Rattle.record_stream.proofs.Summaries.{summary-more}
+use Rattle.record_stream.specs.SoFar.{so_far}
+use Rattle.record_stream.proofs.Summaries.{so_far-more}
 
 pub ok_of : {X E P : Type 0} (r : Result X E) → is_err r ≡ false → OnOk r P → P
 ok_of (Ok x) is p = p
@@ -43,7 +44,7 @@ pub block_at : (how : Reading) (clock clock' : Clock) (sum sum' : Summary) (coun
 block_at how clock clock' sum sum' count count' n base top before ws es k h a mode placed based greatest sums kinds counts = record {
   clear = a.clear;
   placed = rw (mode, placed, based, greatest) a.clock;
-  summary = sums ∙ ap (λ s. with_block s k es) h.summary ∙ ap (λ k. with_block (summary how before) k es) kinds ∙ sym (summary-more how before ws es a.events);
+  summary = sums ∙ ap (λ s. with_block s k es) h.summary ∙ ap (λ k. with_block (so_far how before) k es) kinds ∙ sym (so_far-more how before ws es a.events);
   counted = omega (arith, counts, h.counted, ap length a.events, length-append (events_in how before) (on_time es), length-on_time es);
 }
 

@@ -1,6 +1,7 @@
 -- What ends a stream.
-use Rattle.std.proofs.Common.{◌≡◌, ◌≢◌, ℕ, List, [], ◌++◌, false, None, Some, Ok, Err, length, refl, ap, ◌∙◌, sym, ⊎_elim, arith}
-use Rattle.std.specs.Prelude.{nat_eq}
+use Rattle.std.proofs.Common.{◌≡◌, ◌≢◌, ℕ, List, [], ◌++◌, Bool, true, false, map, None, Some, Ok, Err, length, refl, ap, ◌∙◌, sym, ⊎_elim, arith}
+use Rattle.std.specs.Prelude.{nat_eq, ◌==◌, if◌then◌else◌}
+use Rattle.std.proofs.lemmas.Bool.{eqb-true}
 use Rattle.std.proofs.lemmas.Bool.Decides.{nat_tests}
 use Rattle.ptu_definitions.specs.declared.records.Summary.{Summary}
 use Rattle.tally_base.specs.declared.fault.Fault.{Fault}
@@ -11,11 +12,25 @@ use Rattle.abs_time.specs.declared.clock.Clock.{Clock}
 use Rattle.std.specs.declared.option.Option.{Option}
 use Rattle.ptu_definitions.specs.Shown.{Shows}
 use Rattle.ptu_definitions.specs.Kept.{floor_of}
-use Rattle.ptu_definitions.specs.Streams.{given}
+use Rattle.ptu_definitions.specs.Kept.{greatest}
+use Rattle.ptu_definitions.specs.Settled.{delivered}
+use Rattle.ptu_definitions.specs.Streams.{given, events_in, last_in}
+use Rattle.ptu_definitions.specs.Times.{events}
+use Rattle.ptu_definitions.proofs.DeliveredLaws.{delivered-0}
 use Rattle.ptu_definitions.proofs.StreamLemmas.{given-clear, floor_of-marked}
 use Rattle.record_stream.specs.declared.taker.EventTaker.{Ghosts}
 use Rattle.abs_time.specs.Placing.{mode_of as clock_mode, greatest_by}
 use Rattle.record_stream.specs.Feeding.{IsAt, GaveOn, BrokeOn, Fed}
+use Rattle.settle.specs.Standing.{last_time}
+use Rattle.settle.specs.declared.settle.Settle.{Settle}
+use Rattle.record_stream.specs.Keeping.{Settles}
+use Rattle.ptu_definitions.proofs.DeliveredLaws.{delivered-none}
+use Rattle.abs_time.specs.Placing.{HasPlaced}
+use Rattle.settle.specs.Standing.{HasSettled}
+use Rattle.record_stream.specs.Keeping.{HasCome}
+use Rattle.record_stream.specs.SoFar.{eventless, so_far}
+use Rattle.record_stream.specs.OneMore.{with_marks}
+use Rattle.record_stream.proofs.Summaries.{summary-end}
 use Rattle.record_stream.specs.Standing.{Stands}
 use Rattle.record_stream.proofs.Fours.{refused-bytes}
 
@@ -26,11 +41,11 @@ pub streamed-refused : (how : Reading) (bytes : List ℕ) (fault : Fault) → re
 unfolding streamed
 streamed-refused how bytes fault h = rw h refl
 
-pub streamed-whole : (how : Reading) (clock : Clock) (sum : Summary) (count : ℕ) (carried bytes : List ℕ) → length carried ≡ 0 → carried ≡ rest_of bytes → IsAt how clock sum count (words_of bytes) → Ok sum ≡ streamed how bytes
+pub streamed-whole : (how : Reading) (clock : Clock) (sum sum' : Summary) (count : ℕ) (carried bytes : List ℕ) → length carried ≡ 0 → carried ≡ rest_of bytes → IsAt how clock sum count (words_of bytes) → sum' ≡ with_marks sum (last_in how (words_of bytes)) → streamed how bytes ≡ Ok sum'
 unfolding streamed
-streamed-whole how clock sum count carried bytes none is h =
+streamed-whole how clock sum sum' count carried bytes none is h ends =
     let whole : length (rest_of bytes) ≡ 0 = rw (← is) none in
-    rw (unrefused how (words_of bytes) h.clear, whole) (ap Ok h.summary)
+    rw (unrefused how (words_of bytes) h.clear, whole) (ap Ok (sym (ends ∙ ap (λ s. with_marks s (last_in how (words_of bytes))) h.summary ∙ summary-end how (words_of bytes))))
 
 pub streamed-cut : (how : Reading) (clock : Clock) (sum : Summary) (count : ℕ) (carried bytes : List ℕ) → (length carried ≡ 0 → ⊥) → carried ≡ rest_of bytes → IsAt how clock sum count (words_of bytes) → Err (TruncatedRecord (length carried)) ≡ streamed how bytes
 unfolding streamed
@@ -51,11 +66,34 @@ fed-shown g X how old new words bytes fault fed inside =
     fed
 
 -- The numbers of a stream that has refused nothing.
-pub given-count : (how : Reading) (clock : Clock) (sum : Summary) (count : ℕ) (carried : List ℕ) (refused : Option Fault) (bytes : List ℕ) → Stands how clock sum count carried refused bytes → refused ≡ None → count ≡ length (given how (words_of bytes))
-given-count how clock sum count carried None bytes h none = rw (given-clear how (words_of bytes) h.1.clear) h.1.counted
-given-count how clock sum count carried (Some fault) bytes h none = cc
+pub given-count : (how : Reading) (clock : Clock) (sum : Summary) (count : ℕ) (settle : Settle) (carried : List ℕ) (refused : Option Fault) (bytes : List ℕ) → Stands how clock sum count settle carried refused bytes → refused ≡ None → count ≡ length (given how (words_of bytes))
+given-count how clock sum count settle carried None bytes h none = rw (given-clear how (words_of bytes) h.1.at.clear) h.1.at.counted
+given-count how clock sum count settle carried (Some fault) bytes h none = cc
 
-pub given-top : (how : Reading) (clock : Clock) (sum : Summary) (count : ℕ) (carried : List ℕ) (refused : Option Fault) (bytes : List ℕ) → clock_mode clock ≡ how.mode → Stands how clock sum count carried refused bytes → refused ≡ None
-    → greatest_by clock ≡ floor_of how.mode (given how (words_of bytes))
-given-top how clock sum count carried None bytes same h none = rw (given-clear how (words_of bytes) h.1.clear, floor_of-marked) (h.1.placed.greatest ∙ rw same refl)
-given-top how clock sum count carried (Some fault) bytes same h none = cc
+-- where no event is put in its place the greatest time is the clock's, and else that of the last event let go
+pub plain-top : (how : Reading) (clock : Clock) (sum : Summary) (count : ℕ) (words : List ℕ) → how.policy.settle ≡ 0 → clock_mode clock ≡ how.mode → IsAt how clock sum count words → greatest_by clock ≡ floor_of how.mode (events_in how words)
+plain-top how clock sum count words zero same h =
+    h.placed.greatest ∙ ap (λ m. greatest m (events (map how.meaning words))) same
+    ∙ sym (ap (floor_of how.mode) (ap (λ k. delivered k how.mode (events (map how.meaning words))) zero ∙ delivered-0 how.mode (events (map how.meaning words))) ∙ floor_of-marked how.mode (events (map how.meaning words)))
+
+pub some-settle : (k : ℕ) → (k == 0) ≡ false → k ≢ 0
+some-settle k is = λ zero. let e : (k == 0) ≡ true = rw zero refl in cc
+
+top_pick : (b : Bool) (how : Reading) (clock : Clock) (sum : Summary) (count : ℕ) (settle : Settle) (words : List ℕ) → (how.policy.settle == 0) ≡ b → clock_mode clock ≡ how.mode → IsAt how clock sum count words → Settles how settle words
+    → (if b then greatest_by clock else last_time settle) ≡ floor_of how.mode (events_in how words)
+top_pick true how clock sum count settle words is same h come = plain-top how clock sum count words (eqb-true how.policy.settle 0 is) same h
+top_pick false how clock sum count settle words is same h come = (come (some-settle how.policy.settle is)).top
+
+pub given-top : (how : Reading) (clock : Clock) (sum : Summary) (count : ℕ) (settle : Settle) (carried : List ℕ) (refused : Option Fault) (bytes : List ℕ) → clock_mode clock ≡ how.mode → Stands how clock sum count settle carried refused bytes → refused ≡ None
+    → (if how.policy.settle == 0 then greatest_by clock else last_time settle) ≡ floor_of how.mode (given how (words_of bytes))
+given-top how clock sum count settle carried None bytes same h none = top_pick (how.policy.settle == 0) how clock sum count settle (words_of bytes) refl same h.1.at h.1.settles ∙ ap (floor_of how.mode) (sym (given-clear how (words_of bytes) h.1.at.clear))
+given-top how clock sum count settle carried (Some fault) bytes same h none = cc
+
+-- A stream of no words.
+pub at_none : (how : Reading) (clock : Clock) (sum : Summary) → HasPlaced clock [] → sum ≡ eventless [] → IsAt how clock sum 0 []
+unfolding refusals events so_far
+at_none how clock sum placed is = record { clear = refl; placed = placed; summary = rw delivered-none is; counted = rw delivered-none refl }
+
+pub come_none : (how : Reading) (settle : Settle) → HasSettled settle [] [] → last_time settle ≡ 0 → HasCome how settle []
+unfolding events
+come_none how settle settled low = record { settled = rw delivered-none settled; top = rw delivered-none low }

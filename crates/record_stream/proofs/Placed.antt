@@ -1,46 +1,57 @@
--- What the clock's answer says of a word: its refusal, its event, and the summary with it.
-use Rattle.std.proofs.Common.{◌≡◌, ◌+◌, ◌<◌, ℕ, List, [], ◌∷◌, ◌++◌, Bool, true, false, cond, None, Some, Ok, Err, length, map, refl, ap, ◌∙◌, append-nil, ◌⊎◌, ⊎_elim, arith, length-append, add-zero}
-use Rattle.std.specs.Prelude.{nat_le, count_by, ◌&&◌, if◌then◌else◌}
+-- What the clock's answer says of a word: its refusal and its event.
+use Rattle.std.proofs.Common.{◌≡◌, ◌≢◌, ◌+◌, ◌<◌, ℕ, List, [], ◌∷◌, Bool, true, false, cond, None, Some, Ok, Err, length, map, refl, sym, ap, ◌∙◌, ◌⊎◌, ⊎_elim, arith}
+use Rattle.std.specs.Prelude.{nat_le, ◌&&◌, ◌==◌, if◌then◌else◌}
 use Rattle.std.specs.declared.option.Option.{Option}
 use Rattle.std.specs.declared.result.Result.{Result}
-use Rattle.std.proofs.lemmas.List.{map-append}
-use Rattle.std.proofs.lemmas.List.Sums.{sum_by_push}
-use Rattle.std.proofs.lemmas.Bool.{cases_Bool}
+use Rattle.std.proofs.lemmas.Bool.{ne_eqb}
 use Rattle.std.proofs.lemmas.Bool.Decides.{nat_tests}
 use Rattle.tally_base.specs.declared.event.Event.{Event}
-use Rattle.ptu_definitions.specs.declared.records.Summary.{Summary}
 use Rattle.tally_base.specs.declared.fault.Fault.{Fault}
-use Rattle.tally_base.specs.declared.fault.Fault.TheVariants.{RecordLimit, ReservedRecord, BackwardTime}
+use Rattle.tally_base.specs.declared.fault.Fault.TheVariants.{RecordLimit, ReservedRecord, BackwardTime, TimeLimit}
 use Rattle.tally_base.specs.declared.header.Mode.{Mode}
-use Rattle.tally_base.specs.Events.{stops_late, stops_reserved}
+use Rattle.tally_base.specs.Events.{is_ordered, stops_late, stops_reserved}
 use Rattle.ptu_definitions.specs.declared.records.Raw.{Raw}
 use Rattle.ptu_definitions.specs.declared.records.Raw.TheVariants.{Photon, Marker, Wrap, Reserved}
 use Rattle.ptu_definitions.specs.Kinds.{is_reserved}
-use Rattle.ptu_definitions.specs.Prefixes.{each_after, first, last}
-use Rattle.ptu_definitions.specs.Times.{event_after, events}
-use Rattle.ptu_definitions.specs.Kept.{mark, is_late, Marked}
-use Rattle.ptu_definitions.specs.Streams.{Reading, refusal, refusal_in, summary, summary_of, time_of}
-use Rattle.ptu_definitions.proofs.PrefixLemmas.{last_after-push}
-use Rattle.ptu_definitions.proofs.StreamLemmas.{events-push, kept-late, kept-push, late_count-push, fresh}
+use Rattle.ptu_definitions.specs.Times.{event_after, events, passes}
+use Rattle.ptu_definitions.specs.Kept.{is_late, greatest, Marked}
+use Rattle.ptu_definitions.specs.Settled.{is_late_by, ordered, settles}
+use Rattle.ptu_definitions.specs.Streams.{Reading, refusal, late_refusal}
+use Rattle.ptu_definitions.proofs.DeliveredLaws.{delivered_after, delivered_after-ordered, delivered_after-unordered, is_late_by-0, is_late-by}
+use Rattle.ptu_definitions.proofs.StreamLemmas.{fresh}
 use Rattle.abs_time.specs.declared.clock.Placed.{Placed}
 use Rattle.abs_time.specs.declared.clock.Placed.TheVariants.{Event as InOrder, Late, Wrap as WrapPlaced, Reserved as ReservedPlaced}
 use Rattle.abs_time.specs.Placing.{place_answer}
-use Rattle.record_stream.specs.OneMore.{with_raw, with_event, with_marks, or_time}
+use Rattle.record_stream.specs.Keeping.{tells, refused_for}
+use Rattle.record_stream.specs.Recorded.{refused_late}
 
--- the refusal that a placed record calls for
-abbrev pub refused_by : Reading → Result Placed Fault → Option Fault
-refused_by how (Err fault) = Some fault
-refused_by how (Ok (InOrder e)) = None
-refused_by how (Ok (Late e top)) = if stops_late how.policy.order then Some (BackwardTime e.place e.time top) else None
-refused_by how (Ok WrapPlaced) = None
-refused_by how (Ok ReservedPlaced) = None
+-- the refusal that a placed record calls for, where no event is put in its place
+abbrev pub refused_by : Reading → Placed → Option Fault
+refused_by how (InOrder e) = None
+refused_by how (Late e top) = if stops_late how.policy.order then Some (BackwardTime e.place e.time top) else None
+refused_by how WrapPlaced = None
+refused_by how ReservedPlaced = None
 
--- its event
+-- and its event with its mark
 abbrev pub marks_of : Placed → Marked
 marks_of (InOrder e) = (e, false) ∷ []
 marks_of (Late e top) = (e, true) ∷ []
 marks_of WrapPlaced = []
 marks_of ReservedPlaced = []
+
+-- the event alone
+abbrev pub event_in : Placed → List Event
+event_in (InOrder e) = e ∷ []
+event_in (Late e top) = e ∷ []
+event_in WrapPlaced = []
+event_in ReservedPlaced = []
+
+-- what a placed record says of the events before it
+abbrev pub IsSo : Mode → List Event → Placed → Type 0
+IsSo mode before (InOrder e) = is_late mode before e ≡ false
+IsSo mode before (Late e top) = (is_late mode before e ≡ true) × (top ≡ greatest mode before)
+IsSo mode before WrapPlaced = Unit {0}
+IsSo mode before ReservedPlaced = Unit {0}
 
 pub refusal-limit : (how : Reading) (ws : List ℕ) (w n : ℕ) → n ≡ length (map how.meaning ws) → n ≡ how.policy.records → refusal how ws w ≡ Some (RecordLimit how.policy.records)
 unfolding refusal
@@ -55,93 +66,130 @@ refusal-reserved how ws w n raw is room means stop =
     let e : nat_le how.policy.records (length (map how.meaning ws)) ≡ false = grind (arith, nat_tests) in
     rw (e, ← means, stop, is) refl
 
-late_or : (how : Reading) (b : Bool) (e : Event) (top : ℕ) → (if stops_late how.policy.order then (if b then Some (BackwardTime e.place e.time top) else None) else None) ≡ refused_by how (Ok (if b then Late e top else InOrder e))
-late_or how true e top = refl
-late_or how false e top = ⊎_elim (λ s. rw s refl) (λ s. rw s refl) (cases_Bool (stops_late how.policy.order))
+passing-ok : (b : Bool) (fault : Fault) (q p : Placed) (late : Option Fault) → ◌≡◌ {A = Result Placed Fault} (if b then Err fault else Ok q) (Ok p) → (if b then Some fault else late) ≡ late
+passing-ok true fault q p late h = cc
+passing-ok false fault q p late h = refl
 
-passing : (how : Reading) (b s : Bool) (fault : Fault) → (if b then Some fault else if s then None else None) ≡ refused_by how (if b then Err fault else Ok WrapPlaced)
-passing how true s fault = refl
-passing how false true fault = refl
-passing how false false fault = refl
+passing-err : (b : Bool) (fault other : Fault) (q : Placed) (late : Option Fault) → ◌≡◌ {A = Result Placed Fault} (if b then Err fault else Ok q) (Err other) → (if b then Some fault else late) ≡ Some other
+passing-err true fault other q late h = let e : fault ≡ other = cc in rw e refl
+passing-err false fault other q late h = cc
+
+-- the refusal of a word by the clock's answer
+pub refusal-ok : (how : Reading) (ws : List ℕ) (w n : ℕ) (raw : Raw) (p : Placed) → n ≡ length (map how.meaning ws) → n < how.policy.records → raw ≡ how.meaning w → (is_reserved raw && stops_reserved how.policy.reserved) ≡ false
+    → place_answer how.mode (map how.meaning ws) raw ≡ Ok p → refusal how ws w ≡ refused_late how (map how.meaning ws) (how.meaning w)
+unfolding refusal place_answer
+refusal-ok how ws w n raw p is room means go answer =
+    let e : nat_le how.policy.records (length (map how.meaning ws)) ≡ false = grind (arith, nat_tests) in
+    rw (e, ← means, go) (passing-ok (passes (map how.meaning ws) raw) (TimeLimit (length (map how.meaning ws) + 1)) _ p (refused_late how (map how.meaning ws) raw) answer)
+
+pub refusal-err : (how : Reading) (ws : List ℕ) (w n : ℕ) (raw : Raw) (fault : Fault) → n ≡ length (map how.meaning ws) → n < how.policy.records → raw ≡ how.meaning w → (is_reserved raw && stops_reserved how.policy.reserved) ≡ false
+    → place_answer how.mode (map how.meaning ws) raw ≡ Err fault → refusal how ws w ≡ Some fault
+unfolding refusal place_answer
+refusal-err how ws w n raw fault is room means go answer =
+    let e : nat_le how.policy.records (length (map how.meaning ws)) ≡ false = grind (arith, nat_tests) in
+    rw (e, ← means, go) (passing-err (passes (map how.meaning ws) raw) (TimeLimit (length (map how.meaning ws) + 1)) fault _ (refused_late how (map how.meaning ws) raw) answer)
+
+-- what is known of a placed record by the definitions
+abbrev Comes : Mode → List Event → List Event → Placed → Type 0
+Comes mode before es p = (es ≡ event_in p) × IsSo mode before p
+
+comes-event : (b : Bool) (mode : Mode) (before : List Event) (e : Event) → is_late mode before e ≡ b → Comes mode before (e ∷ []) (if b then Late e (greatest mode before) else InOrder e)
+comes-event true mode before e is = (refl, (is, refl))
+comes-event false mode before e is = (refl, is)
+
+comes-ok : (mode : Mode) (before es : List Event) (q p : Placed) → Comes mode before es q → ◌≡◌ {A = Result Placed Fault} (Ok q) (Ok p) → Comes mode before es p
+comes-ok mode before es q p h same = let e : q ≡ p = cc in rw e at h
+
+comes-wrap : (b : Bool) (fault : Fault) (mode : Mode) (before : List Event) (p : Placed) → ◌≡◌ {A = Result Placed Fault} (if b then Err fault else Ok WrapPlaced) (Ok p) → Comes mode before [] p
+comes-wrap true fault mode before p h = cc
+comes-wrap false fault mode before p h = comes-ok mode before [] WrapPlaced p (refl, tt) h
+
+pub comes : (mode : Mode) (before : List Raw) (raw : Raw) (p : Placed) → place_answer mode before raw ≡ Ok p → (event_after before raw ≡ event_in p) × IsSo mode (events before) p
+unfolding place_answer
+comes mode before (Photon input time dtime) p h = comes-ok mode (events before) _ _ p (comes-event _ mode (events before) _ refl) h
+comes mode before (Marker bits time) p h = comes-ok mode (events before) _ _ p (comes-event _ mode (events before) _ refl) h
+comes mode before (Wrap ticks) p h = comes-wrap _ _ mode (events before) p h
+comes mode before Reserved p h = comes-ok mode (events before) [] ReservedPlaced p (refl, tt) h
 
 nothing : (s : Bool) → ◌≡◌ {A = Option Fault} (if s then None else None) None
 nothing true = refl
 nothing false = refl
 
-placed-refusal : (how : Reading) (before : List Raw) (raw : Raw) (w : ℕ) → nat_le how.policy.records (length before) ≡ false → (is_reserved raw && stops_reserved how.policy.reserved) ≡ false
-    → refusal_in how before raw w ≡ refused_by how (place_answer how.mode before raw)
-unfolding place_answer
-placed-refusal how before (Photon input time dtime) w room go = rw room (late_or how _ _ _)
-placed-refusal how before (Marker bits time) w room go = rw room (late_or how _ _ _)
-placed-refusal how before (Wrap ticks) w room go = rw room (passing how _ _ _)
-placed-refusal how before Reserved w room go = rw (room, go) (nothing _)
+abbrev late_if : Reading → Bool → Event → ℕ → Option Fault
+late_if how b e top = if stops_late how.policy.order then (if b then Some (BackwardTime e.place e.time top) else None) else None
 
--- the refusal of a word by the clock's answer
-pub refusal-placed : (how : Reading) (ws : List ℕ) (w n : ℕ) (raw : Raw) (answer : Result Placed Fault) → n ≡ length (map how.meaning ws) → n < how.policy.records → raw ≡ how.meaning w → (is_reserved raw && stops_reserved how.policy.reserved) ≡ false
-    → answer ≡ place_answer how.mode (map how.meaning ws) raw → refusal how ws w ≡ refused_by how answer
-unfolding refusal
-refusal-placed how ws w n raw answer is room means go answers =
-    let e : nat_le how.policy.records (length (map how.meaning ws)) ≡ false = grind (arith, nat_tests) in
-    rw (answers, ← means) (placed-refusal how (map how.meaning ws) raw w e go)
+-- Where no event is put in its place.
+refused-so : (how : Reading) (before : List Event) (p : Placed) → how.policy.settle ≡ 0 → IsSo how.mode before p
+    → (if stops_late how.policy.order then late_refusal how.policy.settle how.mode before (event_in p) else None) ≡ refused_by how p
+refused-so how before (InOrder e) zero so = rw zero (ap (λ b. late_if how b e (greatest how.mode before)) (is_late_by-0 how.mode before e ∙ so) ∙ nothing (stops_late how.policy.order))
+refused-so how before (Late e top) zero so = rw zero (ap (λ b. late_if how b e (greatest how.mode before)) (is_late_by-0 how.mode before e ∙ so.0) ∙ ap (λ t. late_if how true e t) (sym so.1))
+refused-so how before WrapPlaced zero so = nothing (stops_late how.policy.order)
+refused-so how before ReservedPlaced zero so = nothing (stops_late how.policy.order)
 
-marks-event : (b : Bool) (e : Event) (top : ℕ) → (e, b) ∷ [] ≡ marks_of (if b then Late e top else InOrder e)
-marks-event true e top = refl
-marks-event false e top = refl
+fresh-so : (how : Reading) (before : List Event) (p : Placed) → how.policy.settle ≡ 0 → IsSo how.mode before p → delivered_after how.policy.settle how.mode before (event_in p) ≡ marks_of p
+fresh-so how before (InOrder e) zero so = rw zero (ap (λ b. (e, b) ∷ []) so)
+fresh-so how before (Late e top) zero so = rw zero (ap (λ b. (e, b) ∷ []) so.0)
+fresh-so how before WrapPlaced zero so = rw zero refl
+fresh-so how before ReservedPlaced zero so = rw zero refl
 
-marks-wrap : (b : Bool) (fault : Fault) (p : Placed) → ◌≡◌ {A = Result Placed Fault} (if b then Err fault else Ok WrapPlaced) (Ok p) → [] ≡ marks_of p
-marks-wrap true fault p h = cc
-marks-wrap false fault p h = let e : p ≡ WrapPlaced = cc in rw e refl
+pub refused-plain : (how : Reading) (before : List Raw) (raw : Raw) (p : Placed) → how.policy.settle ≡ 0 → place_answer how.mode before raw ≡ Ok p → refused_late how before raw ≡ refused_by how p
+refused-plain how before raw p zero answer =
+    let c = comes how.mode before raw p answer in
+    ap (λ es. if stops_late how.policy.order then late_refusal how.policy.settle how.mode (events before) es else None) c.0 ∙ refused-so how (events before) p zero c.1
 
-of_ok : (p q : Placed) (xs : Marked) → xs ≡ marks_of p → ◌≡◌ {A = Result Placed Fault} (Ok p) (Ok q) → xs ≡ marks_of q
-of_ok p q xs is h = let e : p ≡ q = cc in rw (← e) is
+pub fresh-plain : (how : Reading) (ws : List ℕ) (raw : Raw) (p : Placed) → how.policy.settle ≡ 0 → place_answer how.mode (map how.meaning ws) raw ≡ Ok p → fresh how ws raw ≡ marks_of p
+fresh-plain how ws raw p zero answer =
+    let c = comes how.mode (map how.meaning ws) raw p answer in
+    ap (delivered_after how.policy.settle how.mode (events (map how.meaning ws))) c.0 ∙ fresh-so how (events (map how.meaning ws)) p zero c.1
 
-pub fresh-placed : (how : Reading) (ws : List ℕ) (raw : Raw) (p : Placed) → place_answer how.mode (map how.meaning ws) raw ≡ Ok p → fresh how ws raw ≡ marks_of p
-unfolding place_answer
-fresh-placed how ws (Photon input time dtime) p h = of_ok _ p _ (marks-event _ _ _) h
-fresh-placed how ws (Marker bits time) p h = of_ok _ p _ (marks-event _ _ _) h
-fresh-placed how ws (Wrap ticks) p h = marks-wrap _ _ p h
-fresh-placed how ws Reserved p h = let e : p ≡ ReservedPlaced = cc in rw e refl
+-- Where events are put in their places.
+not_late : (b : Bool) (k : ℕ) (mode : Mode) (before : List Event) (e : Event) → is_late_by k mode before e ≡ b → is_late mode before e ≡ false → is_late_by k mode before e ≡ false
+not_late true k mode before e is off = let on : is_late mode before e ≡ true = is_late-by k mode before e is in cc
+not_late false k mode before e is off = is
 
--- The summary grows.
-count_by-push : (p : Raw → Bool) (records : List Raw) (raw : Raw) → count_by p (records ++ raw ∷ []) ≡ count_by p records + cond (p raw) 1 0
-count_by-push p records raw = sum_by_push (λ (r : Raw). cond (p r) 1 0) records raw
+-- the greatest time that a placed record was compared with
+abbrev pub top_in : Placed → ℕ
+top_in (InOrder e) = e.time
+top_in (Late e top) = top
+top_in WrapPlaced = 0
+top_in ReservedPlaced = 0
 
-summary_of-raw : (mode : Mode) (records : List Raw) (es : List Event) (raw : Raw) → summary_of mode (records ++ raw ∷ []) es ≡ with_raw (summary_of mode records es) raw
-summary_of-raw mode records es (Photon input time dtime) = simp (length-append, count_by-push, add-zero)
-summary_of-raw mode records es (Marker bits time) = simp (length-append, count_by-push, add-zero)
-summary_of-raw mode records es (Wrap ticks) = simp (length-append, count_by-push, add-zero)
-summary_of-raw mode records es Reserved = simp (length-append, count_by-push, add-zero)
+by_top : (how : Reading) (before : List Event) (p : Placed) (e : Event) → event_in p ≡ e ∷ [] → IsSo how.mode before p → late_if how (is_late_by how.policy.settle how.mode before e) e (greatest how.mode before) ≡ late_if how (is_late_by how.policy.settle how.mode before e) e (top_in p)
+by_top how before (InOrder x) e is so =
+    let same : x ≡ e = cc in
+    let late : is_late how.mode before e ≡ false = rw same at so in
+    let off : is_late_by how.policy.settle how.mode before e ≡ false = not_late _ how.policy.settle how.mode before e refl late in
+    ap (λ b. late_if how b e (greatest how.mode before)) off ∙ sym (ap (λ b. late_if how b e x.time) off)
+by_top how before (Late x top) e is so = ap (late_if how (is_late_by how.policy.settle how.mode before e) e) (sym so.1)
+by_top how before WrapPlaced e is so = cc
+by_top how before ReservedPlaced e is so = cc
 
-first-push : (xs : List Event) (e : Event) → time_of (first (xs ++ e ∷ [])) ≡ or_time (time_of (first xs)) e.time
-first-push [] e = refl
-first-push (x ∷ xs) e = refl
+pub refused-placed : (how : Reading) (before : List Raw) (raw : Raw) (p : Placed) (e : Event) → place_answer how.mode before raw ≡ Ok p → event_in p ≡ e ∷ [] → refused_late how before raw ≡ refused_for how (ordered how.mode (events before)) e (top_in p)
+refused-placed how before raw p e answer is =
+    let c = comes how.mode before raw p answer in
+    ap (λ es. if stops_late how.policy.order then late_refusal how.policy.settle how.mode (events before) es else None) (c.0 ∙ is) ∙ by_top how (events before) p e is c.1
 
-last-push : (xs : List Event) (e : Event) → time_of (last (xs ++ e ∷ [])) ≡ Some e.time
-last-push xs e = ap time_of (last_after-push None xs e)
+tells-pick : (k : ℕ) (mode : Mode) (before : List Event) (e : Event) (b : Bool) → (k == 0) ≡ false → is_ordered mode e ≡ b → delivered_after k mode before (e ∷ []) ≡ tells k mode (ordered mode before) e
+tells-pick k mode before e true some is = delivered_after-ordered k mode before e some is ∙ sym (ap (λ b. cond b (settles k (ordered mode before) e) []) is)
+tells-pick k mode before e false some is = delivered_after-unordered k mode before e some is ∙ sym (ap (λ b. cond b (settles k (ordered mode before) e) []) is)
 
-summary_of-event : (mode : Mode) (records : List Raw) (es : List Event) (e : Event) → summary_of mode records (es ++ e ∷ []) ≡ with_event (summary_of mode records es) e (is_late mode es e)
-summary_of-event mode records es e =
-    ⊎_elim
-    (λ (late : is_late mode es e ≡ true). let n = late_count-push mode es e in rw (kept-late mode es e late, n, late) refl)
-    (λ (late : is_late mode es e ≡ false). let n = late_count-push mode es e in rw (kept-push mode es e late, n, late, first-push, last-push, add-zero) refl)
-    (cases_Bool (is_late mode es e))
-
-with_event-after : (mode : Mode) (records : List Raw) (es : List Event) (e : Event) (s : Summary) → summary_of mode records es ≡ s → summary_of mode records (es ++ e ∷ []) ≡ with_event s e (is_late mode es e)
-with_event-after mode records es e s h = summary_of-event mode records es e ∙ ap (λ (t : Summary). with_event t e (is_late mode es e)) h
-
-with_raw-after : (mode : Mode) (records : List Raw) (raw : Raw) → summary_of mode (records ++ raw ∷ []) (events (records ++ raw ∷ [])) ≡ with_marks (with_raw (summary_of mode records (events records)) raw) (each_after (mark mode) (events records) (event_after records raw))
-with_raw-after mode records (Photon input time dtime) = rw events-push (with_event-after mode _ (events records) _ _ (summary_of-raw mode records (events records) (Photon input time dtime)))
-with_raw-after mode records (Marker bits time) = rw events-push (with_event-after mode _ (events records) _ _ (summary_of-raw mode records (events records) (Marker bits time)))
-with_raw-after mode records (Wrap ticks) = rw (events-push, append-nil) (summary_of-raw mode records (events records) (Wrap ticks))
-with_raw-after mode records Reserved = rw (events-push, append-nil) (summary_of-raw mode records (events records) Reserved)
-
-pub summary-push : (how : Reading) (ws : List ℕ) (w : ℕ) → summary how (ws ++ w ∷ []) ≡ with_marks (with_raw (summary how ws) (how.meaning w)) (fresh how ws (how.meaning w))
-unfolding summary
-summary-push how ws w = rw map-append (with_raw-after how.mode (map how.meaning ws) (how.meaning w))
+pub fresh-placed : (how : Reading) (ws : List ℕ) (raw : Raw) (p : Placed) (e : Event) → how.policy.settle ≢ 0 → place_answer how.mode (map how.meaning ws) raw ≡ Ok p → event_in p ≡ e ∷ [] → fresh how ws raw ≡ tells how.policy.settle how.mode (ordered how.mode (events (map how.meaning ws))) e
+fresh-placed how ws raw p e some answer is =
+    let c = comes how.mode (map how.meaning ws) raw p answer in
+    ap (delivered_after how.policy.settle how.mode (events (map how.meaning ws))) (c.0 ∙ is) ∙ tells-pick how.policy.settle how.mode (events (map how.meaning ws)) e _ (ne_eqb how.policy.settle 0 some) refl
 
 -- a record that is no event
-pub skipped-refusal : (how : Reading) (p : Placed) → (p ≡ WrapPlaced) ⊎ (p ≡ ReservedPlaced) → refused_by how (Ok p) ≡ None
-skipped-refusal how p is = ⊎_elim (λ (e : p ≡ WrapPlaced). rw e refl) (λ (e : p ≡ ReservedPlaced). rw e refl) is
+none_pick : (b : Bool) → ◌≡◌ {A = Marked} (cond b [] []) []
+none_pick true = refl
+none_pick false = refl
 
-pub skipped-marks : (p : Placed) → (p ≡ WrapPlaced) ⊎ (p ≡ ReservedPlaced) → marks_of p ≡ []
-skipped-marks p is = ⊎_elim (λ (e : p ≡ WrapPlaced). rw e refl) (λ (e : p ≡ ReservedPlaced). rw e refl) is
+pub skipped-event : (p : Placed) → (p ≡ WrapPlaced) ⊎ (p ≡ ReservedPlaced) → event_in p ≡ []
+skipped-event p is = ⊎_elim (λ (e : p ≡ WrapPlaced). rw e refl) (λ (e : p ≡ ReservedPlaced). rw e refl) is
+
+pub skipped-refusal : (how : Reading) (before : List Raw) (raw : Raw) (p : Placed) → place_answer how.mode before raw ≡ Ok p → event_in p ≡ [] → refused_late how before raw ≡ None
+skipped-refusal how before raw p answer is =
+    ap (λ es. if stops_late how.policy.order then late_refusal how.policy.settle how.mode (events before) es else None) ((comes how.mode before raw p answer).0 ∙ is) ∙ nothing (stops_late how.policy.order)
+
+pub skipped-fresh : (how : Reading) (ws : List ℕ) (raw : Raw) (p : Placed) → place_answer how.mode (map how.meaning ws) raw ≡ Ok p → event_in p ≡ [] → fresh how ws raw ≡ []
+skipped-fresh how ws raw p answer is =
+    ap (delivered_after how.policy.settle how.mode (events (map how.meaning ws))) ((comes how.mode (map how.meaning ws) raw p answer).0 ∙ is) ∙ none_pick (how.policy.settle == 0)

@@ -1,5 +1,5 @@
 -- One word more.
-use Rattle.std.proofs.Common.{◌≡◌, ◌+◌, ℕ, List, [], ◌∷◌, ◌++◌, Bool, None, Some, Ok, Err, OnOk, OnErr, IfErr, length, map, refl, sym, ap, ◌∙◌, inl, inr, append-nil, arith, length-append}
+use Rattle.std.proofs.Common.{◌≡◌, ◌+◌, ◌<◌, ℕ, List, [], ◌∷◌, ◌++◌, Bool, false, None, Some, Ok, Err, OnOk, OnErr, IfOk, IfErr, length, map, refl, sym, ap, subst, ◌∙◌, inl, inr, ⊎_elim, append-nil, arith, length-append}
 use Rattle.std.specs.declared.result.Result.{Result}
 use Rattle.std.proofs.lemmas.List.{map-append}
 use Rattle.tally_base.specs.declared.event.Event.{Event}
@@ -9,38 +9,63 @@ use Rattle.tally_base.specs.declared.fault.Fault.TheVariants.{WriteFault}
 use Rattle.tally_base.specs.FaultCounts.{HasCause}
 use Rattle.ptu_definitions.specs.declared.records.Raw.{Raw}
 use Rattle.ptu_definitions.specs.Kept.{Marked}
-use Rattle.ptu_definitions.specs.Streams.{Reading, refusal, refusals, record_refusal, given, summary}
+use Rattle.ptu_definitions.specs.Streams.{Reading, refusal, refusals, record_refusal, given}
 use Rattle.ptu_definitions.proofs.StreamLemmas.{fresh, events_in-push, clear-push, refused-push, given-clear, given-refused}
 use Rattle.abs_time.specs.declared.clock.Clock.{Clock}
-use Rattle.abs_time.specs.Placing.{HasPlaced}
+use Rattle.std.specs.Prelude.{◌&&◌}
+use Rattle.tally_base.specs.Events.{stops_reserved}
+use Rattle.ptu_definitions.specs.Kinds.{is_reserved}
+use Rattle.abs_time.specs.declared.clock.Placed.{Placed}
+use Rattle.abs_time.specs.Placing.{HasPlaced, place_answer}
+use Rattle.record_stream.specs.Recorded.{IsPlaced}
+use Rattle.record_stream.specs.Walking.{how_of, summary_in, clock_in}
+use Rattle.record_stream.proofs.Placed.{refusal-ok, refusal-err}
 use Rattle.record_stream.specs.declared.taker.EventTaker.{Ghosts}
 use Rattle.record_stream.specs.Feeding.{IsAt, Fed}
-use Rattle.record_stream.specs.OneMore.{with_raw, with_event, with_marks}
-use Rattle.record_stream.proofs.Placed.{summary-push}
+use Rattle.record_stream.specs.OneMore.{with_raw, with_marks}
+use Rattle.settle.specs.declared.settle.Settle.{Settle}
+use Rattle.record_stream.specs.Keeping.{tells, refused_for}
+use Rattle.record_stream.specs.Settling.{Told, Untold, BrokeAt}
+use Rattle.record_stream.specs.SoFar.{so_far}
+use Rattle.record_stream.specs.declared.walk.Walk.{Walk}
+use Rattle.record_stream.proofs.Summaries.{so_far-push, so_far-records}
 
 -- as many records as words
 pub records-is : (how : Reading) (clock : Clock) (sum : Summary) (count : ℕ) (ws : List ℕ) → IsAt how clock sum count ws → sum.records ≡ length (map how.meaning ws)
-unfolding summary
-records-is how clock sum count ws h = ap (λ (s : Summary). s.records) h.summary
+records-is how clock sum count ws h = ap (λ (s : Summary). s.records) h.summary ∙ so_far-records how ws
 
-pub at-push : (how : Reading) (clock clock' : Clock) (sum sum' : Summary) (count count' : ℕ) (ws : List ℕ) (w : ℕ) (marks : Marked) → IsAt how clock sum count ws → refusal how ws w ≡ None
+-- what the clock's answer says of a word
+pub word_refused : (how : Reading) (ws : List ℕ) (w n : ℕ) (raw : Raw) (r : Result Placed Fault) → n ≡ length (map how.meaning ws) → n < how.policy.records → raw ≡ how.meaning w → (is_reserved raw && stops_reserved how.policy.reserved) ≡ false
+    → r ≡ place_answer how.mode (map how.meaning ws) raw → IfErr r (λ fault. refusal how ws w ≡ Some fault)
+word_refused how ws w n raw (Ok p) is room means go answers = tt
+word_refused how ws w n raw (Err fault) is room means go answers = refusal-err how ws w n raw fault is room means go (sym answers)
+
+pub word_placed : (old new : Walk) (ws : List ℕ) (w n : ℕ) (raw : Raw) (r : Result Placed Fault) → n ≡ length (map (how_of old).meaning ws) → n < (how_of old).policy.records → raw ≡ (how_of old).meaning w → (is_reserved raw && stops_reserved (how_of old).policy.reserved) ≡ false
+    → r ≡ place_answer (how_of old).mode (map (how_of old).meaning ws) raw → OnOk r (HasPlaced (clock_in new) (map (how_of old).meaning ws ++ raw ∷ [])) → summary_in new ≡ with_raw (summary_in old) raw → IfOk r (IsPlaced old new ws w)
+word_placed old new ws w n raw (Err fault) is room means go answers clock sum = tt
+word_placed old new ws w n raw (Ok p) is room means go answers clock sum = record {
+  refusal = refusal-ok (how_of old) ws w n raw p is room means go (sym answers);
+  answer = subst (λ x. place_answer (how_of old).mode (map (how_of old).meaning ws) x ≡ Ok p) means (sym answers);
+  clock = subst (λ x. HasPlaced (clock_in new) (map (how_of old).meaning ws ++ x ∷ [])) means clock;
+  summary = sum ∙ ap (with_raw (summary_in old)) means;
+}
+
+at-push : (how : Reading) (clock clock' : Clock) (sum sum' : Summary) (count count' : ℕ) (ws : List ℕ) (w : ℕ) (marks : Marked) → IsAt how clock sum count ws → refusal how ws w ≡ None
     → HasPlaced clock' (map how.meaning ws ++ how.meaning w ∷ []) → fresh how ws (how.meaning w) ≡ marks → sum' ≡ with_marks (with_raw sum (how.meaning w)) marks → count' ≡ count + length marks
     → IsAt how clock' sum' count' (ws ++ w ∷ [])
 at-push how clock clock' sum sum' count count' ws w marks h none placed is sums counts = record {
   clear = clear-push how ws w h.clear none;
   placed = rw map-append placed;
-  summary = sums ∙ ap (λ s. with_marks (with_raw s (how.meaning w)) marks) h.summary ∙ ap (with_marks (with_raw (summary how ws) (how.meaning w))) (sym is) ∙ sym (summary-push how ws w);
+  summary = sums ∙ ap (λ s. with_marks (with_raw s (how.meaning w)) marks) h.summary ∙ ap (with_marks (with_raw (so_far how ws) (how.meaning w))) (sym is) ∙ sym (so_far-push how ws w);
   counted = counts ∙ rw (events_in-push, length-append, is, h.counted) refl;
 }
 
--- where a given event leads
-pub at_given : {X : Type 0} (how how' : Reading) (clock clock' clock'' : Clock) (sum sum1 sum' : Summary) (count count' : ℕ) (ws : List ℕ) (w : ℕ) (raw : Raw) (e : Event) (late : Bool) (r : Result X Fault)
-    → how' ≡ how → clock'' ≡ clock' → raw ≡ how.meaning w → IsAt how clock sum count ws → refusal how ws w ≡ None → HasPlaced clock' (map how.meaning ws ++ raw ∷ []) → fresh how ws raw ≡ (e, late) ∷ []
-    → sum1 ≡ with_raw sum raw → OnOk r (sum' ≡ with_event sum1 e late) → OnOk r (count' ≡ count + 1) → OnOk r (IsAt how' clock'' sum' count' (ws ++ w ∷ []))
-at_given how how' clock clock' clock'' sum sum1 sum' count count' ws w raw e late (Ok x) same_how same_clock means h none placed is sums sums' counts =
-    rw (same_how, same_clock)
-    (at-push how clock clock' sum sum' count count' ws w ((e, late) ∷ []) h none (rw means at placed) (rw means at is) (sums' ∙ ap (λ s. with_event s e late) (sums ∙ ap (with_raw sum) means)) counts)
-at_given how how' clock clock' clock'' sum sum1 sum' count count' ws w raw e late (Err y) same_how same_clock means h none placed is sums sums' counts = tt
+-- where a word leads whose record was placed
+pub placed_at : (how how' : Reading) (clock clock' clock'' : Clock) (sum sum1 sum' : Summary) (count count' : ℕ) (ws : List ℕ) (w : ℕ) (marks : Marked)
+    → how' ≡ how → clock'' ≡ clock' → IsAt how clock sum count ws → refusal how ws w ≡ None → HasPlaced clock' (map how.meaning ws ++ how.meaning w ∷ []) → fresh how ws (how.meaning w) ≡ marks
+    → sum1 ≡ with_raw sum (how.meaning w) → sum' ≡ with_marks sum1 marks → count' ≡ count + length marks → IsAt how' clock'' sum' count' (ws ++ w ∷ [])
+placed_at how how' clock clock' clock'' sum sum1 sum' count count' ws w marks same_how same_clock h none placed is sums sums' counts =
+    rw (same_how, same_clock) (at-push how clock clock' sum sum' count count' ws w marks h none placed is (sums' ∙ ap (λ s. with_marks s marks) sums) counts)
 
 module _ {T : Type 0} (g : Ghosts T) where
   -- a word that is refused
@@ -67,3 +92,27 @@ module _ {T : Type 0} (g : Ghosts T) where
       (unrefused how (ws ++ w ∷ []) (clear-push how ws w clear none), record { more = (e, late) ∷ []; adds = given-more how ws w _ clear none is; follows = got })
   give_fed how old new ws w e late (Err y) clear none is got broke fault cause =
       inr (fault, record { front = (e, late) ∷ []; back = []; some = omega arith; adds = given-more how ws w _ clear none is; broken = broke; rose = cause.failed })
+
+  -- a word whose event was told of, or refused
+  pub told_fed : {X : Type 0} (how : Reading) (old new : Walk) (from settle : Settle) (t now : T) (ws : List ℕ) (w : ℕ) (pushed given : List Event) (e : Event) (top : ℕ) (r : Result X Fault) → refusals how ws ≡ []
+      → refusal how ws w ≡ refused_for how pushed e top → fresh how ws (how.meaning w) ≡ tells how.policy.settle how.mode pushed e
+      → OnOk r (Told g how old new from settle t now pushed given e top) → IfErr r (Untold g how t now pushed e top) → Fed g how t now ws (ws ++ w ∷ []) r
+  told_fed how old new from settle t now ws w pushed given e top (Ok x) clear refused is told untold =
+      let none = refused ∙ told.unrefused in
+      (unrefused how (ws ++ w ∷ []) (clear-push how ws w clear none), record { more = tells how.policy.settle how.mode pushed e; adds = given-more how ws w _ clear none is; follows = told.got })
+  told_fed {X} how old new from settle t now ws w pushed given e top (Err fault) clear refused is told untold =
+      ⊎_elim
+      (λ (q : (refused_for how pushed e top ≡ Some fault) × (now ≡ t)). rw q.1 (refused_fed X how t ws w fault clear (refused ∙ q.0)))
+      (λ (q : (fault ≡ WriteFault) × BrokeAt g how t now pushed e top).
+      inr (
+        q.0,
+        record {
+          front = tells how.policy.settle how.mode pushed e;
+          back = [];
+          some = q.1.some;
+          adds = rw append-nil (given-more how ws w _ clear (refused ∙ q.1.unrefused) is);
+          broken = q.1.broken;
+          rose = q.1.rose;
+        },
+      ))
+      untold

@@ -1,5 +1,5 @@
 -- How much one wrap adds at most.
-use Rattle.std.proofs.Common.{◌<◌, ◌^◌, ℕ, Bool, true, false, arith}
+use Rattle.std.proofs.Common.{◌<◌, ◌^◌, ℕ, true, false, arith}
 use Rattle.std.proofs.lemmas.Grind.{common_steps}
 use Rattle.std.proofs.lemmas.Bool.Decides.{nat_tests}
 use Rattle.tally_base.specs.declared.header.RecordType.{RecordType}

@@ -8,17 +8,17 @@ use Rattle.tally_base.specs.declared.event.Event.{Event}
 use Rattle.tally_base.specs.Events.{is_ordered}
 use Rattle.tally_base.specs.FaultCounts.{Rose}
 use Rattle.ptu_definitions.specs.Kept.{Marked}
-use Rattle.ptu_definitions.specs.Streams.{Reading, refusals, record_refusal, given, events_in, summary}
+use Rattle.ptu_definitions.specs.Streams.{Reading, refusals, record_refusal, given, events_in}
 use Rattle.abs_time.specs.declared.clock.Clock.{Clock}
 use Rattle.abs_time.specs.Placing.{HasPlaced}
-use Rattle.record_stream.specs.Floors.{moved_floor}
+use Rattle.record_stream.specs.SoFar.{so_far}
 use Rattle.record_stream.specs.declared.taker.EventTaker.{Ghosts}
 
 -- Where a stream stands that took these words and refused none.
 pub record IsAt (how : Reading) (clock : Clock) (sum : Summary) (count : ℕ) (words : List ℕ) : Type 0 where
   pub clear : refusals how words ≡ []
   pub placed : HasPlaced clock (map how.meaning words)
-  pub summary : sum ≡ summary how words
+  pub summary : sum ≡ so_far how words
   pub counted : count ≡ length (events_in how words)
 
 module _ {T : Type 0} (g : Ghosts T) where
@@ -28,12 +28,11 @@ module _ {T : Type 0} (g : Ghosts T) where
     pub few : g.taken taker ≤ count
     pub before : g.floor taker ≤ top
 
-  -- With the event behind those that it got the taker is no further on than the stream.
-  pub record CanGet (mode : Mode) (count top : ℕ) (e : Event) (late : Bool) (taker : T) : Type 0 where
+  -- The event can come behind those that the taker got.
+  pub record CanGet (mode : Mode) (count : ℕ) (e : Event) (late : Bool) (taker : T) : Type 0 where
     pub mode_is : g.mode taker ≡ mode
     pub few : g.taken taker ≤ count
     pub in_order : IsTrue (is_ordered mode e && not late) → g.floor taker ≤ e.time
-    pub before : moved_floor mode (g.floor taker) e late ≤ top
 
   -- It got what the words call for that came behind others.
   pub record GaveOn (how : Reading) (old new : T) (words now : List ℕ) : Type 0 where

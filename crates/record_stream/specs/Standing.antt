@@ -1,5 +1,5 @@
 -- What a stream stands for.
-use Rattle.std.specs.Prelude.{ℕ, ◌≡◌, ◌≢◌, ◌+◌, ◌*◌, ◌≤◌, List, length, None, Some}
+use Rattle.std.specs.Prelude.{ℕ, ◌≡◌, ◌≢◌, ◌+◌, ◌*◌, ◌≤◌, ◌==◌, List, length, None, Some, if◌then◌else◌}
 use Rattle.std.specs.declared.option.Option.{Option}
 use Rattle.ptu_definitions.specs.declared.records.Summary.{Summary}
 use Rattle.tally_base.specs.declared.fault.Fault.{Fault}
@@ -9,7 +9,11 @@ use Rattle.ptu_definitions.specs.Words.{words_of, rest_of}
 use Rattle.record_layout.specs.Begun.{begun_in}
 use Rattle.abs_time.specs.declared.clock.Clock.{Clock}
 use Rattle.abs_time.specs.Placing.{greatest_by}
-use Rattle.record_stream.specs.Feeding.{IsAt, Follows}
+use Rattle.tally_base.specs.declared.event.Event.{Event}
+use Rattle.settle.specs.Standing.{kept_back, last_time}
+use Rattle.settle.specs.declared.settle.Settle.{Settle}
+use Rattle.record_stream.specs.Feeding.{Follows}
+use Rattle.record_stream.specs.Keeping.{StandsAt}
 use Rattle.record_stream.specs.declared.taker.EventTaker.{Ghosts}
 use Rattle.record_stream.specs.Summing.{summed}
 use Rattle.record_stream.specs.declared.stream.RecordStream.{RecordStream}
@@ -23,13 +27,17 @@ given_by stream = stream.walk.given
 
 -- the greatest time of the ordered events that it gave and that weren't late
 abbrev pub top_of : RecordStream → ℕ
-top_of stream = greatest_by stream.walk.clock
+top_of stream = if stream.walk.policy.settle == 0 then greatest_by stream.walk.clock else last_time stream.settle
 
 abbrev pub refused_with : RecordStream → Option Fault
 refused_with stream = stream.refused
 
 abbrev pub carried_by : RecordStream → List ℕ
 carried_by stream = begun_in stream.carried
+
+-- the events that it keeps back, in order of time and then of place
+abbrev pub kept_back_by : RecordStream → List Event
+kept_back_by stream = kept_back stream.settle
 
 abbrev pub summary_in : RecordStream → Summary
 summary_in stream = summed stream.walk.sums
@@ -46,20 +54,20 @@ clock_in stream = stream.walk.clock
 
 -- It took these words and refused none.
 abbrev pub IsBehind : RecordStream → List ℕ → Type 0
-IsBehind stream words = IsAt (how_of stream) stream.walk.clock (summed stream.walk.sums) stream.walk.given words
+IsBehind stream words = StandsAt (how_of stream) stream.walk.clock (summed stream.walk.sums) stream.walk.given stream.settle words
 
 -- It took these bytes and refused none.
 abbrev pub CarriesOn : RecordStream → List ℕ → Type 0
 CarriesOn stream bytes = (begun_in stream.carried ≡ rest_of bytes) × IsBehind stream (words_of bytes)
 
 -- After a refusal nothing more is taken: the bytes are any that begin with those that were refused.
-abbrev pub Stands : Reading → Clock → Summary → ℕ → List ℕ → Option Fault → List ℕ → Type 0
-Stands how clock sum count carried None bytes = (carried ≡ rest_of bytes) × IsAt how clock sum count (words_of bytes)
-Stands how clock sum count carried (Some fault) bytes = fault ≢ WriteFault → record_refusal how (words_of bytes) ≡ Some fault
+abbrev pub Stands : Reading → Clock → Summary → ℕ → Settle → List ℕ → Option Fault → List ℕ → Type 0
+Stands how clock sum count settle carried None bytes = (carried ≡ rest_of bytes) × StandsAt how clock sum count settle (words_of bytes)
+Stands how clock sum count settle carried (Some fault) bytes = fault ≢ WriteFault → record_refusal how (words_of bytes) ≡ Some fault
 
 -- The stream was given these bytes.
 abbrev pub HasStreamed : RecordStream → List ℕ → Type 0
-HasStreamed stream bytes = Stands (how_of stream) stream.walk.clock (summed stream.walk.sums) stream.walk.given (begun_in stream.carried) stream.refused bytes
+HasStreamed stream bytes = Stands (how_of stream) stream.walk.clock (summed stream.walk.sums) stream.walk.given stream.settle (begun_in stream.carried) stream.refused bytes
 
 module _ {T : Type 0} (g : Ghosts T) where
   -- The taker is of the mode of the stream, and no further on.

@@ -40,11 +40,12 @@ pub record Notes (old new : Walk) (e : Event) (late : Bool) : Type 0 where
   pub given : given_by new ≡ given_by old + 1
   pub summary : summary_in new ≡ with_event (summary_in old) e late
 
--- It reads as before, and counted and placed as many records.
+-- It reads as before, counted and placed as many records, and gave one event more at most.
 pub record KeepsPlace (old new : Walk) : Type 0 where
   pub same_how : how_of new ≡ how_of old
   pub same_records : records_of new ≡ records_of old
   pub same_clock : clock_in new ≡ clock_in old
+  pub few_given : given_by new ≤ given_by old + 1
 
 -- It took these words and refused none.
 abbrev pub IsBehind : Walk → List ℕ → Type 0

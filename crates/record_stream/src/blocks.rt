@@ -97,6 +97,7 @@ fn gather<R: RecordLayout>(
     block: &mut Block,
 ) -> Ahead
     requires meaning { R.meaning ≡ (how_of walk.now).meaning }
+    requires plain { (how_of walk.now).policy.settle ≡ 0 }
     requires rows { HasRows R.meaning R.UNIT columns.now words.now }
     requires few { length words.now ≤ 64 }
     requires empty { count block.old ≡ 0 }
@@ -140,6 +141,7 @@ fn take_block<R: RecordLayout, S: EventTaker>(
     requires few { length words.now ≤ 64 }
     requires blank { IsBlank block.old }
     requires meaning { R.meaning ≡ (how_of walk.old).meaning }
+    requires plain { (how_of walk.old).policy.settle ≡ 0 }
     requires follows { IsFollowed S.EventTaker walk.old taker.old }
     ensures blank { OnOk result (IsBlank block.new) }
     ensures at { (before : List ℕ) → IsBehind walk.old before
@@ -174,13 +176,14 @@ fn take_block<R: RecordLayout, S: EventTaker>(
     Ok(())
 }
 
-/// Takes the next words, in blocks.
+/// Takes the next words, in blocks, where no event is put in its place.
 pub(crate) fn take_words<R: RecordLayout, S: EventTaker>(
     walk: &mut Walk,
     words: &[[u8; 4]],
     taker: &mut S,
 ) -> Result<(), Fault>
     requires meaning { R.meaning ≡ (how_of walk.old).meaning }
+    requires plain { (how_of walk.old).policy.settle ≡ 0 }
     requires follows { IsFollowed S.EventTaker walk.old taker.old }
     ensures at { (before : List ℕ) → IsBehind walk.old before
         → OnOk result (IsBehind walk.new (before ++ numbers words.now)) }
@@ -191,6 +194,9 @@ pub(crate) fn take_words<R: RecordLayout, S: EventTaker>(
         (WalksOn S.EventTaker walk.old walk.new taker.new (length words.now)) }
     ensures stays { Stays S.EventTaker walk.old walk.new taker.old taker.new }
 {
+    if words.len() < 2 {
+        return walk.words::<R, S>(words, taker);
+    }
     let mut columns = Columns::new();
     let mut block = Block::new();
     let mut rest = words;

@@ -20,7 +20,7 @@ pub fn stream_numbers()
 {}
 
 /// A refusal of records stays, whatever comes behind: that of words, and what their bytes answer. What is
-/// given then are the events before it (`first_refusal` of the definitions), and stays too.
+/// given then is what those before it deliver (`first_refusal` of the definitions), and stays too.
 pub fn a_refusal_stays()
     ensures words { (how : Reading) (words more : List ℕ) (fault : Fault)
         → record_refusal how words ≡ Some fault

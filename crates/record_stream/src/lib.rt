@@ -6,6 +6,9 @@ mod count;
 pub mod laws;
 #[cfg(test)]
 mod refused_tests;
+mod settled;
+#[cfg(test)]
+mod settled_tests;
 mod stream;
 mod taker;
 mod walk;

@@ -10,12 +10,12 @@ use tally_base::{Event, Failed, Fault, Mode, OnReserved, Order, Policy, RecordTy
 
 /// Counts its calls, and fails at each of them once it took as many events as it has room for.
 #[derive(Drop)]
-struct Counter {
-    mode: Mode,
-    room: u64,
-    taken: u64,
-    floor: u64,
-    failed: u64,
+pub(crate) struct Counter {
+    pub(crate) mode: Mode,
+    pub(crate) room: u64,
+    pub(crate) taken: u64,
+    pub(crate) floor: u64,
+    pub(crate) failed: u64,
 }
 
 impl EventTaker for Counter {
@@ -59,7 +59,11 @@ impl EventTaker for Counter {
 }
 
 /// What a stream answers to a piece, if it refuses it.
-fn answer<S: EventTaker>(stream: &mut RecordStream, piece: &[u8], taker: &mut S) -> Option<Fault>
+pub(crate) fn answer<S: EventTaker>(
+    stream: &mut RecordStream,
+    piece: &[u8],
+    taker: &mut S,
+) -> Option<Fault>
     requires { refused_with stream.old ≡ None → Follows S.EventTaker (how_of stream.old).mode
         (given_by stream.old) (top_of stream.old) taker.old }
     ensures { refused_with stream.new ≡ None → Follows S.EventTaker (how_of stream.new).mode
@@ -74,7 +78,8 @@ fn answer<S: EventTaker>(stream: &mut RecordStream, piece: &[u8], taker: &mut S)
 /// What a stream of T3 records answers to these words, to an empty piece and to two photons more, and
 /// behind each how many events its taker took and how often it failed.
 fn answers(policy: Policy, room: u64, words: &[u8]) -> ([Option<Fault>; 3], [[u64; 2]; 3])
-    requires { (0 < policy.records) × (policy.records ≤ 2 ^ 40) }
+    requires records { (0 < policy.records) × (policy.records ≤ 2 ^ 40) }
+    requires settle { policy.settle ≤ 64 }
 {
     let mut stream = RecordStream::new(RecordType::HydraHarp2T3, policy);
     let mut taker = Counter {
@@ -98,6 +103,7 @@ const LENIENT: Policy = Policy {
     order: Order::Drop,
     reserved: OnReserved::Skip,
     records: 3,
+    settle: 0,
 };
 
 #[test]

@@ -1,25 +1,37 @@
 // A stream of records that comes in pieces.
 ghost use Rattle.std.specs.Prelude.{◌≡◌, ◌+◌, ◌*◌, ◌^◌, ◌<◌, ◌≤◌, ◌++◌, ◌∷◌, [], List, ℕ, length, None, Some, OnOk, OnErr, IfErr, ◌≢◌};
+ghost use Rattle.record_stream.specs.Keeping.{IsKeeping};
+ghost use Rattle.abs_time.proofs.Props.{kind_fits-prop};
+ghost use Rattle.std.proofs.Props.{props};
 
 use crate::blocks::take_words;
 use crate::count::Sums;
+use crate::settled::{give_rest, settle_words};
 use crate::taker::EventTaker;
 use crate::walk::Walk;
 use abs_time::Clock;
 use ptu_definitions::Summary;
 use record_layout::{BegunWord, RecordLayout, in_layout};
+use settle::Settle;
 use tally_base::{Fault, Policy, RecordType};
 
-/// The records of a file, of which the bytes come in pieces. It gives each photon and marker of the
-/// whole words to a taker, once and in order, each with whether it is late.
+/// The records of a file, of which the bytes come in pieces. It gives the photons and markers of the whole
+/// words to a taker, each once. Where none may be overtaken it gives all, in file order, each with whether it
+/// is late.
 ///
-/// It keeps at most three bytes of a word that is not whole yet. After a refusal it answers the same
-/// refusal to each piece.
+/// Where the policy lets events be overtaken it gives each event in order that isn't late once no later one
+/// can come before it, in order of time, and each late one, marked, when it comes. Markers of T2 it counts
+/// and doesn't give.
+///
+/// It keeps at most three bytes of a word that is not whole yet, and as many events as may overtake one.
+/// After a refusal it answers the same refusal to each piece.
 #[derive(Drop)]
 pub struct RecordStream {
     walk: Walk,
+    settle: Settle,
     carried: BegunWord,
     refused: Option<Fault>,
+    ghost keeps: { IsKeeping walk settle } by { Prim.hlevel (props, kind_fits-prop) },
 }
 
 impl RecordStream {
@@ -40,18 +52,22 @@ impl RecordStream {
     ghost use Rattle.tally_base.specs.Faults.{is_outside};
     ghost use Rattle.std.specs.Prelude.{false};
     ghost use Rattle.record_stream.specs.Feeding.{Follows, Fed};
-    ghost use Rattle.record_stream.specs.Standing.{how_of, given_by, top_of, refused_with, carried_by, records_of, bytes_in, summary_in, clock_in, IsBehind, CarriesOn, HasStreamed, IsFollowed, StreamsOn, Stays};
+    ghost use Rattle.record_stream.specs.Standing.{how_of, given_by, top_of, refused_with, carried_by, kept_back_by, records_of, bytes_in, summary_in, clock_in, IsBehind, CarriesOn, HasStreamed, IsFollowed, StreamsOn, Stays};
+    ghost use Rattle.record_stream.specs.Ending.{Ended};
+    ghost use Rattle.tally_base.specs.FaultCounts.{Rose};
     ghost use Rattle.tally_base.specs.Faults.{fault_in};
 
     /// The stream of a file of this type, which was given no bytes. The greatest number of records is 1
-    /// to 2^40.
+    /// to 2^40, and at most 64 events may overtake one.
     pub fn new(record_type: RecordType, policy: Policy) -> RecordStream
-        requires { (0 < policy.records) × (policy.records ≤ 2 ^ 40) }
+        requires records { (0 < policy.records) × (policy.records ≤ 2 ^ 40) }
+        requires settle { policy.settle ≤ 64 }
         ensures how { how_of result ≡ reading record_type policy }
         ensures empty { HasStreamed result [] }
         ensures unrefused { refused_with result ≡ None }
         ensures given { given_by result ≡ 0 }
         ensures top { top_of result ≡ 0 }
+        ensures none { kept_back_by result ≡ [] }
     {
         RecordStream {
             walk: Walk {
@@ -71,6 +87,7 @@ impl RecordStream {
                 },
                 given: 0,
             },
+            settle: Settle::new(policy.settle),
             carried: BegunWord::new(),
             refused: None,
         }
@@ -95,7 +112,44 @@ impl RecordStream {
     pub fn top(&self) -> u64
         ensures { result ≡ top_of self.now }
     {
-        self.walk.clock.greatest()
+        if self.walk.policy.settle == 0 {
+            self.walk.clock.greatest()
+        } else {
+            self.settle.last()
+        }
+    }
+
+    /// How many events it keeps back.
+    pub fn kept_back(&self) -> usize
+        ensures value { result ≡ length (kept_back_by self.now) }
+        ensures few { result ≤ (how_of self.now).policy.settle }
+    {
+        self.settle.held()
+    }
+
+    /// Takes the next words.
+    fn words<R: RecordLayout, S: EventTaker>(
+        &mut self,
+        words: &[[u8; 4]],
+        taker: &mut S,
+    ) -> Result<(), Fault>
+        requires meaning { R.meaning ≡ (how_of self.old).meaning }
+        requires follows { IsFollowed S.EventTaker self.old taker.old }
+        ensures at { (before : List ℕ) → IsBehind self.old before
+            → OnOk result (IsBehind self.new (before ++ numbers words.now)) }
+        ensures fed { (before : List ℕ) → IsBehind self.old before
+            → Fed S.EventTaker (how_of self.old) taker.old taker.new before
+            (before ++ numbers words.now) result }
+        ensures goes_on { OnOk result
+            (StreamsOn S.EventTaker self.old self.new taker.new (4 * length words.now)) }
+        ensures carried { carried_by self.new ≡ carried_by self.old }
+        ensures stays { Stays S.EventTaker self.old self.new taker.old taker.new }
+    {
+        if self.walk.policy.settle == 0 {
+            take_words::<R, S>(&mut self.walk, words, taker)
+        } else {
+            settle_words::<R, S>(&mut self.walk, &mut self.settle, words, taker)
+        }
     }
 
     /// Takes a piece in this layout.
@@ -116,8 +170,8 @@ impl RecordStream {
         ensures stays { Stays S.EventTaker self.old self.new taker.old taker.new }
     {
         let (first, words) = self.carried.take(piece);
-        self.walk.words::<R, S>(first.as_slice(), taker)?;
-        take_words::<R, S>(&mut self.walk, words, taker)
+        self.words::<R, S>(first.as_slice(), taker)?;
+        self.words::<R, S>(words, taker)
     }
 
     /// Takes a piece in the layout of the record type.
@@ -135,7 +189,8 @@ impl RecordStream {
         in_layout!(self.walk.record_type, self.piece::<R, S>(piece, taker))
     }
 
-    /// Takes a piece of the bytes, and gives the events of its whole words to the taker.
+    /// Takes a piece of the bytes, and gives the taker the events of its whole words, but those that it keeps
+    /// back, and with them those kept back before that no later event can come before any more.
     ///
     /// Refuses one record more than the greatest number, and a wrap that makes the sum of wraps greater
     /// than 2^62. By the policy it refuses a reserved record or a late event, which the taker is not given.
@@ -156,6 +211,7 @@ impl RecordStream {
             (given_by self.new) (top_of self.new) taker.new) }
         ensures counted { OnOk result (bytes_in self.new ≡ bytes_in self.old + length piece.now) }
         ensures limit { bytes_in self.new ≤ 4 * 2 ^ 40 + 3 }
+        ensures few { length (kept_back_by self.new) ≤ (how_of self.new).policy.settle }
         ensures shown { (bytes : List ℕ) → HasStreamed self.old bytes
             → IfErr result (λ fault. fault ≢ WriteFault → Shows (streamed (how_of self.old))
             (bytes ++ piece.now) (Err fault)) }
@@ -175,22 +231,45 @@ impl RecordStream {
         }
     }
 
-    /// The summary of all bytes. Refuses bytes that end within a record, and answers again what a piece
-    /// was refused for.
-    pub fn finish(self) -> Result<Summary, Fault>
+    /// Gives the taker the events that are kept back, in order of time and then of place, and answers the
+    /// summary of all bytes.
+    ///
+    /// Refuses bytes that end within a record, and answers again what a piece was refused for, and then
+    /// gives nothing. Where the taker fails it answers `WriteFault`.
+    pub fn finish<S: EventTaker>(self, taker: &mut S) -> Result<Summary, Fault>
+        requires follows { refused_with self ≡ None → Follows S.EventTaker (how_of self).mode
+            (given_by self) (top_of self) taker.old }
         ensures answer { refused_with self ≢ Some WriteFault → (bytes : List ℕ)
-            → HasStreamed self bytes → result ≡ streamed (how_of self) bytes }
-        ensures kept { (fault : Fault) → refused_with self ≡ Some fault → result ≡ Err fault }
+            → HasStreamed self bytes → Ended S.EventTaker (how_of self) taker.old taker.new
+            bytes result }
+        ensures kept { (fault : Fault) → refused_with self ≡ Some fault
+            → (result ≡ Err fault) × (taker.new ≡ taker.old) }
+        ensures untouched { (how_of self).policy.settle ≡ 0 → taker.new ≡ taker.old }
         ensures inside { refused_with self ≡ None → IfErr result
-            (λ fault. is_outside fault ≡ false) }
+            (λ fault. fault ≢ WriteFault → is_outside fault ≡ false) }
+        ensures unsettled { refused_with self ≡ None → (how_of self).policy.settle ≡ 0
+            → IfErr result (λ fault. is_outside fault ≡ false) }
+        ensures cause { refused_with self ≡ None → IfErr result
+            (λ fault. fault ≡ WriteFault → Rose (S.faults taker.old) (S.faults taker.new)) }
+        ensures later { S.faults taker.old ≤ S.faults taker.new }
+        ensures same { S.same taker.old taker.new }
     {
         if let Some(fault) = self.refused {
             return Err(fault);
         }
         let bytes = self.carried.len();
-        if bytes == 0 {
+        if bytes > 0 {
+            return Err(Fault::TruncatedRecord { bytes: bytes as u8 });
+        }
+        if self.walk.policy.settle == 0 {
             return Ok(self.walk.sums.summary());
         }
-        Err(Fault::TruncatedRecord { bytes: bytes as u8 })
+        let RecordStream {
+            mut walk,
+            mut settle,
+            ..
+        } = self;
+        give_rest(&mut walk, &mut settle, taker)?;
+        Ok(walk.sums.summary())
     }
 }

@@ -1,5 +1,5 @@
 // The records of a stream, one behind the other.
-ghost use Rattle.std.specs.Prelude.{◌≡◌, ◌+◌, ◌*◌, ◌^◌, ◌<◌, ◌≤◌, ◌++◌, ◌∷◌, [], List, ℕ, length, OnOk, OnErr, IfErr};
+ghost use Rattle.std.specs.Prelude.{◌≡◌, ◌+◌, ◌*◌, ◌^◌, ◌<◌, ◌≤◌, ◌++◌, ◌∷◌, [], List, ℕ, length, Some, OnOk, OnErr, IfOk, IfErr};
 ghost use Rattle.abs_time.specs.Placing.{mode_of as clock_mode, placed_by};
 ghost use Rattle.tally_base.specs.RecordTypes.{mode_of};
 
@@ -37,8 +37,11 @@ impl Walk {
     ghost use Rattle.record_stream.specs.OneMore.{with_event};
     ghost use Rattle.ptu_definitions.specs.Fitting.{Fits};
     ghost use Rattle.ptu_definitions.specs.Fours.{numbers};
+    ghost use Rattle.ptu_definitions.specs.Streams.{refusal};
+    ghost use Rattle.record_stream.specs.Floors.{moved_floor};
     ghost use Rattle.record_stream.specs.Feeding.{Follows, CanGet, Fed};
     ghost use Rattle.record_stream.specs.Walking.{how_of, given_by, top_of, records_of, Notes, KeepsPlace, IsBehind, IsFollowed, WalksOn, Stays};
+    ghost use Rattle.record_stream.specs.Recorded.{IsPlaced, CountsOne, KeepsGiven};
 
     /// What a word means.
     #[inline(always)]
@@ -50,23 +53,16 @@ impl Walk {
         R::decode(word)
     }
 
-    /// Takes the next word.
+    /// Counts and places the record of the next word. Refuses it for all but a late event.
     #[inline(always)]
-    fn step<R: RecordLayout, S: EventTaker>(
-        &mut self,
-        word: u32,
-        taker: &mut S,
-    ) -> Result<(), Fault>
+    pub(crate) fn place_next<R: RecordLayout>(&mut self, word: u32) -> Result<Placed, Fault>
         requires meaning { R.meaning ≡ (how_of self.old).meaning }
-        requires follows { IsFollowed S.EventTaker self.old taker.old }
-        ensures at { (words : List ℕ) → IsBehind self.old words
-            → OnOk result (IsBehind self.new (words ++ word ∷ [])) }
-        ensures fed { (words : List ℕ) → IsBehind self.old words
-            → Fed S.EventTaker (how_of self.old) taker.old taker.new words
-            (words ++ word ∷ []) result }
-        ensures goes_on { OnOk result
-            (WalksOn S.EventTaker self.old self.new taker.new 1) }
-        ensures stays { Stays S.EventTaker self.old self.new taker.old taker.new }
+        ensures refused { (words : List ℕ) → IsBehind self.old words
+            → IfErr result (λ fault. refusal (how_of self.old) words word ≡ Some fault) }
+        ensures placed { (words : List ℕ) → IsBehind self.old words
+            → IfOk result (IsPlaced self.old self.new words word) }
+        ensures counts { IfOk result (CountsOne self.old self.new) }
+        ensures keeps { KeepsGiven self.old self.new }
     {
         if self.sums.records == self.policy.records {
             return Err(Fault::RecordLimit {
@@ -81,7 +77,29 @@ impl Walk {
             });
         }
         add_raw(&mut self.sums, &raw);
-        match self.clock.place(&raw)? {
+        self.clock.place(&raw)
+    }
+
+    /// Takes the next word.
+    #[inline(always)]
+    fn step<R: RecordLayout, S: EventTaker>(
+        &mut self,
+        word: u32,
+        taker: &mut S,
+    ) -> Result<(), Fault>
+        requires meaning { R.meaning ≡ (how_of self.old).meaning }
+        requires plain { (how_of self.old).policy.settle ≡ 0 }
+        requires follows { IsFollowed S.EventTaker self.old taker.old }
+        ensures at { (words : List ℕ) → IsBehind self.old words
+            → OnOk result (IsBehind self.new (words ++ word ∷ [])) }
+        ensures fed { (words : List ℕ) → IsBehind self.old words
+            → Fed S.EventTaker (how_of self.old) taker.old taker.new words
+            (words ++ word ∷ []) result }
+        ensures goes_on { OnOk result
+            (WalksOn S.EventTaker self.old self.new taker.new 1) }
+        ensures stays { Stays S.EventTaker self.old self.new taker.old taker.new }
+    {
+        match self.place_next::<R>(word)? {
             Placed::Event(event) => self.give_event(&event, false, taker),
             Placed::Late { event, before } => {
                 if stops_late(self.policy.order) {
@@ -99,20 +117,22 @@ impl Walk {
 
     /// Gives an event whose record is counted already.
     #[inline(always)]
-    fn give_event<S: EventTaker>(
+    pub(crate) fn give_event<S: EventTaker>(
         &mut self,
         event: &Event,
         late: bool,
         taker: &mut S,
     ) -> Result<(), Fault>
         requires may { CanGet S.EventTaker (how_of self.old).mode (given_by self.old)
-            (top_of self.old) event.now late taker.old }
+            event.now late taker.old }
         requires room { given_by self.old < records_of self.old }
         requires small { IsSmall (how_of self.old).mode event.now }
         ensures got { OnOk result ((start : S) (l : Marked) → S.got start taker.old l
             → S.got start taker.new (l ++ (event.now, late) ∷ [])) }
-        ensures follows { OnOk result (Follows S.EventTaker (how_of self.old).mode
-            (given_by self.new) (top_of self.new) taker.new) }
+        ensures follows { (top : ℕ) → moved_floor (how_of self.old).mode
+            (S.floor taker.old) event.now late ≤ top
+            → OnOk result (Follows S.EventTaker (how_of self.old).mode
+            (given_by self.new) top taker.new) }
         ensures noted { OnOk result (Notes self.old self.new event.now late) }
         ensures broken { OnErr result ((start : S) (l : Marked) → S.got start taker.old l
             → S.broke start taker.new (l ++ (event.now, late) ∷ [])) }
@@ -129,13 +149,14 @@ impl Walk {
         Ok(())
     }
 
-    /// Takes the next words.
+    /// Takes the next words, where no event is put in its place.
     pub(crate) fn words<R: RecordLayout, S: EventTaker>(
         &mut self,
         words: &[[u8; 4]],
         taker: &mut S,
     ) -> Result<(), Fault>
         requires meaning { R.meaning ≡ (how_of self.old).meaning }
+        requires plain { (how_of self.old).policy.settle ≡ 0 }
         requires follows { IsFollowed S.EventTaker self.old taker.old }
         ensures at { (before : List ℕ) → IsBehind self.old before
             → OnOk result (IsBehind self.new (before ++ numbers words.now)) }

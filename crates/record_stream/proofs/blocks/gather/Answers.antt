@@ -1,4 +1,4 @@
-use Rattle.std.proofs.Common.{◌≡◌, ◌+◌, ◌*◌, ◌^◌, ◌<◌, ◌≤◌, ◌++◌, ◌∷◌, [], ℕ, List, length, take, map, get_or, refl, ap, sym, ◌∙◌, arith, rules}
+use Rattle.std.proofs.Common.{◌≡◌, ◌+◌, ◌^◌, ◌<◌, ◌≤◌, ◌++◌, [], ℕ, take, get_or, refl, ap, ◌∙◌, arith}
 use Rattle.ptu_definitions.proofs.FittingLemmas.{meaning-fits}
 use Rattle.std.specs.Int.{from_le_bytes, w32}
 use Rattle.ptu_definitions.specs.Layouts.{meaning_of}
@@ -58,5 +58,5 @@ loop-i-preserved g c =
       adds = λ sure before h.
           more_at (λ l. Adds how (placed_by (clock_in walk) + (i + 1)) now.base now.greatest before l (written c.place.new.block now.len)) before words i [] w c.loop-i-test.true refl
           (adds-more how (top_of walk) ahead.base ahead.greatest now.base now.greatest n ahead.in_order now.in_order (written c.loop-i.block ahead.len) (written c.place.new.block now.len) row c.place.ensures.base top_is c.place.ensures.in_order events_are
-          (placed_by (clock_in walk) + (i + 1)) before (before ++ numbers (take i words)) w (omega arith) means amounts room few go (λ o. inv.adds o before h) sure);
+          (placed_by (clock_in walk) + (i + 1)) before (before ++ numbers (take i words)) w c.requires.plain (omega arith) means amounts room few go (λ o. inv.adds o before h) sure);
     }

@@ -1,13 +1,12 @@
-use Rattle.std.proofs.Common.{◌≡◌, ◌+◌, ◌≤◌, ◌<◌, ◌++◌, ◌∷◌, [], ℕ, List, true, false, length, map, refl, ap, sym, inr, ◌∙◌, arith, rules}
+use Rattle.std.proofs.Common.{◌≡◌, ◌+◌, ◌++◌, ℕ, true, length, map, refl, ap, sym, inr, ◌∙◌, arith, rules}
 use Rattle.ptu_definitions.specs.Fours.{numbers}
 use Rattle.ptu_definitions.specs.Kinds.{counts_of}
-use Rattle.abs_time.specs.Placing.{mode_of, placed_by}
+use Rattle.abs_time.specs.Placing.{placed_by}
 use Rattle.event_block.specs.Columns.{event_at, gathered, written}
-use Rattle.event_block.specs.Order.{floor_after, InOrder}
 use Rattle.event_block.proofs.Rows.{length-rows}
 use Rattle.event_block.proofs.Lower.{order-lower}
 use Rattle.record_stream.specs.OneMore.{with_block}
-use Rattle.record_stream.specs.Blocks.{orders_markers, on_time, BrokeAmong}
+use Rattle.record_stream.specs.Blocks.{orders_markers, BrokeAmong}
 use Rattle.record_stream.specs.Summing.{summed}
 use Rattle.record_stream.specs.Walking.{how_of, top_of, clock_in}
 use Rattle.record_stream.proofs.Given.{ok_of, err_of, block_at, block_fed, block_broke, floors_below}

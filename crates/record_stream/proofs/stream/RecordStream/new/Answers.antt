@@ -1,13 +1,12 @@
 use Rattle.std.proofs.Common.{refl}
 use Rattle.ptu_definitions.specs.Times.{events}
-use Rattle.ptu_definitions.specs.Kept.{marked, kept}
-use Rattle.ptu_definitions.specs.Streams.{refusals, summary}
+use Rattle.record_stream.proofs.Branches.{none-is}
+use Rattle.record_stream.proofs.Lasts.{at_none, come_none}
 use Rattle.record_stream.proofs.stream.RecordStream.new.Goals as goal
 
 pub returns-clause-empty : goal.returns-clause-empty
-unfolding refusals summary events marked kept
-returns-clause-empty c = (c.new-2.ensures, record { clear = refl; placed = c.new.ensures.empty; summary = refl; counted = refl })
+returns-clause-empty c = (c.new-3.ensures, record { at = at_none _ _ _ c.new.ensures.empty refl; settles = λ some. come_none _ _ c.new-2.ensures.empty c.new-2.ensures.low })
 
 pub returns-clause-top : goal.returns-clause-top
 unfolding events
-returns-clause-top c = c.new.ensures.empty.greatest
+returns-clause-top c = none-is _ _ _ c.new.ensures.empty.greatest c.new-2.ensures.low

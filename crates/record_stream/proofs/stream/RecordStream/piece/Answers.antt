@@ -1,4 +1,4 @@
-use Rattle.std.proofs.Common.{◌++◌, Err, subst}
+use Rattle.std.proofs.Common.{◌++◌, Err, subst, ◌∙◌}
 use Rattle.std.proofs.lemmas.Result.{err_from_is_err_and, on_ok_weaker}
 use Rattle.ptu_definitions.specs.Fours.{numbers}
 use Rattle.ptu_definitions.specs.Prefixes.{listed}
@@ -30,7 +30,7 @@ returns-clause-at g c = λ bytes h.
     let stepped = rw first at (c.in_ok-words.ensures.at (words_of bytes) h.1) in
     let left = cut-rest carried bytes c.args.piece.now h.0 _ c.take-first.ensures.rest in
     let whole = cut-words carried bytes c.args.piece.now h.0 (listed c.take-first.result.0) c.take-first.result.1.now c.take-first.ensures.words in
-    on_ok_weaker c.take_words.result (λ at'. (left, rw whole at at')) (c.take_words.ensures.at ws stepped)
+    on_ok_weaker c.words-2.result (λ at'. (c.words-2.ensures.carried ∙ c.words.ensures.carried ∙ left, rw whole at at')) (c.words-2.ensures.at ws stepped)
 
 pub returns-clause-fed : goal.returns-clause-fed
 returns-clause-fed g c = λ bytes h.
@@ -40,6 +40,6 @@ returns-clause-fed g c = λ bytes h.
     let ws = words_of bytes ++ numbers (listed c.take-first.result.0) in
     let stepped = rw first at (c.in_ok-words.ensures.at (words_of bytes) h.1) in
     let fed = rw first at (c.in_ok-words.ensures.fed (words_of bytes) h.1) in
-    let more = rw c.words.ensures.stays.same_how at (c.take_words.ensures.fed ws stepped) in
-    subst (λ l. Fed s how c.args.taker.now c.take_words.new.taker (words_of bytes) l c.take_words.result) (cut-words (begun_in c.args.self.now.carried) bytes c.args.piece.now h.0 (listed c.take-first.result.0) c.take-first.result.1.now c.take-first.ensures.words)
-    (Fed-trans s how _ c.words.new.taker _ (words_of bytes) ws _ c.take_words.result c.words.ensures.stays.later fed.1 more)
+    let more = rw c.words.ensures.stays.same_how at (c.words-2.ensures.fed ws stepped) in
+    subst (λ l. Fed s how c.args.taker.now c.words-2.new.taker (words_of bytes) l c.words-2.result) (cut-words (begun_in c.args.self.now.carried) bytes c.args.piece.now h.0 (listed c.take-first.result.0) c.take-first.result.1.now c.take-first.ensures.words)
+    (Fed-trans s how _ c.words.new.taker _ (words_of bytes) ws _ c.words-2.result c.words.ensures.stays.later fed.1 more)

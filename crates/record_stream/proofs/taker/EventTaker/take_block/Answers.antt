@@ -1,11 +1,10 @@
-use Rattle.std.proofs.Common.{◌≡◌, ◌+◌, ◌<◌, ◌≤◌, ◌++◌, ℕ, List, length, ap, subst, sym, ◌∙◌, arith, rules, length-append}
+use Rattle.std.proofs.Common.{◌+◌, ◌<◌, ◌≤◌, subst, ◌∙◌, arith, rules}
 use Rattle.std.proofs.lemmas.Result.{err_from_is_err_and}
 use Rattle.ptu_definitions.specs.Fitting.{KindFits}
-use Rattle.ptu_definitions.specs.Kept.{Marked}
 use Rattle.event_block.specs.Columns.{event_at, rows}
 use Rattle.event_block.proofs.Order.{order-at}
 use Rattle.event_block.proofs.Rows.{length-rows, rows-split}
-use Rattle.record_stream.specs.Blocks.{orders_markers, on_time}
+use Rattle.record_stream.specs.Blocks.{orders_markers}
 use Rattle.record_stream.proofs.Eaches.{all-rows, on_time-rows, ordered-moves, floor-step}
 use Rattle.record_stream.proofs.taker.EventTaker.take_block.Goals as goal
 

@@ -1,0 +1,116 @@
+-- The events that are kept back, given one after another at the end.
+use Rattle.std.proofs.Common.{◌≡◌, ◌+◌, ◌≤◌, ℕ, suc, List, [], ◌∷◌, ◌++◌, Bool, true, false, cond, Ok, Err, OnErr, IfErr, length, map, refl, sym, ap, subst, ◌∙◌, append_assoc, append-nil, arith, length-append}
+use Rattle.std.specs.Prelude.{◌==◌}
+use Rattle.std.specs.List.{All}
+use Rattle.std.specs.declared.result.Result.{Result}
+use Rattle.std.proofs.lemmas.Bool.{eqb-true}
+use Rattle.std.proofs.lemmas.List.{map-append, length-map}
+use Rattle.std.proofs.lemmas.List.Elements.{All-tail}
+use Rattle.tally_base.specs.declared.event.Event.{Event}
+use Rattle.tally_base.specs.declared.fault.Fault.{Fault}
+use Rattle.tally_base.specs.declared.fault.Fault.TheVariants.{WriteFault}
+use Rattle.tally_base.specs.FaultCounts.{HasCause}
+use Rattle.ptu_definitions.specs.Kept.{Marked}
+use Rattle.ptu_definitions.specs.Settled.{delivered_last, in_time, last_of, marked_as, ordered}
+use Rattle.ptu_definitions.specs.Streams.{Reading, last_in}
+use Rattle.ptu_definitions.specs.Times.{events}
+use Rattle.ptu_definitions.proofs.DeliveredLaws.{delivered_last-0}
+use Rattle.ptu_definitions.proofs.SettlingLemmas.{waits-is}
+use Rattle.settle.specs.Standing.{kept_back, reach_of, was_popped}
+use Rattle.settle.specs.declared.settle.Settle.{Settle}
+use Rattle.record_stream.specs.Ending.{GaveFirst, BrokeFirst}
+use Rattle.record_stream.specs.Feeding.{Follows}
+use Rattle.record_stream.specs.Keeping.{CanWait, Settles}
+use Rattle.record_stream.specs.OneMore.{with_event, with_marks}
+use Rattle.record_stream.specs.Walking.{how_of, given_by, records_of, summary_in, Notes, KeepsPlace}
+use Rattle.record_stream.specs.declared.taker.EventTaker.{Ghosts}
+use Rattle.record_stream.specs.declared.walk.Walk.{Walk}
+use Rattle.record_stream.proofs.Lasts.{some-settle}
+use Rattle.record_stream.proofs.Summaries.{with_marks-append}
+
+marked_one : (front : List Event) (e : Event) (l : Marked) → (l ++ marked_as false front) ++ (e, false) ∷ [] ≡ l ++ marked_as false (front ++ e ∷ [])
+marked_one front e l = append_assoc l (marked_as false front) ((e, false) ∷ []) ∙ ap (λ m. l ++ m) (sym (map-append (λ (x : Event). (x, false)) front (e ∷ [])))
+
+-- all that is left begins with the event that is taken out
+pub parts_one : (all front left rest : List Event) (e : Event) → all ≡ front ++ left → left ≡ e ∷ rest → all ≡ (front ++ e ∷ []) ++ rest
+parts_one all front left rest e is first = is ∙ ap (λ l. front ++ l) first ∙ sym (append_assoc front (e ∷ []) rest)
+
+module _ {T : Type 0} (g : Ghosts T) (walk : Walk) (start : T) (all : List Event) where
+  pub gave_none : (last : ℕ) → given_by walk + length all ≤ records_of walk → Follows g (how_of walk).mode (given_by walk) last start → All (CanWait (how_of walk).mode) all → g.same start start → GaveFirst g walk start all walk start all last
+  gave_none last room follows fit same = record {
+    front = [];
+    adds = refl;
+    follows = λ s l got. rw append-nil got;
+    summary = refl;
+    same_how = refl;
+    room = room;
+    few = follows.few;
+    mode_is = follows.mode_is;
+    fit = fit;
+    low = follows.before;
+    later = omega arith;
+    same = same;
+  }
+
+  pub broke_one : {X : Type 0} (r : Result X Fault) (now : Walk) (taker new : T) (left rest : List Event) (last : ℕ) (e : Event) → GaveFirst g walk start all now taker left last → left ≡ e ∷ rest
+      → OnErr r ((s : T) (l : Marked) → g.got s taker l → g.broke s new (l ++ (e, false) ∷ [])) → IfErr r (λ fault. fault ≡ WriteFault) → HasCause (g.faults taker) (g.faults new) r
+      → IfErr r (λ fault. (fault ≡ WriteFault) × BrokeFirst g start new (marked_as false all))
+  broke_one (Ok x) now taker new left rest last e h is breaks fault cause = tt
+  broke_one (Err y) now taker new left rest last e h is breaks fault cause =
+      let rose = cause.failed in (
+        fault,
+        record {
+          front = marked_as false (h.front ++ e ∷ []);
+          back = marked_as false rest;
+          some = omega (arith, length-map {B = Event × Bool} (h.front ++ e ∷ []) (λ (x : Event). (x, false)), length-append h.front (e ∷ []));
+          adds = ap (marked_as false) (parts_one all h.front left rest e h.adds is) ∙ map-append (λ (x : Event). (x, false)) (h.front ++ e ∷ []) rest;
+          broken = λ s l got. subst (λ m. g.broke s new m) (marked_one h.front e l) (breaks s (l ++ marked_as false h.front) (h.follows s l got));
+          rose = omega (arith, h.later);
+        },
+      )
+
+  pub gave_one : {X : Type 0} (x : X) (now next : Walk) (taker new : T) (left rest : List Event) (last low : ℕ) (e : Event) → GaveFirst g walk start all now taker left last → left ≡ e ∷ rest
+      → ((s : T) (l : Marked) → g.got s taker l → g.got s new (l ++ (e, false) ∷ [])) → Notes now next e false → KeepsPlace now next → Follows g (how_of now).mode (given_by next) low new
+      → g.faults taker ≤ g.faults new → g.same start new → GaveFirst g walk start all next new rest low
+  gave_one x now next taker new left rest last low e h is gives notes place follows later same =
+      let count : length left ≡ suc (length rest) = ap length is in
+      let mode : (how_of next).mode ≡ (how_of now).mode = ap (λ (how : Reading). how.mode) place.same_how in
+      record {
+        front = h.front ++ e ∷ [];
+        adds = parts_one all h.front left rest e h.adds is;
+        follows = λ s l got. subst (λ m. g.got s new m) (marked_one h.front e l) (gives s (l ++ marked_as false h.front) (h.follows s l got));
+        summary = notes.summary ∙ ap (λ (s : _). with_event s e false) h.summary ∙ sym (ap (with_marks (summary_in walk)) (map-append (λ (x : Event). (x, false)) h.front (e ∷ [])) ∙ with_marks-append (summary_in walk) (marked_as false h.front) ((e, false) ∷ []));
+        same_how = place.same_how ∙ h.same_how;
+        room = omega (arith, h.room, count, notes.given, place.same_records);
+        few = follows.few;
+        mode_is = follows.mode_is ∙ sym mode;
+        fit = subst (λ m. All (CanWait m) rest) (sym mode) (All-tail (CanWait (how_of now).mode) e rest (subst (All (CanWait (how_of now).mode)) is h.fit));
+        low = follows.before;
+        later = omega (arith, h.later, later);
+        same = same;
+      }
+
+-- What is kept back is what is delivered at the end.
+rest_pick : (how : Reading) (settle : Settle) (words : List ℕ) (b : Bool) → (how.policy.settle == 0) ≡ b → reach_of settle ≡ how.policy.settle → was_popped settle ≡ false → Settles how settle words
+    → marked_as false (kept_back settle) ≡ cond b [] (marked_as false (last_of how.policy.settle (in_time how.policy.settle (ordered how.mode (events (map how.meaning words))))))
+rest_pick how settle words true is reach still come =
+    let zero : how.policy.settle ≡ 0 = eqb-true how.policy.settle 0 is in
+    let none : length (kept_back settle) ≤ 0 = omega (arith, settle.few, reach, zero) in
+    ap (marked_as false) (nothing (kept_back settle) none)
+  where
+    nothing : (l : List Event) → length l ≤ 0 → l ≡ []
+    nothing [] h = refl
+    nothing (x ∷ l) h = absurd (omega arith)
+rest_pick how settle words false is reach still come =
+    let h = (come (some-settle how.policy.settle is)).settled in
+    let es : List Event = ordered how.mode (events (map how.meaning words)) in
+    let waits : last_of (reach_of settle) (in_time (reach_of settle) es) ≡ kept_back settle = waits-is settle.reach es _ settle.waiting.items settle.last (h.unpopped still) settle.few h.joined in
+    ap (marked_as false) (sym waits ∙ ap (λ k. last_of k (in_time k es)) reach)
+
+pub rest-is : (how : Reading) (settle : Settle) (words : List ℕ) → reach_of settle ≡ how.policy.settle → was_popped settle ≡ false → Settles how settle words → marked_as false (kept_back settle) ≡ last_in how words
+unfolding delivered_last
+rest-is how settle words reach still come = rest_pick how settle words (how.policy.settle == 0) refl reach still come
+
+-- and nothing where no event is put in its place
+pub none-is : (how : Reading) (words : List ℕ) → how.policy.settle ≡ 0 → last_in how words ≡ []
+none-is how words zero = ap (λ k. delivered_last k how.mode (events (map how.meaning words))) zero ∙ delivered_last-0 how.mode (events (map how.meaning words))

@@ -1,0 +1,217 @@
+-- One event more where events are put in their places.
+use Rattle.std.proofs.Common.{◌≡◌, ◌+◌, ◌<◌, ◌≤◌, ℕ, suc, List, [], ◌∷◌, ◌++◌, Bool, true, false, cond, None, Some, Ok, Err, OnOk, OnErr, IfErr, length, map, max, refl, sym, ap, subst, ◌∙◌, inr, append-nil, add-zero, arith}
+use Rattle.std.specs.Prelude.{◌&&◌, not, is_some, IsTrue, if◌then◌else◌}
+use Rattle.std.specs.List.{All}
+use Rattle.std.specs.Option.{option_to_list}
+use Rattle.std.specs.declared.option.Option.{Option}
+use Rattle.std.specs.declared.result.Result.{Result}
+use Rattle.std.proofs.lemmas.List.{map-append}
+use Rattle.std.proofs.lemmas.List.Elements.{filter-append, All-tail, All-from_recursion, recursion_from_All}
+use Rattle.tally_base.specs.declared.event.Event.{Event}
+use Rattle.tally_base.specs.declared.fault.Fault.{Fault}
+use Rattle.tally_base.specs.declared.fault.Fault.TheVariants.{BackwardTime, WriteFault}
+use Rattle.tally_base.specs.declared.header.Mode.{Mode}
+use Rattle.tally_base.specs.Events.{is_ordered, stops_late}
+use Rattle.tally_base.specs.FaultCounts.{HasCause}
+use Rattle.ptu_definitions.specs.Kept.{Marked, floor_of}
+use Rattle.ptu_definitions.specs.Settled.{is_overtaken, ordered, settles, put_in, not_marked}
+use Rattle.ptu_definitions.specs.Streams.{Reading, events_in}
+use Rattle.ptu_definitions.specs.Times.{event_after, events}
+use Rattle.ptu_definitions.proofs.DeliveredLaws.{not_marked-append}
+use Rattle.ptu_definitions.proofs.SettledLemmas.{length-put_in}
+use Rattle.ptu_definitions.proofs.SettlingLemmas.{each-put_in}
+use Rattle.ptu_definitions.proofs.StreamLemmas.{events-push, events_in-push, fresh}
+use Rattle.abs_time.specs.Placing.{placed_by}
+use Rattle.settle.specs.Standing.{HasSettled, kept_back, last_place, last_time, reach_of, was_popped}
+use Rattle.settle.specs.declared.settle.Settle.{Settle}
+use Rattle.record_stream.specs.Floors.{moved_floor}
+use Rattle.record_stream.specs.Keeping.{CanWait, IsKeeping, HasCome, tells, refused_for}
+use Rattle.record_stream.specs.OneMore.{with_marks}
+use Rattle.record_stream.specs.Settling.{Told, Untold}
+use Rattle.record_stream.specs.Walking.{how_of, given_by, records_of, summary_in, clock_in, Notes}
+use Rattle.record_stream.specs.declared.taker.EventTaker.{Ghosts}
+use Rattle.record_stream.specs.declared.walk.Walk.{Walk}
+use Rattle.record_stream.proofs.Floors.{moved_floor-push}
+
+-- What an event in order adds, by what its push tells.
+pub tells-on : (k reach : ℕ) (mode : Mode) (before : List Event) (e : Event) (l : Marked) → reach ≡ k → is_ordered mode e ≡ true → settles reach before e ≡ l → tells k mode before e ≡ l
+tells-on k reach mode before e l same on is = ap (λ b. cond b (settles k before e) []) on ∙ ap (λ n. settles n before e) (sym same) ∙ is
+
+pub tells-off : (k : ℕ) (mode : Mode) (before : List Event) (e : Event) → is_ordered mode e ≡ false → tells k mode before e ≡ []
+tells-off k mode before e off = ap (λ b. cond b (settles k before e) []) off
+
+pub ordered-on : (mode : Mode) (e : Event) → is_ordered mode e ≡ true → ordered mode (e ∷ []) ≡ e ∷ []
+ordered-on mode e on = ap (λ b. cond b (e ∷ []) []) on
+
+pub ordered-off : (mode : Mode) (e : Event) → is_ordered mode e ≡ false → ordered mode (e ∷ []) ≡ []
+ordered-off mode e off = ap (λ b. cond b (e ∷ []) []) off
+
+-- Why it is refused.
+abbrev late_if : Reading → Bool → Event → ℕ → Option Fault
+late_if how b e top = if stops_late how.policy.order then (if b then Some (BackwardTime e.place e.time top) else None) else None
+
+none_if : (s : Bool) → ◌≡◌ {A = Option Fault} (if s then None else None) None
+none_if true = refl
+none_if false = refl
+
+and_false : (a b : Bool) → b ≡ false → (a && b) ≡ false
+and_false true b is = is
+and_false false b is = refl
+
+pub unrefused-off : (how : Reading) (before : List Event) (e : Event) (top : ℕ) → is_ordered how.mode e ≡ false → refused_for how before e top ≡ None
+unrefused-off how before e top off = ap (λ b. late_if how (b && is_overtaken how.policy.settle before e) e top) off ∙ none_if (stops_late how.policy.order)
+
+pub unrefused-early : (how : Reading) (reach : ℕ) (before : List Event) (e : Event) (top : ℕ) (late : Bool) → reach ≡ how.policy.settle → late ≡ is_overtaken reach before e → late ≡ false → refused_for how before e top ≡ None
+unrefused-early how reach before e top late same is early =
+    let off : is_overtaken how.policy.settle before e ≡ false = ap (λ k. is_overtaken k before e) (sym same) ∙ sym is ∙ early in
+    ap (λ b. late_if how b e top) (and_false (is_ordered how.mode e) (is_overtaken how.policy.settle before e) off) ∙ none_if (stops_late how.policy.order)
+
+pub unrefused-passed : (how : Reading) (before : List Event) (e : Event) (top : ℕ) → stops_late how.policy.order ≡ false → refused_for how before e top ≡ None
+unrefused-passed how before e top passes = ap (λ s. if s then (if is_ordered how.mode e && is_overtaken how.policy.settle before e then Some (BackwardTime e.place e.time top) else None) else None) passes
+
+pub refused-stopped : (how : Reading) (reach : ℕ) (before : List Event) (e : Event) (top : ℕ) (late : Bool) → reach ≡ how.policy.settle → is_ordered how.mode e ≡ true → late ≡ is_overtaken reach before e → late ≡ true → stops_late how.policy.order ≡ true
+    → refused_for how before e top ≡ Some (BackwardTime e.place e.time top)
+refused-stopped how reach before e top late same on is sure stops =
+    let over : is_overtaken how.policy.settle before e ≡ true = ap (λ k. is_overtaken k before e) (sym same) ∙ sym is ∙ sure in
+    ap (λ s. if s then (if is_ordered how.mode e && is_overtaken how.policy.settle before e then Some (BackwardTime e.place e.time top) else None) else None) stops
+    ∙ ap (λ b. if b then Some (BackwardTime e.place e.time top) else None) (ap (λ b. b && is_overtaken how.policy.settle before e) on ∙ over)
+
+-- The greatest time of what was given.
+pub floor-late : (mode : Mode) (floor : ℕ) (e : Event) → moved_floor mode floor e true ≡ floor
+floor-late mode floor e = by_case (is_ordered mode e)
+  where
+    by_case : (b : Bool) → (if b && not true then e.time else floor) ≡ floor
+    by_case true = refl
+    by_case false = refl
+
+pub floor-most : (mode : Mode) (floor last : ℕ) (e : Event) → floor ≤ last → e.time ≤ last → moved_floor mode floor e false ≤ last
+floor-most mode floor last e low time = by_case (is_ordered mode e)
+  where
+    by_case : (b : Bool) → (if b && not false then e.time else floor) ≤ last
+    by_case true = time
+    by_case false = low
+
+pub floor-on : (mode : Mode) (floor : ℕ) (e : Event) → is_ordered mode e ≡ true → moved_floor mode floor e false ≡ e.time
+floor-on mode floor e on = ap (λ b. if b && not false then e.time else floor) on
+
+pub late-order : (b : Bool) (P : Type 0) → IsTrue (b && not true) → P
+late-order true P is = cc
+late-order false P is = cc
+
+greatest-push : (mode : Mode) (l : Marked) (e : Event) (late : Bool) (last now : ℕ) → now ≡ moved_floor mode last e late → (IsTrue (is_ordered mode e && not late) → last ≤ e.time) → last ≡ floor_of mode l → now ≡ floor_of mode (l ++ (e, late) ∷ [])
+greatest-push mode l e late last now moved in_order is =
+    let step : moved_floor mode last e late ≡ max 0 (floor_of mode (l ++ (e, late) ∷ [])) = moved_floor-push mode 0 last l e late (omega (arith, is)) in_order in
+    omega (arith, moved, step)
+
+-- What waits then.
+pub kept_on : (old new : Walk) (from now : Settle) → IsKeeping old from → how_of new ≡ how_of old → reach_of now ≡ reach_of from → was_popped now ≡ false → All (CanWait (how_of old).mode) (kept_back now)
+    → last_place now ≤ placed_by (clock_in new) → given_by new + length (kept_back now) ≤ records_of new → IsKeeping new now
+kept_on old new from now keeps same_how same_reach unpopped fit behind room = record {
+  reach = same_reach ∙ keeps.reach ∙ sym (ap (λ (h : Reading). h.policy.settle) same_how);
+  unpopped = unpopped;
+  fit = subst (λ m. All (CanWait m) (kept_back now)) (sym (ap (λ (h : Reading). h.mode) same_how)) fit;
+  behind = λ some. behind;
+  room = room;
+}
+
+put_in-all : (P : Event → Type 0) (o : Option Event) (w new : List Event) (e : Event) → option_to_list o ++ new ≡ put_in e w → P e → All P w → All P (option_to_list o ++ new)
+put_in-all P o w new e is p all =
+    let Q : List Event → Type 0 = λ l. All P l in
+    subst Q (sym is) (All-from_recursion P (put_in e w) (each-put_in P e w p (recursion_from_All P w all)))
+
+pub those_waiting : (P : Event → Type 0) (o : Option Event) (w new : List Event) (e : Event) → option_to_list o ++ new ≡ put_in e w → P e → All P w → All P new
+those_waiting P None w new e is p all = put_in-all P None w new e is p all
+those_waiting P (Some x) w new e is p all = All-tail P x new (put_in-all P (Some x) w new e is p all)
+
+pub that_goes : (P : Event → Type 0) (o : Option Event) (x : Event) (w new : List Event) (e : Event) → o ≡ Some x → option_to_list o ++ new ≡ put_in e w → P e → All P w → P x
+that_goes P None x w new e some is p all = cc
+that_goes P (Some y) x w new e some is p all =
+    let same : y ≡ x = cc in
+    subst P same (put_in-all P (Some y) w new e is p all 0 y (omega arith))
+
+pub count_waiting : (o : Option Event) (w new : List Event) (e : Event) → option_to_list o ++ new ≡ put_in e w → length new ≤ length w + 1
+count_waiting None w new e is = let n : length new ≡ length (put_in e w) = ap length is in omega (arith, n, length-put_in e w)
+count_waiting (Some x) w new e is = let n : suc (length new) ≡ length (put_in e w) = ap length is in omega (arith, n, length-put_in e w)
+
+pub count_going : (o : Option Event) (x : Event) (w new : List Event) (e : Event) → o ≡ Some x → option_to_list o ++ new ≡ put_in e w → length new ≡ length w
+count_going None x w new e some is = cc
+count_going (Some y) x w new e some is = let n : suc (length new) ≡ length (put_in e w) = ap length is in omega (arith, n, length-put_in e w)
+
+module _ {T : Type 0} (g : Ghosts T) where
+  -- an event that adds nothing
+  pub told_none : (how : Reading) (walk : Walk) (from settle : Settle) (t : T) (before given all : List Event) (e : Event) (top : ℕ) → refused_for how before e top ≡ None → tells how.policy.settle how.mode before e ≡ []
+      → ordered how.mode (e ∷ []) ≡ all → HasSettled settle (before ++ all) (given ++ []) → last_time settle ≡ last_time from → Told g how walk walk from settle t t before given e top
+  told_none how walk from settle t before given all e top none is all_is settled same = record {
+    unrefused = none;
+    settled = subst (λ m. HasSettled settle (before ++ ordered how.mode (e ∷ [])) (given ++ not_marked m)) (sym is) (subst (λ p. HasSettled settle (before ++ p) (given ++ [])) (sym all_is) settled);
+    greatest = λ l low. same ∙ low ∙ ap (floor_of how.mode) (sym (ap (λ m. l ++ m) is ∙ append-nil l));
+    got = λ start l got. subst (λ m. g.got start t m) (sym (ap (λ m. l ++ m) is ∙ append-nil l)) got;
+    summary = ap (λ m. with_marks (summary_in walk) m) (sym is);
+    counted = sym (ap (λ m. given_by walk + length m) is ∙ add-zero (given_by walk));
+  }
+
+  -- an event that adds one
+  pub told_one : {X : Type 0} (r : Result X Fault) (how : Reading) (old new : Walk) (from settle : Settle) (t now : T) (before given : List Event) (e x : Event) (late : Bool) (top : ℕ)
+      → refused_for how before e top ≡ None → tells how.policy.settle how.mode before e ≡ (x, late) ∷ [] → ordered how.mode (e ∷ []) ≡ e ∷ []
+      → HasSettled settle (before ++ e ∷ []) (given ++ not_marked ((x, late) ∷ [])) → last_time settle ≡ moved_floor how.mode (last_time from) x late → (IsTrue (is_ordered how.mode x && not late) → last_time from ≤ x.time)
+      → OnOk r ((start : T) (l : Marked) → g.got start t l → g.got start now (l ++ (x, late) ∷ [])) → OnOk r (Notes old new x late) → OnOk r (Told g how old new from settle t now before given e top)
+  told_one (Ok y) how old new from settle t now before given e x late top none is all_is settled moved in_order got notes = record {
+    unrefused = none;
+    settled = subst (λ m. HasSettled settle (before ++ ordered how.mode (e ∷ [])) (given ++ not_marked m)) (sym is) (subst (λ p. HasSettled settle (before ++ p) (given ++ not_marked ((x, late) ∷ []))) (sym all_is) settled);
+    greatest = λ l low. subst (λ m. last_time settle ≡ floor_of how.mode (l ++ m)) (sym is) (greatest-push how.mode l x late (last_time from) (last_time settle) moved in_order low);
+    got = subst (λ m. (start : T) (l : Marked) → g.got start t l → g.got start now (l ++ m)) (sym is) got;
+    summary = subst (λ m. summary_in new ≡ with_marks (summary_in old) m) (sym is) notes.summary;
+    counted = subst (λ (m : Marked). given_by new ≡ given_by old + length m) (sym is) notes.given;
+  }
+  told_one (Err y) how old new from settle t now before given e x late top none is all_is settled moved in_order got notes = tt
+
+  pub untold_one : {X : Type 0} (r : Result X Fault) (how : Reading) (t now : T) (before : List Event) (e x : Event) (late : Bool) (top : ℕ) → refused_for how before e top ≡ None → tells how.policy.settle how.mode before e ≡ (x, late) ∷ []
+      → OnErr r ((start : T) (l : Marked) → g.got start t l → g.broke start now (l ++ (x, late) ∷ [])) → IfErr r (λ fault. fault ≡ WriteFault) → HasCause (g.faults t) (g.faults now) r → IfErr r (Untold g how t now before e top)
+  untold_one (Ok y) how t now before e x late top none is broken fault cause = tt
+  untold_one (Err y) how t now before e x late top none is broken fault cause =
+      inr (
+        fault,
+        record {
+          unrefused = none;
+          some = subst (λ (m : Marked). 0 < length m) (sym is) (omega arith);
+          broken = subst (λ m. (start : T) (l : Marked) → g.got start t l → g.broke start now (l ++ m)) (sym is) broken;
+          rose = cause.failed;
+        },
+      )
+
+-- Behind one word more.
+pub come_event : (how : Reading) (settle settle' : Settle) (ws : List ℕ) (w : ℕ) (e : Event) → HasCome how settle ws → event_after (map how.meaning ws) (how.meaning w) ≡ e ∷ []
+    → fresh how ws (how.meaning w) ≡ tells how.policy.settle how.mode (ordered how.mode (events (map how.meaning ws))) e
+    → HasSettled settle' (ordered how.mode (events (map how.meaning ws)) ++ ordered how.mode (e ∷ [])) (not_marked (events_in how ws) ++ not_marked (tells how.policy.settle how.mode (ordered how.mode (events (map how.meaning ws))) e))
+    → ((l : Marked) → last_time settle ≡ floor_of how.mode l → last_time settle' ≡ floor_of how.mode (l ++ tells how.policy.settle how.mode (ordered how.mode (events (map how.meaning ws))) e))
+    → HasCome how settle' (ws ++ w ∷ [])
+come_event how settle settle' ws w e come is adds settled greatest =
+    let more : Marked = tells how.policy.settle how.mode (ordered how.mode (events (map how.meaning ws))) e in
+    let delivers : events_in how (ws ++ w ∷ []) ≡ events_in how ws ++ more = events_in-push how ws w ∙ ap (λ l. events_in how ws ++ l) adds in
+    let came : ordered how.mode (events (map how.meaning (ws ++ w ∷ []))) ≡ ordered how.mode (events (map how.meaning ws)) ++ ordered how.mode (e ∷ []) =
+    ap (λ l. ordered how.mode (events l)) (map-append how.meaning ws (w ∷ []))
+    ∙ ap (ordered how.mode) (events-push (map how.meaning ws) (how.meaning w) ∙ ap (λ l. events (map how.meaning ws) ++ l) is)
+    ∙ filter-append (λ (x : Event). is_ordered how.mode x) (events (map how.meaning ws)) (e ∷ []) in
+    let gone : not_marked (events_in how (ws ++ w ∷ [])) ≡ not_marked (events_in how ws) ++ not_marked more = ap not_marked delivers ∙ not_marked-append (events_in how ws) more in
+    record {
+      settled = subst (λ p. HasSettled settle' p (not_marked (events_in how (ws ++ w ∷ [])))) (sym came) (subst (λ l. HasSettled settle' (ordered how.mode (events (map how.meaning ws)) ++ ordered how.mode (e ∷ [])) l) (sym gone) settled);
+      top = greatest (events_in how ws) come.top ∙ ap (floor_of how.mode) (sym delivers);
+    }
+
+pub come_none : (how : Reading) (settle : Settle) (ws : List ℕ) (w : ℕ) → HasCome how settle ws → event_after (map how.meaning ws) (how.meaning w) ≡ [] → fresh how ws (how.meaning w) ≡ [] → HasCome how settle (ws ++ w ∷ [])
+come_none how settle ws w come is adds =
+    let delivers : events_in how (ws ++ w ∷ []) ≡ events_in how ws = events_in-push how ws w ∙ ap (λ l. events_in how ws ++ l) adds ∙ append-nil (events_in how ws) in
+    let came : events (map how.meaning (ws ++ w ∷ [])) ≡ events (map how.meaning ws) =
+    ap events (map-append how.meaning ws (w ∷ [])) ∙ events-push (map how.meaning ws) (how.meaning w) ∙ ap (λ l. events (map how.meaning ws) ++ l) is ∙ append-nil (events (map how.meaning ws)) in
+    record {
+      settled = subst (λ p. HasSettled settle (ordered how.mode p) (not_marked (events_in how (ws ++ w ∷ [])))) (sym came) (subst (λ l. HasSettled settle (ordered how.mode (events (map how.meaning ws))) (not_marked l)) (sym delivers) come.settled);
+      top = come.top ∙ ap (floor_of how.mode) (sym delivers);
+    }
+
+-- What a push lets go.
+pub none_late : (o : Option Event) (late more : Bool) → is_some o ≡ (not late && more) → late ≡ true → o ≡ None
+none_late None late more is sure = refl
+none_late (Some x) late more is sure = let h : true ≡ (not late && more) = is in let off : (not late && more) ≡ false = ap (λ b. not b && more) sure in cc
+
+pub some_early : (o : Option Event) (x : Event) → o ≡ Some x → option_to_list o ≡ x ∷ []
+some_early o x is = ap option_to_list is

@@ -1,0 +1,57 @@
+-- The events that a stream keeps back.
+use Rattle.std.specs.Prelude.{ℕ, ◌≡◌, ◌≢◌, ◌+◌, ◌≤◌, ◌&&◌, true, false, List, [], length, map, None, Some, if◌then◌else◌}
+use Rattle.std.specs.declared.option.Option.{Option}
+use Rattle.std.specs.List.{All}
+use Rattle.tally_base.specs.declared.event.Event.{Event}
+use Rattle.tally_base.specs.declared.fault.Fault.{Fault}
+use Rattle.tally_base.specs.declared.fault.Fault.TheVariants.{BackwardTime}
+use Rattle.tally_base.specs.declared.header.Mode.{Mode}
+use Rattle.tally_base.specs.Events.{is_ordered, stops_late}
+use Rattle.tally_base.specs.RecordTypes.{mode_of}
+use Rattle.ptu_definitions.specs.Kept.{Marked, floor_of}
+use Rattle.ptu_definitions.specs.Settled.{is_overtaken, ordered, settles, not_marked}
+use Rattle.ptu_definitions.specs.Streams.{Reading, events_in}
+use Rattle.ptu_definitions.specs.Times.{events}
+use Rattle.abs_time.specs.Placing.{IsSmall, placed_by}
+use Rattle.settle.specs.Standing.{HasSettled, kept_back, last_place, last_time, reach_of, was_popped}
+use Rattle.settle.specs.declared.settle.Settle.{Settle}
+use Rattle.abs_time.specs.declared.clock.Clock.{Clock}
+use Rattle.ptu_definitions.specs.declared.records.Summary.{Summary}
+use Rattle.record_stream.specs.Feeding.{IsAt}
+use Rattle.record_stream.specs.declared.walk.Walk.{Walk}
+
+-- an event in order that fits its mode
+pub record CanWait (mode : Mode) (e : Event) : Type 0 where
+  pub small : IsSmall mode e
+  pub ordered : is_ordered mode e ≡ true
+
+-- What is kept back behind a walk: no more than its policy says, all of it counted, and nothing behind its last record.
+pub record IsKeeping (walk : Walk) (settle : Settle) : Type 0 where
+  pub reach : reach_of settle ≡ walk.policy.settle
+  pub unpopped : was_popped settle ≡ false
+  pub fit : All (CanWait (mode_of walk.record_type)) (kept_back settle)
+  pub behind : walk.policy.settle ≢ 0 → last_place settle ≤ placed_by walk.clock
+  pub room : walk.given + length (kept_back settle) ≤ walk.sums.records
+
+-- The events in order of these words came, and those that are settled by now were emitted.
+pub record HasCome (how : Reading) (settle : Settle) (words : List ℕ) : Type 0 where
+  pub settled : HasSettled settle (ordered how.mode (events (map how.meaning words))) (not_marked (events_in how words))
+  pub top : last_time settle ≡ floor_of how.mode (events_in how words)
+
+-- What is kept back where events are put in their places.
+abbrev pub Settles : Reading → Settle → List ℕ → Type 0
+Settles how settle words = how.policy.settle ≢ 0 → HasCome how settle words
+
+-- what an event adds to what is delivered, behind these events in order
+abbrev pub tells : ℕ → Mode → List Event → Event → Marked
+tells k mode before e = if is_ordered mode e then settles k before e else []
+
+-- why it is refused, where `top` is the greatest time of these events
+abbrev pub refused_for : Reading → List Event → Event → ℕ → Option Fault
+refused_for how before e top =
+    if stops_late how.policy.order then (if is_ordered how.mode e && is_overtaken how.policy.settle before e then Some (BackwardTime e.place e.time top) else None) else None
+
+-- Where a stream stands that took these words and refused none, with what it keeps back.
+pub record StandsAt (how : Reading) (clock : Clock) (sum : Summary) (count : ℕ) (settle : Settle) (words : List ℕ) : Type 0 where
+  pub at : IsAt how clock sum count words
+  pub settles : Settles how settle words

@@ -1,0 +1,53 @@
+-- How far a walk is whose events are put in their places.
+use Rattle.std.specs.Prelude.{ℕ, ◌≡◌, ◌+◌, ◌<◌, List, [], ◌∷◌, ◌++◌, length, None, Some, ◌⊎◌}
+use Rattle.tally_base.specs.declared.event.Event.{Event}
+use Rattle.tally_base.specs.declared.fault.Fault.{Fault}
+use Rattle.tally_base.specs.declared.fault.Fault.TheVariants.{WriteFault}
+use Rattle.tally_base.specs.FaultCounts.{Rose}
+use Rattle.ptu_definitions.specs.Kept.{Marked, floor_of}
+use Rattle.ptu_definitions.specs.Settled.{ordered, not_marked}
+use Rattle.ptu_definitions.specs.Streams.{Reading}
+use Rattle.settle.specs.Standing.{HasSettled, last_time}
+use Rattle.settle.specs.declared.settle.Settle.{Settle}
+use Rattle.record_stream.specs.Feeding.{Follows}
+use Rattle.record_stream.specs.Keeping.{HasCome, tells, refused_for}
+use Rattle.record_stream.specs.OneMore.{with_marks}
+use Rattle.record_stream.specs.Walking.{how_of, given_by, records_of, summary_in, IsBehind}
+use Rattle.record_stream.specs.declared.taker.EventTaker.{Ghosts}
+use Rattle.record_stream.specs.declared.walk.Walk.{Walk}
+
+-- It took these words and refused none, and the events in order of these came.
+pub record IsSettledBehind (walk : Walk) (settle : Settle) (words : List ℕ) : Type 0 where
+  pub behind : IsBehind walk words
+  pub come : HasCome (how_of walk) settle words
+
+module _ {T : Type 0} (g : Ghosts T) where
+  -- The taker is of the mode of the walk, and no further on.
+  abbrev pub IsFollowedBy : Walk → Settle → T → Type 0
+  IsFollowedBy walk settle taker = Follows g (how_of walk).mode (given_by walk) (last_time settle) taker
+
+  -- The walk took so many words more and refused none, and the taker is no further on.
+  pub record SettlesOn (old new : Walk) (settle : Settle) (taker : T) (more : ℕ) : Type 0 where
+    pub follows : Follows g (how_of old).mode (given_by new) (last_time settle) taker
+    pub counted : records_of new ≡ records_of old + more
+
+  -- Behind these events in order one more came, and what it adds was given.
+  pub record Told (how : Reading) (old new : Walk) (from settle : Settle) (taker now : T) (before given : List Event) (e : Event) (top : ℕ) : Type 0 where
+    pub unrefused : refused_for how before e top ≡ None
+    pub settled : HasSettled settle (before ++ ordered how.mode (e ∷ [])) (given ++ not_marked (tells how.policy.settle how.mode before e))
+    pub greatest : (l : Marked) → last_time from ≡ floor_of how.mode l → last_time settle ≡ floor_of how.mode (l ++ tells how.policy.settle how.mode before e)
+    pub got : (start : T) (l : Marked) → g.got start taker l → g.got start now (l ++ tells how.policy.settle how.mode before e)
+    pub summary : summary_in new ≡ with_marks (summary_in old) (tells how.policy.settle how.mode before e)
+    pub counted : given_by new ≡ given_by old + length (tells how.policy.settle how.mode before e)
+
+  -- It broke the taker.
+  pub record BrokeAt (how : Reading) (taker now : T) (before : List Event) (e : Event) (top : ℕ) : Type 0 where
+    pub unrefused : refused_for how before e top ≡ None
+    pub some : 0 < length (tells how.policy.settle how.mode before e)
+    pub broken : (start : T) (l : Marked) → g.got start taker l → g.broke start now (l ++ tells how.policy.settle how.mode before e)
+    pub rose : Rose (g.faults taker) (g.faults now)
+
+  -- It is refused, or it broke the taker.
+  abbrev pub Untold : Reading → T → T → List Event → Event → ℕ → Fault → Type 0
+  Untold how taker now before e top fault =
+      ((refused_for how before e top ≡ Some fault) × (now ≡ taker)) ⊎ ((fault ≡ WriteFault) × BrokeAt how taker now before e top)

@@ -1,0 +1,149 @@
+// The records of a stream whose events are put in their places.
+ghost use Rattle.std.specs.Prelude.{◌≡◌, ◌≢◌, ◌+◌, ◌<◌, ◌≤◌, ◌++◌, ◌∷◌, [], List, ℕ, false, length, OnOk, IfErr};
+ghost use Rattle.tally_base.specs.declared.fault.Fault.TheVariants.{WriteFault};
+ghost use Rattle.tally_base.specs.FaultCounts.{HasCause};
+ghost use Rattle.tally_base.specs.Events.{is_ordered};
+ghost use Rattle.ptu_definitions.specs.Fours.{numbers};
+ghost use Rattle.ptu_definitions.specs.Kept.{Marked};
+ghost use Rattle.ptu_definitions.specs.Settled.{marked_as};
+ghost use Rattle.abs_time.specs.Placing.{IsSmall, placed_by};
+ghost use Rattle.settle.specs.Standing.{HasSettled, kept_back, last_place, last_time};
+ghost use Rattle.record_stream.specs.Feeding.{Follows, Fed};
+ghost use Rattle.record_stream.specs.Keeping.{CanWait, IsKeeping, HasCome};
+ghost use Rattle.record_stream.specs.Settling.{IsSettledBehind, IsFollowedBy, SettlesOn, Told, Untold};
+ghost use Rattle.record_stream.specs.Ending.{BrokeFirst};
+ghost use Rattle.record_stream.specs.OneMore.{with_marks};
+ghost use Rattle.record_stream.specs.Walking.{how_of, given_by, records_of, clock_in, summary_in, IsBehind, KeepsPlace, Stays};
+
+use crate::count::stops_late;
+use crate::taker::EventTaker;
+use crate::walk::Walk;
+use abs_time::{Placed, is_ordered};
+use record_layout::RecordLayout;
+use settle::Settle;
+use tally_base::{Event, Fault};
+
+/// Takes the next event, of a record that is counted and placed, and gives the taker what is settled by it:
+/// the event itself where it is late, or else the one that is let go, if there is one. `before` is the
+/// greatest time of the events in order before it, if one of those is greater.
+fn settle_event<S: EventTaker>(
+    walk: &mut Walk,
+    settle: &mut Settle,
+    event: Event,
+    before: u64,
+    taker: &mut S,
+) -> Result<(), Fault>
+    requires keeps { IsKeeping walk.old settle.old }
+    requires next { last_place settle.old < event.place }
+    requires placed { event.place ≤ placed_by (clock_in walk.old) }
+    requires room { given_by walk.old + length (kept_back settle.old) < records_of walk.old }
+    requires small { IsSmall (how_of walk.old).mode event }
+    requires follows { IsFollowedBy S.EventTaker walk.old settle.old taker.old }
+    ensures told { (pushed given : List Event) → HasSettled settle.old pushed given
+        → OnOk result (Told S.EventTaker (how_of walk.old) walk.old walk.new settle.old settle.new
+        taker.old taker.new pushed given event before) }
+    ensures untold { (pushed given : List Event) → HasSettled settle.old pushed given
+        → IfErr result (Untold S.EventTaker (how_of walk.old) taker.old taker.new pushed event
+        before) }
+    ensures goes_on { OnOk result (Follows S.EventTaker (how_of walk.old).mode (given_by walk.new)
+        (last_time settle.new) taker.new) }
+    ensures keeps { IsKeeping walk.new settle.new }
+    ensures place { KeepsPlace walk.old walk.new }
+    ensures stays { Stays S.EventTaker walk.old walk.new taker.old taker.new }
+{
+    if !is_ordered(walk.clock.mode(), &event) {
+        return Ok(());
+    }
+    let settled = settle.push(event);
+    if settled.late {
+        if stops_late(walk.policy.order) {
+            return Err(Fault::BackwardTime {
+                place: event.place,
+                time: event.time,
+                before,
+            });
+        }
+        return walk.give_event(&event, true, taker);
+    }
+    match settled.emitted {
+        Some(first) => walk.give_event(&first, false, taker),
+        None => Ok(()),
+    }
+}
+
+/// Takes the next word.
+fn settle_word<R: RecordLayout, S: EventTaker>(
+    walk: &mut Walk,
+    settle: &mut Settle,
+    word: u32,
+    taker: &mut S,
+) -> Result<(), Fault>
+    requires meaning { R.meaning ≡ (how_of walk.old).meaning }
+    requires settles { (how_of walk.old).policy.settle ≢ 0 }
+    requires keeps { IsKeeping walk.old settle.old }
+    requires follows { IsFollowedBy S.EventTaker walk.old settle.old taker.old }
+    ensures at { (words : List ℕ) → IsSettledBehind walk.old settle.old words
+        → OnOk result (IsSettledBehind walk.new settle.new (words ++ word ∷ [])) }
+    ensures fed { (words : List ℕ) → IsSettledBehind walk.old settle.old words
+        → Fed S.EventTaker (how_of walk.old) taker.old taker.new words
+        (words ++ word ∷ []) result }
+    ensures goes_on { OnOk result
+        (SettlesOn S.EventTaker walk.old walk.new settle.new taker.new 1) }
+    ensures keeps { IsKeeping walk.new settle.new }
+    ensures stays { Stays S.EventTaker walk.old walk.new taker.old taker.new }
+{
+    match walk.place_next::<R>(word)? {
+        Placed::Event(event) => settle_event(walk, settle, event, event.time, taker),
+        Placed::Late { event, before } => settle_event(walk, settle, event, before, taker),
+        Placed::Wrap | Placed::Reserved => Ok(()),
+    }
+}
+
+/// Takes the next words, where events are put in their places.
+pub(crate) fn settle_words<R: RecordLayout, S: EventTaker>(
+    walk: &mut Walk,
+    settle: &mut Settle,
+    words: &[[u8; 4]],
+    taker: &mut S,
+) -> Result<(), Fault>
+    requires meaning { R.meaning ≡ (how_of walk.old).meaning }
+    requires settles { (how_of walk.old).policy.settle ≢ 0 }
+    requires keeps { IsKeeping walk.old settle.old }
+    requires follows { IsFollowedBy S.EventTaker walk.old settle.old taker.old }
+    ensures at { (before : List ℕ) → IsSettledBehind walk.old settle.old before
+        → OnOk result (IsSettledBehind walk.new settle.new (before ++ numbers words.now)) }
+    ensures fed { (before : List ℕ) → IsSettledBehind walk.old settle.old before
+        → Fed S.EventTaker (how_of walk.old) taker.old taker.new before
+        (before ++ numbers words.now) result }
+    ensures goes_on { OnOk result
+        (SettlesOn S.EventTaker walk.old walk.new settle.new taker.new (length words.now)) }
+    ensures keeps { IsKeeping walk.new settle.new }
+    ensures stays { Stays S.EventTaker walk.old walk.new taker.old taker.new }
+{
+    for word in words {
+        settle_word::<R, S>(walk, settle, u32::from_le_bytes(*word), taker)?;
+    }
+    Ok(())
+}
+
+/// Gives a taker all events that are kept back, in order of time and then of place.
+pub(crate) fn give_rest<S: EventTaker>(
+    walk: &mut Walk,
+    settle: &mut Settle,
+    taker: &mut S,
+) -> Result<(), Fault>
+    requires keeps { IsKeeping walk.old settle.old }
+    requires follows { IsFollowedBy S.EventTaker walk.old settle.old taker.old }
+    ensures got { OnOk result ((start : S) (l : Marked) → S.got start taker.old l
+        → S.got start taker.new (l ++ marked_as false (kept_back settle.old))) }
+    ensures summary { OnOk result (summary_in walk.new
+        ≡ with_marks (summary_in walk.old) (marked_as false (kept_back settle.old))) }
+    ensures broken { IfErr result (λ fault. (fault ≡ WriteFault)
+        × BrokeFirst S.EventTaker taker.old taker.new (marked_as false (kept_back settle.old))) }
+    ensures stays { Stays S.EventTaker walk.old walk.new taker.old taker.new }
+{
+    while let Some(event) = settle.pop() {
+        walk.give_event(&event, false, taker)?;
+    }
+    Ok(())
+}

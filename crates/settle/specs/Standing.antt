@@ -1,0 +1,38 @@
+-- What a value that settles events stands for.
+use Rattle.std.specs.Prelude.{ℕ, ◌≡◌, ◌≤◌, ◌++◌, Bool, false, List}
+use Rattle.std.specs.List.{AllByRecursion}
+use Rattle.tally_base.specs.declared.event.Event.{Event}
+use Rattle.ptu_definitions.specs.Settled.{in_time}
+use Rattle.ptu_definitions.specs.Settling.{IsOpen}
+use Rattle.settle.specs.Settling.{IsInOrder}
+use Rattle.settle.specs.declared.settle.Settle.{Settle}
+
+-- how many events it keeps back at most
+abbrev pub reach_of : Settle → ℕ
+reach_of s = s.reach
+
+-- the events that it keeps back, in order of time and then of place
+abbrev pub kept_back : Settle → List Event
+kept_back s = s.waiting.items
+
+-- the time of the last event emitted, or 0 where there is none
+abbrev pub last_time : Settle → ℕ
+last_time s = s.last
+
+-- the place of the last event pushed, or 0 where there is none
+abbrev pub last_place : Settle → ℕ
+last_place s = s.place
+
+abbrev pub was_popped : Settle → Bool
+was_popped s = s.popped
+
+-- The events emitted or popped and those kept back, which are in order, make up the kept list of those pushed.
+pub record IsSettled (k : ℕ) (popped : Bool) (waiting : List Event) (last place : ℕ) (pushed given : List Event) : Type 0 where
+  pub joined : given ++ waiting ≡ in_time k pushed
+  pub in_order : IsInOrder waiting
+  pub places : AllByRecursion (λ x. x.place ≤ place) waiting
+  pub unpopped : popped ≡ false → IsOpen k pushed given waiting last
+
+-- These events were pushed, and these were emitted or popped.
+abbrev pub HasSettled : Settle → List Event → List Event → Type 0
+HasSettled s pushed given = IsSettled s.reach s.popped s.waiting.items s.last s.place pushed given

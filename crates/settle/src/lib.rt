@@ -1,0 +1,10 @@
+//! Events that come some places too late, put in their places.
+#![tactic(auto)]
+
+pub mod laws;
+mod settle;
+
+pub use settle::{Settle, Settled};
+
+#[cfg(test)]
+mod tests;
