@@ -1,5 +1,5 @@
 -- The bound of a plan that keeps the rules.
-use Rattle.std.proofs.Common.{◌≡◌, refl, ℕ, zero, suc, ◌+◌, ◌-◌, ◌*◌, ◌/◌, ◌^◌, ◌≤◌, true, Bool, List, [], ◌∷◌, ◌++◌, length, filter_map, codes, Option, Some, None, Ok, inl, inr, arith, pos}
+use Rattle.std.proofs.Common.{◌≡◌, refl, ℕ, zero, suc, ◌+◌, ◌-◌, ◌*◌, ◌/◌, ◌^◌, ◌≤◌, true, Bool, List, [], ◌∷◌, ◌++◌, length, filter_map, codes, Option, Some, None, unwrap_or, Ok, inl, inr, arith, pos}
 use Rattle.std.specs.List.{sum_by, cons_option, flat_map, AllByRecursion}
 use Rattle.std.specs.Option.{option_and_then}
 use Rattle.std.proofs.lemmas.List.Sums.{sum_by-append, sum_by-cons}
@@ -10,9 +10,10 @@ use Rattle.toml.specs.Data.{Data, table, get, integer}
 use Rattle.tally_base.specs.Settings.{PartSettings, entries}
 use Rattle.tally_base.specs.Settings.PartSettings.{HistSettings, TraceSettings, StartStopSettings, CoincidenceSettings, ImageSettings, CorrelationSettings}
 use Rattle.toml_rules.specs.Rules.{AllHold, each}
-use Rattle.toml_rules.specs.Values.{integer_in, number_in, list_at}
+use Rattle.toml_rules.specs.Values.{integer_in, number_in, number_or, list_at}
 use Rattle.plan_text.specs.Kinds.{kinds, lists, table_lists}
 use Rattle.plan_text.specs.Groups.{group_number}
+use Rattle.plan_text.specs.Settle.{settle, settle_or_none}
 use Rattle.plan_text.specs.Histograms.{histogram, hist_of}
 use Rattle.plan_text.specs.Traces.{trace, trace_of, origin}
 use Rattle.plan_text.specs.StartStops.{startstop, startstop_of}
@@ -225,9 +226,26 @@ parts_keep d short =
     (omega (arith, tables_keep (image d) 4194308 is (image_keeps d), few.1.1.1.1.0))
     (omega (arith, tables_keep (correlation d) 7784 rs (correlation_keeps d), few.1.1.1.1.1.0))
 
+few_kept : (found : Option ℕ) → ((n : ℕ) → found ≡ Some n → n ≤ 64) → unwrap_or found 0 ≤ 64
+few_kept None most = omega arith
+few_kept (Some n) most = most n refl
+
+settle_most : (found : Option Data) (n : ℕ) → number_or 0 0 64 found ≡ Some n → n ≤ 64
+settle_most None n is = grind (arith, is)
+settle_most (Some d) n is = integer_most 0 64 d n is
+
+-- at most 64 events are kept back
+settle_few : (d : Data) → settle_or_none d ≤ 64
+unfolding settle_or_none settle
+settle_few d = few_kept (number_or 0 0 64 (get (codes "settle") d)) (settle_most (get (codes "settle") d))
+
+plan_settle : (d : Data) → (plan d).settle ≤ 64
+unfolding plan
+plan_settle d = settle_few d
+
 pub bounded : (bytes : List ℕ) (view : PlanView) → plan_answer bytes ≡ Ok view → bound view ≤ greatest_bound
 bounded bytes view ok =
     let good = valid bytes view ok in
     let is = plans bytes good.1 good good.2 in
     let same : view ≡ plan (table good.1) = cc in
-    rw same (omega (arith, parts_keep (table good.1) (are_short (table good.1) good.3)))
+    rw same (omega (arith, plan_settle (table good.1), parts_keep (table good.1) (are_short (table good.1) good.3)))

@@ -73,11 +73,11 @@ pub row_many : plan_answer (codes "group = [{inputs=[0]}, {inputs=[0]}, {inputs=
 unfolding plan_on_literals
 row_many = refl
 
-pub row_empty : plan_answer (codes "group = []\n") ≡ Ok (record { order = orders.Drop; reserved = choices.Skip; records = 2 ^ 40; period = 1; shifts = []; groups = []; parts = [] })
+pub row_empty : plan_answer (codes "group = []\n") ≡ Ok (record { order = orders.Drop; reserved = choices.Skip; records = 2 ^ 40; settle = 0; period = 1; shifts = []; groups = []; parts = [] })
 unfolding plan_on_literals
 row_empty = refl
 
-pub row_whole : plan_answer (codes "order = 'stop'\ngroup = [{ inputs = [0, 2], gate = [3, 9] }]\n") ≡ Ok (record { order = orders.Stop; reserved = choices.Skip; records = 2 ^ 40; period = 1; shifts = []; groups = record { inputs = 5; gates = (3, 9) ∷ [] } ∷ []; parts = [] })
+pub row_whole : plan_answer (codes "order = 'stop'\ngroup = [{ inputs = [0, 2], gate = [3, 9] }]\n") ≡ Ok (record { order = orders.Stop; reserved = choices.Skip; records = 2 ^ 40; settle = 0; period = 1; shifts = []; groups = record { inputs = 5; gates = (3, 9) ∷ [] } ∷ []; parts = [] })
 unfolding plan_on_literals
 row_whole = refl
 
@@ -110,7 +110,7 @@ unfolding plan_on_literals
 row_histogram_and_trace = refl
 
 -- a trace without an origin, one with it, and a start-stop
-pub row_times : plan_answer (codes "group = [{ inputs = [0] }]\ntrace = [{ group = 1, width = 5, bins = 2 }, { group = 1, origin = 7, width = 4611686018427387904, bins = 1048576 }]\nstartstop = [{ start = 1, stop = 1, width = 3, bins = 4 }]\n") ≡ Ok (record { order = orders.Drop; reserved = choices.Skip; records = 2 ^ 40; period = 1; shifts = []; groups = record { inputs = 1; gates = [] } ∷ []; parts = TraceSettings (record { group = 1; origin = 0; width = 5; bins = 2 }) ∷ TraceSettings (record { group = 1; origin = 7; width = 2 ^ 62; bins = 2 ^ 20 }) ∷ StartStopSettings (record { start = 1; stop = 1; width = 3; bins = 4 }) ∷ [] })
+pub row_times : plan_answer (codes "group = [{ inputs = [0] }]\ntrace = [{ group = 1, width = 5, bins = 2 }, { group = 1, origin = 7, width = 4611686018427387904, bins = 1048576 }]\nstartstop = [{ start = 1, stop = 1, width = 3, bins = 4 }]\n") ≡ Ok (record { order = orders.Drop; reserved = choices.Skip; records = 2 ^ 40; settle = 0; period = 1; shifts = []; groups = record { inputs = 1; gates = [] } ∷ []; parts = TraceSettings (record { group = 1; origin = 0; width = 5; bins = 2 }) ∷ TraceSettings (record { group = 1; origin = 7; width = 2 ^ 62; bins = 2 ^ 20 }) ∷ StartStopSettings (record { start = 1; stop = 1; width = 3; bins = 4 }) ∷ [] })
 unfolding plan_on_literals
 row_times = refl
 
@@ -143,13 +143,13 @@ unfolding plan_on_literals
 row_correlation_values = refl
 
 -- coincidences, an image without a frame bit, one with it, and a correlation
-pub row_pairs_and_images : plan_answer (codes "group = [{ inputs = [0] }]\ncoincidence = [{ first = 1, second = 1, reach = 1048576, width = 2097152 }]\nimage = [{ group = 1, width = 2048, height = 1, dwell = 4611686018427387904, line = 4 }, { group = 1, width = 2, height = 3, dwell = 4, line = 1, frame = 2, stop = 2 }]\ncorrelation = [{ first = 1, second = 1, lags = 128, levels = 40 }]\n") ≡ Ok (record { order = orders.Drop; reserved = choices.Skip; records = 2 ^ 40; period = 1; shifts = []; groups = record { inputs = 1; gates = [] } ∷ []; parts = CoincidenceSettings (record { first = 1; second = 1; reach = 2 ^ 20; width = 2 ^ 21 }) ∷ ImageSettings (record { group = 1; width = 2048; height = 1; dwell = 2 ^ 62; line = 4; frame = None; stop = None; serpentine = false }) ∷ ImageSettings (record { group = 1; width = 2; height = 3; dwell = 4; line = 1; frame = Some 2; stop = Some 2; serpentine = false }) ∷ CorrelationSettings (record { first = 1; second = 1; lags = 128; levels = 40 }) ∷ [] })
+pub row_pairs_and_images : plan_answer (codes "group = [{ inputs = [0] }]\ncoincidence = [{ first = 1, second = 1, reach = 1048576, width = 2097152 }]\nimage = [{ group = 1, width = 2048, height = 1, dwell = 4611686018427387904, line = 4 }, { group = 1, width = 2, height = 3, dwell = 4, line = 1, frame = 2, stop = 2 }]\ncorrelation = [{ first = 1, second = 1, lags = 128, levels = 40 }]\n") ≡ Ok (record { order = orders.Drop; reserved = choices.Skip; records = 2 ^ 40; settle = 0; period = 1; shifts = []; groups = record { inputs = 1; gates = [] } ∷ []; parts = CoincidenceSettings (record { first = 1; second = 1; reach = 2 ^ 20; width = 2 ^ 21 }) ∷ ImageSettings (record { group = 1; width = 2048; height = 1; dwell = 2 ^ 62; line = 4; frame = None; stop = None; serpentine = false }) ∷ ImageSettings (record { group = 1; width = 2; height = 3; dwell = 4; line = 1; frame = Some 2; stop = Some 2; serpentine = false }) ∷ CorrelationSettings (record { first = 1; second = 1; lags = 128; levels = 40 }) ∷ [] })
 unfolding plan_on_literals
 row_pairs_and_images = refl
 
 -- ## The greatest bound
 
-pub row_bound : greatest_bound ≡ 119138208
+pub row_bound : greatest_bound ≡ 119138272
 row_bound = refl
 
 -- each kind's part of it is that of its most tables, each of its greatest settings
@@ -216,20 +216,34 @@ unfolding plan_on_literals
 row_serpentine = refl
 
 -- a period alone
-pub row_period_alone : plan_answer (codes "version = 2\nperiod = 32768\n") ≡ Ok (record { order = orders.Drop; reserved = choices.Skip; records = 2 ^ 40; period = 32768; shifts = []; groups = []; parts = [] })
+pub row_period_alone : plan_answer (codes "version = 2\nperiod = 32768\n") ≡ Ok (record { order = orders.Drop; reserved = choices.Skip; records = 2 ^ 40; settle = 0; period = 32768; shifts = []; groups = []; parts = [] })
 unfolding plan_on_literals
 row_period_alone = refl
 
 -- two gates that touch, two shifts, and an image with rows that run backwards
-pub row_second : plan_answer (codes "version = 2\nperiod = 100\nshift = [{ input = 0, shift = 10 }, { input = 64, shift = 0 }]\ngroup = [{ inputs = [0], gates = [[0, 5], [5, 32768]] }]\nimage = [{ group = 1, width = 3, height = 2, dwell = 10, line = 1, serpentine = true }]\n") ≡ Ok (record { order = orders.Drop; reserved = choices.Skip; records = 2 ^ 40; period = 100; shifts = record { input = 0; shift = 10 } ∷ record { input = 64; shift = 0 } ∷ []; groups = record { inputs = 1; gates = (0, 5) ∷ (5, 32768) ∷ [] } ∷ []; parts = ImageSettings (record { group = 1; width = 3; height = 2; dwell = 10; line = 1; frame = None; stop = None; serpentine = true }) ∷ [] })
+pub row_second : plan_answer (codes "version = 2\nperiod = 100\nshift = [{ input = 0, shift = 10 }, { input = 64, shift = 0 }]\ngroup = [{ inputs = [0], gates = [[0, 5], [5, 32768]] }]\nimage = [{ group = 1, width = 3, height = 2, dwell = 10, line = 1, serpentine = true }]\n") ≡ Ok (record { order = orders.Drop; reserved = choices.Skip; records = 2 ^ 40; settle = 0; period = 100; shifts = record { input = 0; shift = 10 } ∷ record { input = 64; shift = 0 } ∷ []; groups = record { inputs = 1; gates = (0, 5) ∷ (5, 32768) ∷ [] } ∷ []; parts = ImageSettings (record { group = 1; width = 3; height = 2; dwell = 10; line = 1; frame = None; stop = None; serpentine = true }) ∷ [] })
 unfolding plan_on_literals
 row_second = refl
+
+-- ## Settling
+
+pub row_settle : plan_answer (codes "version = 2\nsettle = 64\n") ≡ Ok (record { order = orders.Drop; reserved = choices.Skip; records = 2 ^ 40; settle = 64; period = 1; shifts = []; groups = []; parts = [] })
+unfolding plan_on_literals
+row_settle = refl
+
+pub row_settle_too_great : plan_answer (codes "version = 2\nsettle = 65\n") ≡ Err (PlanRule 26 0)
+unfolding plan_on_literals
+row_settle_too_great = refl
+
+pub row_settle_first : plan_answer (codes "settle = 1\n") ≡ Err (PlanRule 1 0)
+unfolding plan_on_literals
+row_settle_first = refl
 
 -- ## The mode of a file
 
 -- a plan of one group, of these gates, with these shifts and no tables
 abbrev of_one_group : List (ℕ × ℕ) → List ShiftView → PlanView
-of_one_group gates shifts = record { order = orders.Drop; reserved = choices.Skip; records = 2 ^ 40; period = 100; shifts = shifts; groups = record { inputs = 1; gates = gates } ∷ []; parts = [] }
+of_one_group gates shifts = record { order = orders.Drop; reserved = choices.Skip; records = 2 ^ 40; settle = 0; period = 100; shifts = shifts; groups = record { inputs = 1; gates = gates } ∷ []; parts = [] }
 
 pub row_shift_in_t2 : fits T2 (of_one_group [] (record { input = 0; shift = 10 } ∷ [])) ≡ Err (PlanMode Shift 1 T2)
 unfolding fits

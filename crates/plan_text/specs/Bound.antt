@@ -3,9 +3,10 @@ use Rattle.std.specs.Prelude.{ℕ, ◌+◌, sum_by}
 use Rattle.tally_base.specs.Settings.{entries}
 use Rattle.plan_text.specs.Plan.{PlanView, parts_of}
 
--- The bound of a plan: 48 bytes of a tag or of a record that are carried, and the entries of each table.
+-- The bound of a plan: 48 bytes of a tag or of a record that are carried, the events that are kept back, and the
+-- entries of each table.
 abbrev pub bound : PlanView → ℕ
-bound plan = 48 + sum_by entries (parts_of plan)
+bound plan = 48 + plan.settle + sum_by entries (parts_of plan)
 
 -- The greatest bound of the tables of each kind: so many tables, each of its greatest settings.
 abbrev pub histogram_entries : ℕ
@@ -26,6 +27,10 @@ image_entries = 33554464
 abbrev pub correlation_entries : ℕ
 correlation_entries = 124544
 
--- 119,138,208
+-- the most events that are kept back
+abbrev pub greatest_settle : ℕ
+greatest_settle = 64
+
+-- 119,138,272
 abbrev pub greatest_bound : ℕ
-greatest_bound = 48 + histogram_entries + trace_entries + startstop_entries + coincidence_entries + image_entries + correlation_entries
+greatest_bound = 48 + greatest_settle + histogram_entries + trace_entries + startstop_entries + coincidence_entries + image_entries + correlation_entries

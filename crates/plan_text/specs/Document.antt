@@ -26,7 +26,7 @@ records d = records_in (get (codes "limits") d)
 
 -- the keys of a plan, by its version
 unfoldable pub known_keys : Bool → List (List ℕ)
-known_keys second = codes "version" ∷ codes "order" ∷ codes "reserved" ∷ codes "limits" ∷ keys_of first_lists ++ (if second then codes "period" ∷ keys_of second_lists else [])
+known_keys second = codes "version" ∷ codes "order" ∷ codes "reserved" ∷ codes "limits" ∷ keys_of first_lists ++ (if second then codes "period" ∷ codes "settle" ∷ keys_of second_lists else [])
 
 -- the document has only keys of a plan of its version
 unfoldable pub has_known_keys : Data → Bool

@@ -8,6 +8,7 @@ pub mod StartStops
 pub mod Coincidences
 pub mod Images
 pub mod Correlations
+pub mod Settle
 pub mod Shifts
 pub mod Kinds
 pub mod Document

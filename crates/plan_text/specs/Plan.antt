@@ -12,6 +12,7 @@ use Rattle.plan_text.specs.Document.{order, reserved, records, document_rules}
 use Rattle.plan_text.specs.Groups.{groups, group}
 use Rattle.plan_text.specs.Kind.{tables}
 use Rattle.plan_text.specs.Kinds.{kinds, table_lists}
+use Rattle.plan_text.specs.Settle.{settle_or_none}
 use Rattle.plan_text.specs.Shifts.{period_or_one, all_shifts}
 use Rattle.plan_text.specs.TableList.{TableList}
 
@@ -30,6 +31,8 @@ pub record PlanView : Type 0 where
   pub reserved : OnReserved
   -- the greatest number of records
   pub records : ℕ
+  -- how many events may overtake one that is put in its place
+  pub settle : ℕ
   -- modulo which the dtimes of an input with a shift are taken
   pub period : ℕ
   pub shifts : List ShiftView
@@ -58,6 +61,7 @@ plan d = record {
   order = order_of (order d);
   reserved = reserved_of (reserved d);
   records = unwrap_or (records d) (2 ^ 40);
+  settle = settle_or_none d;
   period = period_or_one d;
   shifts = filter_map (λ set. set) (all_shifts d);
   groups = filter_map (group d) (groups d);

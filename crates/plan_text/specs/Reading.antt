@@ -28,6 +28,7 @@ plan_view plan = record {
   order = plan.policy.order;
   reserved = plan.policy.reserved;
   records = plan.policy.records;
+  settle = plan.policy.settle;
   period = plan.period;
   shifts = map shift_view plan.shifts.items;
   groups = map group_view plan.groups.items;

@@ -4,6 +4,7 @@ use Rattle.toml.specs.Data.{Data, get}
 use Rattle.tally_base.specs.Settings.{ShiftView}
 use Rattle.toml_rules.specs.Rules.{Rule, whole, each}
 use Rattle.toml_rules.specs.Values.{list_at, has_keys, integer_in, number_in}
+use Rattle.plan_text.specs.Settle.{settle}
 use Rattle.plan_text.specs.TableList.{TableList}
 
 -- the tables of shifts
@@ -55,12 +56,13 @@ all_shifts d = shifts_from (period_or_one d) 0 (shifts d)
 unfoldable pub has_shift_keys : Data → Bool
 has_shift_keys = has_keys (codes "input" ∷ codes "shift" ∷ []) []
 
--- the rules on the period and the shifts
+-- the rules on the period and the shifts, and behind them the one on settling
 unfoldable pub shift_rules : Data → List Rule
 shift_rules d =
     whole 23 (is_some (period d))
     ∷ each 24 has_shift_keys (shifts d)
     ∷ each 25 (λ set. is_some set) (all_shifts d)
+    ∷ whole 26 (is_some (settle d))
     ∷ []
 
 -- the shifts in a plan

@@ -90,6 +90,7 @@ fn has_second_keys(document: &Value) -> bool
             "image",
             "correlation",
             "period",
+            "settle",
             "shift",
         ],
     )

@@ -12,6 +12,7 @@ mod kind;
 pub mod laws;
 mod plan;
 mod read;
+mod settle;
 mod shifts;
 mod startstops;
 mod traces;
@@ -26,5 +27,7 @@ mod greatest_tests;
 mod pair_tests;
 #[cfg(test)]
 mod second_tests;
+#[cfg(test)]
+mod settle_tests;
 #[cfg(test)]
 mod tests;

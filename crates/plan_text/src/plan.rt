@@ -31,5 +31,6 @@ pub struct Plan {
     pub images: ArrayVec<ImageSet, 8>,
     /// The correlations of two groups.
     pub correlations: ArrayVec<CorrelationSet, 16>,
+    pub ghost few_kept_back: { policy.settle ≤ 64 },
     pub ghost some_period: { (0 < period) × (period ≤ 32768) },
 }

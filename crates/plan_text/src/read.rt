@@ -8,6 +8,7 @@ ghost use Rattle.toml_rules.specs.Rules.{all_kept, Names, AllHold};
 ghost use Rattle.plan_text.specs.Groups.{groups, group};
 ghost use Rattle.plan_text.specs.Document.{order, reserved, records, HasFewTables};
 ghost use Rattle.plan_text.specs.Kinds.{table_lists};
+ghost use Rattle.plan_text.specs.Settle.{settle_or_none};
 ghost use Rattle.plan_text.specs.Plan.{order_of, reserved_of, plan_rules, lists_kept, plan, IsWhole};
 ghost use Rattle.plan_text.specs.Reading.{document, plan_answer, plan_view, plan_seen, if_kept, IsCalledFor, IsValid};
 
@@ -15,6 +16,7 @@ use crate::document::{keeps_document_rules, order, records, reserved};
 use crate::groups::{group, keeps_group_rules};
 use crate::kind::{keeps_kind_rules, list_of};
 use crate::plan::Plan;
+use crate::settle::settle_or_none;
 use crate::shifts::{keeps_shift_rules, period_or_one, shifts_of};
 use arrayvec::ArrayVec;
 use std::alloc::Global;
@@ -141,20 +143,25 @@ fn policy_of(document: &Value) -> Policy
     ensures order { result.order ≡ order_of (order (view document.now)) }
     ensures reserved { result.reserved ≡ reserved_of (reserved (view document.now)) }
     ensures records { result.records ≡ unwrap_or (records (view document.now)) (2 ^ 40) }
+    ensures settle { result.settle ≡ settle_or_none (view document.now) }
+    ensures few { result.settle ≤ 64 }
     ensures range { (0 < result.records) × (result.records ≤ 2 ^ 40) }
 {
     let order = order_of(order(document));
     let reserved = reserved_of(reserved(document));
+    let settle = settle_or_none(document) as u32;
     match records(document) {
         Some(records) => Policy {
             order,
             reserved,
             records,
+            settle,
         },
         None => Policy {
             order,
             reserved,
             records: 1 << 40,
+            settle,
         },
     }
 }

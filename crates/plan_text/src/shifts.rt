@@ -5,6 +5,7 @@ ghost use Rattle.tally_base.specs.Settings.{shift_view};
 ghost use Rattle.toml_rules.specs.Rules.{all_kept, kept, each};
 ghost use Rattle.plan_text.specs.Shifts.{shifts, period, period_or_one, shift, input_behind, shifts_from, all_shifts, has_shift_keys, shift_rules};
 
+use crate::settle::settle;
 use arrayvec::ArrayVec;
 use tally_base::{Fault, ShiftSet};
 use toml::Value;
@@ -98,7 +99,7 @@ fn each_is_read(rule: u8, period: u64, items: &[Value]) -> Result<(), Fault>
     Ok(())
 }
 
-/// Goes through the rules on the period and the shifts, 23 to 25.
+/// Goes through the rules on the period, the shifts and settling, 23 to 26.
 #[tactic(auto, unfolding(crate::specs::Shifts::shift_rules, crate::specs::Shifts::all_shifts))]
 pub(crate) fn keeps_shift_rules(document: &Value) -> Result<(), Fault>
     requires few { length (shifts (view document.now)) ≤ 65 }
@@ -106,7 +107,8 @@ pub(crate) fn keeps_shift_rules(document: &Value) -> Result<(), Fault>
 {
     held(23, 0, period(document).is_some())?;
     each::<ShiftKeys>(24, document, "shift")?;
-    each_is_read(25, period_or_one(document), list_at(document, "shift"))
+    each_is_read(25, period_or_one(document), list_at(document, "shift"))?;
+    held(26, 0, settle(document).is_some())
 }
 
 /// The shifts of the tables that give one, each of a greater input than the one before.

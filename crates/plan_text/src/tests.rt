@@ -565,6 +565,7 @@ fn is_default(plan: &Plan) -> bool {
         order: Order::Drop,
         reserved: OnReserved::Skip,
         records: 1 << 40,
+        settle: 0,
     };
     plan.policy == policy
         && plan.period == 1
@@ -595,6 +596,7 @@ fn has_policy_and_groups(plan: &Plan) -> bool {
         order: Order::Stop,
         reserved: OnReserved::Stop,
         records: 1000,
+        settle: 0,
     };
     let [first, second] = plan.groups.as_slice() else {
         return false;
