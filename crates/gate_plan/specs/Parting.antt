@@ -26,8 +26,12 @@ plain_bits groups input = bits_of (map (takes_plainly input) groups)
 abbrev pub gated_bits : List GroupView → ℕ → ℕ → ℕ
 gated_bits groups input dtime = bits_of (map (takes_gated input dtime) groups)
 
+-- all gates of a group that has some
+abbrev pub gates_of : Gated → List (ℕ × ℕ)
+gates_of group = group.gate ∷ group.others.items
+
 abbrev pub gated_bit : ℕ → ℕ → Gated → ℕ
-gated_bit input dtime group = one_if (slice_index_or group.has input false && passes group.gates.items dtime) * 2 ^ group.place
+gated_bit input dtime group = one_if (slice_index_or group.has input false && passes (gates_of group) dtime) * 2 ^ group.place
 
 abbrev pub gated_sum : List Gated → ℕ → ℕ → ℕ
 gated_sum gated input dtime = sum_by (gated_bit input dtime) gated

@@ -10,8 +10,10 @@ pub struct Gated {
     pub place: u64,
     /// By input: whether it is in the group.
     pub has: [bool; 256],
-    /// Ranges of dtimes, each from its first on and below its second.
-    pub gates: ArrayVec<(u16, u16), 8>,
+    /// The first of its ranges of dtimes, from its first number on and below its second.
+    pub gate: (u16, u16),
+    /// Its other ranges, which most groups don't have.
+    pub others: ArrayVec<(u16, u16), 8>,
     pub ghost in_place: { place < 64 },
 }
 
@@ -21,7 +23,8 @@ impl Default for Gated {
         Gated {
             place: 0,
             has: [false; 256],
-            gates: ArrayVec::new(),
+            gate: (0, 0),
+            others: ArrayVec::new(),
         }
     }
 }

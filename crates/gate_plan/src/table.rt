@@ -3,7 +3,7 @@ ghost use Rattle.std.specs.Prelude.{◌≡◌, ◌<◌, ◌≤◌, ◌*◌, ◌^
 ghost use Rattle.std.specs.Int.{bit_at};
 ghost use Rattle.tally_base.specs.Settings.{group_view};
 ghost use Rattle.gate_plan.specs.Taking.{is_among, is_in_gate, one_if};
-ghost use Rattle.gate_plan.specs.Parting.{takes_plainly, takes_gated, passes, plain_bits, gated_bits, gated_bit, gated_sum};
+ghost use Rattle.gate_plan.specs.Parting.{takes_plainly, takes_gated, passes, gates_of, plain_bits, gated_bits, gated_bit, gated_sum};
 
 use crate::copies::gates_again;
 use crate::gated::Gated;
@@ -64,20 +64,34 @@ pub(crate) fn gated_of(groups: &[Group]) -> ArrayVec<Gated, 64>
 
 /// The group with its gates, whose bit stands at a place.
 fn gated_at(group: &Group, place: u64) -> Gated
-    requires { place < 64 }
+    requires place { place < 64 }
+    requires some { 0 < length group.now.gates.items }
     ensures { (input dtime : ℕ) → gated_bit input dtime result
         ≡ one_if (takes_gated input dtime (group_view group.now)) * 2 ^ place }
 {
+    let gates = group.gates.as_slice();
     Gated {
         place,
         has: inputs_of(group.inputs),
-        gates: gates_again(group.gates.as_slice()),
+        gate: gates[0],
+        others: gates_again(&gates[1..]),
     }
 }
 
-/// The number of those of these groups that a photon is in.
+/// The number of those of these groups that a photon is in. One group takes no loop.
 #[inline(always)]
 pub(crate) fn bits_of_gated(gated: &[Gated], input: u8, dtime: u16) -> u64
+    requires fits { gated_sum gated.now input dtime < 2 ^ 64 }
+    ensures { result ≡ gated_sum gated.now input dtime }
+{
+    match gated {
+        [group] => bit_in(group, input, dtime),
+        _ => bits_of_several(gated, input, dtime),
+    }
+}
+
+/// The number of those of several groups that a photon is in.
+fn bits_of_several(gated: &[Gated], input: u8, dtime: u16) -> u64
     requires fits { gated_sum gated.now input dtime < 2 ^ 64 }
     ensures { result ≡ gated_sum gated.now input dtime }
 {
@@ -93,18 +107,20 @@ pub(crate) fn bits_of_gated(gated: &[Gated], input: u8, dtime: u16) -> u64
 fn bit_in(group: &Gated, input: u8, dtime: u16) -> u64
     ensures { result ≡ gated_bit input dtime group.now }
 {
-    let set = group.has[input as usize] & passes(group.gates.as_slice(), dtime);
+    let set = group.has[input as usize] & passes(group, dtime);
     u64::from(set) << group.place
 }
 
-/// Whether a dtime is in one of the gates. Most groups have one, which takes no loop.
+/// Whether a dtime is in one of the gates of a group. Most groups have one, which is compared with alone.
 #[inline(always)]
-fn passes(gates: &[(u16, u16)], dtime: u16) -> bool
-    ensures { result ≡ passes gates.now dtime }
+fn passes(group: &Gated, dtime: u16) -> bool
+    ensures { result ≡ passes (gates_of group.now) dtime }
 {
-    match gates {
-        [gate] => is_in_gate(gate, dtime),
-        _ => passes_some(gates, dtime),
+    let first = is_in_gate(&group.gate, dtime);
+    if group.others.is_empty() {
+        first
+    } else {
+        first | passes_some(group.others.as_slice(), dtime)
     }
 }
 

@@ -1,5 +1,5 @@
 -- Where photons are on the line that is open.
-use Rattle.std.specs.Prelude.{ℕ, ◌-◌, ◌/◌, nat_lt, Option, None, Some, if◌then◌else◌}
+use Rattle.std.specs.Prelude.{ℕ, Bool, ◌-◌, ◌/◌, nat_lt, Option, None, Some, if◌then◌else◌}
 use Rattle.marker_map.specs.Divisors.{divisor_of}
 use Rattle.marker_map.specs.declared.strip.Strip.{Strip}
 
@@ -12,6 +12,9 @@ width_of strip = strip.width
 
 abbrev pub height_of : Strip → ℕ
 height_of strip = strip.height
+
+abbrev pub is_backwards : Strip → Bool
+is_backwards strip = strip.backwards
 
 -- how many dwell times a photon at this time is behind the start of the line
 abbrev pub steps_on : Strip → ℕ → ℕ

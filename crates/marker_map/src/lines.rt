@@ -1,7 +1,8 @@
 // The lines of a scan.
-ghost use Rattle.std.specs.Prelude.{◌≡◌, ◌+◌, ◌^◌, ◌<◌, ◌≤◌, None, Some, option_map, if◌then◌else◌};
+ghost use Rattle.std.specs.Prelude.{◌≡◌, ◌+◌, ◌<◌, ◌≤◌, None, Some, option_map, if◌then◌else◌};
 ghost use Rattle.std.specs.Option.{ForSome};
 ghost use Rattle.tally_base.specs.Settings.{image_view};
+ghost use Rattle.tally_base.specs.Limits.{record_limit};
 ghost use Rattle.marker_map.specs.Places.{runs_back};
 ghost use Rattle.marker_map.specs.Rows.{line_at, row_after};
 ghost use Rattle.marker_map.specs.Divisors.{divisor_of};
@@ -66,7 +67,7 @@ fn unless_stopped(line: Option<Line>, stops: bool) -> Option<Line>
 
 /// The row behind this one. Without a frame bit the first row follows the last.
 fn row_behind(set: &ImageSet, row: Option<u64>) -> Option<u64>
-    requires { ForSome row (λ row. row ≤ 2 ^ 40) }
+    requires { ForSome row (λ row. row ≤ record_limit) }
     ensures { result ≡ option_map (row_after (image_view set.now)) row }
 {
     let row = row? + 1;
@@ -110,7 +111,7 @@ impl Lines {
 
     /// Takes a marker: its bits and its time. Fewer than 2^40 markers came before it.
     pub fn marker(&mut self, bits: u8, time: u64)
-        requires { markers_given self.old < 2 ^ 40 }
+        requires { markers_given self.old < record_limit }
         ensures follows { (ms : List Mark) → Saw self.old ms
             → Saw self.new (ms ++ mark bits time ∷ []) }
         ensures one_more { markers_given self.new ≡ markers_given self.old + 1 }

@@ -20,7 +20,32 @@ pub struct Strip {
 
 impl Strip {
     ghost use Rattle.std.specs.Prelude.{◌≤◌, IfSome};
-    ghost use Rattle.marker_map.specs.Strips.{place_on, column_on, start_of, width_of, height_of};
+    ghost use Rattle.marker_map.specs.Strips.{place_on, column_on, start_of, width_of, height_of, is_backwards};
+
+    /// Whether the line runs from the last column to the first.
+    #[inline(always)]
+    pub fn is_backwards(&self) -> bool
+        ensures { result ≡ is_backwards self.now }
+    {
+        self.backwards
+    }
+
+    /// The same, where it is known which way it runs. In a loop behind this the way isn't tested.
+    #[inline(always)]
+    pub fn facing(&self, backwards: bool) -> Strip
+        requires { backwards ≡ is_backwards self.now }
+        ensures { result ≡ self.now }
+    {
+        Strip {
+            open: self.open,
+            start: self.start,
+            row: self.row,
+            backwards,
+            width: self.width,
+            height: self.height,
+            dwell: self.dwell,
+        }
+    }
 
     /// The column and the row of a photon at this time, which isn't below that of the marker of the line.
     #[inline(always)]

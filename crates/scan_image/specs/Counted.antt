@@ -1,11 +1,16 @@
 -- The counts of an image over events.
 use Rattle.std.specs.Prelude.{◌≡◌, ℕ, ◌+◌, ◌*◌, ◌<◌, ◌++◌, List, slice_index}
+use Rattle.tally_base.specs.declared.settings.ImageSet.{ImageSet}
 use Rattle.tally_base.specs.Settings.{ImageView}
 use Rattle.tally_base.specs.Tally.{History}
 use Rattle.event_block.specs.declared.block.Block.{Block}
 use Rattle.event_block.specs.Columns.{item, rows}
 use Rattle.marker_map.specs.declared.lines.Lines.{Lines}
-use Rattle.marker_map.specs.Lines.{Saw}
+use Rattle.marker_map.specs.declared.strip.Strip.{Strip}
+use Rattle.marker_map.specs.Lines.{Saw, image_of}
+use Rattle.marker_map.specs.Marks.{Mark}
+use Rattle.marker_map.specs.Places.{place_of}
+use Rattle.marker_map.specs.Strips.{place_on, width_of, height_of}
 use Rattle.scan_image.specs.ImageCounts.{markers, in_cell, count_outside}
 
 -- Each of these cells is the count over the events, and the lines saw their markers.
@@ -17,3 +22,12 @@ pub record Counted (set : ImageView) (lines : Lines) (cells : List ℕ) (outside
 -- events, and behind them the first so many of a block
 abbrev pub with_front : History → Block → ℕ → History
 with_front h block n = h ++ rows (item block) n
+
+-- The strip tells where photons are behind the markers that the lines saw.
+abbrev pub IsStripOf : Lines → Strip → Type 0
+IsStripOf lines strip = (ms : List Mark) → Saw lines ms → (time : ℕ) → place_on strip time ≡ place_of (image_of lines) time ms
+
+-- The strip is as wide and as high as the image.
+pub record IsOfSize (set : ImageSet) (strip : Strip) : Type 0 where
+  pub width : width_of strip ≡ set.width
+  pub height : height_of strip ≡ set.height

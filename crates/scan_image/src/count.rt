@@ -2,17 +2,22 @@
 ghost use Rattle.std.specs.Prelude.{◌≡◌, ◌+◌, ◌*◌, ◌^◌, ◌<◌, ◌≤◌, ◌++◌, ℕ, true, sum, length, slice_index, is_none, IfSome, if◌then◌else◌};
 ghost use Rattle.tally_base.specs.Settings.{image_view};
 ghost use Rattle.tally_base.specs.Tally.{History};
+ghost use Rattle.tally_base.specs.Limits.{record_limit};
 ghost use Rattle.event_block.specs.Columns.{count, code_at, time_at, gathered, events_in, IsSorted};
 ghost use Rattle.event_block.specs.Order.{floor_after, InOrder};
 ghost use Rattle.marker_map.specs.Lines.{image_of, markers_given, line_start};
-ghost use Rattle.scan_image.specs.Counted.{Counted, with_front};
+ghost use Rattle.marker_map.specs.declared.lines.Lines.{Lines};
+ghost use Rattle.marker_map.specs.Strips.{start_of};
+ghost use Rattle.scan_image.specs.Counted.{Counted, with_front, IsStripOf, IsOfSize};
 ghost use Rattle.scan_image.specs.ImageCounts.{is_at};
 
-use event_block::Block;
-use marker_map::Lines;
+use event_block::{BLOCK_SIZE, Block};
+use marker_map::{Lines, Strip};
 use tally_base::ImageSet;
 
 /// Counts the photons of a block, and answers how many are now outside the image.
+// Not inlined, so that its loops have the registers for themselves.
+#[inline(never)]
 pub(crate) fn count_block(
     set: &ImageSet,
     lines: &mut Lines,
@@ -22,9 +27,9 @@ pub(crate) fn count_block(
 ) -> u64
     requires sorted { IsSorted block.now }
     requires sized { length cells.old ≡ set.now.width * set.now.height }
-    requires room { sum cells.old + outside + length (gathered block.now) ≤ 2 ^ 40 }
+    requires room { sum cells.old + outside + length (gathered block.now) ≤ record_limit }
     requires of_set { image_of lines.old ≡ image_view set.now }
-    requires few { markers_given lines.old + length (gathered block.now) ≤ 2 ^ 40 }
+    requires few { markers_given lines.old + length (gathered block.now) ≤ record_limit }
     requires in_order { InOrder true (line_start lines.old) (gathered block.now) }
     ensures follows { (h : History) → Counted (image_view set.now) lines.old cells.old outside h
         → Counted (image_view set.now) lines.new cells.new result (h ++ events_in block.now) }
@@ -35,7 +40,7 @@ pub(crate) fn count_block(
     ensures begun { line_start lines.new
         ≤ floor_after true (line_start lines.old) (gathered block.now) }
 {
-    let len = block.len().min(64);
+    let len = block.len().min(BLOCK_SIZE);
     let mut outside = outside;
     let mut from = 0;
     'runs: loop {
@@ -58,7 +63,8 @@ struct Run {
     outside: u64,
 }
 
-/// Counts the photons of a block from a place on, up to the next marker. They are all on one line.
+/// Counts the photons of a block from a place on, up to the next marker. They are all on one line, and
+/// which way it runs is tested once for them all.
 #[inline(always)]
 fn count_run(
     set: &ImageSet,
@@ -71,7 +77,7 @@ fn count_run(
     requires sorted { IsSorted block.now }
     requires within { from ≤ count block.now }
     requires sized { length cells.old ≡ set.now.width * set.now.height }
-    requires room { sum cells.old + outside + count block.now ≤ 2 ^ 40 + from }
+    requires room { sum cells.old + outside + count block.now ≤ record_limit + from }
     requires of_set { image_of lines.now ≡ image_view set.now }
     requires in_time { (i : ℕ) → from ≤ i → i < count block.now
         → line_start lines.now ≤ time_at block.now i }
@@ -84,10 +90,45 @@ fn count_run(
     ensures marker { result.at < count block.now → 256 ≤ code_at block.now result.at }
     ensures few { sum cells.new + result.outside + from ≤ sum cells.old + outside + result.at }
 {
+    let strip = lines.strip();
+    if strip.is_backwards() {
+        count_on(set, &strip.facing(true), cells, outside, block, from)
+    } else {
+        count_on(set, &strip.facing(false), cells, outside, block, from)
+    }
+}
+
+/// Counts the photons of a block on a line, from a place on, up to the next marker.
+#[inline(always)]
+fn count_on(
+    set: &ImageSet,
+    strip: &Strip,
+    cells: &mut [u64],
+    outside: u64,
+    block: &Block,
+    from: usize,
+) -> Run
+    requires sorted { IsSorted block.now }
+    requires within { from ≤ count block.now }
+    requires sized { length cells.old ≡ set.now.width * set.now.height }
+    requires room { sum cells.old + outside + count block.now ≤ 2 ^ 40 + from }
+    requires of_set { IsOfSize set.now strip.now }
+    requires in_time { (i : ℕ) → from ≤ i → i < count block.now
+        → start_of strip.now ≤ time_at block.now i }
+    ensures follows { (lines : Lines) (h : History)
+        → IsStripOf lines strip.now → image_of lines ≡ image_view set.now
+        → Counted (image_view set.now) lines cells.old outside (with_front h block.now from)
+        → Counted (image_view set.now) lines cells.new result.outside
+        (with_front h block.now result.at) }
+    ensures onward { from ≤ result.at }
+    ensures inside { result.at ≤ count block.now }
+    ensures marker { result.at < count block.now → 256 ≤ code_at block.now result.at }
+    ensures few { sum cells.new + result.outside + from ≤ sum cells.old + outside + result.at }
+{
     // Copies, so that no field is read again for each photon.
     let own = *set;
-    let strip = lines.strip();
-    let len = block.len().min(64);
+    let line = *strip;
+    let len = block.len().min(BLOCK_SIZE);
     let mut outside = outside;
     for at in from..len {
         if block.code(at) >= 256 {
@@ -95,7 +136,7 @@ fn count_run(
         }
         // No branch on the group, which is as good as random from photon to photon.
         let more = block.photons_in(at, own.group);
-        let place = strip.place(block.time(at));
+        let place = line.place(block.time(at));
         outside += put(&own, cells, place, more);
     }
     Run { at: len, outside }

@@ -2,6 +2,7 @@
 ghost use Rattle.std.specs.Prelude.{◌≡◌, ◌+◌, ◌*◌, ◌<◌, ◌≤◌, vec_len, sum};
 ghost use Rattle.tally_base.specs.Settings.{image_view};
 ghost use Rattle.tally_base.specs.Tally.{History};
+ghost use Rattle.tally_base.specs.Limits.{record_limit};
 ghost use Rattle.marker_map.specs.Lines.{image_of, markers_given, line_start};
 
 use crate::count::{cell_of, count_block};
@@ -34,7 +35,7 @@ pub struct Image {
 }
 
 impl Image {
-    ghost use Rattle.std.specs.Prelude.{◌^◌, ◌++◌, length, true, IfOk, [], false};
+    ghost use Rattle.std.specs.Prelude.{◌++◌, length, true, IfOk, [], false};
     ghost use Rattle.event_block.specs.Columns.{gathered, events_in, IsSorted};
     ghost use Rattle.event_block.specs.Order.{floor_after, InOrder};
     ghost use Rattle.tally_base.specs.Settings.PartSettings.{ImageSettings};
@@ -90,7 +91,7 @@ impl Image {
     pub fn events(&mut self, block: &Block)
         requires sorted { IsSorted block.now }
         requires open { ⟦<Image as Tally>⟧.closed self.old ≡ false }
-        requires room { ⟦<Image as Tally>⟧.taken self.old + length (gathered block.now) ≤ 2 ^ 40 }
+        requires room { ⟦<Image as Tally>⟧.taken self.old + length (gathered block.now) ≤ record_limit }
         requires in_order { InOrder true (⟦<Image as Tally>⟧.floor self.old) (gathered block.now) }
         ensures follows { (h : History) → Holds self.old h
             → Holds self.new (h ++ events_in block.now) }

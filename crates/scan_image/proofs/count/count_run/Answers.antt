@@ -1,47 +1,8 @@
-use Rattle.std.proofs.Common.{◌≡◌, ◌∙◌, ◌+◌, ◌<◌, ◌≤◌, ◌%◌, [], ◌∷◌, ◌++◌, true, List, cond, sym, ap, subst, rules, arith, append_assoc}
-use Rattle.std.specs.Prelude.{nat_lt, if◌then◌else◌}
-use Rattle.std.proofs.lemmas.Bool.Decides.{nat_tests}
-use Rattle.tally_base.specs.declared.event.EventKind.TheVariants.{Photon, Marker}
-use Rattle.tally_base.specs.Events.{is_in}
-use Rattle.tally_base.specs.Settings.{image_view}
-use Rattle.event_block.specs.Columns.{item, rows, code_at, dtime_at, groups_at, time_at}
-use Rattle.event_block.proofs.Rows.{more_rows}
-use Rattle.scan_image.specs.Counted.{Counted}
-use Rattle.marker_map.specs.Lines.{Saw, line_start}
-use Rattle.marker_map.specs.Marks.{Mark}
-use Rattle.marker_map.specs.Places.{place_of}
-use Rattle.scan_image.proofs.Steps.{photon_step, only_group, few_more}
+use Rattle.scan_image.specs.Counted.{IsStripOf}
 use Rattle.scan_image.proofs.count.count_run.Goals as goal
 
-pub place-place-requires : goal.place-place-requires
-place-place-requires c =
-    let b = c.args.block.now in
-    let within : c.loop-at.at < b.len = search (rules, arith) in
-    rw c.time.ensures (omega (arith, c.strip-strip.ensures.begun, c.requires.in_time c.loop-at.at (omega arith) within))
+pub returns-then-is_backwards-clause-follows : goal.returns-then-is_backwards-clause-follows
+returns-then-is_backwards-clause-follows c = λ h is. c.count_on.ensures.follows c.args.lines.now h (rw c.facing.ensures c.strip-strip.ensures.place) c.requires.of_set is
 
-pub loop-at-preserved : goal.loop-at-preserved
-loop-at-preserved c =
-    let inv = c.loop-at.invariant in
-    let b = c.args.block.now in
-    let set = image_view c.args.set.now in
-    let at = c.loop-at.at in
-    let lines = c.args.lines.now in
-    let code = code_at b at in
-    let time = time_at b at in
-    let photon : nat_lt code 256 ≡ true = grind (arith, nat_tests, c.code.ensures) in
-    let kind : (item b at).0.kind ≡ Photon code (dtime_at b at) = ap (λ t. if t then Photon code (dtime_at b at) else Marker (code % 256)) photon in
-    let more = c.photons_in-more.result in
-    let of_group : more ≡ cond (is_in (groups_at b at) set.group) 1 0 = c.photons_in-more.ensures ∙ only_group (is_in (groups_at b at) set.group) (nat_lt code 256) photon in
-    let place = c.place-place.result in
-    let found : (ms : List Mark) → Saw lines ms → place_of set time ms ≡ place = λ ms saw. sym (ap (λ image. place_of image time ms) c.requires.of_set) ∙ (sym (c.strip-strip.ensures.place ms saw time) ∙ sym (rw c.time.ensures at c.place-place.ensures.value)) in
-    record {
-      counted = λ h is. rw (more_rows (item b) at, ← append_assoc) (photon_step set lines c.loop-at.cells c.put-outside.new.cells c.loop-at.outside _ more place (h ++ rows (item b) at) (item b at) code (dtime_at b at) kind of_group found c.put-outside.ensures.cells (ap (λ n. c.loop-at.outside + n) c.put-outside.ensures.rest) (inv.counted h is));
-      few = omega (arith, c.put-outside.ensures.sum, inv.few, few_more (is_in (groups_at b at) set.group), of_group);
-    }
-
-pub returns-clause-follows : goal.returns-clause-follows
-returns-clause-follows c = λ h is.
-    let b = c.args.block.now in
-    let len : c.min-len.result ≡ b.len = search (rules, arith) in
-    let end : c.loop-at.at ≡ c.min-len.result = omega (arith, len, c.requires.within, c.loop-at-test.false, c.loop-at.auto.at-end) in
-    subst (λ n. Counted (image_view c.args.set.now) c.args.lines.now c.loop-at.cells c.loop-at.outside (h ++ rows (item b) n)) end (c.loop-at.invariant.counted h is)
+pub returns-else-is_backwards-clause-follows : goal.returns-else-is_backwards-clause-follows
+returns-else-is_backwards-clause-follows c = λ h is. c.count_on-else-is_backwards.ensures.follows c.args.lines.now h (rw c.facing-else-is_backwards.ensures c.strip-strip.ensures.place) c.requires.of_set is
