@@ -17,7 +17,8 @@ use Rattle.record_stream.proofs.Adding.{moves_by}
 use Rattle.event_block.specs.Order.{floor_after, InOrder}
 use Rattle.event_block.proofs.Order.{floor-append, order-append, order-parts}
 use Rattle.event_block.proofs.Lower.{order-looser}
-use Rattle.tally_engine.specs.Histories.{with_groups, unmarked}
+use Rattle.tally_engine.specs.Histories.{with_groups}
+use Rattle.ptu_definitions.specs.Settled.{not_marked}
 use Rattle.tally_engine.specs.Give.{CanTake, Took, Holding, Moves}
 use Rattle.tally_engine.specs.Taker.{Waits, Gave}
 use Rattle.record_stream.proofs.Floors.{moved_floor-push}
@@ -28,19 +29,19 @@ fewer : (mode : Mode) (strict : Bool) → (mode ≡ T2 → strict ≡ false) →
 fewer T2 strict loose is = let e = loose refl in cc
 fewer T3 strict loose is = refl
 
-unmarked-on_time : (es : List Event) → unmarked (on_time es) ≡ es
-unmarked-on_time [] = refl
-unmarked-on_time (e ∷ es) = ap (λ l. e ∷ l) (unmarked-on_time es)
+not_marked-on_time : (es : List Event) → not_marked (on_time es) ≡ es
+not_marked-on_time [] = refl
+not_marked-on_time (e ∷ es) = ap (λ l. e ∷ l) (not_marked-on_time es)
 
-unmarked-block : (l : Marked) (es : List Event) → unmarked (l ++ on_time es) ≡ unmarked l ++ es
-unmarked-block l es = rw (filter-append, map-append) (ap (λ m. unmarked l ++ m) (unmarked-on_time es))
+not_marked-block : (l : Marked) (es : List Event) → not_marked (l ++ on_time es) ≡ not_marked l ++ es
+not_marked-block l es = rw (filter-append, map-append) (ap (λ m. not_marked l ++ m) (not_marked-on_time es))
 
-length-on_time : (es : List Event) → length (on_time es) ≡ length es
+pub length-on_time : (es : List Event) → length (on_time es) ≡ length es
 length-on_time [] = refl
 length-on_time (e ∷ es) = omega (arith, length-on_time es)
 
 -- the greatest time with a block
-floor_of-block : (mode : Mode) (l : Marked) (es : List Event) (first now : ℕ) → now ≡ max first (floor_of mode l) → InOrder (orders_markers mode) now es
+pub floor_of-block : (mode : Mode) (l : Marked) (es : List Event) (first now : ℕ) → now ≡ max first (floor_of mode l) → InOrder (orders_markers mode) now es
     → floor_after (orders_markers mode) now es ≡ max first (floor_of mode (l ++ on_time es))
 floor_of-block mode l [] first now is all = rw (append-nil l) is
 floor_of-block mode l (e ∷ es) first now is all =
@@ -108,7 +109,7 @@ module _ {T : Type 0} (g : Ghosts T) where
     moved = is ∙ floor_of-block mode' l more floor floor' (rw gave.same_mode gave.moved) order ∙ rw gave.same_mode refl;
     follows = λ h held. λ k d inside.
         let within : k < length old = omega (arith, same, inside) in
-        rw (unmarked-block l more, with_groups-two by (unmarked l) more, ← append_assoc h) ((rw gave.same_sorting at (moves k d within)).follows _ (gave.follows h held k d within));
+        rw (not_marked-block l more, with_groups-two by (not_marked l) more, ← append_assoc h) ((rw gave.same_sorting at (moves k d within)).follows _ (gave.follows h held k d within));
   }
     where
       with_groups-two : (by : Sorting) (es more : List Event) → with_groups by (es ++ more) ≡ with_groups by es ++ with_groups by more

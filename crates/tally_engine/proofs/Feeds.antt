@@ -1,24 +1,32 @@
 -- What the words of a piece give to the tables.
-use Rattle.std.proofs.Common.{◌≡◌, ℕ, List, [], ◌++◌, None, Some, Ok, Err, OnOk, refl, sym, ap, subst, ◌∙◌, ⊎_elim}
+use Rattle.std.proofs.Common.{◌≡◌, ◌≢◌, ℕ, false, List, [], ◌++◌, map, None, Some, Ok, Err, IfErr, OnOk, refl, sym, ap, subst, ◌∙◌, inl, inr, ⊎_elim, arith}
 use Rattle.std.specs.declared.option.Option.{Option}
 use Rattle.std.specs.declared.result.Result.{Result}
 use Rattle.std.proofs.lemmas.List.{map-append}
 use Rattle.std.proofs.lemmas.List.Elements.{filter-append}
 use Rattle.tally_base.specs.declared.fault.Fault.{Fault}
 use Rattle.tally_base.specs.declared.fault.Fault.TheVariants.{WriteFault}
+use Rattle.tally_base.specs.FaultCounts.{Rose}
 use Rattle.tally_base.specs.Tally.{History}
 use Rattle.ptu_definitions.specs.declared.records.Summary.{Summary}
-use Rattle.ptu_definitions.specs.Kept.{Marked, kept}
-use Rattle.ptu_definitions.specs.Streams.{Reading, record_refusal, given}
+use Rattle.ptu_definitions.specs.Kept.{Marked}
+use Rattle.ptu_definitions.specs.Times.{events}
+use Rattle.ptu_definitions.specs.Streams.{Reading, record_refusal, given, last_in}
 use Rattle.ptu_definitions.specs.Words.{words_of}
 use Rattle.ptu_definitions.proofs.StreamLemmas.{given-clear}
+use Rattle.ptu_definitions.proofs.DeliveredLaws.{delivered-settled, delivered-kept}
 use Rattle.abs_time.specs.declared.clock.Clock.{Clock}
 use Rattle.record_stream.specs.declared.taker.EventTaker.{Ghosts}
 use Rattle.record_stream.specs.Feeding.{GaveOn, BrokeOn, Fed}
+use Rattle.settle.specs.declared.settle.Settle.{Settle}
+use Rattle.record_stream.specs.Ending.{Ended}
 use Rattle.record_stream.specs.Standing.{Stands}
-use Rattle.tally_base.specs.Faults.{fault_in}
+use Rattle.tally_base.specs.Faults.{fault_in, is_outside}
 use Rattle.gate_plan.specs.Shifting.{Sorting}
-use Rattle.tally_engine.specs.Histories.{with_groups, unmarked, history}
+use Rattle.tally_engine.specs.Parts.{AllHold, Ends}
+use Rattle.tally_engine.specs.declared.part.Part.{Part}
+use Rattle.tally_engine.specs.Histories.{with_groups, history, settled_history}
+use Rattle.ptu_definitions.specs.Settled.{delivered, delivered_last, not_marked}
 
 -- a taker that never breaks was given all that the words call for
 pub fed_whole : {T : Type 0} (g : Ghosts T) {X : Type 0} (how : Reading) (old new : T) (words now : List ℕ) (r : Result X Fault) → g.got old old [] → ((l : Marked) → g.broke old new l → ⊥) → Fed g how old new words now r
@@ -30,19 +38,31 @@ fed_whole g how old new words now (Err fault) none unbroken fed =
     (λ (r : (fault ≡ WriteFault) × BrokeOn g how old new words now). absurd (unbroken r.1.front (r.1.broken old [] none)))
     fed
 
--- the kept list is what was given and isn't marked late
-history-given : (by : Sorting) (how : Reading) (clock : Clock) (sum : Summary) (count : ℕ) (carried : List ℕ) (refused : Option Fault) (bytes : List ℕ) → Stands how clock sum count carried refused bytes → refused ≡ None
-    → history by how (words_of bytes) ≡ with_groups by (unmarked (given how (words_of bytes)))
-unfolding history kept
-history-given by how clock sum count carried None bytes h none = rw (given-clear how (words_of bytes) h.1.clear) refl
-history-given by how clock sum count carried (Some fault) bytes h none = cc
+-- what is settled is what was given and isn't marked late
+pub history-given : (by : Sorting) (how : Reading) (clock : Clock) (sum : Summary) (count : ℕ) (settle : Settle) (carried : List ℕ) (refused : Option Fault) (bytes : List ℕ) → Stands how clock sum count settle carried refused bytes → refused ≡ None
+    → settled_history by how (words_of bytes) ≡ with_groups by (not_marked (given how (words_of bytes)))
+unfolding settled_history
+history-given by how clock sum count settle carried None bytes h none =
+    rw (given-clear how (words_of bytes) h.1.at.clear, delivered-settled how.policy.settle how.mode (events (map how.meaning (words_of bytes)))) refl
+history-given by how clock sum count settle carried (Some fault) bytes h none = cc
 
-with_groups-append : (by : Sorting) (l m : Marked) → with_groups by (unmarked (l ++ m)) ≡ with_groups by (unmarked l) ++ with_groups by (unmarked m)
+with_groups-append : (by : Sorting) (l m : Marked) → with_groups by (not_marked (l ++ m)) ≡ with_groups by (not_marked l) ++ with_groups by (not_marked m)
 with_groups-append by l m = rw (filter-append, map-append, map-append, map-append) refl
 
 history-adds : (by : Sorting) (how : Reading) (before now : List ℕ) (more : Marked) → given how now ≡ given how before ++ more
-    → with_groups by (unmarked (given how now)) ≡ with_groups by (unmarked (given how before)) ++ with_groups by (unmarked more)
-history-adds by how before now more adds = ap (λ l. with_groups by (unmarked l)) adds ∙ with_groups-append by (given how before) more
+    → with_groups by (not_marked (given how now)) ≡ with_groups by (not_marked (given how before)) ++ with_groups by (not_marked more)
+history-adds by how before now more adds = ap (λ l. with_groups by (not_marked l)) adds ∙ with_groups-append by (given how before) more
+
+-- the kept list is what is settled, and the rest that is given at the end
+pub history-ends : (by : Sorting) (how : Reading) (words : List ℕ) → history by how words ≡ settled_history by how words ++ with_groups by (not_marked (last_in how words))
+unfolding history settled_history
+history-ends by how words =
+    let k = how.policy.settle in
+    let es = events (map how.meaning words) in
+    let last = delivered_last k how.mode es in
+    ap (with_groups by) (sym (delivered-kept k how.mode es))
+    ∙ with_groups-append by (delivered k how.mode es) last
+    ∙ ap (λ l. with_groups by l ++ with_groups by (not_marked last)) (delivered-settled k how.mode es)
 
 pub at_same : {A : Type 0} (P : A → Type 0) (x y : A) → P x → x ≡ y → P y
 at_same P x y h is = subst P is h
@@ -53,18 +73,32 @@ on_ok (Err fault) f = tt
 
 module _ (by : Sorting) (how : Reading) {X : Type 0} (r : Result X Fault) (before after : History → Type 0) (bytes piece : List ℕ) where
   -- the events of a piece behind those that were given
-  counts_more : (clock clock' : Clock) (sum sum' : Summary) (count count' : ℕ) (carried carried' : List ℕ) (refused' : Option Fault) → Stands how clock sum count carried None bytes → Stands how clock' sum' count' carried' refused' (bytes ++ piece) → refused' ≡ None
-      → (more : Marked) → given how (words_of (bytes ++ piece)) ≡ given how (words_of bytes) ++ more → ((h : History) → before h → after (h ++ with_groups by (unmarked more)))
-      → before (history by how (words_of bytes)) → after (history by how (words_of (bytes ++ piece)))
-  counts_more clock clock' sum sum' count count' carried carried' refused' stands stands' none more adds follows so_far =
-      let is = history-given by how _ _ _ _ None bytes stands refl in
-      rw (history-given by how _ _ _ _ _ (bytes ++ piece) stands' none, history-adds by how (words_of bytes) (words_of (bytes ++ piece)) more adds, ← is) (follows _ so_far)
+  counts_more : (clock clock' : Clock) (sum sum' : Summary) (count count' : ℕ) (settle settle' : Settle) (carried carried' : List ℕ) (refused' : Option Fault) → Stands how clock sum count settle carried None bytes → Stands how clock' sum' count' settle' carried' refused' (bytes ++ piece) → refused' ≡ None
+      → (more : Marked) → given how (words_of (bytes ++ piece)) ≡ given how (words_of bytes) ++ more → ((h : History) → before h → after (h ++ with_groups by (not_marked more)))
+      → before (settled_history by how (words_of bytes)) → after (settled_history by how (words_of (bytes ++ piece)))
+  counts_more clock clock' sum sum' count count' settle settle' carried carried' refused' stands stands' none more adds follows so_far =
+      let is = history-given by how _ _ _ _ _ None bytes stands refl in
+      rw (history-given by how _ _ _ _ _ _ (bytes ++ piece) stands' none, history-adds by how (words_of bytes) (words_of (bytes ++ piece)) more adds, ← is) (follows _ so_far)
 
-  pub counts_on : (clock clock' : Clock) (sum sum' : Summary) (count count' : ℕ) (carried carried' : List ℕ) (refused refused' : Option Fault) → Stands how clock sum count carried refused bytes → Stands how clock' sum' count' carried' refused' (bytes ++ piece)
+  pub counts_on : (clock clock' : Clock) (sum sum' : Summary) (count count' : ℕ) (settle settle' : Settle) (carried carried' : List ℕ) (refused refused' : Option Fault) → Stands how clock sum count settle carried refused bytes → Stands how clock' sum' count' settle' carried' refused' (bytes ++ piece)
       → refused' ≡ fault_in r → ((fault : Fault) → refused ≡ Some fault → r ≡ Err fault)
-      → (refused ≡ None → (more : Marked) × (given how (words_of (bytes ++ piece)) ≡ given how (words_of bytes) ++ more) × ((h : History) → before h → after (h ++ with_groups by (unmarked more))))
-      → OnOk r (before (history by how (words_of bytes)) → after (history by how (words_of (bytes ++ piece))))
-  counts_on clock clock' sum sum' count count' carried carried' (Some fault) refused' stands stands' is kept fed = rw (kept fault refl) tt
-  counts_on clock clock' sum sum' count count' carried carried' None refused' stands stands' is kept fed =
+      → (refused ≡ None → (more : Marked) × (given how (words_of (bytes ++ piece)) ≡ given how (words_of bytes) ++ more) × ((h : History) → before h → after (h ++ with_groups by (not_marked more))))
+      → OnOk r (before (settled_history by how (words_of bytes)) → after (settled_history by how (words_of (bytes ++ piece))))
+  counts_on clock clock' sum sum' count count' settle settle' carried carried' (Some fault) refused' stands stands' is kept fed = rw (kept fault refl) tt
+  counts_on clock clock' sum sum' count count' settle settle' carried carried' None refused' stands stands' is kept fed =
       let e = fed refl in
-      on_ok r (λ x ok. counts_more clock clock' sum sum' count count' carried carried' refused' stands stands' (is ∙ ap fault_in ok) e.0 e.1 e.2)
+      on_ok r (λ x ok. counts_more clock clock' sum sum' count count' settle settle' carried carried' refused' stands stands' (is ∙ ap fault_in ok) e.0 e.1 e.2)
+
+-- ## The end
+
+-- a taker that never breaks was given the rest
+pub ends_by : {T : Type 0} (g : Ghosts T) (by : Sorting) (how : Reading) (a b : T) (bytes : List ℕ) (old new : List Part) (r : Result Summary Fault) → g.got a a [] → ((l : Marked) → g.broke a b l → ⊥)
+    → (g.got a b (last_in how (words_of bytes)) → AllHold old (settled_history by how (words_of bytes)) → AllHold new (history by how (words_of bytes))) → Ended g how a b bytes r → Ends by how bytes old new r
+ends_by g by how a b bytes old new (Ok summary) none unbroken follows e = record { streams = e.streams; follows = follows (e.follows a [] none) }
+ends_by g by how a b bytes old new (Err fault) none unbroken follows (inl e) = e.0
+ends_by g by how a b bytes old new (Err fault) none unbroken follows (inr e) = absurd (unbroken e.1.front (e.1.broken a [] none))
+
+-- no write fails where none is counted
+pub inside_of : {X : Type 0} (r : Result X Fault) → IfErr r (λ fault. fault ≢ WriteFault → is_outside fault ≡ false) → IfErr r (λ fault. fault ≡ WriteFault → Rose 0 0) → IfErr r (λ fault. is_outside fault ≡ false)
+inside_of (Ok x) inside cause = tt
+inside_of (Err fault) inside cause = inside (λ e. let rose = cause e in omega (arith, rose))

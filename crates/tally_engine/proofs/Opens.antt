@@ -1,6 +1,6 @@
 -- An engine of no bytes.
-use Rattle.std.proofs.Common.{◌≡◌, ◌<◌, ◌≤◌, ◌+◌, ◌*◌, ℕ, suc, take, get_or, List, [], ◌∷◌, ◌++◌, map, rules, sym, ◌∙◌, append_assoc, false, None, Some, length, refl, ap, arith}
-use Rattle.std.proofs.Math.Seq.{take-suc}
+use Rattle.std.proofs.Common.{◌≡◌, ◌<◌, ◌≤◌, ◌+◌, ◌*◌, ℕ, suc, take, get_or, List, [], ◌∷◌, ◌++◌, map, rules, sym, ◌∙◌, append_assoc, Bool, true, false, ◌-◌, ◌==◌, if◌then◌else◌, None, Some, length, refl, ap, arith}
+use Rattle.std.proofs.Math.Seq.{take-suc, take-nil}
 use Rattle.std.proofs.lemmas.List.{map-append}
 use Rattle.std.proofs.lemmas.List.Elements.{All-push}
 use Rattle.std.specs.declared.option.Option.{Option}
@@ -12,31 +12,41 @@ use Rattle.std.proofs.lemmas.List.Sums.{sum_by-cons}
 use Rattle.tally_base.specs.Settings.{entries, is_strict, PartSettings}
 use Rattle.tally_base.specs.Tally.{History, greatest_time}
 use Rattle.ptu_definitions.specs.declared.records.Summary.{Summary}
-use Rattle.ptu_definitions.specs.Kept.{marked, kept}
+use Rattle.ptu_definitions.specs.Kept.{kept, marked}
 use Rattle.ptu_definitions.specs.Times.{events}
-use Rattle.ptu_definitions.specs.Streams.{Reading, summary}
+use Rattle.ptu_definitions.specs.Streams.{Reading}
+use Rattle.ptu_definitions.specs.Words.{words_of}
+use Rattle.record_stream.proofs.Summaries.{so_far-records}
 use Rattle.gate_plan.specs.Shifting.{Sorting}
 use Rattle.abs_time.specs.declared.clock.Clock.{Clock}
+use Rattle.settle.specs.declared.settle.Settle.{Settle}
 use Rattle.record_stream.specs.Standing.{Stands}
+use Rattle.ptu_definitions.specs.Settled.{in_time, not_overtaken, ordered}
 use Rattle.tau_cascade.proofs.Work.{work_within}
 use Rattle.tally_engine.specs.declared.engine.Engine.{Engine}
 use Rattle.tally_engine.specs.declared.part.Part.{Part}
 use Rattle.tally_engine.specs.declared.part.Part.TheVariants.{Correlation as InCorrelation}
 use Rattle.tally_engine.specs.Engine.{held, bound}
 use Rattle.tally_engine.specs.contracts.part.PartTally.TheImpl.{ghosts}
-use Rattle.tally_engine.specs.Histories.{history}
+use Rattle.tally_engine.specs.Histories.{settled_history}
 use Rattle.tally_engine.specs.Part.{laws_of}
 use Rattle.tally_engine.specs.Parts.{settings_in, entries_in, IsOpened, IsWithinWork, AllOpened}
 use Rattle.tally_engine.specs.Taker.{Standing}
 
-pub history-none : (by : Sorting) (how : Reading) → history by how [] ≡ []
-unfolding history kept marked events
-history-none by how = refl
+kept-none : (zero : Bool) (k : ℕ) (mode : Mode) → (if zero then kept mode [] else in_time k (ordered mode [])) ≡ []
+unfolding kept marked in_time not_overtaken
+kept-none true k mode = refl
+kept-none false k mode = refl
 
-pub none_taken : (how : Reading) (clock : Clock) (sum : Summary) (count : ℕ) (carried : List ℕ) (refused : Option Fault) → Stands how clock sum count carried refused [] → refused ≡ None → 4 * sum.records + length carried ≡ 0
-unfolding summary
-none_taken how clock sum count carried None stands none = let e = ap (λ s. s.records) stands.1.summary in let l = ap length stands.0 in omega (arith, e, l)
-none_taken how clock sum count carried (Some fault) stands none = cc
+pub history-none : (by : Sorting) (how : Reading) → settled_history by how [] ≡ []
+unfolding settled_history events
+history-none by how =
+    let k = how.policy.settle in
+    rw (kept-none (k == 0) k how.mode, take-nil (0 - k)) refl
+
+pub none_taken : (how : Reading) (clock : Clock) (sum : Summary) (count : ℕ) (settle : Settle) (carried : List ℕ) (refused : Option Fault) → Stands how clock sum count settle carried refused [] → refused ≡ None → 4 * sum.records + length carried ≡ 0
+none_taken how clock sum count settle carried None stands none = let e = ap (λ s. s.records) stands.1.at.summary ∙ so_far-records how (words_of []) in let l = ap length stands.0 in omega (arith, e, l)
+none_taken how clock sum count settle carried (Some fault) stands none = cc
 
 -- ## What holds of a table of any kind
 
@@ -87,13 +97,13 @@ pub tables_within : (parts : List Part) → entries_in parts ≤ sum_by entries 
 tables_within [] = omega arith
 tables_within (p ∷ parts) = omega (arith, part_within p, tables_within parts, sum_by-cons ghosts.held p parts, sum_by-cons entries (ghosts.settings p) (settings_in parts))
 
--- What an engine of these tables keeps, with the carried bytes, is within its bound.
-pub kept_within : (parts : List Part) (carried : ℕ) → carried ≤ 48 → entries_in parts + carried ≤ 48 + sum_by entries (settings_in parts)
-kept_within parts carried few = omega (arith, tables_within parts, few)
+-- What an engine of these tables keeps, with the carried bytes and the events kept back, is within its bound.
+pub kept_within : (parts : List Part) (carried waiting settle : ℕ) → carried ≤ 48 → waiting ≤ settle → entries_in parts + carried + waiting ≤ 48 + settle + sum_by entries (settings_in parts)
+kept_within parts carried waiting settle few back = omega (arith, tables_within parts, few, back)
 
 -- An engine keeps no more entries than its bound.
 pub engine_within : (engine : Engine) → held engine ≤ bound engine
-engine_within engine = kept_within engine.parts.items _ (search (rules, arith))
+engine_within engine = kept_within engine.parts.items _ _ _ (search (rules, arith)) (search (rules, arith))
 
 -- What a correlation spent on the events that it stands for is within their work.
 pub part_worked : (h : History) (p : Part) → ghosts.holds p h → IsWithinWork h p

@@ -13,18 +13,19 @@ use Rattle.tally_base.specs.Tally.{History, moves_floor}
 use Rattle.ptu_definitions.specs.Kept.{Marked}
 use Rattle.gate_plan.specs.Shifting.{Sorting, shifted}
 use Rattle.gate_plan.specs.Taking.{groups_by, groups_in}
-use Rattle.tally_engine.specs.Histories.{grouped, with_groups, unmarked}
+use Rattle.tally_engine.specs.Histories.{grouped, with_groups}
+use Rattle.ptu_definitions.specs.Settled.{not_marked}
 use Rattle.record_stream.proofs.Floors.{moved_floor-push}
 use Rattle.event_block.specs.Order.{floor_after, InOrder}
 use Rattle.event_block.proofs.Order.{floor-push, order-push, order-front, order-last}
 use Rattle.tally_engine.specs.Give.{kept_of, CanTake, Took, Holding, Moves}
 use Rattle.tally_engine.specs.Taker.{Standing, Waits, Gave}
 
-unmarked-late : (l : Marked) (e : Event) → unmarked (l ++ (e, true) ∷ []) ≡ unmarked l
-unmarked-late l e = rw (filter-append, append-nil) refl
+not_marked-late : (l : Marked) (e : Event) → not_marked (l ++ (e, true) ∷ []) ≡ not_marked l
+not_marked-late l e = rw (filter-append, append-nil) refl
 
-unmarked-push : (l : Marked) (e : Event) → unmarked (l ++ (e, false) ∷ []) ≡ unmarked l ++ e ∷ []
-unmarked-push l e = rw (filter-append, map-append) refl
+not_marked-push : (l : Marked) (e : Event) → not_marked (l ++ (e, false) ∷ []) ≡ not_marked l ++ e ∷ []
+not_marked-push l e = rw (filter-append, map-append) refl
 
 pub with_groups-more : (by : Sorting) (es more : List Event) → with_groups by (es ++ more) ≡ with_groups by es ++ with_groups by more
 with_groups-more by es more =
@@ -33,9 +34,9 @@ with_groups-more by es more =
 pub with_groups-push : (by : Sorting) (es : List Event) (e : Event) → with_groups by (es ++ e ∷ []) ≡ with_groups by es ++ (shifted by e, groups_in by e) ∷ []
 with_groups-push by es e = with_groups-more by es (e ∷ [])
 
-unmarked-more : (l : Marked) (e : Event) (late : Bool) → unmarked (l ++ (e, late) ∷ []) ≡ unmarked l ++ kept_of late e
-unmarked-more l e true = unmarked-late l e ∙ sym (append-nil (unmarked l))
-unmarked-more l e false = unmarked-push l e
+not_marked-more : (l : Marked) (e : Event) (late : Bool) → not_marked (l ++ (e, late) ∷ []) ≡ not_marked l ++ kept_of late e
+not_marked-more l e true = not_marked-late l e ∙ sym (append-nil (not_marked l))
+not_marked-more l e false = not_marked-push l e
 
 -- what moves the floor of a table is in the order of its mode
 ordered : (mode : Mode) (strict : Bool) (e : Event) → (mode ≡ T2 → strict ≡ false) → IsTrue (moves_floor strict e) → IsTrue (is_ordered mode e)
@@ -136,7 +137,7 @@ module _ {T : Type 0} (g : Ghosts T) where
     moved = is ∙ rw gave.same_mode (moved_floor-push mode floor floor' l e late gave.moved (rw gave.same_mode at in_order));
     follows = λ h held. λ k d inside.
         let within : k < length old = omega (arith, same, inside) in
-        rw (unmarked-more l e late, with_groups-more by (unmarked l) (kept_of late e), ← append_assoc h) ((rw gave.same_sorting at (moves k d within)).follows _ (gave.follows h held k d within));
+        rw (not_marked-more l e late, with_groups-more by (not_marked l) (kept_of late e), ← append_assoc h) ((rw gave.same_sorting at (moves k d within)).follows _ (gave.follows h held k d within));
   }
 
   pub holding_none : (by : Sorting) (none : List Event) (t : T) (h : History) → none ≡ [] → g.holds t h → Holding g by none t h

@@ -6,11 +6,11 @@ use Rattle.tally_base.specs.declared.header.Header.{Header}
 use Rattle.tally_base.specs.Settings.{PartSettings, entries}
 use Rattle.ptu_definitions.specs.Streams.{Reading, streamed}
 use Rattle.ptu_definitions.specs.Words.{words_of}
-use Rattle.record_stream.specs.Standing.{how_of, refused_with, carried_by, bytes_in, HasStreamed}
+use Rattle.record_stream.specs.Standing.{how_of, refused_with, carried_by, kept_back_by, bytes_in, HasStreamed}
 use Rattle.plan_text.specs.Plan.{PlanView, parts_of}
 use Rattle.gate_plan.specs.Shifting.{Sorting, sorting}
 use Rattle.gate_plan.specs.Groups.{sorting_of}
-use Rattle.tally_engine.specs.Histories.{history}
+use Rattle.tally_engine.specs.Histories.{history, settled_history}
 use Rattle.tally_engine.specs.Parts.{settings_in, AllHold, AllClosed, IsWithinWork, entries_in}
 use Rattle.tally_engine.specs.Plans.{reading_by}
 use Rattle.tally_engine.specs.declared.engine.Engine.{Engine}
@@ -57,19 +57,19 @@ refused_by engine = refused_with engine.stream
 abbrev pub bytes_fed : Engine → ℕ
 bytes_fed engine = bytes_in engine.stream
 
--- The engine was given these bytes: where it refused none, each table holds the list that tables count over (`history`).
+-- The engine was given these bytes: where it refused none, each table holds the list that tables count over (`history`), but for the last events that it keeps back.
 abbrev pub HasFed : Engine → List ℕ → Type 0
-HasFed engine bytes = HasStreamed engine.stream bytes × (refused_by engine ≡ None → AllHold engine.parts.items (history (engine_sorting engine) (reading_of engine) (words_of bytes)))
+HasFed engine bytes = HasStreamed engine.stream bytes × (refused_by engine ≡ None → AllHold engine.parts.items (settled_history (engine_sorting engine) (reading_of engine) (words_of bytes)))
 
 -- ## How much it keeps
 
--- how many entries it keeps: those of its tables, and the carried bytes
+-- how many entries it keeps: those of its tables, the carried bytes, and the events kept back
 abbrev pub held : Engine → ℕ
-held engine = entries_in engine.parts.items + length (carried_by engine.stream)
+held engine = entries_in engine.parts.items + length (carried_by engine.stream) + length (kept_back_by engine.stream)
 
 -- how many it keeps at most
 abbrev pub bound : Engine → ℕ
-bound engine = 48 + sum_by entries (parts_in engine)
+bound engine = 48 + (reading_of engine).policy.settle + sum_by entries (parts_in engine)
 
 -- ## What comes of it
 

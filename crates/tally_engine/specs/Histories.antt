@@ -1,10 +1,10 @@
 -- The list of the events that tables are given: the kept list, with shifted dtimes and with groups.
-use Rattle.std.specs.Prelude.{ℕ, List, map, filter, not}
+use Rattle.std.specs.Prelude.{ℕ, List, map}
 use Rattle.tally_base.specs.declared.event.Event.{Event}
 use Rattle.tally_base.specs.Settings.{GroupView}
 use Rattle.tally_base.specs.Tally.{History}
 use Rattle.gate_plan.specs.Taking.{groups_by}
-use Rattle.ptu_definitions.specs.Kept.{Marked, kept}
+use Rattle.ptu_definitions.specs.Settled.{kept_by, settled_by}
 use Rattle.ptu_definitions.specs.Times.{events}
 use Rattle.ptu_definitions.specs.Streams.{Reading}
 use Rattle.gate_plan.specs.Shifting.{Sorting, shifted}
@@ -17,10 +17,10 @@ grouped groups es = map (λ e. (e, groups_by groups e)) es
 abbrev pub with_groups : Sorting → List Event → History
 with_groups by es = grouped by.groups (map (shifted by) es)
 
--- the events that aren't marked late
-abbrev pub unmarked : Marked → List Event
-unmarked l = map (λ x. x.0) (filter (λ x. not x.1) l)
-
 -- The list that every table counts over: the kept list of these words, each photon with its shifted dtime in place of its dtime, and each event with its groups.
 unfoldable pub history : Sorting → Reading → List ℕ → History
-history by how words = with_groups by (kept how.mode (events (map how.meaning words)))
+history by how words = with_groups by (kept_by how.policy.settle how.mode (events (map how.meaning words)))
+
+-- The same of those that are settled: what tables are given while more words may come.
+unfoldable pub settled_history : Sorting → Reading → List ℕ → History
+settled_history by how words = with_groups by (settled_by how.policy.settle how.mode (events (map how.meaning words)))

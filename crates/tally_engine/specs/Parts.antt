@@ -1,12 +1,15 @@
 -- The tables of an engine.
-use Rattle.std.specs.Prelude.{◌≡◌, ◌≤◌, ⊤, ℕ, List, [], All, map, sum_by, true, false}
+use Rattle.std.specs.Prelude.{◌≡◌, ◌≤◌, ⊤, ℕ, List, [], All, map, sum_by, true, false, Result, Ok, Err}
 use Rattle.tally_base.specs.Settings.{PartSettings, correlation_view}
-use Rattle.ptu_definitions.specs.Streams.{Reading}
+use Rattle.tally_base.specs.declared.fault.Fault.{Fault}
+use Rattle.ptu_definitions.specs.declared.records.Summary.{Summary}
+use Rattle.ptu_definitions.specs.Streams.{Reading, streamed}
+use Rattle.ptu_definitions.specs.Words.{words_of}
 use Rattle.tally_base.specs.Tally.{History}
 use Rattle.gate_plan.specs.Shifting.{Sorting}
 use Rattle.tau_cascade.specs.Cascade.{set_of, spent_by}
 use Rattle.tau_cascade.specs.Work.{work}
-use Rattle.tally_engine.specs.Histories.{history}
+use Rattle.tally_engine.specs.Histories.{history, settled_history}
 use Rattle.tally_engine.specs.declared.part.Part.{Part}
 use Rattle.tally_engine.specs.declared.part.Part.TheVariants.{Correlation as InCorrelation}
 use Rattle.tally_engine.specs.contracts.part.PartTally.TheImpl.{ghosts}
@@ -21,7 +24,17 @@ AllHold parts h = All (λ p. ghosts.holds p h) parts
 
 -- Where the old tables hold the events of these words, the new ones hold those of more words.
 abbrev pub HoldOn : Sorting → Reading → List ℕ → List ℕ → List Part → List Part → Type 0
-HoldOn by how words now old new = AllHold old (history by how words) → AllHold new (history by how now)
+HoldOn by how words now old new = AllHold old (settled_history by how words) → AllHold new (settled_history by how now)
+
+-- The bytes have this summary, and where the old tables hold what is settled of them, the new ones hold all that is
+-- kept.
+pub record EndsWith (by : Sorting) (how : Reading) (bytes : List ℕ) (old new : List Part) (summary : Summary) : Type 0 where
+  pub streams : streamed how bytes ≡ Ok summary
+  pub follows : AllHold old (settled_history by how (words_of bytes)) → AllHold new (history by how (words_of bytes))
+
+abbrev pub Ends : Sorting → Reading → List ℕ → List Part → List Part → Result Summary Fault → Type 0
+Ends by how bytes old new (Ok summary) = EndsWith by how bytes old new summary
+Ends by how bytes old new (Err fault) = streamed how bytes ≡ Err fault
 
 -- Every table is closed: its cells are the counts.
 abbrev pub AllClosed : List Part → Type 0

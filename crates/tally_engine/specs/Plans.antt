@@ -8,7 +8,7 @@ use Rattle.plan_text.specs.Plan.{PlanView}
 use Rattle.ptu_definitions.specs.Streams.{Reading, reading}
 
 abbrev pub policy_of : PlanView → Policy
-policy_of plan = record { order = plan.order; reserved = plan.reserved; records = plan.records }
+policy_of plan = record { order = plan.order; reserved = plan.reserved; records = plan.records; settle = plan.settle }
 
 -- how a plan reads the records behind a header
 abbrev pub reading_by : PlanView → Header → Reading

@@ -11,7 +11,8 @@ use Rattle.ptu_definitions.specs.Kept.{Marked, floor_of}
 use Rattle.gate_plan.specs.Shifting.{Sorting}
 use Rattle.event_block.specs.Order.{floor_after, InOrder}
 use Rattle.tally_engine.specs.Give.{Holding}
-use Rattle.tally_engine.specs.Histories.{with_groups, unmarked}
+use Rattle.tally_engine.specs.Histories.{with_groups}
+use Rattle.ptu_definitions.specs.Settled.{not_marked}
 
 module _ {T : Type 0} (g : Ghosts T) where
   -- The table isn't closed, is no further on than the stream, and suits its mode: markers of T2 are in no order.
@@ -35,7 +36,7 @@ module _ {T : Type 0} (g : Ghosts T) where
     pub same_mode : mode' ≡ mode
     pub counted : taken' ≡ taken + length l
     pub moved : floor' ≡ max floor (floor_of mode l)
-    pub follows : (h : History) → All (λ t. Holding g by es t h) old → All (λ t. Holding g by es' t (h ++ with_groups by (unmarked l))) new
+    pub follows : (h : History) → All (λ t. Holding g by es t h) old → All (λ t. Holding g by es' t (h ++ with_groups by (not_marked l))) new
 
   pub gave_none : (by : Sorting) (mode : Mode) (taken floor : ℕ) (es : List Event) (old : List T) → Gave by by mode mode taken taken floor floor es es old old []
   gave_none by mode taken floor es old = record { same_sorting = refl; same_mode = refl; counted = omega arith; moved = omega arith; follows = λ h held. rw (append-nil h) held }

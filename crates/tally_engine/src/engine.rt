@@ -9,7 +9,7 @@ ghost use Rattle.tally_engine.specs.Taker.{Standing};
 use crate::give::close_all;
 use crate::open::open_all;
 use crate::part::Part;
-use crate::part_taker::feed_parts;
+use crate::part_taker::{feed_parts, finish_parts};
 use gate_plan::Gates;
 use plan_text::Plan;
 use record_stream::{RecordStream, Summary};
@@ -30,7 +30,8 @@ pub struct Results {
 
 /// All tables of a plan, and the stream of a file's records that feeds them.
 ///
-/// It takes all its memory when it is opened. Beside the tables it keeps at most three bytes of a record.
+/// It takes all its memory when it is opened. Beside the tables it keeps at most three bytes of a record, and as
+/// many events as the plan lets overtake one.
 #[derive(Drop)]
 pub struct Engine {
     header: Header,
@@ -123,7 +124,7 @@ impl Engine {
         )
     }
 
-    /// Closes every table, and gives what was counted.
+    /// Gives every table the events that were kept back, closes it, and gives what was counted.
     ///
     /// Refuses bytes that end within a record, and answers again what a piece was refused for.
     pub fn finish<L: Ledger>(self, steps: &mut Steps<L>) -> Result<Results, Fault>
@@ -131,22 +132,22 @@ impl Engine {
         ensures kept { (fault : Fault) → refused_by self ≡ Some fault → result ≡ Err fault }
         ensures inside { IfErr result (λ fault. is_outside fault ≡ false) }
     {
+        if let Some(refusal) = self.stream.refusal() {
+            return Err(refusal);
+        }
         let Engine {
             header,
-            gates: _,
+            gates,
             stream,
             mut parts,
         } = self;
-        match stream.finish() {
-            Ok(summary) => {
-                close_all(&mut parts, steps);
-                Ok(Results {
-                    header,
-                    summary,
-                    parts,
-                })
-            }
-            Err(fault) => Err(fault),
-        }
+        let mode = header.record_type.mode();
+        let summary = finish_parts(stream, mode, &gates, &mut parts, steps)?;
+        close_all(&mut parts, steps);
+        Ok(Results {
+            header,
+            summary,
+            parts,
+        })
     }
 }

@@ -172,6 +172,8 @@ fn dtime_behind(gates: &Gates, code: u16, dtime: u16) -> u16
 }
 
 /// Finds the groups of the events of a block, whose dtimes are shifted.
+// Not inlined, so that its loop has the registers for itself.
+#[inline(never)]
 fn sort(gates: &Gates, block: &mut Block)
     requires { sorted block.old ≡ 0 }
     ensures same { gathered block.new ≡ gathered block.old }

@@ -8,7 +8,8 @@ ghost use Rattle.ptu_definitions.specs.Words.{words_of};
 ghost use Rattle.record_stream.specs.Standing.{how_of, given_by, top_of, refused_with, bytes_in, HasStreamed};
 ghost use Rattle.tally_base.specs.Faults.{fault_in};
 ghost use Rattle.tally_engine.specs.Histories.{with_groups};
-ghost use Rattle.tally_engine.specs.Parts.{HoldOn};
+ghost use Rattle.tally_base.specs.Faults.{is_outside};
+ghost use Rattle.tally_engine.specs.Parts.{HoldOn, Ends};
 ghost use Rattle.tally_engine.specs.Same.{SameTables};
 ghost use Rattle.gate_plan.specs.Groups.{sorting_of};
 ghost use Rattle.event_block.specs.Columns.{sorted, gathered};
@@ -24,13 +25,13 @@ use crate::part::Part;
 use crate::reached::Reached;
 use event_block::Block;
 use gate_plan::Gates;
-use record_stream::{EventTaker, RecordStream};
+use record_stream::{EventTaker, RecordStream, Summary};
 use std::sync::ledger::Ledger;
 use tally_base::{Event, Failed, Fault, Mode, Steps, Tally};
 
 /// Gives each event that isn't late to every table, with its groups. A block of them it passes on as it is;
 /// those that come one by one it gathers in a block of its own, so that the kind of a table is tested once
-/// for many events. It lives for one piece.
+/// for many events. It lives for one piece, or for the end.
 #[derive(Drop)]
 struct PartTaker<'g, 'p, 's, L: Ledger> {
     gates: &'g Gates,
@@ -161,4 +162,46 @@ pub(crate) fn feed_parts<L: Ledger>(
     } = taker;
     flush_waiting(gates, mode, parts, &mut reached, &mut block, steps);
     fed
+}
+
+/// Gives every table the events that a stream, which has refused nothing, keeps back, and answers the summary
+/// of its bytes. It refuses bytes that end within a record.
+pub(crate) fn finish_parts<L: Ledger>(
+    stream: RecordStream,
+    mode: Mode,
+    gates: &Gates,
+    parts: &mut [Part],
+    steps: &mut Steps<L>,
+) -> Result<Summary, Fault>
+    requires mode { mode ≡ (how_of stream).mode }
+    requires going { refused_with stream ≡ None }
+    requires standing { All (Standing ⟦<Part as Tally>⟧ mode (given_by stream) (top_of stream)) parts.old }
+    ensures ends { (bytes : List ℕ) → HasStreamed stream bytes
+        → Ends (sorting_of gates.now) (how_of stream) bytes parts.old parts.new result }
+    ensures still_open { All (λ t. ⟦<Part as Tally>⟧.closed t ≡ false) parts.new }
+    ensures inside { IfErr result (λ fault. is_outside fault ≡ false) }
+    ensures same_tables { SameTables ⟦<Part as Tally>⟧ parts.old parts.new }
+{
+    let mut taker = PartTaker {
+        gates,
+        parts,
+        steps,
+        mode,
+        reached: Reached {
+            taken: stream.given(),
+            floor: stream.top(),
+        },
+        block: Block::new(),
+    };
+    let finished = stream.finish(&mut taker);
+    let PartTaker {
+        gates,
+        parts,
+        steps,
+        mode,
+        mut reached,
+        mut block,
+    } = taker;
+    flush_waiting(gates, mode, parts, &mut reached, &mut block, steps);
+    finished
 }

@@ -8,7 +8,7 @@ use Rattle.record_stream.specs.Standing.{how_of, given_by, top_of}
 use Rattle.gate_plan.specs.Groups.{sorting_of}
 use Rattle.tally_engine.specs.contracts.part.PartTally.TheImpl.{ghosts}
 use Rattle.tally_engine.specs.declared.part.Part.{Part}
-use Rattle.tally_engine.specs.Histories.{history, with_groups}
+use Rattle.tally_engine.specs.Histories.{settled_history, with_groups}
 use Rattle.tally_engine.specs.Taker.{Standing, gave_none}
 use Rattle.tally_engine.proofs.Feeds.{fed_whole, counts_on, at_same}
 use Rattle.tally_engine.proofs.Takes.{holding_none, holding_all, standing_took}
@@ -23,8 +23,8 @@ returns-clause-counts g c = λ bytes h.
     let by = sorting_of c.args.gates.now in
     let how = how_of c.args.stream.now in
     let taker = c.feed-fed.new.taker in
-    at_same (λ parts. OnOk c.feed-fed.result (all c.args.parts.now (history by how (words_of bytes)) → all parts (history by how (words_of (bytes ++ c.args.piece.now))))) c.flush_waiting.new.parts _
-    (counts_on by how c.feed-fed.result (all c.args.parts.now) (all c.flush_waiting.new.parts) bytes c.args.piece.now _ _ _ _ _ _ _ _ _ _ h (rw fed.same_how at (fed.taken bytes h)) fed.refused (λ fault is. (fed.kept fault is).0)
+    at_same (λ parts. OnOk c.feed-fed.result (all c.args.parts.now (settled_history by how (words_of bytes)) → all parts (settled_history by how (words_of (bytes ++ c.args.piece.now))))) c.flush_waiting.new.parts _
+    (counts_on by how c.feed-fed.result (all c.args.parts.now) (all c.flush_waiting.new.parts) bytes c.args.piece.now _ _ _ _ _ _ _ _ _ _ _ _ h (rw fed.same_how at (fed.taken bytes h)) fed.refused (λ fault is. (fed.kept fault is).0)
     (λ none.
     let r = fed_whole _ _ _ _ _ _ _ (gave_none ghosts _ _ _ _ _ _) (λ l broke. broke) (fed.fed none bytes h) in
     let same : length c.flush_waiting.new.parts ≡ length taker.parts.now = search rules in (

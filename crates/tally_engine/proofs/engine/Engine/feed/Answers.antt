@@ -57,7 +57,7 @@ returns-clause-same g c =
     }
 
 pub returns-clause-within : goal.returns-clause-within
-returns-clause-within g c = let few : length (carried_by c.feed_parts.new.stream) ≤ 48 = search (rules, arith) in kept_within (with_items c.args.self.now.parts c.feed_parts.new.parts).items _ few
+returns-clause-within g c = let few : length (carried_by c.feed_parts.new.stream) ≤ 48 = search (rules, arith) in kept_within (with_items c.args.self.now.parts c.feed_parts.new.parts).items _ _ _ few (search (rules, arith))
 
 pub returns-in-Some-clause-within : goal.returns-in-Some-clause-within
 returns-in-Some-clause-within g c = engine_within c.args.self.now

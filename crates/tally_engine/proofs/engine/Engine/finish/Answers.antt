@@ -1,26 +1,43 @@
-use Rattle.std.proofs.Common.{rules, ◌≡◌, refl, sym, ◌∙◌, length}
+use Rattle.std.proofs.Common.{rules, ◌≡◌, refl, sym, ap, ◌∙◌, length, None, Some}
 use Rattle.event_block.proofs.Slices.{whole_slice}
+use Rattle.record_stream.specs.Standing.{refused_with}
+use Rattle.tally_engine.specs.contracts.part.PartTally.TheImpl.{ghosts}
 use Rattle.tally_engine.proofs.Slices.{same_map}
+use Rattle.record_stream.proofs.Lasts.{streamed-refused}
 use Rattle.tally_engine.proofs.Opens.{part_worked}
-use Rattle.tally_engine.proofs.Refusals.{unrefused, not_written}
+use Rattle.tally_engine.proofs.Refusals.{no_write}
 use Rattle.tally_engine.proofs.engine.Engine.finish.Goals as goal
 
-pub returns-in-Ok-clause-answer : goal.returns-in-Ok-clause-answer
-returns-in-Ok-clause-answer g c = λ bytes h.
-    let going = unrefused _ c.finish.result _ c.in-Ok.is c.finish.ensures.kept in
-    let closed = rw c.deref_mut.ensures.value at c.close_all.ensures.closed in
-    let count : length c.close_all.new.parts ≡ length c.args.self.parts.items = search rules in
-    let all : c.args.self.parts.len ≡ length c.args.self.parts.items = search rules in
+pub returns-clause-answer : goal.returns-clause-answer
+returns-clause-answer g c = λ bytes h.
+    let going : refused_with c.args.self.stream ≡ None = sym c.refusal.ensures ∙ c.in_default.is in
+    let old = c.args.self.parts.items in
+    let mid = c.finish_parts.new.parts in
+    let now = c.close_all.new.parts in
+    let tables = rw c.deref_mut.ensures.value at c.finish_parts.ensures.same_tables in
+    let all : c.args.self.parts.len ≡ length old = search rules in
+    let mid_is = whole_slice mid old c.args.self.parts.len tables.count all in
+    let closed = rw (c.deref_mut-2.ensures.value, mid_is) at c.close_all.ensures.closed in
+    let two : length now ≡ length mid = search rules in
+    let whole = whole_slice now mid c.args.self.parts.len two (all ∙ sym tables.count) in
+    let ends = rw (c.deref_mut.ensures.value, c.in_ok-summary.was) at (c.finish_parts.ensures.ends bytes h.0) in
     record {
       header_is = refl;
-      summary_is = sym (c.finish.ensures.answer (not_written _ going) bytes h.0) ∙ c.in-Ok.is;
-      parts_are = rw (whole_slice _ _ _ count all) (same_map _ _ _ count (λ k d within. (closed k d within).same_settings));
-      closed = rw (whole_slice _ _ _ count all) (λ k d within. (closed k d ((rw count at within))).now_closed);
-      counts = rw (whole_slice _ _ _ count all) (λ k d within. let inside = (rw count at within) in (closed k d inside).keeps _ (h.1 going k d inside));
-      worked = rw (whole_slice _ _ _ count all) (λ k d within. let inside = (rw count at within) in part_worked _ _ ((closed k d inside).keeps _ (h.1 going k d inside)));
+      summary_is = ends.streams;
+      parts_are = rw (mid_is, whole) (same_map ghosts.settings mid now two (λ k d within. (closed k d within).same_settings) ∙ same_map ghosts.settings old mid tables.count tables.settings);
+      closed = rw (mid_is, whole) (λ k d within. let inside = (rw two at within) in (closed k d inside).now_closed);
+      counts = rw (mid_is, whole) (λ k d within. let inside = (rw two at within) in (closed k d inside).keeps _ (ends.follows (h.1 going) k d inside));
+      worked = rw (mid_is, whole) (λ k d within. let inside = (rw two at within) in part_worked _ _ ((closed k d inside).keeps _ (ends.follows (h.1 going) k d inside)));
     }
+
+pub returns-in-Some-clause-answer : goal.returns-in-Some-clause-answer
+returns-in-Some-clause-answer g c = λ bytes h.
+    let is : refused_with c.args.self.stream ≡ Some c.in-Some.refusal = sym c.refusal.ensures ∙ c.in-Some.is in
+    sym (streamed-refused _ bytes c.in-Some.refusal ((rw is at h.0) (no_write c.in-Some.refusal (c.args.self.inside c.in-Some.refusal is))))
 
 pub close_all-requires : goal.close_all-requires
 close_all-requires g c =
-    let going = unrefused _ c.finish.result _ c.in-Ok.is c.finish.ensures.kept in
-    rw c.deref_mut.ensures.value (record { «open» = λ k d within. (c.args.self.standing going k d within).still_open })
+    let old = c.args.self.parts.items in
+    let tables = rw c.deref_mut.ensures.value at c.finish_parts.ensures.same_tables in
+    let all : c.args.self.parts.len ≡ length old = search rules in
+    rw (c.deref_mut-2.ensures.value, whole_slice c.finish_parts.new.parts old c.args.self.parts.len tables.count all) (record { «open» = c.finish_parts.ensures.still_open })

@@ -19,7 +19,7 @@ pub returns-in-Ok-clause-empty : goal.returns-in-Ok-clause-empty
 returns-in-Ok-clause-empty c = (c.new.ensures.empty, λ none. λ k d within. rw (history-none _ _) ((c.in-Ok.ensures.opened k d within).empty))
 
 pub returns-in-Ok-clause-none : goal.returns-in-Ok-clause-none
-returns-in-Ok-clause-none c = none_taken _ _ _ _ _ _ c.new.ensures.empty c.new.ensures.unrefused
+returns-in-Ok-clause-none c = none_taken _ _ _ _ _ _ _ c.new.ensures.empty c.new.ensures.unrefused
 
 pub returns-in-Ok-clause-within : goal.returns-in-Ok-clause-within
-returns-in-Ok-clause-within c = let few : length (carried_by c.new.result) ≤ 48 = search (rules, arith) in kept_within c.in-Ok.parts.items _ few
+returns-in-Ok-clause-within c = let few : length (carried_by c.new.result) ≤ 48 = search (rules, arith) in kept_within c.in-Ok.parts.items _ _ _ few (search (rules, arith))

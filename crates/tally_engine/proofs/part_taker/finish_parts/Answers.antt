@@ -1,0 +1,46 @@
+use Rattle.std.proofs.Common.{rules, arith, All, false, ◌≡◌, ◌<◌, ◌++◌, List, length, subst, get_or}
+use Rattle.event_block.specs.Columns.{gathered}
+use Rattle.ptu_definitions.specs.Words.{words_of}
+use Rattle.record_stream.specs.Standing.{how_of}
+use Rattle.gate_plan.specs.Groups.{sorting_of}
+use Rattle.gate_plan.specs.Shifting.{Sorting}
+use Rattle.tally_engine.specs.contracts.part.PartTally.TheImpl.{ghosts}
+use Rattle.tally_engine.specs.declared.part.Part.{Part}
+use Rattle.tally_engine.specs.Give.{Took}
+use Rattle.tally_engine.specs.Histories.{settled_history, with_groups}
+use Rattle.tally_engine.specs.Parts.{Ends}
+use Rattle.tally_engine.specs.Taker.{gave_none}
+use Rattle.tally_engine.proofs.Feeds.{at_same, ends_by, history-ends, inside_of}
+use Rattle.tally_engine.proofs.Takes.{holding_none, holding_all}
+use Rattle.tally_engine.proofs.part_taker.finish_parts.Goals as goal
+
+pub returns-clause-ends : goal.returns-clause-ends
+returns-clause-ends g c = λ bytes h.
+    let fin = c.finish-finished.ensures in
+    let by = sorting_of c.args.gates.now in
+    let how = how_of c.args.stream in
+    let taker = c.finish-finished.new.taker in
+    at_same (λ parts. Ends by how bytes c.args.parts.now parts c.finish-finished.result) c.flush_waiting.new.parts _
+    (ends_by _ by how _ taker bytes c.args.parts.now c.flush_waiting.new.parts c.finish-finished.result (gave_none ghosts _ _ _ _ _ _) (λ l broke. broke)
+    (λ got held. λ k d inside.
+    let same : length c.flush_waiting.new.parts ≡ length taker.parts.now = search rules in
+    let within : k < length taker.parts.now = omega (arith, same, inside) in
+    rw (history-ends by how (words_of bytes))
+    (holding_all ghosts by (gathered taker.block) _ _ _
+    (got.follows (settled_history by how (words_of bytes)) (λ k d within. holding_none ghosts by _ _ _ c.new.ensures.empty (held k d within)) k d within)
+    (subst (λ (by : Sorting). Took ghosts (gathered taker.block) (with_groups by (gathered taker.block)) (get_or taker.parts.now k d) (get_or c.flush_waiting.new.parts k d)) got.same_sorting (c.flush_waiting.ensures.took k d within))))
+    (fin.answer (search rules) bytes h))
+    (search rules)
+
+pub returns-clause-still_open : goal.returns-clause-still_open
+returns-clause-still_open g c =
+    let taker = c.finish-finished.new.taker in
+    at_same (λ parts. All (λ t. ghosts.closed t ≡ false) parts) c.flush_waiting.new.parts _
+    (λ k d inside.
+    let same : length c.flush_waiting.new.parts ≡ length taker.parts.now = search rules in
+    let within : k < length taker.parts.now = omega (arith, same, inside) in
+    (c.flush_waiting.ensures.took k d within).still_open)
+    (search rules)
+
+pub returns-clause-inside : goal.returns-clause-inside
+returns-clause-inside g c = inside_of c.finish-finished.result (c.finish-finished.ensures.inside c.requires.going) (c.finish-finished.ensures.cause c.requires.going)
