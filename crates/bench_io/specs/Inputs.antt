@@ -44,16 +44,19 @@ pub record Keeps (old new : InputState) : Type 0 where
   pub open_faults : NoneFalls old.open_faults new.open_faults
   pub read_faults : NoneFalls old.read_faults new.read_faults
 
--- The other slot stays as it was.
+-- The other slot stays as it was, with its counts.
 pub record KeepsOther (slot : Slot) (old new : InputState) : Type 0 where
   pub rest : new.rest (other slot) ≡ old.rest (other slot)
   pub asked : new.asked (other slot) ≡ old.asked (other slot)
   pub opened : new.opened (other slot) ≡ old.opened (other slot)
+  pub open_faults : new.open_faults (other slot) ≡ old.open_faults (other slot)
+  pub read_faults : new.read_faults (other slot) ≡ old.read_faults (other slot)
 
--- Nothing is asked for or opened.
+-- Nothing is asked for or opened, and no opening fails.
 pub record OpensNone (old new : InputState) : Type 0 where
   pub asked : new.asked ≡ old.asked
   pub opened : new.opened ≡ old.opened
+  pub open_faults : new.open_faults ≡ old.open_faults
 
 -- Nothing but reads of this slot lies between.
 pub record OnlyReads (slot : Slot) (old new : InputState) : Type 0 where

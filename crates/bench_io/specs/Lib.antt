@@ -7,3 +7,4 @@ pub mod Memory
 pub mod MemorySlots
 pub mod SinkState
 pub mod MemorySinks
+pub mod TriesOnce

@@ -58,11 +58,6 @@ after_open state = record state { calls = one_more state.calls }
 abbrev pub after_read : MemoryState → MemoryState
 after_read state = record state { calls = one_more state.calls; turn = next_turn state.pieces state.turn }
 
--- The counts of the other slot stay.
-pub record KeepsOtherCounts (slot : Slot) (old new : InputState) : Type 0 where
-  pub opens : new.open_faults (other slot) ≡ old.open_faults (other slot)
-  pub reads : new.read_faults (other slot) ≡ old.read_faults (other slot)
-
 -- A failed opening adds one to the slot's count of these. Its reads have failed as often as before.
 pub record CountsOpening {T E : Type 0} (slot : Slot) (old new : InputState) (result : Result T E) : Type 0 where
   pub opens : CountsFailure (old.open_faults slot) (new.open_faults slot) result

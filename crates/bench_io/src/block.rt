@@ -1,7 +1,7 @@
 // A block of bytes on the way to a sink.
 ghost use Rattle.std.specs.Prelude.{◌≡◌, ◌+◌, ◌≤◌, [], ◌++◌, length, IsOk, OnOk, OnErr};
 ghost use Rattle.std.specs.Io.KnownBytes.{Appends};
-ghost use Rattle.tally_base.specs.FaultCounts.{HasCause};
+ghost use Rattle.bench_io.specs.TriesOnce.{TriesOnce};
 ghost use Rattle.bench_io.specs.Sinks.{AppendsShort, PassesOn};
 
 use crate::sink::{Sink, write_all};
@@ -47,7 +47,7 @@ impl Block {
         ensures short { OnErr result
             (AppendsShort (S.written sink.old) (S.written sink.new) (self.old ++ piece.now)) }
         ensures empty { OnErr result (self.new ≡ []) }
-        ensures cause { HasCause (S.faults sink.old) (S.faults sink.new) result }
+        ensures cause { TriesOnce (S.faults sink.old) (S.faults sink.new) result }
         ensures room { length self.new ≤ BLOCK_SIZE }
 
         // Such a piece makes no call of the sink.
@@ -71,7 +71,7 @@ impl Block {
         ensures short { OnErr result
             (AppendsShort (S.written sink.old) (S.written sink.new) self.old) }
         ensures empty { self.new ≡ [] }
-        ensures cause { HasCause (S.faults sink.old) (S.faults sink.new) result }
+        ensures cause { TriesOnce (S.faults sink.old) (S.faults sink.new) result }
         ensures none { self.old ≡ [] → IsOk result × (sink.new ≡ sink.old) }
     {
         let result = write_all(sink, self.bytes.as_slice());

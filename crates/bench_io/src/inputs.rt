@@ -3,7 +3,7 @@ ghost use Rattle.std.specs.Prelude.{◌≡◌, true, false, OnOk, OnErr};
 ghost use Rattle.std.specs.Io.{ReadsAtMost};
 ghost use Rattle.std.specs.Io.KnownBytes.{ReadConsumes};
 ghost use Rattle.tally_base.specs.declared.slot.Slot.{Slot};
-ghost use Rattle.tally_base.specs.FaultCounts.{HasCause};
+ghost use Rattle.bench_io.specs.TriesOnce.{TriesOnce};
 ghost use Rattle.bench_io.specs.Inputs.{InputState, IsOpened, Keeps, KeepsOther, OpensNone};
 
 use tally_base::{Failed, Slot};
@@ -27,8 +27,9 @@ pub trait Inputs {
         ensures unopened { OnErr result
             ((state self.new).opened slot ≡ (state self.old).opened slot) }
         ensures asked { (state self.new).asked slot ≡ true }
-        ensures cause { HasCause
+        ensures cause { TriesOnce
             ((state self.old).open_faults slot) ((state self.new).open_faults slot) result }
+        ensures reads { (state self.new).read_faults slot ≡ (state self.old).read_faults slot }
         ensures keeps { Keeps (state self.old) (state self.new) }
         ensures keeps_other { KeepsOther slot (state self.old) (state self.new) };
 
@@ -40,7 +41,7 @@ pub trait Inputs {
         ensures bound { ReadsAtMost result into.new }
         ensures bytes { ReadConsumes
             ((state self.old).rest slot) ((state self.new).rest slot) result into.new }
-        ensures cause { HasCause
+        ensures cause { TriesOnce
             ((state self.old).read_faults slot) ((state self.new).read_faults slot) result }
         ensures keeps { Keeps (state self.old) (state self.new) }
         ensures keeps_other { KeepsOther slot (state self.old) (state self.new) }

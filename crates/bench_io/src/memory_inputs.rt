@@ -2,9 +2,9 @@
 ghost use Rattle.std.specs.Prelude.{◌≡◌, ◌↔◌, true, false, length, min, IsSome, IsOk, IfOk, OnErr, OnOk};
 ghost use Rattle.std.specs.Io.{ReadsAtMost};
 ghost use Rattle.std.specs.Io.KnownBytes.{ReadConsumes};
-ghost use Rattle.tally_base.specs.FaultCounts.{HasCause};
+ghost use Rattle.bench_io.specs.TriesOnce.{TriesOnce};
 ghost use Rattle.bench_io.specs.Inputs.{IsOpened, Keeps, KeepsOther, OpensNone};
-ghost use Rattle.bench_io.specs.Memory.{file_named, IsFresh, IsFailing, given_of, after_open, after_read, left_of, CountsOpening, CountsReading, KeepsOtherCounts};
+ghost use Rattle.bench_io.specs.Memory.{file_named, IsFresh, IsFailing, given_of, after_open, after_read, left_of, CountsOpening, CountsReading};
 ghost use Rattle.bench_io.specs.MemorySlots.{input_state, memory_state};
 
 use crate::failing_calls::FailingCalls;
@@ -70,9 +70,11 @@ impl Inputs for MemoryInputs {
         ensures unopened { OnErr result
             ((input_state self.new).opened slot ≡ (input_state self.old).opened slot) }
         ensures asked { (input_state self.new).asked slot ≡ true }
-        ensures cause { HasCause
+        ensures cause { TriesOnce
             ((input_state self.old).open_faults slot)
             ((input_state self.new).open_faults slot) result }
+        ensures reads { (input_state self.new).read_faults slot
+            ≡ (input_state self.old).read_faults slot }
         ensures keeps { Keeps (input_state self.old) (input_state self.new) }
         ensures keeps_other { KeepsOther slot (input_state self.old) (input_state self.new) }
 
@@ -81,7 +83,6 @@ impl Inputs for MemoryInputs {
             ((¬ IsFailing (memory_state self.old))
             × IsSome (file_named (memory_state self.old).files name.now)) }
         ensures counts { CountsOpening slot (input_state self.old) (input_state self.new) result }
-        ensures other_counts { KeepsOtherCounts slot (input_state self.old) (input_state self.new) }
         ensures goes_on { memory_state self.new ≡ after_open (memory_state self.old) }
     {
         let fails = self.calls.fails_next();
@@ -97,7 +98,7 @@ impl Inputs for MemoryInputs {
         ensures bound { ReadsAtMost result into.new }
         ensures bytes { ReadConsumes
             ((input_state self.old).rest slot) ((input_state self.new).rest slot) result into.new }
-        ensures cause { HasCause
+        ensures cause { TriesOnce
             ((input_state self.old).read_faults slot)
             ((input_state self.new).read_faults slot) result }
         ensures keeps { Keeps (input_state self.old) (input_state self.new) }
@@ -110,7 +111,6 @@ impl Inputs for MemoryInputs {
         ensures count { IfOk result (λ n. n ≡ given_of (memory_state self.old)
             (min (length (left_of (input_state self.old) slot)) (length into.old))) }
         ensures counts { CountsReading slot (input_state self.old) (input_state self.new) result }
-        ensures other_counts { KeepsOtherCounts slot (input_state self.old) (input_state self.new) }
         ensures goes_on { memory_state self.new ≡ after_read (memory_state self.old) }
     {
         let fails = self.calls.fails_next();

@@ -3,7 +3,7 @@ ghost use Rattle.std.specs.Prelude.{◌≡◌, ◌+◌, ◌^◌, ◌<◌, Some, 
 ghost use Rattle.std.specs.Io.{ReadsAtMost};
 ghost use Rattle.std.specs.Io.KnownBytes.{ReadConsumes};
 ghost use Rattle.bench_io.specs.CallCounts.{CountsFailure};
-ghost use Rattle.tally_base.specs.FaultCounts.{HasCause};
+ghost use Rattle.bench_io.specs.TriesOnce.{TriesOnce};
 ghost use Rattle.bench_io.specs.Inputs.{IsOpened};
 ghost use Rattle.bench_io.specs.Turns.{limited};
 ghost use Rattle.bench_io.specs.Memory.{file_named, rest_of_file};
@@ -103,7 +103,7 @@ impl MemorySlot {
         ensures asked { was_asked self.new.reading ≡ true }
         ensures succeeds { IsOk result ↔
             ((fails ≡ false) × IsSome (file_named files.now name.now)) }
-        ensures cause { HasCause self.old.open_faults self.new.open_faults result }
+        ensures cause { TriesOnce self.old.open_faults self.new.open_faults result }
         ensures counted { CountsFailure self.old.open_faults self.new.open_faults result }
         ensures read_faults { self.new.read_faults ≡ self.old.read_faults }
     {
@@ -136,7 +136,7 @@ impl MemorySlot {
         ensures count { IfOk result (λ n. n ≡
             limited entry
             (min (length (rest_in files.now self.old.reading)) (length into.old))) }
-        ensures cause { HasCause self.old.read_faults self.new.read_faults result }
+        ensures cause { TriesOnce self.old.read_faults self.new.read_faults result }
         ensures counted { CountsFailure self.old.read_faults self.new.read_faults result }
         ensures open_faults { self.new.open_faults ≡ self.old.open_faults }
     {

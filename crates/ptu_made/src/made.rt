@@ -2,7 +2,7 @@
 ghost use Rattle.std.specs.Prelude.{◌≡◌, ◌≤◌, true, false, length, min, unwrap_or, [], IsOk, IfOk, OnErr, OnOk};
 ghost use Rattle.std.specs.Io.{ReadsAtMost};
 ghost use Rattle.std.specs.Io.KnownBytes.{ReadConsumes};
-ghost use Rattle.tally_base.specs.FaultCounts.{HasCause};
+ghost use Rattle.bench_io.specs.TriesOnce.{TriesOnce};
 ghost use Rattle.bench_io.specs.Inputs.{IsOpened, Keeps, KeepsOther, OpensNone};
 ghost use Rattle.bench_io.specs.Memory.{left_of};
 ghost use Rattle.ptu_made.specs.ShortFile.{made_file};
@@ -66,9 +66,11 @@ impl Inputs for Made {
         ensures unopened { OnErr result
             ((made_state self.new).opened slot ≡ (made_state self.old).opened slot) }
         ensures asked { (made_state self.new).asked slot ≡ true }
-        ensures cause { HasCause
+        ensures cause { TriesOnce
             ((made_state self.old).open_faults slot)
             ((made_state self.new).open_faults slot) result }
+        ensures reads { (made_state self.new).read_faults slot
+            ≡ (made_state self.old).read_faults slot }
         ensures keeps { Keeps (made_state self.old) (made_state self.new) }
         ensures keeps_other { KeepsOther slot (made_state self.old) (made_state self.new) }
 
@@ -89,7 +91,7 @@ impl Inputs for Made {
         ensures bound { ReadsAtMost result into.new }
         ensures bytes { ReadConsumes
             ((made_state self.old).rest slot) ((made_state self.new).rest slot) result into.new }
-        ensures cause { HasCause
+        ensures cause { TriesOnce
             ((made_state self.old).read_faults slot)
             ((made_state self.new).read_faults slot) result }
         ensures keeps { Keeps (made_state self.old) (made_state self.new) }

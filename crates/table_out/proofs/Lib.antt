@@ -4,6 +4,7 @@ pub mod Final
 pub mod StepTexts
 pub mod Rows
 pub mod EventRows
+pub mod BlockTexts
 pub mod Putting
 pub mod Tables
 pub mod Reports

@@ -1,13 +1,14 @@
 // The lines of a table of cells.
 ghost use Rattle.std.specs.Prelude.{◌≡◌, ◌<◌, ◌≤◌, true, length, OnOk, OnErr, codes, decimal};
-ghost use Rattle.tally_base.specs.FaultCounts.{HasCause};
+ghost use Rattle.bench_io.specs.TriesOnce.{TriesOnce};
 ghost use Rattle.tally_base.specs.Tally.{History};
 ghost use Rattle.table_out.specs.Lines.{line};
 ghost use Rattle.table_out.specs.Printed.{cell_line, pair_line, row_lines, cell_lines, first_line};
 ghost use Rattle.table_out.specs.Puts.{PutsText, CutsText};
 ghost use Rattle.table_out.specs.Report.{printed, part_text};
 
-use crate::line::{put_count, put_wide};
+use crate::backwards::{LINE_SIZE, write_newline, write_number, write_text, write_wide};
+use crate::line::put_count;
 use arrayvec::ArrayVec;
 use bench_io::{Block, Sink};
 use tally_base::{Failed, Tally, put_decimal, put_text};
@@ -33,13 +34,13 @@ pub(crate) trait Prints: Tally {
         requires { row < (printed (Self.settings self.now)).rows }
         ensures { result ≡ (printed (Self.settings self.now)).columns row };
 
-    /// The line of a cell. A cell that is 0 has none.
-    fn line_of(&self, row: u32, column: u32) -> ArrayVec<u8, 96>
+    /// Formats the line of a cell in a buffer. A cell that is 0 has none.
+    fn line_of<'l>(&self, row: u32, column: u32, line: &'l mut [u8; LINE_SIZE]) -> &'l [u8]
         requires closed { Self.closed self.now ≡ true }
         requires row { row < (printed (Self.settings self.now)).rows }
         requires column { column < (printed (Self.settings self.now)).columns row }
         ensures { (h : History) → Self.holds self.now h
-            → result.items ≡ (printed (Self.settings self.now)).cell row column h };
+            → result.now ≡ (printed (Self.settings self.now)).cell row column h };
 
     /// The lines behind the cells.
     fn rest_lines(&self) -> ArrayVec<u8, 64>
@@ -47,35 +48,41 @@ pub(crate) trait Prints: Tally {
             → result.items ≡ (printed (Self.settings self.now)).rest h };
 }
 
-/// The line of a cell with a number. A cell that is 0 has none.
-pub(crate) fn cell_line(cell: u32, count: u128) -> ArrayVec<u8, 96>
-    ensures { result.items ≡ cell_line cell count }
+/// Formats the line of a cell with a number in a buffer. A cell that is 0 has none.
+#[inline(always)]
+pub(crate) fn cell_line<'l>(cell: u32, count: u128, line: &'l mut [u8; LINE_SIZE]) -> &'l [u8]
+    ensures { result.now ≡ cell_line cell count }
 {
-    let mut line = ArrayVec::new();
-    if count > 0 {
-        put_decimal(&mut line, cell as u64);
-        put_text(&mut line, b" ");
-        put_wide(&mut line, count);
-        put_text(&mut line, b"\n");
+    if count == 0 {
+        return &[];
     }
-    line
+    let end_at = write_newline(line);
+    let count_at = write_wide(line, end_at, count);
+    let space_at = write_text(line, count_at, b" ");
+    let start = write_number(line, space_at, cell as u64);
+    &line[start..]
 }
 
-/// The line of a cell with two numbers. A cell that is 0 has none.
-pub(crate) fn pair_line(first: u32, second: u32, count: u128) -> ArrayVec<u8, 96>
-    ensures { result.items ≡ pair_line first second count }
+/// Formats the line of a cell with two numbers in a buffer. A cell that is 0 has none.
+#[inline(always)]
+pub(crate) fn pair_line<'l>(
+    first: u32,
+    second: u32,
+    count: u128,
+    line: &'l mut [u8; LINE_SIZE],
+) -> &'l [u8]
+    ensures { result.now ≡ pair_line first second count }
 {
-    let mut line = ArrayVec::new();
     if count == 0 {
-        return line;
+        return &[];
     }
-    put_decimal(&mut line, first as u64);
-    put_text(&mut line, b" ");
-    put_decimal(&mut line, second as u64);
-    put_text(&mut line, b" ");
-    put_wide(&mut line, count);
-    put_text(&mut line, b"\n");
-    line
+    let end_at = write_newline(line);
+    let count_at = write_wide(line, end_at, count);
+    let behind_at = write_text(line, count_at, b" ");
+    let second_at = write_number(line, behind_at, second as u64);
+    let between_at = write_text(line, second_at, b" ");
+    let start = write_number(line, between_at, first as u64);
+    &line[start..]
 }
 
 /// Puts the lines of a row of cells, in rising order.
@@ -93,10 +100,11 @@ fn put_row<T: Prints, O: Sink>(
     ensures short { OnErr result (CutsText (T.holds table.now)
         (row_lines (printed (T.settings table.now)) row)
         (O.written out.old) (O.written out.new) block.old) }
-    ensures cause { HasCause (O.faults out.old) (O.faults out.new) result }
+    ensures cause { TriesOnce (O.faults out.old) (O.faults out.new) result }
 {
+    let mut line = [0; LINE_SIZE];
     for column in 0..table.column_count(row) {
-        block.put(out, table.line_of(row, column).as_slice())?;
+        block.put(out, table.line_of(row, column, &mut line))?;
     }
     Ok(())
 }
@@ -110,7 +118,7 @@ fn put_rows<T: Prints, O: Sink>(table: &T, block: &mut Block, out: &mut O) -> Re
     ensures short { OnErr result (CutsText (T.holds table.now)
         (cell_lines (printed (T.settings table.now)))
         (O.written out.old) (O.written out.new) block.old) }
-    ensures cause { HasCause (O.faults out.old) (O.faults out.new) result }
+    ensures cause { TriesOnce (O.faults out.old) (O.faults out.new) result }
 {
     for row in 0..table.row_count() {
         put_row(table, row, block, out)?;
@@ -145,7 +153,7 @@ pub(crate) fn put_table<T: Prints, O: Sink>(
     ensures short { OnErr result (CutsText (T.holds table.now)
         (part_text number (T.settings table.now))
         (O.written out.old) (O.written out.new) block.old) }
-    ensures cause { HasCause (O.faults out.old) (O.faults out.new) result }
+    ensures cause { TriesOnce (O.faults out.old) (O.faults out.new) result }
 {
     block.put(out, first_line(number, table).as_slice())?;
     put_rows(table, block, out)?;

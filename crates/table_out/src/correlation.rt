@@ -1,6 +1,7 @@
 // How a correlation is printed.
 ghost use Rattle.std.specs.Prelude.{◌≡◌};
 
+use crate::backwards::LINE_SIZE;
 use crate::cells::{Prints, pair_line};
 use arrayvec::ArrayVec;
 use tally_base::{put_decimal, put_text};
@@ -34,9 +35,9 @@ impl Prints for Cascade {
     }
 
     #[tactic(auto, unfolding(crate::specs::Correlation::correlation_printed))]
-    fn line_of(&self, row: u32, column: u32) -> ArrayVec<u8, 96> {
+    fn line_of<'l>(&self, row: u32, column: u32, line: &'l mut [u8; LINE_SIZE]) -> &'l [u8] {
         let lag = self.first_lag(row) + column;
-        pair_line(row, lag, self.cell(row, lag))
+        pair_line(row, lag, self.cell(row, lag), line)
     }
 
     #[tactic(auto, unfolding(crate::specs::Correlation::correlation_printed))]

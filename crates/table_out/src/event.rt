@@ -1,45 +1,21 @@
-// The line of one event.
-ghost use Rattle.std.specs.Prelude.{◌≡◌, ◌+◌, ◌≤◌, ◌++◌, length, drop, decimal};
-ghost use Rattle.table_out.specs.EventText.{event_text, kind_text, line_end};
+// The lines of events.
+ghost use Rattle.std.specs.Prelude.{◌≡◌, ◌+◌, ◌≤◌, ◌++◌, length, drop, map, false};
+ghost use Rattle.event_block.specs.Columns.{gathered};
+ghost use Rattle.table_out.specs.EventText.{event_text, events_text, kind_text, line_end};
 
+use crate::backwards::{LINE_SIZE, write_number, write_text};
 use arrayvec::ArrayVec;
-use itoa::write_digits;
+use event_block::Block;
 use tally_base::{Event, EventKind, put_text};
 
-/// Room for the longest line of an event, in bytes.
-pub const EVENT_LINE_SIZE: usize = 96;
-
-/// Writes a text before what stands from `end` on, and returns where it starts.
-#[inline(always)]
-fn write_text(line: &mut [u8; EVENT_LINE_SIZE], end: usize, text: &[u8]) -> usize
-    requires room { length text.now ≤ end }
-    requires inside { end ≤ EVENT_LINE_SIZE }
-    ensures start { result + length text.now ≡ end }
-    ensures written { drop result line.new ≡ text.now ++ drop end line.old }
-{
-    let start = end - text.len();
-    line[start..end].copy_from_slice(text);
-    start
-}
-
-/// Writes a number in decimal digits, of which there are at most 20, before what stands from `end` on,
-/// and returns where it starts.
-#[inline(always)]
-fn write_number(line: &mut [u8; EVENT_LINE_SIZE], end: usize, number: u64) -> usize
-    requires room { 20 ≤ end }
-    requires inside { end ≤ EVENT_LINE_SIZE }
-    ensures few { end ≤ result + 20 }
-    ensures inside { result ≤ end }
-    ensures written { drop result line.new ≡ decimal number ++ drop end line.old }
-{
-    write_digits(number, line, end)
-}
+/// Room for the lines of a block of events, in bytes.
+pub const LINES_SIZE: usize = 64 * LINE_SIZE;
 
 /// Writes what an event is, with its time, before what stands from `end` on, and returns where it starts.
 #[inline(always)]
-fn write_kind(line: &mut [u8; EVENT_LINE_SIZE], end: usize, kind: EventKind, time: u64) -> usize
+fn write_kind(line: &mut [u8], end: usize, kind: EventKind, time: u64) -> usize
     requires room { 70 ≤ end }
-    requires inside { end ≤ EVENT_LINE_SIZE }
+    requires inside { end ≤ length line.old }
     ensures few { end ≤ result + 70 }
     ensures inside { result ≤ end }
     ensures written { drop result line.new ≡ kind_text kind time ++ drop end line.old }
@@ -62,32 +38,80 @@ fn write_kind(line: &mut [u8; EVENT_LINE_SIZE], end: usize, kind: EventKind, tim
     }
 }
 
-/// Writes the end of a line at the end of the buffer, and returns where it starts.
+/// Writes the end of a line before what stands from `end` on, and returns where it starts.
 #[inline(always)]
-fn write_end(line: &mut [u8; EVENT_LINE_SIZE], late: bool) -> usize
-    ensures few { EVENT_LINE_SIZE ≤ result + 6 }
-    ensures inside { result ≤ EVENT_LINE_SIZE }
-    ensures written { drop result line.new ≡ line_end late }
+fn write_end(line: &mut [u8], end: usize, late: bool) -> usize
+    requires room { 6 ≤ end }
+    requires inside { end ≤ length line.old }
+    ensures few { end ≤ result + 6 }
+    ensures inside { result ≤ end }
+    ensures written { drop result line.new ≡ line_end late ++ drop end line.old }
 {
     if late {
-        write_text(line, EVENT_LINE_SIZE, b" late\n")
+        write_text(line, end, b" late\n")
     } else {
-        write_text(line, EVENT_LINE_SIZE, b"\n")
+        write_text(line, end, b"\n")
     }
+}
+
+/// Writes the line of an event, with its newline, before what stands from `end` on, and returns where it
+/// starts.
+#[inline(always)]
+#[tactic(auto, unfolding(crate::specs::EventText::event_text))]
+fn write_event(text: &mut [u8], end: usize, event: &Event, late: bool) -> usize
+    requires room { 96 ≤ end }
+    requires inside { end ≤ length text.old }
+    ensures few { end ≤ result + 96 }
+    ensures inside { result ≤ end }
+    ensures written { drop result text.new ≡ event_text event.now late ++ drop end text.old }
+{
+    let end_at = write_end(text, end, late);
+    let kind_at = write_kind(text, end_at, event.kind, event.time);
+    write_number(text, kind_at, event.place)
+}
+
+/// Writes the line of an event, with its newline, at the end of a buffer, and returns where it starts.
+#[inline(always)]
+fn write_line(line: &mut [u8; LINE_SIZE], event: &Event, late: bool) -> usize
+    ensures inside { result ≤ LINE_SIZE }
+    ensures written { drop result line.new ≡ event_text event.now late }
+{
+    write_event(line, LINE_SIZE, event, late)
 }
 
 /// Formats the line of an event, with its newline, in a buffer. The answer has exactly the bytes that
 /// `event_line` leaves.
 #[inline(always)]
-#[tactic(auto, unfolding(crate::specs::EventText::event_text))]
-pub fn format_event<'l>(event: &Event, late: bool, line: &'l mut [u8; EVENT_LINE_SIZE]) -> &'l [u8]
+pub fn format_event<'l>(event: &Event, late: bool, line: &'l mut [u8; LINE_SIZE]) -> &'l [u8]
     ensures text { result.now ≡ event_text event.now late }
-    ensures short { length result.now ≤ EVENT_LINE_SIZE }
+    ensures short { length result.now ≤ LINE_SIZE }
 {
-    let end_at = write_end(line, late);
-    let kind_at = write_kind(line, end_at, event.kind, event.time);
-    let start = write_number(line, kind_at, event.place);
+    let start = write_line(line, event, late);
     &line[start..]
+}
+
+/// Writes the lines of the events of a block, none of them late, at the end of a buffer, and returns where
+/// they start. The last line is written first, and each before what stands behind it.
+fn write_lines(text: &mut [u8; LINES_SIZE], block: &Block) -> usize
+    ensures inside { result ≤ LINES_SIZE }
+    ensures written { drop result text.new
+        ≡ events_text (map (λ e. (e, false)) (gathered block.now)) }
+{
+    let mut at = block.len().min(64);
+    let mut start = LINES_SIZE;
+    'back: while at > 0 {
+        at -= 1;
+        start = write_event(text, start, &block.event(at), false);
+    }
+    start
+}
+
+/// Formats the lines of the events of a block, none of them late, in a buffer, where no line is copied.
+pub fn format_block<'l>(block: &Block, text: &'l mut [u8; LINES_SIZE]) -> &'l [u8]
+    ensures { result.now ≡ events_text (map (λ e. (e, false)) (gathered block.now)) }
+{
+    let start = write_lines(text, block);
+    &text[start..]
 }
 
 /// Leaves exactly the line of an event in `into`, with its newline: the number of its record, `photon`
@@ -96,7 +120,7 @@ pub fn format_event<'l>(event: &Event, late: bool, line: &'l mut [u8; EVENT_LINE
 pub fn event_line(event: &Event, late: bool, into: &mut ArrayVec<u8, 96>)
     ensures { into.new.items ≡ event_text event.now late }
 {
-    let mut line = [0; EVENT_LINE_SIZE];
+    let mut line = [0; LINE_SIZE];
     into.clear();
     put_text(into, format_event(event, late, &mut line));
 }

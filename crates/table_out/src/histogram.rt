@@ -1,6 +1,7 @@
 // How a histogram is printed.
 ghost use Rattle.std.specs.Prelude.{◌≡◌};
 
+use crate::backwards::LINE_SIZE;
 use crate::cells::{Prints, cell_line, over_line};
 use arrayvec::ArrayVec;
 use tally_base::{put_decimal, put_text};
@@ -34,8 +35,8 @@ impl Prints for Hist {
     }
 
     #[tactic(auto, unfolding(crate::specs::Histogram::histogram_printed))]
-    fn line_of(&self, _row: u32, column: u32) -> ArrayVec<u8, 96> {
-        cell_line(column, u128::from(self.cell(column)))
+    fn line_of<'l>(&self, _row: u32, column: u32, line: &'l mut [u8; LINE_SIZE]) -> &'l [u8] {
+        cell_line(column, u128::from(self.cell(column)), line)
     }
 
     #[tactic(auto, unfolding(crate::specs::Histogram::histogram_printed))]

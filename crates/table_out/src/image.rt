@@ -1,6 +1,7 @@
 // How an image is printed.
 ghost use Rattle.std.specs.Prelude.{◌≡◌};
 
+use crate::backwards::LINE_SIZE;
 use crate::cells::{Prints, pair_line};
 use crate::line::put_count;
 use arrayvec::ArrayVec;
@@ -37,8 +38,8 @@ impl Prints for Image {
     }
 
     #[tactic(auto, unfolding(crate::specs::Image::image_printed))]
-    fn line_of(&self, row: u32, column: u32) -> ArrayVec<u8, 96> {
-        pair_line(column, row, u128::from(self.cell(column, row)))
+    fn line_of<'l>(&self, row: u32, column: u32, line: &'l mut [u8; LINE_SIZE]) -> &'l [u8] {
+        pair_line(column, row, u128::from(self.cell(column, row)), line)
     }
 
     #[tactic(auto, unfolding(crate::specs::Image::image_printed))]

@@ -1,6 +1,7 @@
 //! What the program prints: headers with their tags and bodies, events, and the report of a run.
 #![tactic(auto)]
 
+mod backwards;
 mod body;
 mod cells;
 mod correlation;
@@ -16,8 +17,9 @@ mod report_head;
 mod start_stop;
 mod trace;
 
+pub use backwards::LINE_SIZE;
 pub use body::BodyText;
-pub use event::{EVENT_LINE_SIZE, event_line, format_event};
+pub use event::{LINES_SIZE, event_line, format_block, format_event};
 pub use head::header_line;
 pub use line::{put_announced, put_count, put_line};
 pub use preamble::preamble_lines;

@@ -31,16 +31,6 @@ pub fn put_count<const N: usize>(into: &mut ArrayVec<u8, N>, word: &[u8], count:
     put_line(into, word, buffer.format(count).as_bytes());
 }
 
-/// Appends a number in decimal digits, of which there are at most 39.
-pub(crate) fn put_wide<const N: usize>(into: &mut ArrayVec<u8, N>, number: u128)
-    requires { array_vec_len into.old + 39 ≤ N }
-    ensures items { into.new.items ≡ into.old.items ++ decimal number }
-    ensures len { array_vec_len into.new ≤ array_vec_len into.old + 39 }
-{
-    let mut buffer = Buffer::new();
-    put_text(into, buffer.format(number).as_bytes());
-}
-
 /// Appends the line of the number of records that a header announces, or `-`. It has at most 31 bytes, and
 /// wants room for all of these.
 pub fn put_announced<const N: usize>(into: &mut ArrayVec<u8, N>, count: Option<i64>)

@@ -1,4 +1,4 @@
-use Rattle.std.proofs.Common.{rules, ◌≡◌, ◌∙◌, arith}
+use Rattle.std.proofs.Common.{rules, ◌≡◌, ◌∙◌}
 use Rattle.std.proofs.lemmas.Result.{err_from_is_err_and}
 use Rattle.tally_base.specs.Tally.{History}
 use Rattle.table_out.specs.Report.{printed}
@@ -12,9 +12,9 @@ returns-in_err-put-clause-short g c =
     let holds = g.T.Tally.holds t in
     let text = (printed (g.T.Tally.settings t)).cell c.args.row in
     let n = c.loop-column.column in
-    let next : (h : History) → holds h → c.as_slice.result.now ≡ text n h = λ h is. c.as_slice.ensures.value ∙ c.line_of.ensures h is in
+    let next : (h : History) → holds h → c.line_of.result.now ≡ text n h = c.line_of.ensures in
     rw e.1 (cuts-next holds text n ((printed (g.T.Tally.settings t)).columns c.args.row) _ _ _ c.args.block.now c.loop-column.block (search rules) c.loop-column.invariant.put
-    (cuts-piece holds (text n) c.as_slice.result.now _ _ c.loop-column.block next c.in_err-put.ensures.short))
+    (cuts-piece holds (text n) c.line_of.result.now _ _ c.loop-column.block next c.in_err-put.ensures.short))
 
 pub loop-column-preserved : goal.loop-column-preserved
 loop-column-preserved g c =
@@ -22,9 +22,9 @@ loop-column-preserved g c =
     let holds = g.T.Tally.holds t in
     let text = (printed (g.T.Tally.settings t)).cell c.args.row in
     let n = c.loop-column.column in
-    let next : (h : History) → holds h → c.as_slice.result.now ≡ text n h = λ h is. c.as_slice.ensures.value ∙ c.line_of.ensures h is in
+    let next : (h : History) → holds h → c.line_of.result.now ≡ text n h = c.line_of.ensures in
     record {
       put = puts-next holds text n _ _ _ c.args.block.now c.loop-column.block _ c.loop-column.invariant.put
-          (puts-piece holds (text n) c.as_slice.result.now _ _ c.loop-column.block _ next c.in_ok-put.ensures.all);
-      later = omega (arith, c.loop-column.invariant.later, c.put.ensures.cause.later);
+          (puts-piece holds (text n) c.line_of.result.now _ _ c.loop-column.block _ next c.in_ok-put.ensures.all);
+      kept = c.in_ok-put.ensures.cause.kept ∙ c.loop-column.invariant.kept;
     }

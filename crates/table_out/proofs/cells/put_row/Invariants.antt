@@ -1,4 +1,4 @@
-use Rattle.std.proofs.Common.{◌≤◌}
+use Rattle.std.proofs.Common.{◌≡◌}
 use Rattle.table_out.specs.Puts.{PutsText}
 use Rattle.table_out.specs.Printed.{texts_of}
 use Rattle.table_out.specs.Report.{printed}
@@ -7,5 +7,5 @@ use Rattle.table_out.proofs.cells.put_row.Given as goal
 abbrev pub invariant-loop-column : goal.invariant-loop-column
 invariant-loop-column g l = record {
   put : PutsText (g.T.Tally.holds l.table) (texts_of ((printed (g.T.Tally.settings l.table)).cell l.row) l.column) (g.O.Sink.written l.initial.out) (g.O.Sink.written l.out) l.initial.block l.block;
-  later : g.O.Sink.faults l.initial.out ≤ g.O.Sink.faults l.out;
+  kept : g.O.Sink.faults l.out ≡ g.O.Sink.faults l.initial.out;
 }

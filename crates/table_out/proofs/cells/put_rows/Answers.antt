@@ -1,4 +1,4 @@
-use Rattle.std.proofs.Common.{rules, ℕ, List, arith}
+use Rattle.std.proofs.Common.{rules, ◌∙◌, ℕ, List}
 use Rattle.std.proofs.lemmas.Result.{err_from_is_err_and}
 use Rattle.tally_base.specs.Tally.{History}
 use Rattle.table_out.specs.Printed.{texts_of}
@@ -19,5 +19,5 @@ loop-row-preserved g c =
     let text : ℕ → History → List ℕ = λ row. texts_of ((printed (g.T.Tally.settings t)).cell row) ((printed (g.T.Tally.settings t)).columns row) in
     record {
       put = puts-next (g.T.Tally.holds t) text c.loop-row.row _ _ _ c.args.block.now c.loop-row.block _ c.loop-row.invariant.put c.in_ok-put_row.ensures.all;
-      later = omega (arith, c.loop-row.invariant.later, c.put_row.ensures.cause.later);
+      kept = c.in_ok-put_row.ensures.cause.kept ∙ c.loop-row.invariant.kept;
     }

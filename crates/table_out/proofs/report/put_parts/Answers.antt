@@ -1,4 +1,4 @@
-use Rattle.std.proofs.Common.{rules, arith}
+use Rattle.std.proofs.Common.{rules, ◌∙◌}
 use Rattle.std.proofs.lemmas.Result.{err_from_is_err_and}
 use Rattle.table_out.proofs.Tables.{first_texts-all, puts-part, cuts-part}
 use Rattle.table_out.proofs.report.put_parts.Goals as goal
@@ -11,7 +11,7 @@ returns-in_err-put_part-clause-short g c =
 pub loop-place-preserved : goal.loop-place-preserved
 loop-place-preserved g c = record {
   put = puts-part c.args.parts.now c.loop-place.place c.number_of-number.result c.index-parts-place.result c.loop-place-test.true c.index-parts-place.is c.number_of-number.ensures _ _ _ c.args.block.now c.loop-place.block _ c.loop-place.invariant.put c.in_ok-put_part.ensures.all;
-  later = omega (arith, c.loop-place.invariant.later, c.put_part.ensures.cause.later);
+  kept = c.in_ok-put_part.ensures.cause.kept ∙ c.loop-place.invariant.kept;
 }
 
 pub returns-clause-all : goal.returns-clause-all
