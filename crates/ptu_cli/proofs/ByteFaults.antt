@@ -21,7 +21,8 @@ use Rattle.tally_base.specs.Events.{stops_late, stops_reserved}
 use Rattle.ptu_definitions.specs.declared.records.Summary.{Summary}
 use Rattle.ptu_definitions.specs.Kinds.{is_reserved}
 use Rattle.ptu_definitions.specs.Times.{events, event_after, passes}
-use Rattle.ptu_definitions.specs.Kept.{is_late, greatest}
+use Rattle.ptu_definitions.specs.Kept.{greatest}
+use Rattle.ptu_definitions.specs.Settled.{is_late_by}
 use Rattle.ptu_definitions.specs.Streams.{Reading, late_refusal, refusal, record_refusal, or_refusal, summary, streamed}
 use Rattle.ptu_definitions.proofs.Firsts.{first-refusal}
 use Rattle.tally_base.specs.Faults.{fault_in}
@@ -98,9 +99,9 @@ late-bytes : (b : Bool) (place time before : ℕ) → NotWords (if b then Some (
 late-bytes true place time before = λ e. omega arith
 late-bytes false place time before = λ e. omega arith
 
-late_refusal-bytes : (mode : Mode) (before es : List Event) → NotWords (late_refusal mode before es)
-late_refusal-bytes mode before [] = λ e. omega arith
-late_refusal-bytes mode before (e ∷ es) = late-bytes (is_late mode before e) e.place e.time (greatest mode before)
+late_refusal-bytes : (k : ℕ) (mode : Mode) (before es : List Event) → NotWords (late_refusal k mode before es)
+late_refusal-bytes k mode before [] = λ e. omega arith
+late_refusal-bytes k mode before (e ∷ es) = late-bytes (is_late_by k mode before e) e.place e.time (greatest mode before)
 
 causes-bytes : (full reserved passing stops : Bool) (limit place word : ℕ) (late : Option Fault) → NotWords late
     → NotWords (if full then Some (RecordLimit limit) else if reserved then Some (ReservedRecord place word) else if passing then Some (TimeLimit place) else if stops then late else None)
@@ -116,7 +117,7 @@ refusal-bytes how before word =
     let records = map how.meaning before in
     let raw = how.meaning word in
     causes-bytes (nat_le how.policy.records (length records)) (is_reserved raw && stops_reserved how.policy.reserved) (passes records raw) (stops_late how.policy.order) how.policy.records (length records + 1) word
-    (late_refusal how.mode (events records) (event_after records raw)) (late_refusal-bytes how.mode (events records) (event_after records raw))
+    (late_refusal how.policy.settle how.mode (events records) (event_after records raw)) (late_refusal-bytes how.policy.settle how.mode (events records) (event_after records raw))
 
 pub streamed-bytes : (how : Reading) (bytes : List ℕ) (o : Option Fault) (whole : Bool) (sum : Summary) → record_refusal how (words_of bytes) ≡ o
     → NotWords (fault_in (or_refusal o (if whole then Ok sum else Err (TruncatedRecord (length (rest_of bytes))))))

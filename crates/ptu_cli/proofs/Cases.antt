@@ -124,7 +124,7 @@ report-same : (header : Header) (sum : Summary) (tables : List Table) → report
 unfolding report
 report-same header sum tables = ap (λ l. head_text header sum ++ l) (each-same placed_text table_text [] tables (λ before it. part-same it.0 _ it.1))
 
-summary-same : (how : Reading) (words : List ℕ) → summary how words ≡ summary_of how.mode (map how.meaning words) (events (map how.meaning words))
+summary-same : (how : Reading) (words : List ℕ) → summary how words ≡ summary_of how.policy.settle how.mode (map how.meaning words) (events (map how.meaning words))
 unfolding summary
 summary-same how words = refl
 

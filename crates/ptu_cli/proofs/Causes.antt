@@ -22,7 +22,8 @@ use Rattle.ptu_definitions.specs.Words.{words_of, rest_of}
 use Rattle.ptu_definitions.specs.Counted.{record_limit}
 use Rattle.ptu_definitions.specs.Kinds.{is_reserved}
 use Rattle.ptu_definitions.specs.Times.{events, event_after, passes}
-use Rattle.ptu_definitions.specs.Kept.{is_late, greatest}
+use Rattle.ptu_definitions.specs.Kept.{greatest}
+use Rattle.ptu_definitions.specs.Settled.{is_late_by}
 use Rattle.ptu_definitions.specs.Streams.{Reading, late_refusal, refusal, events_in}
 use Rattle.ptu_definitions.specs.Firsts.{IsFirst}
 use Rattle.ptu_definitions.proofs.Sound.{one_answer}
@@ -363,9 +364,9 @@ late-in : (b : Bool) (place time before : ℕ) → InRange (if b then Some (Back
 late-in true place time before = (omega arith, omega arith)
 late-in false place time before = tt
 
-late_refusal-in : (mode : Mode) (before es : List Event) → InRange (late_refusal mode before es)
-late_refusal-in mode before [] = tt
-late_refusal-in mode before (e ∷ es) = late-in (is_late mode before e) e.place e.time (greatest mode before)
+late_refusal-in : (k : ℕ) (mode : Mode) (before es : List Event) → InRange (late_refusal k mode before es)
+late_refusal-in k mode before [] = tt
+late_refusal-in k mode before (e ∷ es) = late-in (is_late_by k mode before e) e.place e.time (greatest mode before)
 
 causes-in : (full reserved passing stops : Bool) (limit place word : ℕ) (late : Option Fault) → InRange late
     → InRange (if full then Some (RecordLimit limit) else if reserved then Some (ReservedRecord place word) else if passing then Some (TimeLimit place) else if stops then late else None)
@@ -381,7 +382,7 @@ refusal-in how before word =
     let records = map how.meaning before in
     let raw = how.meaning word in
     causes-in (nat_le how.policy.records (length records)) (is_reserved raw && stops_reserved how.policy.reserved) (passes records raw) (stops_late how.policy.order) how.policy.records (length records + 1) word
-    (late_refusal how.mode (events records) (event_after records raw)) (late_refusal-in how.mode (events records) (event_after records raw))
+    (late_refusal how.policy.settle how.mode (events records) (event_after records raw)) (late_refusal-in how.policy.settle how.mode (events records) (event_after records raw))
 
 least-status : (how : Reading) (behind : List ℕ) (fault : Fault) → RefusedIn how behind fault → StatusIn 18 21 fault
 least-status how behind fault h = subst InRange h.refused (refusal-in how _ h.word)
@@ -515,7 +516,7 @@ listing-in header before word =
     let how = listing header in
     let records = map how.meaning before in
     let raw = how.meaning word in
-    limits-in (nat_le how.policy.records (length records)) (is_reserved raw) (passes records raw) how.policy.records (length records + 1) word (late_refusal how.mode (events records) (event_after records raw))
+    limits-in (nat_le how.policy.records (length records)) (is_reserved raw) (passes records raw) how.policy.records (length records + 1) word (late_refusal how.policy.settle how.mode (events records) (event_after records raw))
 
 listed-status : (header : Header) (behind : List ℕ) (fault : Fault) → RefusedIn (listing header) behind fault → StatusIn 20 21 fault
 listed-status header behind fault h = subst InLimits h.refused (listing-in header _ h.word)

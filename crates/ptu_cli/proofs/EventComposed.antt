@@ -1,11 +1,12 @@
 -- A header and the lines of the events behind it.
-use Rattle.std.proofs.Common.{◌≡◌, ℕ, List, [], ◌++◌, Err, Some, true, ◌⊎◌, refl, sym, ap, ◌∙◌, append_assoc, inl, inr, ⊎_elim}
+use Rattle.std.proofs.Common.{◌≡◌, ◌==◌, ℕ, if◌then◌else◌, Bool, List, [], ◌++◌, Err, Some, true, false, ◌⊎◌, refl, sym, ap, ◌∙◌, append_assoc, inl, inr, ⊎_elim}
 use Rattle.std.specs.declared.option.Option.{Option}
 use Rattle.std.specs.declared.result.Result.{Result}
 use Rattle.std.specs.Io.KnownBytes.{Consumes}
 use Rattle.tally_base.specs.declared.fault.Fault.{Fault}
 use Rattle.tally_base.specs.declared.fault.Fault.TheVariants.{WriteFault}
 use Rattle.tally_base.specs.declared.header.Header.{Header}
+use Rattle.tally_base.specs.declared.header.Mode.{Mode}
 use Rattle.bench_io.proofs.Bytes.{Appends-nil, Appends-trans, Consumes-trans}
 use Rattle.tally_base.specs.Faults.{is_outside}
 use Rattle.ptu_definitions.specs.Headers.{header_answer}
@@ -13,10 +14,12 @@ use Rattle.ptu_cli.specs.Told.{Says}
 use Rattle.ptu_definitions.specs.Words.{words_of}
 use Rattle.ptu_definitions.specs.Times.{events}
 use Rattle.ptu_definitions.specs.Kept.{marked}
+use Rattle.ptu_definitions.specs.Prefixes.{each}
+use Rattle.ptu_definitions.specs.Settled.{ordered, settles, delivered}
 use Rattle.ptu_definitions.specs.Streams.{Reading, record_refusal, given}
 use Rattle.tally_base.specs.Faults.{fault_in}
 use Rattle.ptu_cli.specs.EventPieces.{Wrote, WroteShort, Writes}
-use Rattle.table_out.specs.EventText.{lines_of}
+use Rattle.table_out.specs.EventText.{events_text, lines_of}
 use Rattle.ptu_cli.specs.EventRuns.{SaysLines, AnswersLines}
 use Rattle.ptu_cli.specs.Behaviours.{listing_all}
 use Rattle.ptu_cli.specs.Works.{AnswersWork}
@@ -25,9 +28,14 @@ use Rattle.ptu_cli.proofs.Told.{Says-shown, Says-map}
 use Rattle.ptu_cli.proofs.Composed.{ShowsHeader}
 use Rattle.ptu_cli.proofs.EventEnds.{says-refused}
 
+none-delivered : (zero : Bool) (k : ℕ) (mode : Mode) → (if zero then marked mode [] else each (settles k) (ordered mode [])) ≡ []
+unfolding marked
+none-delivered true k mode = refl
+none-delivered false k mode = refl
+
 pub lines_of-none : (how : Reading) → lines_of how [] ≡ []
-unfolding given events marked
-lines_of-none how = refl
+unfolding given events delivered
+lines_of-none how = ap events_text (none-delivered (how.policy.settle == 0) how.policy.settle how.mode)
 
 listed-says : (how : Reading) (bytes text : List ℕ) (fault : Option Fault) → SaysLines how [] bytes text fault → listed how bytes ≡ record { text = text; fault = fault }
 listed-says how bytes text fault says = rw (says.lines, says.ends, lines_of-none) refl

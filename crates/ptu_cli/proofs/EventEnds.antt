@@ -1,5 +1,5 @@
 -- Lines of bytes that grow.
-use Rattle.std.proofs.Common.{◌≡◌, ◌≢◌, ℕ, List, [], ◌++◌, None, Some, Err, refl, sym, ap, ◌∙◌, inl, inr, ⊎_elim, append_assoc, append-nil}
+use Rattle.std.proofs.Common.{◌≡◌, ◌≢◌, ◌<◌, ℕ, List, [], ◌++◌, length, map, None, Some, Ok, Err, refl, sym, arith, ap, ◌∙◌, inl, inr, ⊎_elim, append_assoc, append-nil, length-append}
 use Rattle.std.specs.declared.option.Option.{Option}
 use Rattle.std.specs.declared.result.Result.{Result}
 use Rattle.std.specs.Io.KnownBytes.{Consumes, IsAtEnd}
@@ -14,9 +14,15 @@ use Rattle.abs_time.specs.declared.clock.Clock.{Clock}
 use Rattle.tally_base.specs.Faults.{fault_in}
 use Rattle.bench_io.proofs.Bytes.{Appends-nil, Appends-trans, AppendsShort-behind}
 use Rattle.ptu_definitions.specs.Words.{words_of}
-use Rattle.ptu_definitions.specs.Streams.{Reading, record_refusal, streamed}
+use Rattle.ptu_definitions.specs.Kept.{Marked}
+use Rattle.ptu_definitions.specs.Times.{events}
+use Rattle.ptu_definitions.specs.Streams.{Reading, last_in, record_refusal, streamed}
+use Rattle.ptu_definitions.proofs.DeliveredLaws.{delivered_last-0}
 use Rattle.ptu_definitions.proofs.WordsLemmas.{words_of-append}
 use Rattle.ptu_definitions.proofs.StreamLemmas.{given-stays}
+use Rattle.settle.specs.declared.settle.Settle.{Settle}
+use Rattle.record_stream.specs.declared.taker.EventTaker.{Ghosts}
+use Rattle.record_stream.specs.Ending.{Ended}
 use Rattle.record_stream.specs.Standing.{Stands}
 use Rattle.tally_base.specs.Faults.{fault_in}
 use Rattle.record_stream.proofs.Lasts.{unrefused, streamed-shown}
@@ -73,9 +79,9 @@ module _ (how : Reading) (bytes so_far piece : List ℕ) (before after a b c : O
   }
 
 -- a stream that has refused nothing
-pub streamed-clear : (how : Reading) (clock : Clock) (sum : Summary) (count : ℕ) (carried : List ℕ) (refused : Option Fault) (bytes : List ℕ) → Stands how clock sum count carried refused bytes → refused ≡ None → record_refusal how (words_of bytes) ≡ None
-streamed-clear how clock sum count carried None bytes h none = unrefused how (words_of bytes) h.1.clear
-streamed-clear how clock sum count carried (Some fault) bytes h none = cc
+pub streamed-clear : (how : Reading) (clock : Clock) (sum : Summary) (count : ℕ) (settle : Settle) (carried : List ℕ) (refused : Option Fault) (bytes : List ℕ) → Stands how clock sum count settle carried refused bytes → refused ≡ None → record_refusal how (words_of bytes) ≡ None
+streamed-clear how clock sum count settle carried None bytes h none = unrefused how (words_of bytes) h.1.at.clear
+streamed-clear how clock sum count settle carried (Some fault) bytes h none = cc
 
 -- the end of the data
 pub answers-end : (how : Reading) (bytes taken : List ℕ) (before after a b : Option (List ℕ)) (answer : Result Summary Fault) (done : Result (Unit {0}) Fault) → Consumes before after taken → IsAtEnd after → Wrote how a b (words_of bytes) (words_of (bytes ++ taken))
@@ -101,3 +107,16 @@ reason-piece opening reading memory how b c faults now us vs fault writes cut =
 pub not_written : (refused : Option Fault) → refused ≡ None → refused ≢ Some WriteFault
 not_written None none = λ e. cc
 not_written (Some fault) none = cc
+
+-- ## The end of a stream that keeps nothing back
+
+last-none : (how : Reading) (words : List ℕ) → how.policy.settle ≡ 0 → last_in how words ≡ []
+last-none how words zero = rw zero (delivered_last-0 how.mode (events (map how.meaning words)))
+
+none-broken : (front back : Marked) → 0 < length front → [] ≡ front ++ back → ⊥
+none-broken front back some adds = omega (arith, some, ap length adds, length-append front back)
+
+pub ended-plain : {T : Type 0} (g : Ghosts T) (how : Reading) (old new : T) (bytes : List ℕ) (r : Result Summary Fault) → how.policy.settle ≡ 0 → Ended g how old new bytes r → r ≡ streamed how bytes
+ended-plain g how old new bytes (Ok summary) zero e = sym e.streams
+ended-plain g how old new bytes (Err fault) zero (inl e) = sym e.0
+ended-plain g how old new bytes (Err fault) zero (inr e) = absurd (none-broken e.1.front e.1.back e.1.some (sym (last-none how (words_of bytes) zero) ∙ e.1.adds))

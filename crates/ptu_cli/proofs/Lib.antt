@@ -1,4 +1,5 @@
 pub mod Told
+pub mod Once
 pub mod Pieces
 pub mod Bodies
 pub mod Printers
@@ -12,6 +13,7 @@ pub mod Rows
 pub mod ByteFaults
 pub mod RunFaults
 pub mod Listing
+pub mod ListedBlocks
 pub mod EventEnds
 pub mod EventComposed
 pub mod EventReasons

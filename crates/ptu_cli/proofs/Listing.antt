@@ -32,21 +32,22 @@ events_text-append (x ∷ l) m = ap (λ t. event_text x.0 x.1 ++ t) (events_text
 line_more : (held : List ℕ) (l : Marked) (e : Event) (late : Bool) → (held ++ events_text l) ++ event_text e late ≡ held ++ events_text (l ++ (e, late) ∷ [])
 line_more held l e late = append_assoc held (events_text l) (event_text e late) ∙ ap (λ t. held ++ t) (ap (λ t. events_text l ++ t) (sym (append-nil (event_text e late))) ∙ sym (events_text-append l ((e, late) ∷ [])))
 
-pub Listed-more : (name name' : ℕ) (mode mode' : Mode) (taken taken' floor floor' : ℕ) (a b c : Option (List ℕ)) (held held' held'' : List ℕ) (l : Marked) (e : Event) (late : Bool) (line : List ℕ) (now : ℕ)
-    → Listed name name' mode mode' taken taken' floor floor' a b held held' l → line ≡ event_text e late → PassesOn b c (held' ++ line) held''
+pub Listed-more : (name name' : ℕ) (mode mode' : Mode) (taken taken' floor floor' faults faults' faults'' : ℕ) (a b c : Option (List ℕ)) (held held' held'' : List ℕ) (l : Marked) (e : Event) (late : Bool) (line : List ℕ) (now : ℕ)
+    → Listed name name' mode mode' taken taken' floor floor' faults faults' a b held held' l → line ≡ event_text e late → PassesOn b c (held' ++ line) held''
     → (IsTrue (is_ordered mode' e && not late) → floor' ≤ e.time) → now ≡ (if is_ordered mode' e && not late then e.time else floor')
-    → Listed name name' mode mode' taken (taken' + 1) floor now a c held held'' (l ++ (e, late) ∷ [])
-Listed-more name name' mode mode' taken taken' floor floor' a b c held held' held'' l e late line now h is p in_order moves = record {
+    → faults'' ≡ faults' → Listed name name' mode mode' taken (taken' + 1) floor now faults faults'' a c held held'' (l ++ (e, late) ∷ [])
+Listed-more name name' mode mode' taken taken' floor floor' faults faults' faults'' a b c held held' held'' l e late line now h is p in_order moves kept = record {
   same_sink = h.same_sink;
   same_mode = h.same_mode;
   counted = omega (arith, h.counted, length-append l ((e, late) ∷ []));
+  kept = kept ∙ h.kept;
   moved = moves ∙ rw h.same_mode (moved_floor-push mode floor floor' l e late h.moved (rw h.same_mode at in_order));
   text = subst (λ t. PassesOn a c t held'') (ap (λ t. (held ++ events_text l) ++ t) is ∙ line_more held l e late) (PassesOn-trans a b c (held ++ events_text l) held' line held'' h.text p);
 }
 
-pub ListedShort-more : (name name' : ℕ) (mode mode' : Mode) (taken taken' floor floor' : ℕ) (a b c : Option (List ℕ)) (held held' held'' : List ℕ) (l : Marked) (e : Event) (late : Bool) (line : List ℕ)
-    → Listed name name' mode mode' taken taken' floor floor' a b held held' l → line ≡ event_text e late → AppendsShort b c (held' ++ line) → held'' ≡ [] → ListedShort a c held held'' (l ++ (e, late) ∷ [])
-ListedShort-more name name' mode mode' taken taken' floor floor' a b c held held' held'' l e late line h is p none = record {
+pub ListedShort-more : (name name' : ℕ) (mode mode' : Mode) (taken taken' floor floor' faults faults' : ℕ) (a b c : Option (List ℕ)) (held held' held'' : List ℕ) (l : Marked) (e : Event) (late : Bool) (line : List ℕ)
+    → Listed name name' mode mode' taken taken' floor floor' faults faults' a b held held' l → line ≡ event_text e late → AppendsShort b c (held' ++ line) → held'' ≡ [] → ListedShort a c held held'' (l ++ (e, late) ∷ [])
+ListedShort-more name name' mode mode' taken taken' floor floor' faults faults' a b c held held' held'' l e late line h is p none = record {
   text = subst (λ t. AppendsShort a c t) (ap (λ t. (held ++ events_text l) ++ t) is ∙ line_more held l e late) (AppendsShort-passed a b c (held ++ events_text l) held' line h.text p);
   empty = none;
 }

@@ -71,5 +71,7 @@ uses-read slot before mid after keeps other reads = record {
     rest = reads.keeps_other.rest ∙ other.rest;
     asked = reads.keeps_other.asked ∙ other.asked;
     opened = reads.keeps_other.opened ∙ other.opened;
+    open_faults = reads.keeps_other.open_faults ∙ other.open_faults;
+    read_faults = reads.keeps_other.read_faults ∙ other.read_faults;
   };
 }

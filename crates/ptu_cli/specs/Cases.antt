@@ -161,7 +161,7 @@ report_by_places header summary tables = head_text header summary ++ each placed
 abbrev pub words_report : PlanView → Header → List ℕ → List ℕ
 words_report view header words =
     let how = reading_by view header in
-    report_by_places header (summary_of how.mode (map how.meaning words) (events (map how.meaning words))) (with_events (parts_of view) (history (sorting view) how words))
+    report_by_places header (summary_of how.policy.settle how.mode (map how.meaning words) (events (map how.meaning words))) (with_events (parts_of view) (history (sorting view) how words))
 
 -- The least record that is refused ends the run. Where none is the report is written, unless a record is cut.
 abbrev pub StreamCase : PlanView → Header → List ℕ → Outcome → Type 0

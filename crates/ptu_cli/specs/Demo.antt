@@ -23,6 +23,7 @@ demo_plan = record {
   order = Drop;
   reserved = Skip;
   records = record_limit;
+  settle = 0;
   period = 1;
   shifts = [];
   groups = record { inputs = 2; gates = [] } ∷ record { inputs = 4; gates = [] } ∷ [];

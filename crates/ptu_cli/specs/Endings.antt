@@ -19,6 +19,7 @@ use Rattle.plan_text.specs.Plan.{PlanView}
 use Rattle.plan_text.specs.Reading.{text_limit, plan_answer}
 use Rattle.plan_text.specs.Fits.{fits}
 use Rattle.ptu_cli.specs.Told.{MayBe}
+use Rattle.ptu_cli.specs.Once.{InputsOnce, OutOnce}
 use Rattle.ptu_cli.specs.Outcomes.{Outcome, refused, status}
 use Rattle.ptu_cli.specs.Behaviours.{piece_limit, Work, Writing, AtEnd, AsItReads, so_far, under, Memory, ForPlan, ForTables, Behaviour, NoCommand, Alone, OnFile, ByPlan}
 
@@ -255,6 +256,11 @@ alone_span o state old new = record {
   faults_after = o.faults new;
 }
 
+-- No count moved but the one that the fault tells of: nothing else failed.
+pub record Once (span : Span) (fault : Option Fault) : Type 0 where
+  pub inputs : InputsOnce span.before span.after fault
+  pub out : OutOnce fault span.faults_before span.faults_after
+
 -- An opening failed: the command came to the slot, the count of its openings that failed rose, and nothing was written.
 abbrev pub FailsOpening : Behaviour → Slot → InputState → InputState → Option (List ℕ) → Option (List ℕ) → Type 0
 FailsOpening does slot before after old new = Reaches does before slot × Rose (before.open_faults slot) (after.open_faults slot) × Keeps old new
@@ -280,6 +286,7 @@ pub record Does (behaves : Behaviour) (span : Span) (result : Result (Unit {0}) 
   pub answer : Answers behaves span.before span.after result span.old span.new
   pub causes : IfErr result (HasCauses behaves span)
   pub asks : Asks behaves span.before span.after
+  pub once : Once span (fault_in result)
 
 -- ## Good words and files
 

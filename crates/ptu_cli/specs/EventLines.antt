@@ -14,12 +14,13 @@ pub record ListsNone (taken floor : ℕ) (held : List ℕ) : Type 0 where
   pub none_before : floor ≡ 0
   pub empty : held ≡ []
 
--- The lines of these events were put behind what a block held, for the same sink.
-pub record Listed (name name' : ℕ) (mode mode' : Mode) (taken taken' floor floor' : ℕ) (old new : Option (List ℕ)) (held held' : List ℕ) (l : Marked) : Type 0 where
+-- The lines of these events were put behind what a block held, for the same sink, of which no write failed.
+pub record Listed (name name' : ℕ) (mode mode' : Mode) (taken taken' floor floor' faults faults' : ℕ) (old new : Option (List ℕ)) (held held' : List ℕ) (l : Marked) : Type 0 where
   pub same_sink : name' ≡ name
   pub same_mode : mode' ≡ mode
   pub counted : taken' ≡ taken + length l
   pub moved : floor' ≡ max floor (floor_of mode l)
+  pub kept : faults' ≡ faults
   pub text : PassesOn old new (held ++ events_text l) held'
 
 -- They were cut short, and the block holds none.
@@ -27,5 +28,5 @@ pub record ListedShort (old new : Option (List ℕ)) (held held' : List ℕ) (l 
   pub text : AppendsShort old new (held ++ events_text l)
   pub empty : held' ≡ []
 
-pub listed_none : (name : ℕ) (mode : Mode) (taken floor : ℕ) (old : Option (List ℕ)) (held : List ℕ) → Listed name name mode mode taken taken floor floor old old held held []
-listed_none name mode taken floor old held = record { same_sink = refl; same_mode = refl; counted = omega arith; moved = omega arith; text = rw (append-nil held) (PassesOn-held old held) }
+pub listed_none : (name : ℕ) (mode : Mode) (taken floor faults : ℕ) (old : Option (List ℕ)) (held : List ℕ) → Listed name name mode mode taken taken floor floor faults faults old old held held []
+listed_none name mode taken floor faults old held = record { same_sink = refl; same_mode = refl; counted = omega arith; moved = omega arith; kept = refl; text = rw (append-nil held) (PassesOn-held old held) }

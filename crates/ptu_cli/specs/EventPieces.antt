@@ -9,15 +9,18 @@ use Rattle.bench_io.specs.Sinks.{AppendsShort}
 use Rattle.bench_io.specs.declared.sink.Sink.{Ghosts}
 use Rattle.ptu_definitions.specs.Words.{words_of}
 use Rattle.tally_base.specs.FaultCounts.{Rose}
+use Rattle.tally_base.specs.Faults.{fault_in}
+use Rattle.ptu_cli.specs.Once.{OutOnce}
 use Rattle.ptu_definitions.specs.Counted.{record_limit}
 use Rattle.record_stream.specs.declared.stream.RecordStream.{RecordStream}
 use Rattle.record_stream.specs.Standing.{how_of, refused_with, bytes_in, HasStreamed}
 use Rattle.ptu_definitions.specs.Streams.{Reading, record_refusal}
 use Rattle.table_out.specs.EventText.{lines_of}
 
--- The stream is read in this mode, and has refused nothing.
+-- The stream is read in this mode, keeps no event back, and has refused nothing.
 pub record IsOpenIn (mode : Mode) (stream : RecordStream) : Type 0 where
   pub same_mode : mode ≡ (how_of stream).mode
+  pub unsettled : (how_of stream).policy.settle ≡ 0
   pub going : refused_with stream ≡ None
 
 -- A stream was given a piece, whatever it answered: it is read as before, and stands for the bytes with the piece behind them. It never takes more than the greatest number of records and a begun one.
@@ -54,3 +57,7 @@ abbrev pub WritesPiece : {O X : Type 0} → Ghosts O → RecordStream → List �
 WritesPiece o stream piece old new result =
     refused_with stream ≡ None → (bytes : List ℕ) → HasStreamed stream bytes
     → Writes (how_of stream) (o.written old) (o.written new) (o.faults old) (o.faults new) (words_of bytes) (words_of (bytes ++ piece)) result
+
+-- feeding it tried no write again that failed
+abbrev pub WritesOnce : {O X : Type 0} → Ghosts O → RecordStream → O → O → Result X Fault → Type 0
+WritesOnce o stream old new result = refused_with stream ≡ None → (bytes : List ℕ) → HasStreamed stream bytes → OutOnce (fault_in result) (o.faults old) (o.faults new)

@@ -1,5 +1,6 @@
 pub mod Commands
 pub mod Told
+pub mod Once
 pub mod CountText
 pub mod EventLines
 pub mod EventPieces

@@ -69,9 +69,9 @@ IsCut bytes = header_answer bytes ≡ Err (TruncatedHeader (length bytes))
 abbrev pub header_outcome : List ℕ → Outcome
 header_outcome file = record { text = header_text file; fault = fault_in (header_answer file) }
 
--- late events are marked, and reserved records are left out
+-- late events are marked where they stand, and reserved records are left out
 abbrev pub listing_policy : Policy
-listing_policy = record { order = Drop; reserved = Skip; records = record_limit }
+listing_policy = record { order = Drop; reserved = Skip; records = record_limit; settle = 0 }
 
 abbrev pub listing : Header → Reading
 listing header = reading header.record_type listing_policy

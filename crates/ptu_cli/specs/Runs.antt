@@ -9,6 +9,7 @@ use Rattle.bench_io.specs.Inputs.{File, InputState}
 use Rattle.bench_io.specs.declared.inputs.Inputs.{Ghosts as InputGhosts}
 use Rattle.bench_io.specs.declared.sink.Sink.{Ghosts as SinkGhosts}
 use Rattle.ptu_cli.specs.Commands.{Request}
+use Rattle.ptu_cli.specs.Once.{InputsOnce, OutOnce}
 use Rattle.ptu_cli.specs.Outcomes.{Outcome, status}
 use Rattle.ptu_cli.specs.Behaviours.{behaviour}
 use Rattle.ptu_cli.specs.Endings.{ForSomeFiles, Tells, TellsFault, EndsBy, FailsOpening, FailsReading, CutsOutcome, RunsOut, Asks, LacksMemory, NoneRose, IsGood}
@@ -49,6 +50,10 @@ TellsOn run fault = TellsFault run.err_before run.err_after run.err_faults_befor
 abbrev pub EndsIn : Around → ℕ → Outcome → Type 0
 EndsIn run result end = EndsBy end result run.out_before run.out_after run.err_before run.err_after run.err_faults_before run.err_faults_after
 
+-- No count of the inputs and of standard output moved but the one that the fault tells of.
+abbrev pub MovesOnly : Around → Option Fault → Type 0
+MovesOnly run fault = InputsOnce run.before run.after fault × OutOnce fault run.out_faults_before run.out_faults_after
+
 -- No count of the inputs and of standard output rose.
 abbrev pub NothingFailed : Around → Type 0
 NothingFailed run = NoneRose run.before run.after × ¬ (Rose run.out_faults_before run.out_faults_after)
@@ -71,6 +76,8 @@ pub record Runs (request : Option Request) (run : Around) (result : ℕ) : Type 
   pub memory : result ≡ 5 → RunsOut (behaviour request) run.before run.after run.out_before run.out_after × TellsOn run (Some OutOfMemory)
   -- What it asked for and took, whatever its status is.
   pub asks : Asks (behaviour request) run.before run.after
+  -- It does not go on behind a call that failed: with status 0 no count of the inputs and of standard output moved, and else none but the one of the fault whose line is told.
+  pub once : (fault : Option Fault) × (result ≡ status fault) × TellsOn run fault × MovesOnly run fault
   -- Where no count of the inputs and of standard output rose, it ends as the files call for or for want of memory, and well where they are told and good.
   pub complete : NothingFailed run → LacksMemory (behaviour request) result ⊎ ForSomeFiles (behaviour request) run.before run.after (λ end. result ≡ status end.fault)
   pub good : (plan_file data_file : File) → Tells run.before (behaviour request) plan_file data_file → IsGood (behaviour request) plan_file data_file → NothingFailed run → LacksMemory (behaviour request) result ⊎ (result ≡ 0)

@@ -4,13 +4,13 @@ ghost use Rattle.std.specs.declared.option.Option.{Option};
 ghost use Rattle.tally_base.specs.declared.slot.Slot.{Slot};
 ghost use Rattle.tally_base.specs.declared.slot.Slot.TheVariants.{Plan as PlanSlot, Data};
 ghost use Rattle.tally_base.specs.declared.fault.Fault.{Fault};
-ghost use Rattle.tally_base.specs.Faults.{is_outside};
+ghost use Rattle.tally_base.specs.Faults.{is_outside, fault_in};
 ghost use Rattle.bench_io.specs.Inputs.{OnlyReads};
 ghost use Rattle.ptu_definitions.specs.Counted.{record_limit};
 ghost use Rattle.plan_text.specs.Plan.{PlanView};
 ghost use Rattle.plan_text.specs.Reading.{plan_view};
 ghost use Rattle.ptu_cli.specs.Behaviours.{Work, Writing, Memory, ByPlan};
-ghost use Rattle.ptu_cli.specs.Endings.{Does, span};
+ghost use Rattle.ptu_cli.specs.Endings.{Does, Once, span};
 ghost use Rattle.ptu_cli.specs.Works.{AnswersWork, TakesFew, PlanReason};
 
 use crate::plan::plan_of;
@@ -51,6 +51,8 @@ pub(crate) trait PlanWork {
             (O.written out.old) (O.written out.new) result }
         ensures reason { IfErr result (PlanReason memory (writing self.now) (work self.now)
             (plan_view plan.now) (span I.Inputs O.Sink inputs.old inputs.new out.old out.new)) }
+        ensures once { Once (span I.Inputs O.Sink inputs.old inputs.new out.old out.new)
+            (fault_in result) }
         ensures few { TakesFew (work self.now (plan_view plan.now)).goes_on
             ((I.state inputs.old).rest Data) ((I.state inputs.new).rest Data) };
 }

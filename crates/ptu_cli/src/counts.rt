@@ -1,7 +1,7 @@
 // The lines of `count`.
 ghost use Rattle.std.specs.Prelude.{◌≡◌, IfErr, OnOk, OnErr};
 ghost use Rattle.std.specs.Io.KnownBytes.{Appends};
-ghost use Rattle.tally_base.specs.FaultCounts.{HasCause};
+ghost use Rattle.bench_io.specs.TriesOnce.{TriesOnce};
 ghost use Rattle.bench_io.specs.Sinks.{AppendsShort};
 ghost use Rattle.ptu_cli.specs.CountText.{counts_text};
 
@@ -35,7 +35,7 @@ pub fn write_counts<O: Sink>(header: &Header, counts: &KindCounts, out: &mut O) 
     ensures short { OnErr result (AppendsShort (O.written out.old) (O.written out.new)
         (counts_text header.now counts.now)) }
     ensures fault { IfErr result (λ fault. fault ≡ Fault.WriteFault) }
-    ensures cause { HasCause (O.faults out.old) (O.faults out.new) result }
+    ensures cause { TriesOnce (O.faults out.old) (O.faults out.new) result }
 {
     let mut text = ArrayVec::<u8, 256>::new();
     put_counts(header, counts, &mut text);

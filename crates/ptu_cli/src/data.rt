@@ -1,12 +1,14 @@
 // Reads the data of a command in pieces.
-ghost use Rattle.std.specs.Prelude.{◌≡◌, ◌≤◌, List, ℕ, true, IfErr, IfOk};
+ghost use Rattle.std.specs.Prelude.{◌≡◌, List, ℕ, true, IfErr, IfOk};
 ghost use Rattle.std.specs.Io.KnownBytes.{Consumes};
 ghost use Rattle.tally_base.specs.declared.slot.Slot.TheVariants.{Data};
 ghost use Rattle.tally_base.specs.declared.header.RecordType.{RecordType};
+ghost use Rattle.tally_base.specs.Faults.{fault_in};
 ghost use Rattle.bench_io.specs.Inputs.{OnlyReads};
 ghost use Rattle.ptu_definitions.specs.Counted.{counted};
 ghost use Rattle.table_out.specs.HeaderText.{header_text};
-ghost use Rattle.ptu_cli.specs.Endings.{span};
+ghost use Rattle.ptu_cli.specs.Once.{InputsOnce};
+ghost use Rattle.ptu_cli.specs.Endings.{Once, span};
 ghost use Rattle.ptu_cli.specs.Outcomes.{file_counts};
 ghost use Rattle.ptu_cli.specs.Behaviours.{AsItReads, counting, printing, events_so_far, listing_all};
 ghost use Rattle.ptu_cli.specs.Works.{AnswersWork, TakesFew, WantsNone, WorkReason};
@@ -36,6 +38,7 @@ const LISTING: Policy = Policy {
     order: Order::Drop,
     reserved: OnReserved::Skip,
     records: RECORD_LIMIT,
+    settle: 0,
 };
 
 pub(crate) const READ_FAULT: Fault = Fault::ReadFault { slot: Slot::Data };
@@ -49,6 +52,7 @@ fn count_rest<I: Inputs>(
     requires { IsReady (I.state inputs.old) buffer.old }
     ensures reads { OnlyReads Data (I.state inputs.old) (I.state inputs.new) }
     ensures reason { IfErr result (ReadReason (I.state inputs.old) (I.state inputs.new)) }
+    ensures once { InputsOnce (I.state inputs.old) (I.state inputs.new) (fault_in result) }
     ensures answer { (record_type : RecordType) (bytes : List ℕ)
         → HasCounted counter record_type bytes
         → AnswersBehind (counted record_type) bytes ((I.state inputs.old).rest Data)
@@ -84,6 +88,7 @@ pub(crate) fn read_header<I: Inputs>(
     requires { IsReady (I.state inputs.old) buffer.old }
     ensures reads { OnlyReads Data (I.state inputs.old) (I.state inputs.new) }
     ensures reason { IfErr result (ReadReason (I.state inputs.old) (I.state inputs.new)) }
+    ensures once { InputsOnce (I.state inputs.old) (I.state inputs.new) (fault_in result) }
     ensures part { IfOk result (EndsIn buffer.new) }
     ensures answer { (taken : List ℕ)
         × Consumes ((I.state inputs.old).rest Data) ((I.state inputs.new).rest Data) taken
@@ -112,6 +117,7 @@ pub(crate) fn count_data<I: Inputs>(inputs: &mut I) -> Result<(Header, KindCount
     requires { (I.state inputs.old).opened Data ≡ true }
     ensures reads { OnlyReads Data (I.state inputs.old) (I.state inputs.new) }
     ensures reason { IfErr result (ReadReason (I.state inputs.old) (I.state inputs.new)) }
+    ensures once { InputsOnce (I.state inputs.old) (I.state inputs.new) (fault_in result) }
     ensures answer { (taken : List ℕ)
         × Consumes ((I.state inputs.old).rest Data) ((I.state inputs.new).rest Data) taken
         × AnswersAs file_counts taken ((I.state inputs.new).rest Data) result }
@@ -136,7 +142,8 @@ pub(crate) fn print_data<I: Inputs, O: Sink>(inputs: &mut I, out: &mut O) -> Res
         (span I.Inputs O.Sink inputs.old inputs.new out.old out.new)) }
     ensures few { TakesFew IsCut ((I.state inputs.old).rest Data)
         ((I.state inputs.new).rest Data) }
-    ensures later { O.faults out.old ≤ O.faults out.new }
+    ensures once { Once (span I.Inputs O.Sink inputs.old inputs.new out.old out.new)
+        (fault_in result) }
 {
     let mut buffer = [0u8; PIECE];
     let mut printer = HeaderPrinter::new();
@@ -164,7 +171,8 @@ pub(crate) fn list_data<I: Inputs, O: Sink>(inputs: &mut I, out: &mut O) -> Resu
         ((I.state inputs.new).rest Data) (O.written out.old) (O.written out.new) result }
     ensures reason { IfErr result (WorkReason (AsItReads events_so_far) WantsNone listing_all
         (span I.Inputs O.Sink inputs.old inputs.new out.old out.new)) }
-    ensures later { O.faults out.old ≤ O.faults out.new }
+    ensures once { Once (span I.Inputs O.Sink inputs.old inputs.new out.old out.new)
+        (fault_in result) }
     ensures few { TakesFew listing_all.goes_on ((I.state inputs.old).rest Data)
         ((I.state inputs.new).rest Data) }
 {

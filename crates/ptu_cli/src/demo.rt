@@ -8,6 +8,8 @@ ghost use Rattle.ptu_made.specs.Made.{made_state};
 ghost use Rattle.ptu_made.specs.Generator.{photon_limit};
 ghost use Rattle.ptu_cli.specs.Commands.{Demo};
 ghost use Rattle.ptu_cli.specs.Behaviours.{behaviour};
+ghost use Rattle.tally_base.specs.Faults.{fault_in};
+ghost use Rattle.ptu_cli.specs.Once.{OutOnce};
 ghost use Rattle.ptu_cli.specs.Endings.{Answers, HasCauses, alone_span};
 
 use crate::run::run_data;
@@ -18,7 +20,8 @@ use std::alloc::Global;
 use table_out::write_report;
 use tally_base::{Fault, Slot};
 
-const PLAN: &[u8] = b"[[group]]
+/// The text of the plan of `demo`.
+pub const DEMO_PLAN: &[u8] = b"[[group]]
 inputs = [1]
 [[group]]
 inputs = [2]
@@ -65,8 +68,9 @@ pub(crate) fn demo<O: Sink>(alloc: Global, out: &mut O, seed: u64, count: u64) -
     ensures causes { (state : InputState)
         → IfErr result (HasCauses (behaviour (Some (Demo seed count)))
         (alone_span O.Sink state out.old out.new)) }
+    ensures once { OutOnce (fault_in result) (O.faults out.old) (O.faults out.new) }
 {
-    let plan = read_plan(alloc, PLAN)?;
+    let plan = read_plan(alloc, DEMO_PLAN)?;
     let mut made = made_data(seed, count);
     let results = run_data(alloc, &mut made, &plan)?;
     write_report(&results, out)

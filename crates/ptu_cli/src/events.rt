@@ -1,9 +1,12 @@
 // The lines of the events of a file, written while it is read.
-ghost use Rattle.std.specs.Prelude.{◌≡◌, ◌≤◌, List, ℕ, OnOk};
+ghost use Rattle.std.specs.Prelude.{◌≡◌, ◌≤◌, List, ℕ, OnOk, false};
 ghost use Rattle.record_stream.specs.Standing.{how_of, HasStreamed};
-ghost use Rattle.ptu_cli.specs.Endings.{span};
+ghost use Rattle.record_stream.specs.Blocks.{orders_markers};
+ghost use Rattle.tally_base.specs.Faults.{fault_in, is_outside};
+ghost use Rattle.ptu_cli.specs.Once.{OutOnce};
+ghost use Rattle.ptu_cli.specs.Endings.{Once, span};
 ghost use Rattle.ptu_cli.specs.EventLines.{ListsNone};
-ghost use Rattle.ptu_cli.specs.EventPieces.{IsOpenIn, TakesOn, StaysOpen, WritesPiece};
+ghost use Rattle.ptu_cli.specs.EventPieces.{IsOpenIn, TakesOn, StaysOpen, WritesPiece, WritesOnce};
 ghost use Rattle.ptu_cli.specs.Pieces.{IsReady, MayChangeBehind};
 ghost use Rattle.std.specs.Prelude.{IfErr};
 ghost use Rattle.tally_base.specs.declared.slot.Slot.TheVariants.{Data};
@@ -14,15 +17,17 @@ ghost use Rattle.ptu_cli.specs.EventRuns.{AnswersLines, LinesReason};
 
 use crate::data::READ_FAULT;
 use bench_io::{Block, Inputs, Sink};
-use record_stream::{EventTaker, RecordStream, moved_floor};
-use table_out::{EVENT_LINE_SIZE, format_event};
+use record_stream::{EventTaker, RecordStream, Summary, moved_floor};
+use table_out::{LINE_SIZE, LINES_SIZE, format_block, format_event};
 use tally_base::{Event, Failed, Fault, Mode, Slot};
 
-/// Writes the line of each event that it is given, through a block. It lives for one piece.
+/// Writes the line of each event that it is given, through a block. It lives for one piece, or for the end.
 #[derive(Drop)]
 struct EventLines<'o, O: Sink> {
     out: &'o mut O,
     block: Block,
+    // Room for the lines of a block of events.
+    text: [u8; LINES_SIZE],
     mode: Mode,
     taken: u64,
     floor: u64,
@@ -34,7 +39,8 @@ impl<'o, O: Sink> EventTaker for EventLines<'o, O> {
     ghost use Rattle.std.proofs.Common.{◌∙◌};
 
     ghost got = { λ s t l. Listed s.out.ghost_name t.out.ghost_name s.mode t.mode s.taken t.taken
-        s.floor t.floor (O.written s.out.now) (O.written t.out.now) s.block t.block l };
+        s.floor t.floor (O.faults s.out.now) (O.faults t.out.now)
+        (O.written s.out.now) (O.written t.out.now) s.block t.block l };
 
     ghost broke = { λ s t l. ListedShort (O.written s.out.now) (O.written t.out.now)
         s.block t.block l };
@@ -53,7 +59,7 @@ impl<'o, O: Sink> EventTaker for EventLines<'o, O> {
 
     ghost faults = { λ t. O.faults t.out.now };
 
-    ghost got_none = { λ t. listed_none _ _ _ _ _ _ };
+    ghost got_none = { λ t. listed_none _ _ _ _ _ _ _ };
 
     ghost taken_is = { λ s t l is. is.counted };
 
@@ -61,12 +67,33 @@ impl<'o, O: Sink> EventTaker for EventLines<'o, O> {
 
     #[inline(always)]
     fn take(&mut self, event: &Event, late: bool) -> Result<(), Failed> {
-        let mut line = [0; EVENT_LINE_SIZE];
+        let mut line = [0; LINE_SIZE];
         let text = format_event(event, late, &mut line);
         self.block.put(self.out, text)?;
         self.taken += 1;
         self.floor = moved_floor(self.mode, self.floor, event, late);
         Ok(())
+    }
+
+    fn take_block(&mut self, block: &mut event_block::Block) -> Result<(), Failed> {
+        if block.len() == 0 {
+            return Ok(());
+        }
+        let lines = format_block(block, &mut self.text);
+        self.block.put(self.out, lines)?;
+        self.taken += block.len() as u64;
+        self.floor = block.floor_after(orders_markers(self.mode), self.floor);
+        Ok(())
+    }
+}
+
+/// Whether markers come in the order of their times, as photons do.
+fn orders_markers(mode: Mode) -> bool
+    ensures { result ≡ orders_markers mode }
+{
+    match mode {
+        Mode::T2 => false,
+        Mode::T3 => true,
     }
 }
 
@@ -82,7 +109,7 @@ fn feed_lines<'o, O: Sink>(
     ensures writes { WritesPiece O.Sink stream.old piece.now lines.old.out.now lines.new.out.now
         result }
     ensures going { OnOk result (StaysOpen stream.old stream.new piece.now) }
-    ensures later { O.faults lines.old.out.now ≤ O.faults lines.new.out.now }
+    ensures once { WritesOnce O.Sink stream.old lines.old.out.now lines.new.out.now result }
     ensures same { lines.new.out.ghost_name ≡ lines.old.out.ghost_name }
 {
     let fed = stream.feed(piece, lines);
@@ -103,16 +130,36 @@ pub(crate) fn list_piece<O: Sink>(
     ensures fed { TakesOn stream.old stream.new piece.now }
     ensures writes { WritesPiece O.Sink stream.old piece.now out.old out.new result }
     ensures going { OnOk result (StaysOpen stream.old stream.new piece.now) }
-    ensures later { O.faults out.old ≤ O.faults out.new }
+    ensures once { WritesOnce O.Sink stream.old out.old out.new result }
 {
     let mut lines = EventLines {
         out,
         block: Block::new(),
+        text: [0; LINES_SIZE],
         mode,
         taken: 0,
         floor: 0,
     };
     feed_lines(stream, piece, &mut lines)
+}
+
+/// Ends a stream that keeps no event back: there is no line more to write.
+fn end_lines<O: Sink>(stream: RecordStream, mode: Mode, out: &mut O) -> Result<Summary, Fault>
+    requires open_in { IsOpenIn mode stream }
+    ensures answer { (bytes : List ℕ) → HasStreamed stream bytes
+        → result ≡ streamed (how_of stream) bytes }
+    ensures inside { IfErr result (λ fault. is_outside fault ≡ false) }
+    ensures untouched { out.new ≡ out.old }
+{
+    let mut lines = EventLines {
+        out,
+        block: Block::new(),
+        text: [0; LINES_SIZE],
+        mode,
+        taken: 0,
+        floor: 0,
+    };
+    stream.finish(&mut lines)
 }
 
 /// Writes the lines of the events behind those that the stream was given, up to the end of the
@@ -133,7 +180,8 @@ pub(crate) fn list_rest<I: Inputs, O: Sink>(
     ensures reason { (bytes : List ℕ) → HasStreamed stream bytes
         → IfErr result (LinesReason (how_of stream) bytes
         (span I.Inputs O.Sink inputs.old inputs.new out.old out.new)) }
-    ensures later { O.faults out.old ≤ O.faults out.new }
+    ensures once { (bytes : List ℕ) → HasStreamed stream bytes
+        → Once (span I.Inputs O.Sink inputs.old inputs.new out.old out.new) (fault_in result) }
     ensures few { (bytes : List ℕ) → HasStreamed stream bytes
         → TakesFew (MayChangeBehind (streamed (how_of stream)) bytes)
         ((I.state inputs.old).rest Data)
@@ -144,7 +192,7 @@ pub(crate) fn list_rest<I: Inputs, O: Sink>(
             return Err(READ_FAULT);
         };
         if len == 0 {
-            stream.finish()?;
+            end_lines(stream, mode, out)?;
             return Ok(());
         }
         list_piece(&mut stream, mode, &buffer[..len], out)?;

@@ -19,6 +19,7 @@ mod whole;
 mod words;
 
 pub use counts::write_counts;
+pub use demo::DEMO_PLAN;
 pub use edge::{FileInputs, StreamSink};
 pub use top::{ptu_main, tell};
 pub use whole::{exit_of, program, words_behind_name};

@@ -2,9 +2,10 @@
 ghost use Rattle.std.specs.Prelude.{◌≡◌, List, ℕ, true, false, IfErr};
 ghost use Rattle.tally_base.specs.declared.slot.Slot.{Slot};
 ghost use Rattle.tally_base.specs.declared.slot.Slot.TheVariants.{Data};
+ghost use Rattle.tally_base.specs.Faults.{fault_in};
 ghost use Rattle.bench_io.specs.Inputs.{OnlyReads};
 ghost use Rattle.ptu_cli.specs.Behaviours.{Work, Writing, OnFile};
-ghost use Rattle.ptu_cli.specs.Endings.{Does, span};
+ghost use Rattle.ptu_cli.specs.Endings.{Does, Once, span};
 ghost use Rattle.ptu_cli.specs.Works.{AnswersWork, TakesFew, WantsNone, WorkReason};
 
 use bench_io::{Inputs, Sink};
@@ -24,6 +25,8 @@ pub(crate) trait FileWork {
             ((I.state inputs.new).rest Data) (O.written out.old) (O.written out.new) result }
         ensures reason { IfErr result (WorkReason writing WantsNone work
             (span I.Inputs O.Sink inputs.old inputs.new out.old out.new)) }
+        ensures once { Once (span I.Inputs O.Sink inputs.old inputs.new out.old out.new)
+            (fault_in result) }
         ensures few { TakesFew work.goes_on ((I.state inputs.old).rest Data)
             ((I.state inputs.new).rest Data) };
 }

@@ -4,8 +4,10 @@ ghost use Rattle.std.specs.Io.KnownBytes.{Consumes, IsAtEnd};
 ghost use Rattle.tally_base.specs.declared.slot.Slot.TheVariants.{Plan as PlanSlot};
 ghost use Rattle.tally_base.specs.declared.fault.Fault.TheVariants.{ReadFault};
 ghost use Rattle.tally_base.specs.FaultCounts.{Rose};
+ghost use Rattle.tally_base.specs.Faults.{fault_in};
 ghost use Rattle.bench_io.specs.Inputs.{OnlyReads};
 ghost use Rattle.ptu_definitions.specs.Counted.{record_limit};
+ghost use Rattle.ptu_cli.specs.Once.{InputsOnce};
 ghost use Rattle.ptu_cli.specs.Endings.{TakesPlan};
 ghost use Rattle.ptu_cli.specs.PlanPieces.{MayOpen, OnlyUses, AnswersPlan, PlanReason};
 
@@ -33,6 +35,7 @@ fn read_text<I: Inputs>(inputs: &mut I, text: &mut [u8]) -> Result<usize, Fault>
     ensures reason { IfErr result (λ fault. (fault ≡ ReadFault PlanSlot)
         × Rose ((I.state inputs.old).read_faults PlanSlot)
         ((I.state inputs.new).read_faults PlanSlot)) }
+    ensures once { InputsOnce (I.state inputs.old) (I.state inputs.new) (fault_in result) }
     ensures unread { IfErr result (λ fault. (taken : List ℕ)
         × Consumes ((I.state inputs.old).rest PlanSlot)
         ((I.state inputs.new).rest PlanSlot) taken
@@ -63,6 +66,7 @@ fn plan_in<I: Inputs>(
     ensures uses { OnlyUses PlanSlot (I.state inputs.old) (I.state inputs.new) }
     ensures answer { AnswersPlan (I.state inputs.old) name.now result }
     ensures reason { IfErr result (PlanReason (I.state inputs.old) (I.state inputs.new) name.now) }
+    ensures once { InputsOnce (I.state inputs.old) (I.state inputs.new) (fault_in result) }
     ensures takes { TakesPlan (I.state inputs.old) (I.state inputs.new) name.now }
     ensures records { IfOk result (λ plan. (0 < plan.policy.records)
         × (plan.policy.records ≤ record_limit)) }
@@ -81,6 +85,7 @@ pub(crate) fn plan_of<I: Inputs>(alloc: Global, inputs: &mut I, name: &str) -> R
     ensures uses { OnlyUses PlanSlot (I.state inputs.old) (I.state inputs.new) }
     ensures answer { AnswersPlan (I.state inputs.old) name.now result }
     ensures reason { IfErr result (PlanReason (I.state inputs.old) (I.state inputs.new) name.now) }
+    ensures once { InputsOnce (I.state inputs.old) (I.state inputs.new) (fault_in result) }
     ensures takes { TakesPlan (I.state inputs.old) (I.state inputs.new) name.now }
     ensures records { IfOk result (λ plan. (0 < plan.policy.records)
         × (plan.policy.records ≤ record_limit)) }

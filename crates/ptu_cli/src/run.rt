@@ -2,11 +2,13 @@
 ghost use Rattle.std.specs.Prelude.{◌≡◌, ◌≤◌, ◌<◌, List, ℕ, slice_range, true, None, IfErr, IfOk};
 ghost use Rattle.std.specs.Io.KnownBytes.{Consumes};
 ghost use Rattle.tally_base.specs.declared.slot.Slot.TheVariants.{Data};
+ghost use Rattle.tally_base.specs.Faults.{fault_in};
 ghost use Rattle.bench_io.specs.Inputs.{OnlyReads};
 ghost use Rattle.ptu_definitions.specs.Counted.{record_limit};
 ghost use Rattle.ptu_definitions.specs.Streams.{streamed};
 ghost use Rattle.plan_text.specs.Reading.{plan_view};
 ghost use Rattle.tally_engine.specs.Engine.{HasFed, reading_of, refused_by};
+ghost use Rattle.ptu_cli.specs.Once.{InputsOnce};
 ghost use Rattle.ptu_cli.specs.Pieces.{ReadReason, IsReady, HoldsPart, MayChangeBehind, StopsSoon, StopsEarly};
 ghost use Rattle.ptu_cli.specs.Behaviours.{reporting};
 ghost use Rattle.ptu_cli.specs.Works.{TakesFew};
@@ -32,6 +34,7 @@ fn feed_rest<I: Inputs, L: Ledger>(
     requires going { refused_by engine ≡ None }
     ensures reads { OnlyReads Data (I.state inputs.old) (I.state inputs.new) }
     ensures reason { IfErr result (ReadReason (I.state inputs.old) (I.state inputs.new)) }
+    ensures once { InputsOnce (I.state inputs.old) (I.state inputs.new) (fault_in result) }
     ensures answer { (bytes : List ℕ) → HasFed engine bytes
         → EndsBehind engine bytes ((I.state inputs.old).rest Data)
         ((I.state inputs.new).rest Data) result }
@@ -65,6 +68,7 @@ fn feed_data<I: Inputs, L: Ledger>(
     requires fresh { IsFresh engine }
     ensures reads { OnlyReads Data (I.state inputs.old) (I.state inputs.new) }
     ensures reason { IfErr result (ReadReason (I.state inputs.old) (I.state inputs.new)) }
+    ensures once { InputsOnce (I.state inputs.old) (I.state inputs.new) (fault_in result) }
     ensures answer { EndsBehind engine (slice_range buffer.old used len)
         ((I.state inputs.old).rest Data) ((I.state inputs.new).rest Data) result }
     ensures stops { StopsEarly
@@ -87,6 +91,7 @@ pub(crate) fn run_data<I: Inputs>(
     ensures reads { OnlyReads Data (I.state inputs.old) (I.state inputs.new) }
     ensures reason { IfErr result (RunReason (plan_view plan.now) (I.state inputs.old)
         (I.state inputs.new)) }
+    ensures once { InputsOnce (I.state inputs.old) (I.state inputs.new) (fault_in result) }
     ensures answer { (taken : List ℕ)
         × Consumes ((I.state inputs.old).rest Data) ((I.state inputs.new).rest Data) taken
         × AnswersReport (plan_view plan.now) taken ((I.state inputs.new).rest Data) result }

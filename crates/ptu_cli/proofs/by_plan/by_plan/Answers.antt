@@ -8,6 +8,7 @@ use Rattle.plan_text.specs.Reading.{plan_view}
 use Rattle.ptu_cli.specs.Endings.{Span, HasCauses}
 use Rattle.ptu_cli.proofs.PlanTold.{has-plan, none-lacking, takes-later, answers-unplanned, unplanned-causes, answers-lacking, lacking-causes, plan-answers, plan-causes}
 use Rattle.ptu_cli.proofs.WorkTold.{few-told}
+use Rattle.ptu_cli.proofs.Once.{stays-same, once-none, once-behind, once-opened, once-unopened}
 use Rattle.ptu_cli.proofs.by_plan.by_plan.Goals as goal
 
 pub returns-in_err-plan : goal.returns-in_err-plan
@@ -22,6 +23,7 @@ returns-in_err-plan g c =
       answer = answers-unplanned c.args.plan_name.now c.args.data_name.now (does.writing it) does.memory (does.lacking it) (does.work it) before after fault _ c.in_err-plan.ensures.answer;
       causes = unplanned-causes c.args.plan_name.now c.args.data_name.now (does.writing it) does.memory (does.lacking it) (does.work it) before after _ _ fault c.plan_of.ensures.uses.keeps_other (c.requires.first Data) c.in_err-plan.ensures.reason;
       asks = (c.plan_of.ensures.takes, λ asked. let same = c.plan_of.ensures.uses.keeps_other.asked in let first = c.requires.first Data in cc);
+      once = record { inputs = c.in_err-plan.ensures.once; out = stays-same _ _ _ refl };
     })
 
 pub returns-in-Some : goal.returns-in-Some
@@ -33,6 +35,7 @@ returns-in-Some g c =
       answer = answers-lacking c.args.plan_name.now c.args.data_name.now (does.writing it) does.memory (does.lacking it) (does.work it) before (g.I.Inputs.state c.plan_of.new.inputs) c.in_ok-plan.plan c.in-Some.fault _ c.in_ok-plan.ensures.answer (sym c.in-Some.ensures.answer);
       causes = lacking-causes c.args.plan_name.now c.args.data_name.now (does.writing it) does.memory (does.lacking it) (does.work it) _ c.in-Some.fault c.in-Some.ensures.inside;
       asks = (c.plan_of.ensures.takes, λ asked. let same = c.plan_of.ensures.uses.keeps_other.asked in let first = c.requires.first Data in cc);
+      once = record { inputs = once-none _ _ _ c.in_ok-plan.ensures.once; out = stays-same _ _ _ refl };
     }
 
 pub returns-in-Err : goal.returns-in-Err
@@ -56,6 +59,7 @@ returns-in-Err g c =
               cc,
         ),
       );
+      once = record { inputs = once-unopened Data _ _ _ c.in_ok-plan.ensures.once c.open.ensures.keeps_other c.open.ensures.reads; out = refl };
     }
 
 pub returns-in-Ok : goal.returns-in-Ok
@@ -86,4 +90,8 @@ returns-in-Ok g c =
         takes-later before opened _ c.args.plan_name.now (takes-later before planned opened c.args.plan_name.now c.plan_of.ensures.takes c.open.ensures.keeps_other) c.read.ensures.reads.keeps_other,
         λ asked. (view, has, λ was. few-told (does.work it view) _ before opened _ c.args.data_name.now same c.in-Ok.ensures.file c.read.ensures.few),
       );
+      once = record {
+        inputs = once-behind before opened _ _ (once-opened Data before planned opened c.in_ok-plan.ensures.once c.open.ensures.keeps_other c.open.ensures.reads c.in-Ok.ensures.cause.kept) c.read.ensures.once.inputs;
+        out = c.read.ensures.once.out;
+      };
     }

@@ -1,4 +1,4 @@
-use Rattle.std.proofs.Common.{◌++◌, [], Ok, Err, inr}
+use Rattle.std.proofs.Common.{◌++◌, [], None, Ok, Err, inr}
 use Rattle.std.proofs.lemmas.Result.{err_from_is_err_and}
 use Rattle.bench_io.proofs.Bytes.{Consumes-trans}
 use Rattle.ptu_cli.proofs.Pieces.{file_counts-cut, file_counts-open, within_limit}
@@ -6,6 +6,7 @@ use Rattle.ptu_cli.proofs.Composed.{AnswersAs-unheaded, AnswersAs-behind, Says-r
 use Rattle.ptu_cli.specs.Outcomes.{IsCut}
 use Rattle.ptu_cli.specs.Behaviours.{counting}
 use Rattle.ptu_cli.proofs.Few.{few-behind, stops-map, stops-inside, stops-behind}
+use Rattle.ptu_cli.proofs.Once.{once-none, once-behind}
 use Rattle.ptu_cli.proofs.data.count_data.Goals as goal
 
 pub returns-in_err-found-clause-answer : goal.returns-in_err-found-clause-answer
@@ -66,3 +67,19 @@ returns-clause-stops g c =
     let limit = within_limit _ _ c.in_ok-feed.was (c.feed.ensures.limit header.record_type [] c.new-counter.ensures.start) in
     let rest = c.in_ok-counts.ensures.stops header.record_type _ (c.feed.ensures.taken header.record_type [] c.new-counter.ensures.start) limit in
     record { unread = tt; few = few-behind _ counting.goes_on front.0 _ _ _ front.1 (λ l h. file_counts-open header front.0 _ l front.2 h) rest.few }
+
+pub returns-in_err-found-clause-once : goal.returns-in_err-found-clause-once
+returns-in_err-found-clause-once g c =
+    let p = err_from_is_err_and c.from_residual.result c.from_residual.ensures.1 in
+    rw (p.1, p.2) c.in_err-found.ensures.once
+
+pub returns-in_err-feed-clause-once : goal.returns-in_err-feed-clause-once
+returns-in_err-feed-clause-once g c = once-none _ _ _ c.in_ok-found.ensures.once
+
+pub returns-in_err-counts-clause-once : goal.returns-in_err-counts-clause-once
+returns-in_err-counts-clause-once g c =
+    let p = err_from_is_err_and c.from_residual-in_err-counts.result c.from_residual-in_err-counts.ensures.1 in
+    rw (p.1, p.2) (once-behind _ _ _ _ c.in_ok-found.ensures.once c.in_err-counts.ensures.once)
+
+pub returns-clause-once : goal.returns-clause-once
+returns-clause-once g c = once-behind _ _ _ None c.in_ok-found.ensures.once c.in_ok-counts.ensures.once

@@ -1,5 +1,6 @@
 use Rattle.std.proofs.Common.{◌≡◌, [], refl, sym, ap, ◌∙◌, append-nil, arith, ◌≤◌, ◌++◌, ℕ, List, length, Err, take, append_assoc, subst, inr}
 use Rattle.std.proofs.lemmas.Result.{IfErr-weaker, err_from_is_err_and}
+use Rattle.tally_base.specs.declared.slot.Slot.TheVariants.{Data}
 use Rattle.tally_base.proofs.Reasons.{HasReason-inside}
 use Rattle.bench_io.proofs.Bytes.{Consumes-kept, Consumes-trans}
 use Rattle.bench_io.proofs.States.{OnlyReads-trans}
@@ -12,6 +13,7 @@ use Rattle.ptu_cli.proofs.Pieces.{counted-open, within_limit}
 use Rattle.tally_base.specs.Faults.{fault_in}
 use Rattle.ptu_cli.specs.Outcomes.{MayChange}
 use Rattle.ptu_cli.proofs.Few.{stops-unread, stops-piece}
+use Rattle.ptu_cli.proofs.Once.{once-read, once-unread}
 use Rattle.ptu_cli.proofs.data.count_rest.Goals as goal
 
 pub returns-then-len-eq0-clause-reason : goal.returns-then-len-eq0-clause-reason
@@ -23,6 +25,7 @@ pieces-preserved g c =
     let piece = take c.in-Ok.len c.read.new.into in
     record {
       reads = OnlyReads-trans _ _ _ _ c.pieces.invariant.reads (record { keeps = c.read.ensures.keeps; keeps_other = c.read.ensures.keeps_other; opens_none = c.read.ensures.opens_none });
+      once = once-read Data _ _ _ _ c.pieces.invariant.once c.read.ensures.keeps_other c.read.ensures.opens_none c.in-Ok.ensures.cause.kept;
       taken = (
         so_far.0 ++ piece,
         Consumes-trans _ _ _ so_far.0 piece so_far.1 c.in-Ok.ensures.bytes.0,
@@ -79,3 +82,12 @@ returns-in_err-feed-clause-stops g c = λ record_type bytes h few.
     rw (p.1, p.2)
     (stops-piece (λ (l : List ℕ). MayChange (fault_in (counted record_type (bytes ++ l)))) so_far.0 c.in-Ok.len c.read.new.into _ _ (Err c.in_err-feed.field-0.0) (Consumes-trans _ _ _ so_far.0 (take c.in-Ok.len c.read.new.into) so_far.1 c.in-Ok.ensures.bytes.0)
     (counted-open record_type (bytes ++ so_far.0) (so_far.3 record_type bytes h few)) (omega (arith, c.requires.small, c.pieces.auto.buffer, c.read.auto.into)) c.in_err-feed.ensures.inside)
+
+pub returns-in_default-clause-once : goal.returns-in_default-clause-once
+returns-in_default-clause-once g c = once-unread Data _ _ _ c.pieces.invariant.once c.read.ensures.keeps_other c.read.ensures.opens_none
+
+pub returns-then-len-eq0-clause-once : goal.returns-then-len-eq0-clause-once
+returns-then-len-eq0-clause-once g c = once-read Data _ _ _ _ c.pieces.invariant.once c.read.ensures.keeps_other c.read.ensures.opens_none c.in-Ok.ensures.cause.kept
+
+pub returns-in_err-feed-clause-once : goal.returns-in_err-feed-clause-once
+returns-in_err-feed-clause-once g c = once-read Data _ _ _ _ c.pieces.invariant.once c.read.ensures.keeps_other c.read.ensures.opens_none c.in-Ok.ensures.cause.kept

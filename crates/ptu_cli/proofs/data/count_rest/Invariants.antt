@@ -1,4 +1,4 @@
-use Rattle.std.proofs.Common.{◌++◌, ◌≤◌, List, ℕ, length}
+use Rattle.std.proofs.Common.{◌++◌, ◌≤◌, List, ℕ, length, None}
 use Rattle.std.specs.Io.KnownBytes.{Consumes}
 use Rattle.tally_base.specs.declared.slot.Slot.TheVariants.{Data}
 use Rattle.tally_base.specs.declared.header.RecordType.{RecordType}
@@ -6,6 +6,7 @@ use Rattle.bench_io.specs.Inputs.{OnlyReads}
 use Rattle.ptu_definitions.specs.Words.{words_of}
 use Rattle.ptu_definitions.specs.Counted.{record_limit}
 use Rattle.record_layout.specs.Counting.{HasCounted, room}
+use Rattle.ptu_cli.specs.Once.{InputsOnce}
 use Rattle.ptu_cli.proofs.data.count_rest.Given as goal
 
 -- the counter was given the bytes that were taken
@@ -14,6 +15,7 @@ invariant-pieces g l =
     let state = g.I.Inputs.state in
     record {
       reads : OnlyReads Data (state l.initial.inputs) (state l.inputs);
+      once : InputsOnce (state l.initial.inputs) (state l.inputs) None;
       taken : (taken : List ℕ) × Consumes ((state l.initial.inputs).rest Data) ((state l.inputs).rest Data) taken
           × ((record_type : RecordType) (bytes : List ℕ) → HasCounted l.initial.counter record_type bytes → HasCounted l.counter record_type (bytes ++ taken))
           × ((record_type : RecordType) (bytes : List ℕ) → HasCounted l.initial.counter record_type bytes → length (words_of bytes) ≤ record_limit → length (words_of (bytes ++ taken)) ≤ record_limit);

@@ -8,6 +8,7 @@ use Rattle.ptu_cli.proofs.EventComposed.{answers-header, answers-first, answers-
 use Rattle.ptu_cli.specs.Outcomes.{IsCut}
 use Rattle.ptu_cli.specs.Behaviours.{listing_all}
 use Rattle.ptu_cli.proofs.Few.{few-map, few-behind}
+use Rattle.ptu_cli.proofs.Once.{stays-same, stays-behind, once-none, once-behind, Rose-kept}
 use Rattle.ptu_cli.proofs.data.list_data.Goals as goal
 
 pub returns-in_err-found-clause-answer : goal.returns-in_err-found-clause-answer
@@ -59,7 +60,7 @@ returns-clause-reason g c =
     (λ fault h.
     HasReason-follows _ _ _ _ _ _ _ _ fault (λ slot no. no)
     (λ slot h. (h.0, Rose-behind _ _ _ (c.read_header.ensures.reads.keeps.read_faults slot) h.1, reads-behind header front.0 _ _ _ _ _ _ _ front.1 front.2 writes.1 h.2))
-    (λ h. (Rose-behind _ _ _ c.list_piece.ensures.later h.0, cuts-behind header front.0 _ _ _ _ _ _ _ front.1 front.2 writes.1 h.1))
+    (λ h. (Rose-kept _ _ _ (c.in_ok-list_piece.ensures.once c.new-stream.ensures.unrefused [] c.new-stream.ensures.empty) h.0, cuts-behind header front.0 _ _ _ _ _ _ _ front.1 front.2 writes.1 h.1))
     (λ no. absurd no)
     h)
     rest
@@ -76,3 +77,21 @@ returns-clause-few g c =
     let how = c.new-stream.ensures.how in
     let rest = rw (c.list_piece.ensures.fed.same_how, how) at (c.list_rest.ensures.few _ (c.list_piece.ensures.fed.taken [] c.new-stream.ensures.empty)) in
     few-behind _ listing_all.goes_on front.0 _ _ _ front.1 (λ l h. rw (front.2 l) h) rest
+
+pub returns-in_err-found-clause-once : goal.returns-in_err-found-clause-once
+returns-in_err-found-clause-once g c =
+    let p = err_from_is_err_and c.from_residual.result c.from_residual.ensures.1 in
+    rw (p.1, p.2) (record { inputs = c.in_err-found.ensures.once; out = stays-same _ _ _ refl })
+
+pub returns-in_err-list_piece-clause-once : goal.returns-in_err-list_piece-clause-once
+returns-in_err-list_piece-clause-once g c =
+    let p = err_from_is_err_and c.from_residual-in_err-list_piece.result c.from_residual-in_err-list_piece.ensures.1 in
+    rw (p.1, p.2) (record { inputs = once-none _ _ _ c.in_ok-found.ensures.once; out = c.in_err-list_piece.ensures.once c.new-stream.ensures.unrefused [] c.new-stream.ensures.empty })
+
+pub returns-clause-once : goal.returns-clause-once
+returns-clause-once g c =
+    let rest = c.list_rest.ensures.once _ (c.list_piece.ensures.fed.taken [] c.new-stream.ensures.empty) in
+    record {
+      inputs = once-behind _ _ _ _ c.in_ok-found.ensures.once rest.inputs;
+      out = stays-behind _ _ _ _ (c.in_ok-list_piece.ensures.once c.new-stream.ensures.unrefused [] c.new-stream.ensures.empty) rest.out;
+    }

@@ -1,6 +1,5 @@
 use Rattle.std.proofs.Common.{◌≡◌, length, rules, ◌++◌, [], take, refl, sym, ap, ◌∙◌, append-nil, arith, inr}
 use Rattle.bench_io.proofs.Bytes.{Appends-nil, Appends-same, Consumes-nil, Consumes-kept, Consumes-trans}
-use Rattle.bench_io.proofs.Rises.{Rose-behind}
 use Rattle.bench_io.proofs.States.{OnlyReads-refl, OnlyReads-trans}
 use Rattle.table_out.specs.HeaderText.{header_text}
 use Rattle.table_out.proofs.StepTexts.{header_text-nil}
@@ -10,14 +9,16 @@ use Rattle.tally_base.specs.declared.slot.Slot.TheVariants.{Data}
 use Rattle.ptu_cli.specs.Outcomes.{IsCut, header_outcome}
 use Rattle.ptu_cli.proofs.Told.{some_left, Says-at_end, Says-shown}
 use Rattle.ptu_cli.proofs.Few.{few-none, few-piece}
+use Rattle.ptu_cli.proofs.Once.{stays-same, once-refl, once-read, once-unread, Rose-kept}
 use Rattle.ptu_cli.proofs.data.print_data.Goals as goal
 
 pub pieces-init : goal.pieces-init
 pieces-init g c = record {
   reads = OnlyReads-refl _ _;
+  once = once-refl _ _;
   taken = ([], Consumes-nil _, c.new-printer.ensures.start, Appends-same _ _ _ _ (sym header_text-nil) (Appends-nil _), IsCut-nil);
   is_open = c.new-printer.ensures.is_open;
-  later = omega arith;
+  kept = refl;
 }
 
 pub returns-in-Err-clause-reason : goal.returns-in-Err-clause-reason
@@ -25,7 +26,7 @@ returns-in-Err-clause-reason g c =
     let so_far = c.pieces.invariant.taken in
     let piece = take c.in-Ok.len c.read.new.into in
     let some = some_left ((g.I.Inputs.state c.read.new.self).rest Data) in (
-      Rose-behind _ _ _ c.pieces.invariant.later c.in-Err.ensures.cause.failed,
+      Rose-kept _ _ _ c.pieces.invariant.kept c.in-Err.ensures.cause.failed,
       record {
         taken = so_far.0 ++ piece;
         consumes = Consumes-trans _ _ _ so_far.0 piece so_far.1 c.in-Ok.ensures.bytes.0;
@@ -42,6 +43,7 @@ pieces-preserved g c =
     let leaves = rw c.in-Ok-More.field-0-is at (c.in-Ok-More.ensures.leaves so_far.0 so_far.2) in
     record {
       reads = OnlyReads-trans _ _ _ _ c.pieces.invariant.reads (record { keeps = c.read.ensures.keeps; keeps_other = c.read.ensures.keeps_other; opens_none = c.read.ensures.opens_none });
+      once = once-read Data _ _ _ _ c.pieces.invariant.once c.read.ensures.keeps_other c.read.ensures.opens_none c.in-Ok.ensures.cause.kept;
       taken = (
         so_far.0 ++ piece,
         Consumes-trans _ _ _ so_far.0 piece so_far.1 c.in-Ok.ensures.bytes.0,
@@ -50,7 +52,7 @@ pieces-preserved g c =
         leaves.2,
       );
       is_open = leaves.1;
-      later = omega (arith, c.pieces.invariant.later, c.print_piece.ensures.cause.later);
+      kept = c.in-Ok-More.ensures.cause.kept ∙ c.pieces.invariant.kept;
     }
 
 pub returns-then-len-eq0-clause-answer : goal.returns-then-len-eq0-clause-answer
@@ -118,3 +120,18 @@ pub returns-in-Ok-Refused-clause-few : goal.returns-in-Ok-Refused-clause-few
 returns-in-Ok-Refused-clause-few g c =
     let so_far = c.pieces.invariant.taken in
     few-piece IsCut so_far.0 c.in-Ok.len c.read.new.into _ _ (Consumes-trans _ _ _ so_far.0 (take c.in-Ok.len c.read.new.into) so_far.1 c.in-Ok.ensures.bytes.0) so_far.4 (let size : length c.read.new.into ≡ 8192 = Prim.search rules in omega (arith, size))
+
+pub returns-in_default-clause-once : goal.returns-in_default-clause-once
+returns-in_default-clause-once g c = record { inputs = once-unread Data _ _ _ c.pieces.invariant.once c.read.ensures.keeps_other c.read.ensures.opens_none; out = c.pieces.invariant.kept }
+
+pub returns-then-len-eq0-clause-once : goal.returns-then-len-eq0-clause-once
+returns-then-len-eq0-clause-once g c = record { inputs = once-read Data _ _ _ _ c.pieces.invariant.once c.read.ensures.keeps_other c.read.ensures.opens_none c.in-Ok.ensures.cause.kept; out = stays-same _ _ _ c.pieces.invariant.kept }
+
+pub returns-in-Err-clause-once : goal.returns-in-Err-clause-once
+returns-in-Err-clause-once g c = record { inputs = once-read Data _ _ _ _ c.pieces.invariant.once c.read.ensures.keeps_other c.read.ensures.opens_none c.in-Ok.ensures.cause.kept; out = tt }
+
+pub returns-in-Ok-Done-clause-once : goal.returns-in-Ok-Done-clause-once
+returns-in-Ok-Done-clause-once g c = record { inputs = once-read Data _ _ _ _ c.pieces.invariant.once c.read.ensures.keeps_other c.read.ensures.opens_none c.in-Ok.ensures.cause.kept; out = c.in-Ok-Done.ensures.cause.kept ∙ c.pieces.invariant.kept }
+
+pub returns-in-Ok-Refused-clause-once : goal.returns-in-Ok-Refused-clause-once
+returns-in-Ok-Refused-clause-once g c = record { inputs = once-read Data _ _ _ _ c.pieces.invariant.once c.read.ensures.keeps_other c.read.ensures.opens_none c.in-Ok.ensures.cause.kept; out = stays-same _ _ _ (c.in-Ok-Refused.ensures.cause.kept ∙ c.pieces.invariant.kept) }

@@ -1,4 +1,4 @@
-use Rattle.std.proofs.Common.{◌≡◌, ◌≤◌, List, ℕ, ◌-◌, ◌^◌, true}
+use Rattle.std.proofs.Common.{◌≡◌, List, ℕ, ◌-◌, ◌^◌, true, None}
 use Rattle.std.specs.Io.KnownBytes.{Appends, Consumes}
 use Rattle.tally_base.specs.declared.slot.Slot.TheVariants.{Data}
 use Rattle.bench_io.specs.Inputs.{OnlyReads}
@@ -6,6 +6,7 @@ use Rattle.ptu_header.specs.Reading.{bytes_taken, is_open}
 use Rattle.table_out.specs.HeaderText.{header_text}
 use Rattle.ptu_cli.specs.Outcomes.{IsCut}
 use Rattle.ptu_cli.specs.Printing.{Prints}
+use Rattle.ptu_cli.specs.Once.{InputsOnce}
 use Rattle.ptu_cli.proofs.data.print_data.Given as goal
 
 -- the text of the bytes that were taken is written
@@ -15,9 +16,10 @@ invariant-pieces g l =
     let written = g.O.Sink.written in
     record {
       reads : OnlyReads Data (state l.initial.inputs) (state l.inputs);
+      once : InputsOnce (state l.initial.inputs) (state l.inputs) None;
       taken : (taken : List ℕ) × Consumes ((state l.initial.inputs).rest Data) ((state l.inputs).rest Data) taken × Prints l.printer taken × Appends (written l.initial.out) (written l.out) (header_text taken) × IsCut taken;
       is_open : is_open l.printer.reader ≡ true;
-      later : g.O.Sink.faults l.initial.out ≤ g.O.Sink.faults l.out;
+      kept : g.O.Sink.faults l.out ≡ g.O.Sink.faults l.initial.out;
     }
 
 abbrev pub decreases-pieces : goal.decreases-pieces

@@ -1,6 +1,7 @@
 use Rattle.std.proofs.Common.{◌≡◌, arith, [], ◌++◌, Ok, Err, take, refl, sym, ap, ◌∙◌, append-nil, inr}
 use Rattle.std.proofs.lemmas.List.{length-take}
 use Rattle.std.proofs.lemmas.Slice.{between_is}
+use Rattle.tally_base.specs.declared.slot.Slot.TheVariants.{Data}
 use Rattle.tally_base.proofs.Reasons.{HasReason-inside}
 use Rattle.bench_io.proofs.Bytes.{Consumes-nil, Consumes-kept, Consumes-trans}
 use Rattle.bench_io.proofs.States.{OnlyReads-refl}
@@ -9,6 +10,7 @@ use Rattle.ptu_definitions.specs.Headers.{header_answer}
 use Rattle.ptu_cli.specs.Outcomes.{IsCut}
 use Rattle.ptu_cli.proofs.Told.{Says-at_end, Says-shown}
 use Rattle.ptu_cli.proofs.Few.{stops-unread, stops-piece}
+use Rattle.ptu_cli.proofs.Once.{once-refl, once-read, once-unread}
 use Rattle.ptu_cli.proofs.data.read_header.Goals as goal
 
 pub returns-then-len-eq0-clause-reason : goal.returns-then-len-eq0-clause-reason
@@ -59,7 +61,7 @@ returns-then-len-eq0-clause-answer g c =
     )
 
 pub pieces-init : goal.pieces-init
-pieces-init g c = record { reads = OnlyReads-refl _ _; taken = ([], Consumes-nil _, c.new-reader.ensures.start, IsCut-nil); is_open = c.new-reader.ensures.is_open }
+pieces-init g c = record { reads = OnlyReads-refl _ _; taken = ([], Consumes-nil _, c.new-reader.ensures.start, IsCut-nil); is_open = c.new-reader.ensures.is_open; once = once-refl _ _ }
 
 pub returns-in_default-clause-stops : goal.returns-in_default-clause-stops
 returns-in_default-clause-stops g c =
@@ -83,3 +85,15 @@ returns-in-Refused-clause-stops g c =
     let so_far = c.pieces.invariant.taken in
     stops-piece IsCut so_far.0 c.in-Ok.len c.read.new.into _ _ _ (Consumes-trans _ _ _ so_far.0 (take c.in-Ok.len c.read.new.into) so_far.1 c.in-Ok.ensures.bytes.0) so_far.3
     (omega (arith, c.requires.small, c.pieces.auto.buffer, c.read.auto.into)) c.in-Refused.ensures.inside
+
+pub returns-in_default-clause-once : goal.returns-in_default-clause-once
+returns-in_default-clause-once g c = once-unread Data _ _ _ c.pieces.invariant.once c.read.ensures.keeps_other c.read.ensures.opens_none
+
+pub returns-then-len-eq0-clause-once : goal.returns-then-len-eq0-clause-once
+returns-then-len-eq0-clause-once g c = once-read Data _ _ _ _ c.pieces.invariant.once c.read.ensures.keeps_other c.read.ensures.opens_none c.in-Ok.ensures.cause.kept
+
+pub returns-in-Done-clause-once : goal.returns-in-Done-clause-once
+returns-in-Done-clause-once g c = once-read Data _ _ _ _ c.pieces.invariant.once c.read.ensures.keeps_other c.read.ensures.opens_none c.in-Ok.ensures.cause.kept
+
+pub returns-in-Refused-clause-once : goal.returns-in-Refused-clause-once
+returns-in-Refused-clause-once g c = once-read Data _ _ _ _ c.pieces.invariant.once c.read.ensures.keeps_other c.read.ensures.opens_none c.in-Ok.ensures.cause.kept

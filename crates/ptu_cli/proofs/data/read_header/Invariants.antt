@@ -1,9 +1,10 @@
-use Rattle.std.proofs.Common.{◌≡◌, List, ℕ, ◌-◌, ◌^◌, true}
+use Rattle.std.proofs.Common.{◌≡◌, List, ℕ, ◌-◌, ◌^◌, true, None}
 use Rattle.std.specs.Io.KnownBytes.{Consumes}
 use Rattle.tally_base.specs.declared.slot.Slot.TheVariants.{Data}
 use Rattle.bench_io.specs.Inputs.{OnlyReads}
 use Rattle.ptu_header.specs.Reading.{HasRead, bytes_taken, is_open}
 use Rattle.ptu_cli.specs.Outcomes.{IsCut}
+use Rattle.ptu_cli.specs.Once.{InputsOnce}
 use Rattle.ptu_cli.proofs.data.read_header.Given as goal
 
 -- the reader was given the bytes that were taken
@@ -12,6 +13,7 @@ invariant-pieces g l =
     let state = g.I.Inputs.state in
     record {
       reads : OnlyReads Data (state l.initial.inputs) (state l.inputs);
+      once : InputsOnce (state l.initial.inputs) (state l.inputs) None;
       taken : (taken : List ℕ) × Consumes ((state l.initial.inputs).rest Data) ((state l.inputs).rest Data) taken × HasRead l.reader taken × IsCut taken;
       is_open : is_open l.reader ≡ true;
     }

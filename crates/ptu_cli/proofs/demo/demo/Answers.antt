@@ -6,6 +6,7 @@ use Rattle.ptu_cli.specs.Demo.{demo_plan}
 use Rattle.ptu_cli.specs.Endings.{HasCauses}
 use Rattle.ptu_cli.proofs.Demos.{demo-view, plan-wanted, demo-outside, demo-causes, ends-demo, untold-causes}
 use Rattle.ptu_cli.proofs.Answers.{alone-answers}
+use Rattle.ptu_cli.proofs.Once.{stays-same, out-once}
 use Rattle.ptu_cli.proofs.demo.demo.Goals as goal
 
 pub returns-in_err-plan-clause-answer : goal.returns-in_err-plan-clause-answer
@@ -45,3 +46,12 @@ returns-clause-causes g c = λ state.
     let view : plan_view c.in_ok-plan.plan ≡ demo_plan = demo-view c.in_ok-plan.plan c.in_ok-plan.ensures.answer in
     untold-causes c.args.seed c.args.count (plan_view c.in_ok-plan.plan) _ _ front.0 c.in_ok-results.results state c.write_report.result _ _ _ _ c.requires view c.made_data-made.ensures.rest front.1 front.2
     c.write_report.ensures.fault c.write_report.ensures.cause.failed c.write_report.ensures.short
+
+pub returns-in_err-plan-clause-once : goal.returns-in_err-plan-clause-once
+returns-in_err-plan-clause-once g c = stays-same _ _ _ refl
+
+pub returns-in_err-results-clause-once : goal.returns-in_err-results-clause-once
+returns-in_err-results-clause-once g c = stays-same _ _ _ refl
+
+pub returns-clause-once : goal.returns-clause-once
+returns-clause-once g c = out-once _ _ c.write_report.result c.write_report.ensures.fault c.write_report.ensures.cause

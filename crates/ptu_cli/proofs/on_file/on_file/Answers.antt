@@ -1,9 +1,10 @@
-use Rattle.std.proofs.Common.{refl, sym, ap, ◌∙◌, inl}
+use Rattle.std.proofs.Common.{None, refl, sym, ap, ◌∙◌, inl}
 use Rattle.std.proofs.lemmas.Result.{IfErr-weaker}
 use Rattle.tally_base.specs.declared.slot.Slot.TheVariants.{Plan, Data}
 use Rattle.bench_io.proofs.Bytes.{Appends-nil, Keeps-from_none}
 use Rattle.ptu_cli.specs.Endings.{Span, HasCauses}
 use Rattle.ptu_cli.proofs.WorkTold.{file-answers, file-causes, few-told}
+use Rattle.ptu_cli.proofs.Once.{stays-same, once-refl, once-behind, once-opened, once-unopened}
 use Rattle.ptu_cli.proofs.on_file.on_file.Goals as goal
 
 pub returns-in-Err : goal.returns-in-Err
@@ -18,6 +19,7 @@ returns-in-Err g c = record {
         let first = c.requires.first Data in
         cc,
   );
+  once = record { inputs = once-unopened Data _ _ _ (once-refl _ None) c.open.ensures.keeps_other c.open.ensures.reads; out = refl };
 }
 
 pub returns-in-Ok : goal.returns-in-Ok
@@ -42,4 +44,8 @@ returns-in-Ok g c =
         ap (λ f. f Plan) c.read.ensures.reads.opens_none.asked ∙ c.open.ensures.keeps_other.asked ∙ c.requires.first Plan,
         λ was. few-told work (before.contents c.args.file.now) before opened after c.args.file.now refl c.in-Ok.ensures.file c.read.ensures.few,
       );
+      once = record {
+        inputs = once-behind before opened after _ (once-opened Data before before opened (once-refl before None) c.open.ensures.keeps_other c.open.ensures.reads c.in-Ok.ensures.cause.kept) c.read.ensures.once.inputs;
+        out = c.read.ensures.once.out;
+      };
     }

@@ -1,9 +1,10 @@
-use Rattle.std.proofs.Common.{◌≡◌, rules, take, length, arith, sym, ◌∙◌}
-use Rattle.std.proofs.lemmas.Result.{IfErr-weaker}
+use Rattle.std.proofs.Common.{◌≡◌, rules, None, take, length, arith, sym, ◌∙◌}
+use Rattle.std.proofs.lemmas.Result.{IfErr-weaker, err_from_is_err_and}
 use Rattle.std.proofs.lemmas.List.{length-take-le}
 use Rattle.tally_base.specs.declared.slot.Slot.TheVariants.{Plan as PlanSlot}
 use Rattle.ptu_cli.proofs.Plans.{uses-read, plan_told, plan_reason, ended_short}
 use Rattle.ptu_cli.proofs.WorkTold.{taken-told}
+use Rattle.ptu_cli.proofs.Once.{once-refl, once-none, once-behind, once-opened, once-unopened}
 use Rattle.ptu_cli.proofs.plan.plan_in.Goals as goal
 
 pub returns-in-Err-clause-uses : goal.returns-in-Err-clause-uses
@@ -43,3 +44,14 @@ returns-clause-takes g c = λ opened.
     let room = c.in_ok-len.ensures.room in
     let short : length (take c.in_ok-len.len text) ≡ c.in_ok-len.len = length-take-le c.in_ok-len.len text room in
     (take c.in_ok-len.len text, λ known told. taken-told _ _ _ _ known c.in-Ok.ensures.file c.in_ok-len.ensures.taken told, omega (arith, size, room, short))
+
+pub returns-in-Err-clause-once : goal.returns-in-Err-clause-once
+returns-in-Err-clause-once g c = once-unopened PlanSlot _ _ _ (once-refl _ None) c.in-Err.ensures.keeps_other c.open.ensures.reads
+
+pub returns-in_err-len-clause-once : goal.returns-in_err-len-clause-once
+returns-in_err-len-clause-once g c =
+    let p = err_from_is_err_and c.from_residual.result c.from_residual.ensures.1 in
+    rw (p.1, p.2) (once-behind _ _ _ _ (once-opened PlanSlot _ _ _ (once-refl _ None) c.in-Ok.ensures.keeps_other c.open.ensures.reads c.in-Ok.ensures.cause.kept) c.in_err-len.ensures.once)
+
+pub returns-clause-once : goal.returns-clause-once
+returns-clause-once g c = once-none _ _ _ (once-behind _ _ _ None (once-opened PlanSlot _ _ _ (once-refl _ None) c.in-Ok.ensures.keeps_other c.open.ensures.reads c.in-Ok.ensures.cause.kept) c.in_ok-len.ensures.once)

@@ -1,7 +1,8 @@
-use Rattle.std.proofs.Common.{◌≡◌, ◌-◌, ◌≤◌, length, take}
+use Rattle.std.proofs.Common.{◌≡◌, ◌-◌, ◌≤◌, length, take, None}
 use Rattle.std.specs.Io.KnownBytes.{Consumes}
 use Rattle.tally_base.specs.declared.slot.Slot.TheVariants.{Plan as PlanSlot}
 use Rattle.bench_io.specs.Inputs.{OnlyReads}
+use Rattle.ptu_cli.specs.Once.{InputsOnce}
 use Rattle.ptu_cli.proofs.plan.read_text.Given as goal
 
 -- the first bytes of the text are those that were taken
@@ -10,6 +11,7 @@ invariant-pieces g l =
     let state = g.I.Inputs.state in
     record {
       reads : OnlyReads PlanSlot (state l.initial.inputs) (state l.inputs);
+      once : InputsOnce (state l.initial.inputs) (state l.inputs) None;
       fits : l.len ≤ length l.text;
       size : length l.text ≡ length l.initial.text;
       taken : Consumes ((state l.initial.inputs).rest PlanSlot) ((state l.inputs).rest PlanSlot) (take l.len l.text);

@@ -1,4 +1,4 @@
-use Rattle.std.proofs.Common.{◌++◌, take, append_assoc, arith}
+use Rattle.std.proofs.Common.{◌++◌, ◌∙◌, take, append_assoc}
 use Rattle.std.proofs.lemmas.List.{take_more}
 use Rattle.std.proofs.lemmas.Result.{err_from_is_err_and}
 use Rattle.ptu_cli.proofs.Bodies.{PutsBody-next, CutsBody-next}
@@ -21,5 +21,5 @@ loop-byte-preserved g c =
       taken = λ kind part h. rw (take_more bytes i 0 c.loop-byte-test.true, ← append_assoc) (c.put.ensures.taken kind (part ++ take i bytes) (c.loop-byte.invariant.taken kind part h));
       all = λ kind part h. PutsBody-next kind part bytes i _ _ _ c.args.block.now c.loop-byte.block c.put-in-loop-byte.new.self c.put.result.items c.loop-byte-test.true (c.loop-byte.invariant.all kind part h)
           (c.put.ensures.text kind (part ++ take i bytes) (c.loop-byte.invariant.taken kind part h)) (rw c.as_slice.ensures.value at c.in_ok-put.ensures.all);
-      later = omega (arith, c.put-in-loop-byte.ensures.cause.later);
+      kept = c.in_ok-put.ensures.cause.kept ∙ c.loop-byte.invariant.kept;
     }

@@ -1,4 +1,4 @@
-use Rattle.std.proofs.Common.{◌≤◌, ◌++◌, List, ℕ, take}
+use Rattle.std.proofs.Common.{◌≡◌, ◌++◌, List, ℕ, take}
 use Rattle.ptu_tag.specs.declared.kind.TagKind.{TagKind}
 use Rattle.table_out.specs.Body.{HasPut}
 use Rattle.ptu_cli.specs.BodyPieces.{PutsBody}
@@ -11,5 +11,5 @@ invariant-loop-byte g l =
     record {
       taken : (kind : TagKind) (part : List ℕ) → HasPut l.fn.text kind part → HasPut l.text kind (part ++ take l.byte-index l.bytes);
       all : (kind : TagKind) (part : List ℕ) → HasPut l.fn.text kind part → PutsBody kind part (take l.byte-index l.bytes) (written l.initial.out) (written l.out) l.fn.block l.block;
-      later : g.O.Sink.faults l.initial.out ≤ g.O.Sink.faults l.out;
+      kept : g.O.Sink.faults l.out ≡ g.O.Sink.faults l.initial.out;
     }

@@ -2,6 +2,7 @@ use Rattle.std.proofs.Common.{refl, inl, inr, [], slice_range, append-nil}
 use Rattle.std.proofs.lemmas.Result.{err_from_is_err_and}
 use Rattle.bench_io.proofs.Bytes.{Consumes-nil}
 use Rattle.ptu_cli.proofs.Runs.{SameEngine-refl, ends-refused}
+use Rattle.ptu_cli.proofs.Once.{once-refl}
 use Rattle.ptu_cli.proofs.run.feed_data.Goals as goal
 
 pub returns-in_err-feed-clause-answer : goal.returns-in_err-feed-clause-answer
@@ -20,3 +21,6 @@ returns-in_err-feed-clause-stops g c =
 
 pub returns-clause-stops : goal.returns-clause-stops
 returns-clause-stops g c = inr (rw c.feed.ensures.same.same_reading at (c.feed_rest.ensures.stops (slice_range c.args.buffer.now c.args.used c.args.len) (c.feed.ensures.taken [] c.requires.fresh.fed)))
+
+pub returns-in_err-feed-clause-once : goal.returns-in_err-feed-clause-once
+returns-in_err-feed-clause-once g c = once-refl _ _

@@ -1,5 +1,6 @@
 use Rattle.std.proofs.Common.{◌≡◌, [], ◌++◌, ℕ, List, Err, take, sym, ap, ◌∙◌, append-nil, append_assoc, subst, arith, refl}
 use Rattle.std.proofs.lemmas.Result.{err_from_is_err_and}
+use Rattle.tally_base.specs.declared.slot.Slot.TheVariants.{Data}
 use Rattle.bench_io.proofs.Bytes.{Consumes-nil, Consumes-kept, Consumes-trans}
 use Rattle.bench_io.proofs.States.{OnlyReads-refl, OnlyReads-trans}
 use Rattle.tally_engine.specs.Engine.{HasFed, Finishes, reading_of}
@@ -8,11 +9,13 @@ use Rattle.ptu_definitions.specs.Streams.{streamed}
 use Rattle.ptu_cli.proofs.EventEnds.{streamed-clear}
 use Rattle.ptu_cli.proofs.Runs.{SameEngine-refl, SameEngine-trans, ends-finished, ends-refused, fed-open}
 use Rattle.ptu_cli.proofs.Few.{stops-unread, stops-piece}
+use Rattle.ptu_cli.proofs.Once.{once-refl, once-read, once-unread}
 use Rattle.ptu_cli.proofs.run.feed_rest.Goals as goal
 
 pub pieces-init : goal.pieces-init
 pieces-init g c = record {
   reads = OnlyReads-refl _ _;
+  once = once-refl _ _;
   same = SameEngine-refl c.args.engine;
   going = c.requires.going;
   taken = ([], Consumes-nil _, λ bytes h. rw (append-nil bytes) h);
@@ -25,6 +28,7 @@ pieces-preserved g c =
     let piece = take c.in-Ok.len c.read.new.into in
     record {
       reads = OnlyReads-trans _ _ _ _ inv.reads (record { keeps = c.read.ensures.keeps; keeps_other = c.read.ensures.keeps_other; opens_none = c.read.ensures.opens_none });
+      once = once-read Data _ _ _ _ c.pieces.invariant.once c.read.ensures.keeps_other c.read.ensures.opens_none c.in-Ok.ensures.cause.kept;
       same = SameEngine-trans c.args.engine c.pieces.engine c.feed.new.self inv.same c.feed.ensures.same;
       going = rw c.in_ok-feed.was at c.feed.ensures.refused;
       taken = (
@@ -65,14 +69,14 @@ pub returns-in_default-clause-stops : goal.returns-in_default-clause-stops
 returns-in_default-clause-stops g c = λ bytes h.
     let inv = c.pieces.invariant in
     let so_far = inv.taken in
-    let goes = fed-open c.args.engine c.pieces.engine (bytes ++ so_far.0) inv.same (streamed-clear _ _ _ _ _ _ (bytes ++ so_far.0) (so_far.2 bytes h).0 inv.going) in
+    let goes = fed-open c.args.engine c.pieces.engine (bytes ++ so_far.0) inv.same (streamed-clear _ _ _ _ _ _ _ (bytes ++ so_far.0) (so_far.2 bytes h).0 inv.going) in
     stops-unread _ so_far.0 _ _ _ (Consumes-kept _ _ _ so_far.0 so_far.1 c.in_default.ensures.bytes) goes
 
 pub returns-then-len-eq0-clause-stops : goal.returns-then-len-eq0-clause-stops
 returns-then-len-eq0-clause-stops g c = λ bytes h.
     let inv = c.pieces.invariant in
     let so_far = inv.taken in
-    let goes = fed-open c.args.engine c.pieces.engine (bytes ++ so_far.0) inv.same (streamed-clear _ _ _ _ _ _ (bytes ++ so_far.0) (so_far.2 bytes h).0 inv.going) in
+    let goes = fed-open c.args.engine c.pieces.engine (bytes ++ so_far.0) inv.same (streamed-clear _ _ _ _ _ _ _ (bytes ++ so_far.0) (so_far.2 bytes h).0 inv.going) in
     stops-piece _ so_far.0 c.in-Ok.len c.read.new.into _ _ c.finish.result (Consumes-trans _ _ _ so_far.0 (take c.in-Ok.len c.read.new.into) so_far.1 c.in-Ok.ensures.bytes.0) goes (omega (arith, c.requires.ready.small, c.pieces.auto.buffer, c.read.auto.into)) c.finish.ensures.inside
 
 pub returns-in_err-feed-clause-stops : goal.returns-in_err-feed-clause-stops
@@ -80,6 +84,15 @@ returns-in_err-feed-clause-stops g c = λ bytes h.
     let inv = c.pieces.invariant in
     let so_far = inv.taken in
     let p = err_from_is_err_and c.from_residual.result c.from_residual.ensures.1 in
-    let goes = fed-open c.args.engine c.pieces.engine (bytes ++ so_far.0) inv.same (streamed-clear _ _ _ _ _ _ (bytes ++ so_far.0) (so_far.2 bytes h).0 inv.going) in
+    let goes = fed-open c.args.engine c.pieces.engine (bytes ++ so_far.0) inv.same (streamed-clear _ _ _ _ _ _ _ (bytes ++ so_far.0) (so_far.2 bytes h).0 inv.going) in
     rw (p.1, p.2)
     (stops-piece _ so_far.0 c.in-Ok.len c.read.new.into _ _ (Err c.in_err-feed.field-0.0) (Consumes-trans _ _ _ so_far.0 (take c.in-Ok.len c.read.new.into) so_far.1 c.in-Ok.ensures.bytes.0) goes (omega (arith, c.requires.ready.small, c.pieces.auto.buffer, c.read.auto.into)) c.in_err-feed.ensures.inside)
+
+pub returns-in_default-clause-once : goal.returns-in_default-clause-once
+returns-in_default-clause-once g c = once-unread Data _ _ _ c.pieces.invariant.once c.read.ensures.keeps_other c.read.ensures.opens_none
+
+pub returns-then-len-eq0-clause-once : goal.returns-then-len-eq0-clause-once
+returns-then-len-eq0-clause-once g c = once-read Data _ _ _ _ c.pieces.invariant.once c.read.ensures.keeps_other c.read.ensures.opens_none c.in-Ok.ensures.cause.kept
+
+pub returns-in_err-feed-clause-once : goal.returns-in_err-feed-clause-once
+returns-in_err-feed-clause-once g c = once-read Data _ _ _ _ c.pieces.invariant.once c.read.ensures.keeps_other c.read.ensures.opens_none c.in-Ok.ensures.cause.kept

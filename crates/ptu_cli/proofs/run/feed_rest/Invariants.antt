@@ -3,6 +3,7 @@ use Rattle.std.specs.Io.KnownBytes.{Consumes}
 use Rattle.tally_base.specs.declared.slot.Slot.TheVariants.{Data}
 use Rattle.bench_io.specs.Inputs.{OnlyReads}
 use Rattle.tally_engine.specs.Engine.{HasFed, SameEngine, refused_by, bytes_fed}
+use Rattle.ptu_cli.specs.Once.{InputsOnce}
 use Rattle.ptu_cli.proofs.run.feed_rest.Given as goal
 
 -- the engine was given the bytes that were taken
@@ -11,6 +12,7 @@ invariant-pieces g l =
     let state = g.I.Inputs.state in
     record {
       reads : OnlyReads Data (state l.initial.inputs) (state l.inputs);
+      once : InputsOnce (state l.initial.inputs) (state l.inputs) None;
       same : SameEngine l.initial.engine l.engine;
       going : refused_by l.engine ≡ None;
       taken : (taken : List ℕ) × Consumes ((state l.initial.inputs).rest Data) ((state l.inputs).rest Data) taken × ((bytes : List ℕ) → HasFed l.initial.engine bytes → HasFed l.engine (bytes ++ taken));

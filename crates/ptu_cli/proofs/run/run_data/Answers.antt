@@ -10,6 +10,7 @@ use Rattle.ptu_cli.specs.Outcomes.{IsCut}
 use Rattle.ptu_cli.specs.Behaviours.{reporting}
 use Rattle.ptu_cli.specs.Works.{TakesFew}
 use Rattle.ptu_cli.proofs.Few.{few-map, few-behind}
+use Rattle.ptu_cli.proofs.Once.{once-none, once-behind}
 use Rattle.ptu_cli.proofs.run.run_data.Goals as goal
 
 pub returns-in_err-found-clause-reason : goal.returns-in_err-found-clause-reason
@@ -65,3 +66,14 @@ returns-clause-few g c =
       | inl same ↦ subst (λ (rest : Option (List ℕ)). TakesFew (reporting plan).goes_on ((g.I.Inputs.state c.args.inputs.now).rest Data) rest) (sym same.0) (few-map IsCut (reporting (plan_view c.args.plan.now)).goes_on _ _ (λ l cut. report-cut (plan_view c.args.plan.now) l cut) c.read_header.ensures.stops.few)
       | inr stops ↦ few-behind _ (reporting plan).goes_on front.0 _ _ _ front.1 (λ l h. report-open plan header front.0 _ l front.2 c.in_ok-engine.ensures.answer (rw c.in_ok-engine.ensures.made.reads at h)) stops.few
     ]
+
+pub returns-in_err-found-clause-once : goal.returns-in_err-found-clause-once
+returns-in_err-found-clause-once g c =
+    let p = err_from_is_err_and c.from_residual.result c.from_residual.ensures.1 in
+    rw (p.1, p.2) c.in_err-found.ensures.once
+
+pub returns-in_err-engine-clause-once : goal.returns-in_err-engine-clause-once
+returns-in_err-engine-clause-once g c = once-none _ _ _ c.in_ok-found.ensures.once
+
+pub returns-clause-once : goal.returns-clause-once
+returns-clause-once g c = once-behind _ _ _ _ c.in_ok-found.ensures.once c.feed_data.ensures.once

@@ -1,5 +1,6 @@
 use Rattle.std.proofs.Common.{refl}
 use Rattle.ptu_cli.proofs.Asked.{does_as}
+use Rattle.ptu_cli.proofs.Once.{once-refl}
 use Rattle.ptu_cli.proofs.top.obey.Goals as goal
 
 pub returns-in-Count-clause-does : goal.returns-in-Count-clause-does
@@ -17,4 +18,4 @@ returns-in-Run-clause-does g c = does_as _ _ _ _ (rw c.in-Run.is at c.in-Some.en
 pub returns-in-Demo-clause-does : goal.returns-in-Demo-clause-does
 returns-in-Demo-clause-does g c =
     let state = g.I.Inputs.state c.args.inputs.now in
-    does_as _ _ _ _ (rw c.in-Demo.is at c.in-Some.ensures.request) (record { answer = c.demo.ensures.answer state; causes = c.demo.ensures.causes state; asks = refl })
+    does_as _ _ _ _ (rw c.in-Demo.is at c.in-Some.ensures.request) (record { answer = c.demo.ensures.answer state; causes = c.demo.ensures.causes state; asks = refl; once = record { inputs = once-refl state _; out = c.demo.ensures.once } })

@@ -29,6 +29,7 @@ returns-in-Err g c =
       unwritten = λ four. let h = writing-from_status _ _ _ _ fault (sym is ∙ four) does.causes in (h.1.0, h.1.1, tells_as _ _ _ _ _ _ h.0 tells);
       memory = λ five. let h = memory-from_status _ _ _ _ fault (sym is ∙ five) does.causes in (h.1, tells_as _ _ _ _ _ _ h.0 tells);
       asks = does.asks;
+      once = (Some fault, is, tells, (does.once.inputs, does.once.out));
       complete = λ quiet. completes_as (behaviour_of c.args.words.now) _ _ _ _ is (inside-ends _ _ fault quiet.0 quiet.1 does.causes does.answer);
       good = λ plan_file data_file told good quiet. good-told request _ _ _ plan_file data_file
           (completes_as (behaviour_of c.args.words.now) _ _ _ _ is (inside-ends _ _ fault quiet.0 quiet.1 does.causes does.answer)) told good;
@@ -47,6 +48,7 @@ returns-in-Ok g c =
       unwritten = λ four. absurd (omega arith);
       memory = λ five. absurd (omega arith);
       asks = does.asks;
+      once = (None, refl, Keeps-from_none _ _ (Appends-nil _), (does.once.inputs, does.once.out));
       complete = λ quiet. ok-ends (behaviour_of c.args.words.now) _ _ _ _ does.answer;
       good = λ plan_file data_file told good quiet. good-told request _ _ _ plan_file data_file (ok-ends (behaviour_of c.args.words.now) _ _ _ _ does.answer) told good;
     }

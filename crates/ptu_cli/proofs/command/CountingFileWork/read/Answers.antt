@@ -1,6 +1,8 @@
+use Rattle.std.proofs.Common.{refl}
 use Rattle.std.proofs.lemmas.Result.{err_from_is_err_and}
 use Rattle.ptu_cli.specs.Endings.{Span}
 use Rattle.ptu_cli.proofs.CountEnds.{ends-uncounted, ends-counted, uncounted-reason, unlisted-reason}
+use Rattle.ptu_cli.proofs.Once.{stays-same, once-none, out-once}
 use Rattle.ptu_cli.proofs.command.CountingFileWork.read.Goals as goal
 
 pub returns-in_err-header-clause-answer : goal.returns-in_err-header-clause-answer
@@ -31,3 +33,11 @@ returns-clause-reason g c =
       faults_after = g.O.Sink.faults c.write_counts.new.out;
     } in
     unlisted-reason c.in_ok-header.header c.in_ok-header.counts span front.0 c.write_counts.result front.1 front.2 c.write_counts.ensures.fault c.write_counts.ensures.cause.failed c.write_counts.ensures.short
+
+pub returns-in_err-header-clause-once : goal.returns-in_err-header-clause-once
+returns-in_err-header-clause-once g c =
+    let p = err_from_is_err_and c.from_residual.result c.from_residual.ensures.1 in
+    rw (p.1, p.2) (record { inputs = c.in_err-header.ensures.once; out = stays-same _ _ _ refl })
+
+pub returns-clause-once : goal.returns-clause-once
+returns-clause-once g c = record { inputs = once-none _ _ _ c.in_ok-header.ensures.once; out = out-once _ _ c.write_counts.result c.write_counts.ensures.fault c.write_counts.ensures.cause }

@@ -1,7 +1,9 @@
+use Rattle.std.proofs.Common.{refl}
 use Rattle.std.proofs.lemmas.Result.{err_from_is_err_and}
 use Rattle.plan_text.specs.Reading.{plan_view}
 use Rattle.ptu_cli.specs.Endings.{Span}
 use Rattle.ptu_cli.proofs.RunTold.{ends-uncounted, ends-reported, uncounted-reason, unreported-reason}
+use Rattle.ptu_cli.proofs.Once.{stays-same, once-none, out-once}
 use Rattle.ptu_cli.proofs.command.ReportingPlanWork.read.Goals as goal
 
 pub returns-in_err-results-clause-answer : goal.returns-in_err-results-clause-answer
@@ -32,3 +34,11 @@ returns-clause-reason g c =
       faults_after = g.O.Sink.faults c.write_report.new.out;
     } in
     unreported-reason (plan_view c.args.plan.now) span front.0 c.in_ok-results.results c.write_report.result front.1 front.2 c.write_report.ensures.fault c.write_report.ensures.cause.failed c.write_report.ensures.short
+
+pub returns-in_err-results-clause-once : goal.returns-in_err-results-clause-once
+returns-in_err-results-clause-once g c =
+    let p = err_from_is_err_and c.from_residual.result c.from_residual.ensures.1 in
+    rw (p.1, p.2) (record { inputs = c.in_err-results.ensures.once; out = stays-same _ _ _ refl })
+
+pub returns-clause-once : goal.returns-clause-once
+returns-clause-once g c = record { inputs = once-none _ _ _ c.in_ok-results.ensures.once; out = out-once _ _ c.write_report.result c.write_report.ensures.fault c.write_report.ensures.cause }

@@ -71,7 +71,7 @@ steps-preserved-in-Preamble g c =
           (text-preamble front left c.in-Preamble.magic c.in-Preamble.version more reader (c.in-Preamble.ensures.step front p.read) (fits front p))
           (rw (c.as_slice.ensures.value, c.preamble_lines.ensures) at c.in_ok-put-in-Preamble.ensures.all);
       taken = omega (arith, c.in-Preamble.ensures.room.1, c.steps.invariant.taken);
-      later = omega (arith, c.put.ensures.cause.later, c.steps.invariant.later);
+      kept = c.in_ok-put-in-Preamble.ensures.cause.kept ∙ c.steps.invariant.kept;
     }
 
 pub returns-in_err-put-in-Tag-clause-short : goal.returns-in_err-put-in-Tag-clause-short
@@ -115,7 +115,7 @@ steps-preserved-in-Tag g c =
           (text-tag front left more reader c.in-Tag.tag c.in-Tag.kind s (fits front p))
           (rw (c.as_slice-in-Tag.ensures.value, c.tag_line.ensures s.2.0 s.2.3 s.2.4) at c.in_ok-put-in-Tag.ensures.all);
       taken = omega (arith, c.in-Tag.ensures.room.1, c.steps.invariant.taken);
-      later = omega (arith, c.put-in-Tag.ensures.cause.later, c.steps.invariant.later);
+      kept = c.in_ok-put-in-Tag.ensures.cause.kept ∙ c.steps.invariant.kept;
     }
 
 pub returns-in-Done-clause-leaves : goal.returns-in-Done-clause-leaves
@@ -217,5 +217,5 @@ steps-preserved g c =
           (text-body front left body.added more c.in-Body.last reader s (fits front p) body.text)
           (PassesOn-body _ _ _ c.steps.block body.added (end_line c.in-Body.last) c.put_body.new.block c.put_end.new.block body.put c.in_ok-put_end-in-Body.ensures.all);
       taken = omega (arith, c.in-Body.ensures.room.1, c.steps.invariant.taken);
-      later = omega (arith, c.put_body.ensures.cause.later, c.put_end.ensures.cause.later, c.steps.invariant.later);
+      kept = c.in_ok-put_end-in-Body.ensures.cause.kept ∙ c.in_ok-put_body-in-Body.ensures.cause.kept ∙ c.steps.invariant.kept;
     }

@@ -13,7 +13,7 @@ invariant-steps g l =
       prints : (bytes : List ℕ) → Prints l.fn.self bytes → Prints l.self (bytes ++ take l.used l.piece);
       text : (bytes : List ℕ) → Prints l.fn.self bytes → PutsHeader bytes (take l.used l.piece) (written l.initial.out) (written l.out) l.fn.block l.block;
       taken : bytes_taken l.self.reader ≡ bytes_taken l.fn.self.reader + l.used;
-      later : g.O.Sink.faults l.initial.out ≤ g.O.Sink.faults l.out;
+      kept : g.O.Sink.faults l.out ≡ g.O.Sink.faults l.initial.out;
     }
 
 abbrev pub decreases-steps : goal.decreases-steps
