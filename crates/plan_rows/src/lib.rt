@@ -12,6 +12,8 @@ mod refusals;
 #[cfg(test)]
 mod reports;
 #[cfg(test)]
+mod settling;
+#[cfg(test)]
 mod startstops;
 #[cfg(test)]
 mod traces;

@@ -1,8 +1,12 @@
 // What faults outside leave.
-use std::alloc::Global;
+use bench_io::{Inputs, MemoryFile, MemoryInputs, MemorySink};
+use ptu_cli::ptu_main;
+use std::alloc::{AllocError, Global};
+use std::test::Fail;
+use tally_base::{Failed, Slot};
 use whole_runs::bench::{BENCH_EVENTS, BENCH_PLAN, BENCH_REPORT, BENCH_TEXT};
 use whole_runs::files::{bench, short};
-use whole_runs::run::{Run, Wrong};
+use whole_runs::run::{Run, Wrong, words_of};
 
 const NO_COMMANDS: [&[&str]; 11] = [
     &[],
@@ -227,4 +231,57 @@ fn a_long_plan_and_a_failing_read(rt: HostRuntime) -> Result<(), Wrong> {
     Run::new(&["run", "p", "f"], longer.as_slice(), file.as_slice())
         .failing(&[3])
         .leaves(alloc, 6, b"", b"ptu: plan longer than 65536 bytes\n")
+}
+
+/// Inputs that count their reads.
+#[derive(Drop)]
+struct Counted {
+    inputs: MemoryInputs,
+    reads: u64,
+}
+
+impl Inputs for Counted {
+    ghost use Rattle.bench_io.specs.MemorySlots.{slots_asked_first};
+
+    ghost state = { λ counted. ⟦<MemoryInputs as Inputs>⟧.state counted.inputs };
+
+    ghost asked_first = { λ counted. slots_asked_first counted.inputs };
+
+    fn open(&mut self, slot: Slot, name: &str) -> Result<(), Failed> {
+        self.inputs.open(slot, name)
+    }
+
+    fn read(&mut self, slot: Slot, into: &mut [u8]) -> Result<usize, Failed> {
+        self.reads = self.reads.saturating_add(1);
+        self.inputs.read(slot, into)
+    }
+}
+
+/// How often a command reads the file `f` in such pieces, where its first write fails.
+fn reads_of(alloc: Global, command: &str, file: &[u8], size: usize) -> Result<u64, AllocError> {
+    let mut files = Vec::new(alloc);
+    files.push(MemoryFile::new(String::from_str(alloc, "f")?, file.to_vec(alloc)?))?;
+    let pieces = Vec::from_array(alloc, [size])?;
+    let mut inputs = Counted {
+        inputs: MemoryInputs::new(files, pieces, Vec::new(alloc)),
+        reads: 0,
+    };
+    let mut out = MemorySink::new(alloc, 4096, Vec::from_array(alloc, [1u64])?)?;
+    let mut err = MemorySink::new(alloc, 96, Vec::new(alloc))?;
+    let line = words_of(alloc, &[command, "f"])?;
+    let _ = ptu_main(alloc, line.as_slice(), &mut inputs, &mut out, &mut err);
+    Ok(inputs.reads)
+}
+
+/// The first piece of 100 bytes has lines of the header, and that of 760 bytes has records: nothing is read behind it.
+#[test]
+fn nothing_is_read_behind_a_failed_write(rt: HostRuntime) -> Result<(), Fail> {
+    let alloc = rt.alloc();
+    let file = bench(alloc)?;
+    for (command, size) in [("header", 100usize), ("events", 760)] {
+        if reads_of(alloc, command, file.as_slice(), size)? != 1 {
+            return Err(Fail::new("a read behind a failed write"));
+        }
+    }
+    Ok(())
 }

@@ -1,13 +1,11 @@
 // Runs over real files, through the adapters.
-use bench_io::{MemoryInputs, MemorySink};
 use ptu_cli::{FileInputs, StreamSink, ptu_main};
-use std::alloc::{AllocError, Global};
-use std::io::Write;
+use std::alloc::Global;
 use std::test::Fail;
 use std::{fs, io};
 use whole_runs::bench::{BENCH_EVENTS, BENCH_PLAN, BENCH_REPORT, BENCH_TEXT};
 use whole_runs::files::bench;
-use whole_runs::run::{Left, Wrong, words_of};
+use whole_runs::run::{Left, words_of};
 
 const DATA: &str = "ptu_rows_data.ptu";
 
@@ -145,52 +143,5 @@ fn written_files(rt: HostRuntime) -> Result<(), Fail> {
     leave_each(&rt, alloc, &NO_PLAN)?;
     fs::remove_file(&rt, OUT)?;
     fs::remove_file(&rt, ERR)?;
-    Ok(())
-}
-
-/// A stream that takes so many bytes of a piece at most, and says whether their flush is well.
-#[derive(Drop)]
-struct Stream {
-    takes: usize,
-    flushes: bool,
-}
-
-impl Write for Stream {
-    fn write(&mut self, piece: &[u8]) -> io::Result<usize> {
-        Ok(piece.len().min(self.takes))
-    }
-
-    fn flush(&mut self) -> io::Result<()> {
-        if self.flushes {
-            return Ok(());
-        }
-        Err(io::Error::from(io::ErrorKind::BrokenPipe))
-    }
-}
-
-/// A small report to a stream, and what standard error holds then.
-fn printed_to(alloc: Global, stream: Stream) -> Result<Left, AllocError> {
-    let words = words_of(alloc, &["demo", "0", "0"])?;
-    let mut inputs = MemoryInputs::new(Vec::new(alloc), Vec::new(alloc), Vec::new(alloc));
-    let mut out = StreamSink::new(stream);
-    let mut err = MemorySink::new(alloc, 96, Vec::new(alloc))?;
-    let status = ptu_main(alloc, words.as_slice(), &mut inputs, &mut out, &mut err);
-    Ok(Left {
-        status,
-        out: Vec::new(alloc),
-        err: err.bytes().to_vec(alloc)?,
-    })
-}
-
-#[test]
-fn streams_that_fail(rt: HostRuntime) -> Result<(), Wrong> {
-    let alloc = rt.alloc();
-    for (takes, flushes, status, line) in [
-        (1usize, true, 0u8, b"".as_slice()),
-        (0, true, 4, b"ptu: cannot write\n"),
-        (8192, false, 4, b"ptu: cannot write\n"),
-    ] {
-        printed_to(alloc, Stream { takes, flushes })?.is(alloc, status, b"", line)?;
-    }
     Ok(())
 }
