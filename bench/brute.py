@@ -10,6 +10,7 @@ bench/fuzz.py calls what stands here. PTU_PLAN_VERSION=1 in the environment is f
 version 1.
 """
 
+import bisect
 import math
 import os
 import re
@@ -210,7 +211,7 @@ def left_over(data, start):
 
 def read_records(record_type, words, policy, take):
     """Gives each event with whether it is late, and answers how many records there are of each kind."""
-    kinds, base, greatest = Counter(), 0, 0
+    kinds, base, times = Counter(), 0, []
     for place, word in enumerate(words, 1):
         if place > policy["records"]:
             raise Refused(20, f"more than {policy['records']} records")
@@ -226,16 +227,17 @@ def read_records(record_type, words, policy, take):
         else:
             event = Event(place, kind == "photon", number, dtime, base + time)
             is_ordered = event.is_photon or record_type[2] == 3
-            is_late = is_ordered and event.time < greatest
+            # Late are those that more than so many before them have overtaken: `times` is in order.
+            is_late = is_ordered and len(times) - bisect.bisect_right(times, event.time) > policy["settle"]
             if is_late and policy["order"] == "stop":
-                raise Refused(19, f"record {place} goes back from {greatest} to {event.time}")
+                raise Refused(19, f"record {place} goes back from {times[-1]} to {event.time}")
             if is_ordered:
-                greatest = max(greatest, event.time)
+                bisect.insort(times, event.time)
             take(event, is_late)
     return kinds
 
 
-NO_POLICY = {"order": "drop", "reserved": "skip", "records": 2**40}
+NO_POLICY = {"order": "drop", "reserved": "skip", "records": 2**40, "settle": 0}
 
 
 def count_of(kinds):
@@ -349,7 +351,7 @@ def broken_rules(document):
     """Each broken rule of a document with its index, where those before it hold, in their order."""
     has_new = document.get("version") == 2 and type(document.get("version")) is int and GREATEST_VERSION >= 2
     most = MOST | ({"shift": 65} if has_new else {})
-    known = ["version", "order", "reserved", "limits", *most] + (["period"] if has_new else [])
+    known = ["version", "order", "reserved", "limits", *most] + (["period", "settle"] if has_new else [])
     yield 1, 0, all(key in known for key in document)
     yield 2, 0, is_within(document.get("version", 1), 1, GREATEST_VERSION)
     yield 3, 0, document.get("order", "drop") in ("drop", "stop")
@@ -400,6 +402,7 @@ def broken_rules(document):
             yield 24, at, has_keys(shift, ("input", "shift"))
         for at, shift in enumerate(shifts):
             yield 25, at + 1, are_shifts(shifts, at, period)
+        yield 26, 0, is_within(document.get("settle", 0), 0, 64)
 
 
 def read_plan(text):
@@ -574,16 +577,21 @@ def report(plan, data, out):
     tags, start = read_header(data, [])
     record_type = type_of(tags)
     fits(plan, record_type[2])
-    policy = {key: plan.get(key, NO_POLICY[key]) for key in ("order", "reserved")}
+    policy = {key: plan.get(key, NO_POLICY[key]) for key in ("order", "reserved", "settle")}
     policy["records"] = plan.get("limits", {}).get("records", 2**40)
     taken = []
     kinds = read_records(record_type, words_of(data, start), policy, lambda event, is_late: taken.append((event, is_late)))
     left_over(data, start)
-    kept = [shifted(event, plan) for event, is_late in taken if not is_late]
+    on_time = [event for event, is_late in taken if not is_late]
+    late = len(taken) - len(on_time)
+    if policy["settle"]:
+        # Events that were overtaken are put in their places, and those without an order are left out.
+        on_time = sorted((event for event in on_time if event.is_photon or record_type[2] == 3), key=lambda event: event.time)
+    kept = [shifted(event, plan) for event in on_time]
     out.append(f"type {record_type[0]}\nannounced {announced(tags)}\n")
     out.append(f"global {float_bits(tags, b'MeasDesc_GlobalResolution')}\nresolution {float_bits(tags, b'MeasDesc_Resolution')}\n")
     out.append(count_of(kinds))
-    out.append(f"late {len(taken) - len(kept)}\nfirst {kept[0].time if kept else '-'}\nlast {kept[-1].time if kept else '-'}\n")
+    out.append(f"late {late}\nfirst {kept[0].time if kept else '-'}\nlast {kept[-1].time if kept else '-'}\n")
     for kind, text in KINDS.items():
         for number, table in enumerate(plan.get(kind, []), 1):
             out.append(text(number, table, kept, plan["group"]))

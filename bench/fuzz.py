@@ -175,12 +175,14 @@ def some_words(rng, code):
     most = rng.choice([1, 3, 20, 300])
     weights = rng.choice([(12, 1, 3, 1, 0), (4, 1, 4, 1, 1), (20, 0, 0, 1, 0), (1, 1, 1, 1, 1)])
     kinds = rng.choices(["photon", "sync", "marker", "wrap", "reserved"], weights, k=number)
+    # Where several inputs are merged, an event comes up to so much too late.
+    delay = rng.choice([0, 0, 0, most, 4 * most])
     time, words = 0, []
     for kind in kinds:
         time += rng.randrange(most)
         if rng.randrange(15) == 0:
             time = max(0, time - rng.randrange(2 * most))
-        words.append(make(rng, mode == 2, time, kind))
+        words.append(make(rng, mode == 2, time + rng.randrange(delay + 1), kind))
     return words
 
 
@@ -279,6 +281,8 @@ def a_plan(rng, mode):
         inputs = sorted(rng.sample(range(65), rng.randrange(4)) if rng.randrange(3) else range(rng.randrange(4)))
         if rng.randrange(4):
             plan["shift"] = [{"input": n, "shift": rng.randrange(plan["period"])} for n in inputs]
+    if version == 2 and rng.randrange(2):
+        plan["settle"] = rng.choice([0, 1, 1, 2, 3, 4, 64, rng.randrange(65)])
     return plan
 
 
@@ -327,7 +331,7 @@ def change_list(rng, values):
 def change_plan(rng, plan):
     kind = rng.randrange(8)
     if kind == 0:
-        key = rng.choice(["version", "order", "reserved", "limits", "period", "shift", "settle", "groups", "Version", *brute.MOST])
+        key = rng.choice(["version", "order", "reserved", "limits", "period", "shift", "settle", "settles", "groups", "Version", *brute.MOST])
         plan[key] = an_odd_value(rng)
     elif kind == 1:
         plan["version"] = rng.choice([0, 1, 2, 3, -1, Raw("1.0"), Raw("true"), Raw("'1'")])
