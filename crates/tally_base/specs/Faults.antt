@@ -9,7 +9,7 @@ use Rattle.tally_base.specs.declared.slot.Slot.TheVariants.{Plan, Data}
 use Rattle.tally_base.specs.declared.header.Mode.{Mode}
 use Rattle.tally_base.specs.declared.header.Mode.TheVariants.{T2, T3}
 use Rattle.tally_base.specs.declared.part.PartKind.{PartKind}
-use Rattle.tally_base.specs.declared.part.PartKind.TheVariants.{Gate, Shift, Histogram, StartStop, Coincidence, Image}
+use Rattle.tally_base.specs.declared.part.PartKind.TheVariants.{Gate, Shift, Histogram, StartStop, Coincidence, Image, Cube}
 use Rattle.tally_base.specs.declared.fault.Fault.{Fault}
 use Rattle.tally_base.specs.declared.fault.Fault.TheVariants.{Usage, OpenFault, ReadFault, WriteFault, OutOfMemory, PlanTooLong, PlanSyntax, PlanRule, PlanMode, BadMagic, TruncatedHeader, TagType, TagLength, NoRecordType, UnknownRecordType, HeaderLimit, TruncatedRecord, ReservedRecord, BackwardTime, RecordLimit, TimeLimit}
 
@@ -47,6 +47,7 @@ kind_name Histogram = codes "histogram"
 kind_name StartStop = codes "startstop"
 kind_name Coincidence = codes "coincidence"
 kind_name Image = codes "image"
+kind_name Cube = codes "cube"
 
 abbrev pub mode_name : Mode → List ℕ
 mode_name T2 = codes "T2"

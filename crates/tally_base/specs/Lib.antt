@@ -4,6 +4,7 @@ pub mod Faults
 pub mod Events
 pub mod FaultCounts
 pub mod Limits
+pub mod Divisors
 pub mod Gates
 pub mod Settings
 pub mod Tally

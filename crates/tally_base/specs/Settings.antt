@@ -8,6 +8,7 @@ use Rattle.tally_base.specs.declared.settings.TraceSet.{TraceSet}
 use Rattle.tally_base.specs.declared.settings.StartStopSet.{StartStopSet}
 use Rattle.tally_base.specs.declared.settings.CoincidenceSet.{CoincidenceSet}
 use Rattle.tally_base.specs.declared.settings.ImageSet.{ImageSet}
+use Rattle.tally_base.specs.declared.settings.CubeSet.{CubeSet}
 use Rattle.tally_base.specs.declared.settings.CorrelationSet.{CorrelationSet}
 
 pub record GroupView : Type 0 where
@@ -56,6 +57,12 @@ pub record ImageView : Type 0 where
   -- whether the odd rows are run through backwards
   pub serpentine : Bool
 
+pub record CubeView : Type 0 where
+  pub image : ImageView
+  -- how many ticks of the dtime a bin has, and how many bins a pixel
+  pub dwidth : ℕ
+  pub dbins : ℕ
+
 pub record CorrelationView : Type 0 where
   pub first : ℕ
   pub second : ℕ
@@ -83,6 +90,9 @@ coincidence_view set = record { first = set.first; second = set.second; reach = 
 abbrev pub image_view : ImageSet → ImageView
 image_view set = record { group = set.group; width = set.width; height = set.height; dwell = set.dwell; line = set.line; frame = set.frame; stop = set.stop; serpentine = set.serpentine }
 
+abbrev pub cube_view : CubeSet → CubeView
+cube_view set = record { image = image_view set.image; dwidth = set.dwidth; dbins = set.dbins }
+
 abbrev pub correlation_view : CorrelationSet → CorrelationView
 correlation_view set = record { first = set.first; second = set.second; lags = set.lags; levels = set.levels }
 
@@ -94,6 +104,7 @@ pub data PartSettings : Type 0 where
   CoincidenceSettings : (set : CoincidenceView) → PartSettings
   ImageSettings : (set : ImageView) → PartSettings
   CorrelationSettings : (set : CorrelationView) → PartSettings
+  CubeSettings : (set : CubeView) → PartSettings
 
 -- how many cells the differences from - reach to reach take
 abbrev pub coincidence_cells : CoincidenceView → ℕ
@@ -107,6 +118,7 @@ entries (StartStopSettings set) = set.bins + 2
 entries (CoincidenceSettings set) = coincidence_cells set + set.reach + 2
 entries (ImageSettings set) = set.width * set.height + 4
 entries (CorrelationSettings set) = set.levels * (set.lags + 1) + set.lags + (set.levels - 1) * (set.lags / 2)
+entries (CubeSettings set) = set.image.width * set.image.height * set.dbins + 5
 
 -- whether the times of markers may not fall in it either
 abbrev pub is_strict : PartSettings → Bool
@@ -116,3 +128,4 @@ is_strict (StartStopSettings set) = false
 is_strict (CoincidenceSettings set) = false
 is_strict (ImageSettings set) = true
 is_strict (CorrelationSettings set) = false
+is_strict (CubeSettings set) = true

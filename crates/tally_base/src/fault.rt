@@ -287,6 +287,7 @@ fn kind_text(kind: PartKind) -> &'static str
         PartKind::StartStop => "startstop",
         PartKind::Coincidence => "coincidence",
         PartKind::Image => "image",
+        PartKind::Cube => "cube",
     }
 }
 

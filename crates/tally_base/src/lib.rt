@@ -1,6 +1,7 @@
 //! What every part of the program speaks of: record types, headers, events, the settings of a plan, what every table is, slots, faults and their lines.
 #![tactic(auto)]
 
+mod divisor;
 mod event;
 mod fault;
 mod header;
@@ -12,6 +13,7 @@ mod slot;
 mod steps;
 mod tally;
 
+pub use divisor::Divisor;
 pub use event::{Event, EventKind, OnReserved, Order, Policy, is_in};
 pub use fault::{Fault, fault_line};
 pub use header::{Header, Mode, RecordType};
@@ -19,7 +21,8 @@ pub use limits::{RECORD_LIMIT, WRAP_LIMIT};
 pub use line::{put_decimal, put_hexadecimal, put_signed, put_text};
 pub use part::PartKind;
 pub use settings::{
-    CoincidenceSet, CorrelationSet, Group, HistSet, ImageSet, ShiftSet, StartStopSet, TraceSet,
+    CoincidenceSet, CorrelationSet, CubeSet, Group, HistSet, ImageSet, ShiftSet, StartStopSet,
+    TraceSet,
 };
 pub use slot::{Failed, Slot};
 pub use steps::Steps;

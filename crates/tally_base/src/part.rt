@@ -7,4 +7,5 @@ pub enum PartKind {
     StartStop,
     Coincidence,
     Image,
+    Cube,
 }

@@ -1,5 +1,5 @@
 // The settings of the groups and tables of a plan. Each has its ranges as facts of its type.
-ghost use Rattle.std.specs.Prelude.{◌≡◌, ◌%◌, ◌^◌, ◌<◌, ◌≤◌};
+ghost use Rattle.std.specs.Prelude.{◌≡◌, ◌*◌, ◌%◌, ◌^◌, ◌<◌, ◌≤◌};
 ghost use Rattle.std.specs.Option.{ForSome};
 ghost use Rattle.tally_base.specs.Gates.{AreGates, AreGates-prop};
 ghost use Rattle.tally_base.specs.Limits.{wrap_limit};
@@ -123,6 +123,20 @@ pub struct ImageSet {
     pub ghost some_stop: { ForSome stop (λ bit. (0 < bit) × (bit ≤ 4)) },
 }
 
+/// An image of a scan with a histogram of the dtimes in each pixel. For T3 files.
+#[derive(Clone, Copy, Debug)]
+pub struct CubeSet {
+    /// The image, whose pixels are width times height.
+    pub image: ImageSet,
+    /// How many ticks of the dtime a bin has, 1 to 32,768.
+    pub dwidth: u32,
+    /// How many bins a pixel has, 1 to 32,768. All pixels together have at most 2^26.
+    pub dbins: u32,
+    pub ghost some_dwidth: { (0 < dwidth) × (dwidth ≤ 32768) },
+    pub ghost some_dbins: { (0 < dbins) × (dbins ≤ 32768) },
+    pub ghost few_cells: { image.width * image.height * dbins ≤ 2 ^ 26 },
+}
+
 /// A correlation of two groups, whose times are halved from level to level.
 #[derive(Clone, Copy, Debug)]
 pub struct CorrelationSet {
@@ -217,6 +231,17 @@ impl Default for ImageSet {
             frame: None,
             stop: None,
             serpentine: false,
+        }
+    }
+}
+
+/// The least cube, which fills unused room.
+impl Default for CubeSet {
+    fn default() -> CubeSet {
+        CubeSet {
+            image: ImageSet::default(),
+            dwidth: 1,
+            dbins: 1,
         }
     }
 }

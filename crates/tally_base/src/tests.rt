@@ -115,6 +115,16 @@ fn lines_of_faults(rt: HostRuntime) {
         },
         "ptu: image 8 does not suit T2\n",
     );
+    says(
+        &rt,
+        9,
+        Fault::PlanMode {
+            kind: PartKind::Cube,
+            index: 2,
+            mode: Mode::T2,
+        },
+        "ptu: cube 2 does not suit T2\n",
+    );
     says(&rt, 10, Fault::BadMagic, "ptu: not a PTU file\n");
     says(
         &rt,
