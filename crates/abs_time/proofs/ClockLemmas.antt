@@ -1,5 +1,5 @@
 -- One record more.
-use Rattle.std.proofs.Common.{◌≡◌, ◌+◌, ◌-◌, ◌^◌, ◌<◌, ◌≤◌, ℕ, List, [], ◌∷◌, ◌++◌, true, false, Ok, Err, max, refl, sym, ap, append-nil, arith, length-append}
+use Rattle.std.proofs.Common.{◌≡◌, ◌+◌, ◌-◌, ◌<◌, ◌≤◌, ℕ, List, [], ◌∷◌, ◌++◌, true, false, Ok, Err, max, refl, sym, ap, append-nil, arith, length-append}
 use Rattle.std.specs.Prelude.{nat_lt}
 use Rattle.std.proofs.lemmas.List.Sums.{sum_by-append}
 use Rattle.std.proofs.lemmas.Bool.Decides.{nat_tests}
@@ -7,6 +7,7 @@ use Rattle.tally_base.specs.declared.event.Event.{Event}
 use Rattle.tally_base.specs.declared.event.EventKind.TheVariants.{Photon as PhotonEvent, Marker as MarkerEvent}
 use Rattle.tally_base.specs.declared.fault.Fault.TheVariants.{TimeLimit}
 use Rattle.tally_base.specs.declared.header.Mode.{Mode}
+use Rattle.tally_base.specs.Limits.{wrap_limit}
 use Rattle.ptu_definitions.specs.declared.records.Raw.{Raw}
 use Rattle.ptu_definitions.specs.declared.records.Raw.TheVariants.{Photon, Marker, Wrap, Reserved}
 use Rattle.ptu_definitions.specs.Times.{amount, base, events}
@@ -66,18 +67,18 @@ pub answer-marker : (mode : Mode) (count sum top bits time : ℕ) (records : Lis
 unfolding place_answer
 answer-marker mode count sum top bits time records h = rw (h.placed, h.base) (ap Ok (against-placed mode top (events records) _ h.greatest))
 
-pub answer-limit : (mode : Mode) (count sum top ticks : ℕ) (records : List Raw) → sum ≤ 2 ^ 62 → 2 ^ 62 - sum < ticks → IsClock mode count sum top records
+pub answer-limit : (mode : Mode) (count sum top ticks : ℕ) (records : List Raw) → sum ≤ wrap_limit → wrap_limit - sum < ticks → IsClock mode count sum top records
     → Err (TimeLimit (count + 1)) ≡ place_answer mode records (Wrap ticks)
 unfolding place_answer
 answer-limit mode count sum top ticks records within more h =
-    let e : nat_lt (2 ^ 62) (base records + ticks) ≡ true = rw (← h.base) (grind (arith, nat_tests)) in
+    let e : nat_lt wrap_limit (base records + ticks) ≡ true = rw (← h.base) (grind (arith, nat_tests)) in
     rw (e, h.placed) refl
 
-pub answer-wrap : (mode : Mode) (count sum top ticks : ℕ) (records : List Raw) → sum ≤ 2 ^ 62 → ticks ≤ 2 ^ 62 - sum → IsClock mode count sum top records
+pub answer-wrap : (mode : Mode) (count sum top ticks : ℕ) (records : List Raw) → sum ≤ wrap_limit → ticks ≤ wrap_limit - sum → IsClock mode count sum top records
     → Ok WrapPlaced ≡ place_answer mode records (Wrap ticks)
 unfolding place_answer
 answer-wrap mode count sum top ticks records within few h =
-    let e : nat_lt (2 ^ 62) (base records + ticks) ≡ false = rw (← h.base) (grind (arith, nat_tests)) in
+    let e : nat_lt wrap_limit (base records + ticks) ≡ false = rw (← h.base) (grind (arith, nat_tests)) in
     rw e refl
 
 pub answer-reserved : (mode : Mode) (records : List Raw) → Ok ReservedPlaced ≡ place_answer mode records Reserved

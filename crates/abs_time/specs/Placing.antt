@@ -1,10 +1,11 @@
 -- What a clock stands for.
-use Rattle.std.specs.Prelude.{ℕ, ◌≡◌, ◌+◌, ◌^◌, ◌≤◌, ◌&&◌, IsTrue, nat_lt, List, [], ◌∷◌, length, if◌then◌else◌, Result, Ok, Err}
+use Rattle.std.specs.Prelude.{ℕ, ◌≡◌, ◌+◌, ◌≤◌, ◌&&◌, IsTrue, nat_lt, List, [], ◌∷◌, length, if◌then◌else◌, Result, Ok, Err}
 use Rattle.tally_base.specs.declared.event.Event.{Event}
 use Rattle.tally_base.specs.declared.fault.Fault.{Fault}
 use Rattle.tally_base.specs.declared.fault.Fault.TheVariants.{TimeLimit}
 use Rattle.tally_base.specs.declared.header.Mode.{Mode}
 use Rattle.tally_base.specs.Events.{is_ordered}
+use Rattle.tally_base.specs.Limits.{time_limit}
 use Rattle.ptu_definitions.specs.declared.records.Raw.{Raw}
 use Rattle.ptu_definitions.specs.Kinds.{is_wrap}
 use Rattle.ptu_definitions.specs.Times.{base, event_after, events, passes}
@@ -55,7 +56,7 @@ place_answer mode before raw =
 
 -- an event of a record whose fields are as large as its mode allows
 pub record IsSmall (mode : Mode) (e : Event) : Type 0 where
-  pub in_time : e.time ≤ 2 ^ 62 + 2 ^ 28
+  pub in_time : e.time ≤ time_limit
   pub kind : KindFits mode e.kind
 
 -- What is known of a placed record by the greatest times before and after it.

@@ -1,13 +1,11 @@
 // The clock of a file: the absolute times of its records.
-ghost use Rattle.std.specs.Prelude.{◌≡◌, ◌+◌, ◌^◌, ◌<◌, ◌≤◌, ◌++◌, ◌∷◌, [], List, ℕ, Bool, ◌&&◌, not, nat_lt, max, if◌then◌else◌, OnOk, OnErr, IfOk, IfErr, length};
+ghost use Rattle.std.specs.Prelude.{◌≡◌, ◌+◌, ◌<◌, ◌≤◌, ◌++◌, ◌∷◌, [], List, ℕ, Bool, ◌&&◌, not, nat_lt, max, if◌then◌else◌, OnOk, OnErr, IfOk, IfErr, length};
 ghost use Rattle.tally_base.specs.Events.{is_ordered};
+ghost use Rattle.tally_base.specs.Limits.{record_limit, wrap_limit};
 ghost use Rattle.ptu_definitions.specs.declared.records.Raw.{Raw};
 
 use ptu_definitions::Raw;
-use tally_base::{Event, EventKind, Fault, Mode};
-
-/// The greatest sum of wraps.
-const GREATEST: u64 = 1 << 62;
+use tally_base::{Event, EventKind, Fault, Mode, WRAP_LIMIT};
 
 /// What a record is, with its absolute time.
 #[derive(Clone, Copy, Debug, PartialEq, Eq)]
@@ -30,7 +28,7 @@ pub struct Clock {
     placed: u64,
     base: u64,
     greatest: u64,
-    ghost within: { base ≤ 2 ^ 62 },
+    ghost within: { base ≤ wrap_limit },
 }
 
 impl Clock {
@@ -72,7 +70,7 @@ impl Clock {
     #[inline(always)]
     pub fn base(&self) -> u64
         ensures value { result ≡ base_of self.now }
-        ensures few { result ≤ 2 ^ 62 }
+        ensures few { result ≤ wrap_limit }
     {
         self.base
     }
@@ -90,7 +88,7 @@ impl Clock {
     /// the greatest time of the events in order.
     #[inline(always)]
     pub fn go_on(&mut self, placed: u64, base: u64, greatest: u64)
-        requires { base ≤ 2 ^ 62 }
+        requires { base ≤ wrap_limit }
         ensures placed { (records : List Raw)
             → IsClock (mode_of self.old) placed base greatest records → HasPlaced self.new records }
         ensures count { placed_by self.new ≡ placed }
@@ -108,7 +106,7 @@ impl Clock {
     /// that makes this sum greater than 2^62, and the clock then stays as it is.
     #[inline(always)]
     pub fn place(&mut self, raw: &Raw) -> Result<Placed, Fault>
-        requires { placed_by self.old < 2 ^ 40 }
+        requires { placed_by self.old < record_limit }
         ensures answer { (records : List Raw) → HasPlaced self.old records
             → result ≡ place_answer (mode_of self.old) records raw.now }
         ensures count { placed_by self.new ≤ placed_by self.old + 1 }
@@ -141,7 +139,7 @@ impl Clock {
                 Ok(self.event(event))
             }
             Raw::Wrap { amount } => {
-                if amount > GREATEST - self.base {
+                if amount > WRAP_LIMIT - self.base {
                     return Err(Fault::TimeLimit { place });
                 }
                 self.base += amount;

@@ -11,7 +11,7 @@ mod memory_slot;
 mod piece_limits;
 mod sink;
 
-pub use block::{BLOCK_SIZE, Block};
+pub use block::{BLOCK_BYTES, Block};
 pub use inputs::Inputs;
 pub use memory_file::MemoryFile;
 pub use memory_inputs::MemoryInputs;

@@ -33,7 +33,7 @@ pub struct Trace {
 impl Trace {
     ghost use Rattle.std.specs.Prelude.{◌<◌, ◌++◌, length, IfOk, [], false};
     ghost use Rattle.event_block.specs.Columns.{gathered, events_in, IsSorted};
-    ghost use Rattle.event_block.specs.Order.{floor_after, InOrder};
+    ghost use Rattle.event_block.specs.Tables.{MayTake, HasTaken};
     ghost use Rattle.tally_base.specs.Settings.{trace_view};
     ghost use Rattle.tally_base.specs.Settings.PartSettings.{TraceSettings};
     ghost use Rattle.count_trace.specs.TraceCounts.{in_trace_bin, count_before, count_beyond};
@@ -98,18 +98,9 @@ impl Trace {
     /// Takes the events of a block, as `event` does one by one.
     pub fn events(&mut self, block: &Block)
         requires sorted { IsSorted block.now }
-        requires open { ⟦<Trace as Tally>⟧.closed self.old ≡ false }
-        requires room { ⟦<Trace as Tally>⟧.taken self.old + length (gathered block.now) ≤ record_limit }
-        requires in_order { InOrder false (⟦<Trace as Tally>⟧.floor self.old) (gathered block.now) }
-        ensures follows { (h : History) → Holds self.old h
-            → Holds self.new (h ++ events_in block.now) }
-        ensures still_open { ⟦<Trace as Tally>⟧.closed self.new ≡ false }
-        ensures more { ⟦<Trace as Tally>⟧.taken self.new
-            ≡ ⟦<Trace as Tally>⟧.taken self.old + length (gathered block.now) }
-        ensures moved { ⟦<Trace as Tally>⟧.floor self.new
-            ≡ floor_after false (⟦<Trace as Tally>⟧.floor self.old) (gathered block.now) }
-        ensures same_settings { ⟦<Trace as Tally>⟧.settings self.new
-            ≡ ⟦<Trace as Tally>⟧.settings self.old }
+        requires may { MayTake ⟦<Trace as Tally>⟧ (gathered block.now) self.old }
+        ensures { HasTaken ⟦<Trace as Tally>⟧ (gathered block.now) (events_in block.now)
+            self.old self.new }
     {
         self.taken += block.len() as u64;
         self.floor = block.floor_after(false, self.floor);

@@ -10,7 +10,7 @@ use Rattle.tally_base.specs.declared.header.Header.{Header}
 use Rattle.tally_base.specs.Faults.{fault_in}
 use Rattle.tally_base.specs.RecordTypes.{mode_of}
 use Rattle.tally_base.specs.Settings.{PartSettings, StartStopView}
-use Rattle.tally_base.specs.Settings.PartSettings.{HistSettings, TraceSettings, StartStopSettings, CoincidenceSettings, ImageSettings, CorrelationSettings}
+use Rattle.tally_base.specs.Settings.PartSettings.{StartStopSettings}
 use Rattle.tally_base.specs.Tally.{History}
 use Rattle.bench_io.specs.Inputs.{File}
 use Rattle.ptu_definitions.specs.declared.records.Summary.{Summary}
@@ -109,12 +109,8 @@ startstop-same set number h =
     ap (λ l. first_line one number ++ l ++ one.rest h) cells ∙ ap (λ l. first_line one number ++ cell_lines other h ++ l) over
 
 part-same : (settings : PartSettings) (number : ℕ) (h : History) → table_lines (by_places settings) number h ≡ table_lines (printed settings) number h
-part-same (HistSettings set) number h = refl
-part-same (TraceSettings set) number h = refl
 part-same (StartStopSettings set) number h = startstop-same set number h
-part-same (CoincidenceSettings set) number h = refl
-part-same (ImageSettings set) number h = refl
-part-same (CorrelationSettings set) number h = refl
+part-same _ number h = refl
 
 each-same : {A B : Type 0} (f g : List A → A → List B) (before xs : List A) → ((before : List A) (x : A) → f before x ≡ g before x) → each_after f before xs ≡ each_after g before xs
 each-same f g before [] same = refl

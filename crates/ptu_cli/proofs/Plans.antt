@@ -12,20 +12,20 @@ use Rattle.tally_base.specs.Faults.{is_outside, HasReason}
 use Rattle.bench_io.specs.Inputs.{File, InputState, IsOpened, Keeps, KeepsOther, OnlyReads}
 use Rattle.bench_io.proofs.States.{Keeps-trans}
 use Rattle.plan_text.specs.declared.plan.Plan.{Plan}
-use Rattle.plan_text.specs.Reading.{plan_answer, plan_seen}
+use Rattle.plan_text.specs.Reading.{text_limit, plan_answer, plan_seen}
 use Rattle.plan_text.proofs.Documents.{plan_answer_long}
 use Rattle.ptu_cli.specs.Told.{MayBe}
 use Rattle.ptu_cli.specs.PlanPieces.{IsRead, OnlyUses}
 use Rattle.ptu_cli.proofs.WorkTold.{taken-told}
 
 -- bytes that end the file, or are too many for a plan by themselves
-same_answer : (taken more : List ℕ) → (length taken < 65537 → more ≡ []) → plan_answer (taken ++ more) ≡ plan_answer taken
-same_answer taken more ended = elim (cases_lt (length taken) 65537) [
+same_answer : (taken more : List ℕ) → (length taken < text_limit + 1 → more ≡ []) → plan_answer (taken ++ more) ≡ plan_answer taken
+same_answer taken more ended = elim (cases_lt (length taken) (text_limit + 1)) [
   | inl short ↦ ap (λ l. plan_answer (taken ++ l)) (ended short) ∙ ap plan_answer (append-nil taken)
   | inr long ↦ plan_answer_long (taken ++ more) (let size : length (taken ++ more) ≡ length taken + length more = length-append taken more in omega arith) ∙ sym (plan_answer_long taken (omega arith))
 ]
 
-read_told : (bytes taken : List ℕ) (rest : Option (List ℕ)) → Consumes (Some bytes) rest taken → (length taken < 65537 → IsAtEnd rest) → plan_answer bytes ≡ plan_answer taken
+read_told : (bytes taken : List ℕ) (rest : Option (List ℕ)) → Consumes (Some bytes) rest taken → (length taken < text_limit + 1 → IsAtEnd rest) → plan_answer bytes ≡ plan_answer taken
 read_told bytes taken None took ended = absurd took
 read_told bytes taken (Some more) took ended = ap plan_answer took ∙ same_answer taken more ended
 
@@ -42,7 +42,7 @@ read_of : (contents : Option File) (plan_file : File) (r : Result Plan Fault) �
 read_of contents plan_file r may_be (inl outside) = inl outside
 read_of contents plan_file r may_be (inr read) = inr (plan_file, may_be, read)
 
-pub plan_told : (contents : Option File) (rest new : Option (List ℕ)) (taken : List ℕ) (r : Result Plan Fault) → IsOpened contents rest → Consumes rest new taken → (length taken < 65537 → IsAtEnd new)
+pub plan_told : (contents : Option File) (rest new : Option (List ℕ)) (taken : List ℕ) (r : Result Plan Fault) → IsOpened contents rest → Consumes rest new taken → (length taken < text_limit + 1 → IsAtEnd new)
     → (r ≢ Err OutOfMemory → plan_seen r ≡ plan_answer taken) → IsErrAnd r (λ fault. is_outside fault ≡ true) ⊎ ((file : File) × MayBe contents file × IsRead file r)
 plan_told None rest new taken r opened took ended answer =
     read_of None (Some taken) r (λ told e. cc) (answers (Some taken) taken r refl (λ enough. sym (answer enough)))

@@ -16,7 +16,7 @@ use Rattle.toml.specs.Data.{table, Members}
 use Rattle.toml_rules.specs.Rules.{Rule, all_kept, Names, RiseFrom}
 use Rattle.toml_rules.proofs.Least.{names_least}
 use Rattle.plan_text.specs.Plan.{PlanView, plan_rules, plan}
-use Rattle.plan_text.specs.Reading.{document, if_kept, plan_of_document, plan_answer}
+use Rattle.plan_text.specs.Reading.{text_limit, document, if_kept, plan_of_document, plan_answer}
 use Rattle.plan_text.specs.Fits.{fits, IsMisfit}
 use Rattle.plan_text.proofs.Rise.{plan_rules_rise}
 use Rattle.plan_text.proofs.Misfits.{misfit_named, names_part}
@@ -44,7 +44,7 @@ short-bytes false r h = λ e. omega arith
 
 pub plan_answer-bytes : (text : List ℕ) → IsOfBytes (plan_answer text)
 unfolding plan_answer
-plan_answer-bytes text = short-bytes (nat_le (length text) 65536) (plan_of_document (document text)) (document-bytes (document text))
+plan_answer-bytes text = short-bytes (nat_le (length text) text_limit) (plan_of_document (document text)) (document-bytes (document text))
 
 misfit-bytes : (mode : Mode) (view : PlanView) (fault : Fault) → IsMisfit mode view fault → status_of fault ≢ 1
 misfit-bytes mode view fault misfit = rw (names_part mode view fault misfit).2 (λ e. omega arith)

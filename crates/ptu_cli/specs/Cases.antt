@@ -9,7 +9,7 @@ use Rattle.tally_base.specs.declared.header.Header.{Header}
 use Rattle.tally_base.specs.Faults.{fault_in}
 use Rattle.tally_base.specs.RecordTypes.{mode_of}
 use Rattle.tally_base.specs.Settings.{PartSettings, StartStopView}
-use Rattle.tally_base.specs.Settings.PartSettings.{HistSettings, TraceSettings, StartStopSettings, CoincidenceSettings, ImageSettings, CorrelationSettings}
+use Rattle.tally_base.specs.Settings.PartSettings.{StartStopSettings}
 use Rattle.bench_io.specs.Inputs.{File}
 use Rattle.ptu_definitions.specs.declared.records.Summary.{Summary}
 use Rattle.ptu_definitions.specs.TagList.{Item, IsHeader}
@@ -34,13 +34,8 @@ use Rattle.table_out.specs.HeaderText.{preamble_text, item_text}
 use Rattle.table_out.specs.EventText.{events_text}
 use Rattle.table_out.specs.Lines.{line}
 use Rattle.table_out.specs.Printed.{Printed, cell_line, table_lines}
-use Rattle.table_out.specs.Histogram.{histogram_printed}
-use Rattle.table_out.specs.Trace.{trace_printed}
 use Rattle.table_out.specs.StartStop.{startstop_printed}
-use Rattle.table_out.specs.Coincidence.{coincidence_printed}
-use Rattle.table_out.specs.Image.{image_printed}
-use Rattle.table_out.specs.Correlation.{correlation_printed}
-use Rattle.table_out.specs.Report.{head_text, same_kind, Table, with_events}
+use Rattle.table_out.specs.Report.{head_text, printed, same_kind, Table, with_events}
 use Rattle.ptu_made.specs.Generator.{made_words}
 use Rattle.ptu_made.specs.Records.{made_header}
 use Rattle.ptu_cli.specs.CountText.{counts_text}
@@ -143,12 +138,8 @@ startstop_by_places set = record {
 
 -- How a table is printed whose cells count places, or pairs of places, of its events.
 abbrev pub by_places : PartSettings → Printed
-by_places (HistSettings set) = histogram_printed set
-by_places (TraceSettings set) = trace_printed set
 by_places (StartStopSettings set) = startstop_by_places set
-by_places (CoincidenceSettings set) = coincidence_printed set
-by_places (ImageSettings set) = image_printed set
-by_places (CorrelationSettings set) = correlation_printed set
+by_places settings = printed settings
 
 -- a table behind others, by its number among those of its kind
 abbrev pub placed_text : List Table → Table → List ℕ

@@ -1,5 +1,6 @@
 -- What reading a plan leaves.
-use Rattle.std.specs.Prelude.{ℕ, ◌≡◌, ◌⊎◌, ◌≤◌, List, length, true, false, Some, Result, IsErrAnd}
+use Rattle.std.specs.Prelude.{ℕ, ◌≡◌, ◌⊎◌, ◌<◌, ◌≤◌, List, length, take, true, false, Some, Result, IsErrAnd}
+use Rattle.std.specs.Io.KnownBytes.{Consumes, IsAtEnd}
 use Rattle.tally_base.specs.declared.slot.Slot.{Slot}
 use Rattle.tally_base.specs.declared.slot.Slot.TheVariants.{Plan as PlanSlot}
 use Rattle.tally_base.specs.declared.fault.Fault.{Fault}
@@ -20,6 +21,12 @@ pub record MayOpen (state : InputState) (slot : Slot) (name : List ℕ) : Type 0
 pub record OnlyUses (slot : Slot) (old new : InputState) : Type 0 where
   pub keeps : Keeps old new
   pub keeps_other : KeepsOther slot old new
+
+-- So many bytes at the front of the text were taken from the plan's file, and it has ended where the text has room for more.
+pub record IsFilled (before after : InputState) (text : List ℕ) (len : ℕ) : Type 0 where
+  pub room : len ≤ length text
+  pub taken : Consumes (before.rest PlanSlot) (after.rest PlanSlot) (take len text)
+  pub ended : len < length text → IsAtEnd (after.rest PlanSlot)
 
 -- The file is there, and this is what its bytes answer as a plan.
 pub record IsRead (plan_file : File) (result : Result Plan Fault) : Type 0 where

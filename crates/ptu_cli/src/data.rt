@@ -24,13 +24,10 @@ use bench_io::{Inputs, Sink};
 use ptu_header::HeaderReader;
 use record_layout::{Counter, KindCounts};
 use record_stream::RecordStream;
-use tally_base::{Failed, Fault, Header, OnReserved, Order, Policy, Slot};
+use tally_base::{Failed, Fault, Header, OnReserved, Order, Policy, RECORD_LIMIT, Slot};
 
 /// The bytes that one read takes at most.
 pub(crate) const PIECE: usize = 8192;
-
-/// The most records of a file.
-const RECORD_LIMIT: u64 = 1 << 40;
 
 /// How the records are read that are listed: late events are marked, and reserved records are left
 /// out.

@@ -1,7 +1,6 @@
 // The lines of the events of a file, written while it is read.
 ghost use Rattle.std.specs.Prelude.{◌≡◌, ◌≤◌, List, ℕ, OnOk, false};
 ghost use Rattle.record_stream.specs.Standing.{how_of, HasStreamed};
-ghost use Rattle.record_stream.specs.Blocks.{orders_markers};
 ghost use Rattle.tally_base.specs.Faults.{fault_in, is_outside};
 ghost use Rattle.ptu_cli.specs.Once.{OutOnce};
 ghost use Rattle.ptu_cli.specs.Endings.{Once, span};
@@ -17,7 +16,7 @@ ghost use Rattle.ptu_cli.specs.EventRuns.{AnswersLines, LinesReason};
 
 use crate::data::READ_FAULT;
 use bench_io::{Block, Inputs, Sink};
-use record_stream::{EventTaker, RecordStream, Summary, moved_floor};
+use record_stream::{EventTaker, RecordStream, Summary, moved_floor, orders_markers};
 use table_out::{LINE_SIZE, LINES_SIZE, format_block, format_event};
 use tally_base::{Event, Failed, Fault, Mode, Slot};
 
@@ -84,16 +83,6 @@ impl<'o, O: Sink> EventTaker for EventLines<'o, O> {
         self.taken += block.len() as u64;
         self.floor = block.floor_after(orders_markers(self.mode), self.floor);
         Ok(())
-    }
-}
-
-/// Whether markers come in the order of their times, as photons do.
-fn orders_markers(mode: Mode) -> bool
-    ensures { result ≡ orders_markers mode }
-{
-    match mode {
-        Mode::T2 => false,
-        Mode::T3 => true,
     }
 }
 

@@ -1,6 +1,6 @@
 // Reads the plan of a command.
-ghost use Rattle.std.specs.Prelude.{◌≡◌, ◌≤◌, ◌<◌, List, ℕ, length, take, true, IfErr, IfOk};
-ghost use Rattle.std.specs.Io.KnownBytes.{Consumes, IsAtEnd};
+ghost use Rattle.std.specs.Prelude.{◌≡◌, ◌≤◌, ◌<◌, List, ℕ, length, true, IfErr, IfOk};
+ghost use Rattle.std.specs.Io.KnownBytes.{Consumes};
 ghost use Rattle.tally_base.specs.declared.slot.Slot.TheVariants.{Plan as PlanSlot};
 ghost use Rattle.tally_base.specs.declared.fault.Fault.TheVariants.{ReadFault};
 ghost use Rattle.tally_base.specs.FaultCounts.{Rose};
@@ -9,7 +9,7 @@ ghost use Rattle.bench_io.specs.Inputs.{OnlyReads};
 ghost use Rattle.ptu_definitions.specs.Counted.{record_limit};
 ghost use Rattle.ptu_cli.specs.Once.{InputsOnce};
 ghost use Rattle.ptu_cli.specs.Endings.{TakesPlan};
-ghost use Rattle.ptu_cli.specs.PlanPieces.{MayOpen, OnlyUses, AnswersPlan, PlanReason};
+ghost use Rattle.ptu_cli.specs.PlanPieces.{MayOpen, OnlyUses, IsFilled, AnswersPlan, PlanReason};
 
 use bench_io::Inputs;
 use plan_text::{Plan, TEXT_LIMIT, read_plan};
@@ -27,11 +27,7 @@ const READ_FAULT: Fault = Fault::ReadFault { slot: Slot::Plan };
 fn read_text<I: Inputs>(inputs: &mut I, text: &mut [u8]) -> Result<usize, Fault>
     requires opened { (I.state inputs.old).opened PlanSlot ≡ true }
     ensures reads { OnlyReads PlanSlot (I.state inputs.old) (I.state inputs.new) }
-    ensures room { IfOk result (λ len. len ≤ length text.new) }
-    ensures taken { IfOk result (λ len. Consumes ((I.state inputs.old).rest PlanSlot)
-        ((I.state inputs.new).rest PlanSlot) (take len text.new)) }
-    ensures ended { IfOk result (λ len. len < length text.new
-        → IsAtEnd ((I.state inputs.new).rest PlanSlot)) }
+    ensures filled { IfOk result (IsFilled (I.state inputs.old) (I.state inputs.new) text.new) }
     ensures reason { IfErr result (λ fault. (fault ≡ ReadFault PlanSlot)
         × Rose ((I.state inputs.old).read_faults PlanSlot)
         ((I.state inputs.new).read_faults PlanSlot)) }

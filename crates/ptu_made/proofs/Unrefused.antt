@@ -1,5 +1,5 @@
 -- No record of the made file is refused.
-use Rattle.std.proofs.Common.{◌≡◌, ◌+◌, ◌*◌, ◌^◌, ◌<◌, ◌≤◌, ℕ, zero, suc, Bool, true, false, None, List, [], ◌∷◌, length, map, take, get_or, refl, ◌∙◌, arith}
+use Rattle.std.proofs.Common.{◌≡◌, ◌+◌, ◌*◌, ◌<◌, ◌≤◌, ℕ, zero, suc, Bool, true, false, None, List, [], ◌∷◌, length, map, take, get_or, refl, ◌∙◌, arith}
 use Rattle.std.specs.Prelude.{nat_lt, nat_le, ◌&&◌, if◌then◌else◌}
 use Rattle.std.specs.List.{AllByRecursion}
 use Rattle.std.specs.declared.option.Option.{Option}
@@ -10,6 +10,7 @@ use Rattle.tally_base.specs.declared.event.Policy.{Policy}
 use Rattle.tally_base.specs.declared.fault.Fault.{Fault}
 use Rattle.tally_base.specs.declared.header.RecordType.TheVariants.{HydraHarp2T2}
 use Rattle.tally_base.specs.Events.{stops_late}
+use Rattle.tally_base.specs.Limits.{wrap_limit}
 use Rattle.ptu_definitions.specs.declared.records.Raw.{Raw}
 use Rattle.ptu_definitions.specs.declared.records.Raw.TheVariants.{Photon, Marker, Wrap, Reserved}
 use Rattle.ptu_definitions.specs.Kinds.{is_reserved, is_wrap}
@@ -65,7 +66,7 @@ refusal-none policy before word drops few small made is =
     let full : nat_le policy.records (length records) ≡ false = grind (arith, nat_tests) in
     let low = base-le before made in
     let step = amount-le raw is.means in
-    let passing : nat_lt (2 ^ 62) (base records + amount raw) ≡ false = grind (arith, nat_tests) in
+    let passing : nat_lt wrap_limit (base records + amount raw) ≡ false = grind (arith, nat_tests) in
     no-cause _ _ _ _ _ _ _ _ full (first-false (is_reserved raw) _ (not_reserved raw is.means)) (and-false (is_wrap raw) _ passing) drops
 
 pub unrefused : (policy : Policy) (words : List ℕ) → stops_late policy.order ≡ false → length words ≤ policy.records → length words ≤ 20000000 → AllByRecursion IsMade words

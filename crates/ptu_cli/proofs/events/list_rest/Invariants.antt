@@ -1,6 +1,7 @@
-use Rattle.std.proofs.Common.{◌≡◌, ◌+◌, ◌*◌, ◌-◌, ◌^◌, ◌++◌, List, ℕ, None}
+use Rattle.std.proofs.Common.{◌≡◌, ◌+◌, ◌*◌, ◌-◌, ◌++◌, List, ℕ, None}
 use Rattle.std.specs.Io.KnownBytes.{Consumes}
 use Rattle.tally_base.specs.declared.slot.Slot.TheVariants.{Data}
+use Rattle.tally_base.specs.Limits.{record_limit}
 use Rattle.bench_io.specs.Inputs.{OnlyReads}
 use Rattle.ptu_definitions.specs.Words.{words_of}
 use Rattle.record_stream.specs.Standing.{how_of, refused_with, bytes_in, HasStreamed}
@@ -24,4 +25,4 @@ invariant-pieces g l =
     }
 
 abbrev pub decreases-pieces : goal.decreases-pieces
-decreases-pieces g l = 4 * 2 ^ 40 + 3 - bytes_in l.stream
+decreases-pieces g l = 4 * record_limit + 3 - bytes_in l.stream

@@ -1,7 +1,8 @@
-use Rattle.std.proofs.Common.{◌≡◌, rules, None, take, length, arith, sym, ◌∙◌}
+use Rattle.std.proofs.Common.{◌≡◌, ◌+◌, rules, None, take, length, arith, sym, ◌∙◌}
 use Rattle.std.proofs.lemmas.Result.{IfErr-weaker, err_from_is_err_and}
 use Rattle.std.proofs.lemmas.List.{length-take-le}
 use Rattle.tally_base.specs.declared.slot.Slot.TheVariants.{Plan as PlanSlot}
+use Rattle.plan_text.specs.Reading.{text_limit}
 use Rattle.ptu_cli.proofs.Plans.{uses-read, plan_told, plan_reason, ended_short}
 use Rattle.ptu_cli.proofs.WorkTold.{taken-told}
 use Rattle.ptu_cli.proofs.Once.{once-refl, once-none, once-behind, once-opened, once-unopened}
@@ -18,8 +19,8 @@ returns-clause-uses g c = uses-read _ _ _ _ c.in-Ok.ensures.keeps c.in-Ok.ensure
 
 pub returns-clause-answer : goal.returns-clause-answer
 returns-clause-answer g c =
-    plan_told _ _ _ (take c.in_ok-len.len c.read_text.new.text) c.read_plan.result c.in-Ok.ensures.file c.in_ok-len.ensures.taken
-    (ended_short 65537 c.in_ok-len.len c.read_text.new.text _ (Prim.search rules) c.in_ok-len.ensures.room c.in_ok-len.ensures.ended)
+    plan_told _ _ _ (take c.in_ok-len.len c.read_text.new.text) c.read_plan.result c.in-Ok.ensures.file c.in_ok-len.ensures.filled.taken
+    (ended_short (text_limit + 1) c.in_ok-len.len c.read_text.new.text _ (Prim.search rules) c.in_ok-len.ensures.filled.room c.in_ok-len.ensures.filled.ended)
     c.read_plan.ensures.answer
 
 pub returns-clause-reason : goal.returns-clause-reason
@@ -40,10 +41,10 @@ returns-in_err-len-clause-takes g c = λ opened.
 pub returns-clause-takes : goal.returns-clause-takes
 returns-clause-takes g c = λ opened.
     let text = c.read_text.new.text in
-    let size : length text ≡ 65537 = Prim.search rules in
-    let room = c.in_ok-len.ensures.room in
+    let size : length text ≡ text_limit + 1 = Prim.search rules in
+    let room = c.in_ok-len.ensures.filled.room in
     let short : length (take c.in_ok-len.len text) ≡ c.in_ok-len.len = length-take-le c.in_ok-len.len text room in
-    (take c.in_ok-len.len text, λ known told. taken-told _ _ _ _ known c.in-Ok.ensures.file c.in_ok-len.ensures.taken told, omega (arith, size, room, short))
+    (take c.in_ok-len.len text, λ known told. taken-told _ _ _ _ known c.in-Ok.ensures.file c.in_ok-len.ensures.filled.taken told, omega (arith, size, room, short))
 
 pub returns-in-Err-clause-once : goal.returns-in-Err-clause-once
 returns-in-Err-clause-once g c = once-unopened PlanSlot _ _ _ (once-refl _ None) c.in-Err.ensures.keeps_other c.open.ensures.reads

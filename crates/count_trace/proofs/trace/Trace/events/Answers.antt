@@ -1,4 +1,4 @@
-use Rattle.std.proofs.Common.{◌≡◌, ◌∙◌, ◌-◌, ◌/◌, ◌&&◌, false, length, sym, ap, rules, arith, length-append}
+use Rattle.std.proofs.Common.{◌≡◌, ◌∙◌, ◌-◌, ◌/◌, ◌&&◌, false, length, refl, sym, ap, rules, arith, length-append}
 use Rattle.std.specs.Prelude.{nat_lt, nat_le, ◌==◌}
 use Rattle.tally_base.specs.Settings.{trace_view}
 use Rattle.tally_base.specs.Tally.{greatest_time}
@@ -10,19 +10,25 @@ use Rattle.event_block.proofs.Slices.{whole_slice}
 use Rattle.count_trace.proofs.Blocks.{count-append}
 use Rattle.count_trace.proofs.trace.Trace.events.Goals as goal
 
-pub returns-clause-follows : goal.returns-clause-follows
-returns-clause-follows c = λ h is.
-    let t = c.args.self.now in
-    let set = trace_view t.set in
-    let block = c.args.block.now in
-    let e = rw c.deref_mut.ensures.value at c.count_block.ensures in
-    let count : length c.count_block.new.cells ≡ length t.cells.items = search rules in
-    let all : t.cells.len ≡ length t.cells.items = search rules in
-    let ordered : InOrder false (greatest_time false h) (gathered block) = rw (← is.floor) c.requires.in_order in
-    record {
-      cells = λ b lt. rw (whole_slice c.count_block.new.cells t.cells.items t.cells.len count all) (omega (arith, e.cells b lt, is.cells b lt, count-append set (λ time. nat_le set.origin time && ((time - set.origin) / set.width == b)) h (events_in block)));
-      before = omega (arith, e.before, is.before, count-append set (λ time. nat_lt time set.origin) h (events_in block));
-      beyond = omega (arith, e.beyond, is.beyond, count-append set (λ time. nat_le set.origin time && nat_le set.bins ((time - set.origin) / set.width)) h (events_in block));
-      taken = omega (arith, is.taken, c.len.ensures.count, length-append h (events_in block), length-rows (item block) block.len);
-      floor = c.floor_after-self.ensures ∙ ap (λ n. floor_after false n (gathered block)) is.floor ∙ sym (greatest-rows false h (item block) block.len ordered);
-    }
+pub returns : goal.returns
+returns c = record {
+  follows = λ h is.
+      let t = c.args.self.now in
+      let set = trace_view t.set in
+      let block = c.args.block.now in
+      let e = rw c.deref_mut.ensures.value at c.count_block.ensures in
+      let count : length c.count_block.new.cells ≡ length t.cells.items = search rules in
+      let all : t.cells.len ≡ length t.cells.items = search rules in
+      let ordered : InOrder false (greatest_time false h) (gathered block) = rw (← is.floor) c.requires.may.in_order in
+      record {
+        cells = λ b lt. rw (whole_slice c.count_block.new.cells t.cells.items t.cells.len count all) (omega (arith, e.cells b lt, is.cells b lt, count-append set (λ time. nat_le set.origin time && ((time - set.origin) / set.width == b)) h (events_in block)));
+        before = omega (arith, e.before, is.before, count-append set (λ time. nat_lt time set.origin) h (events_in block));
+        beyond = omega (arith, e.beyond, is.beyond, count-append set (λ time. nat_le set.origin time && nat_le set.bins ((time - set.origin) / set.width)) h (events_in block));
+        taken = omega (arith, is.taken, c.len.ensures.count, length-append h (events_in block), length-rows (item block) block.len);
+        floor = c.floor_after-self.ensures ∙ ap (λ n. floor_after false n (gathered block)) is.floor ∙ sym (greatest-rows false h (item block) block.len ordered);
+      };
+  still_open = c.requires.may.open';
+  count = search (rules, arith);
+  moved = c.floor_after-self.ensures;
+  same_settings = refl;
+}
