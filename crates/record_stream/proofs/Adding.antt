@@ -10,22 +10,24 @@ use Rattle.tally_base.specs.declared.header.Mode.{Mode}
 use Rattle.tally_base.specs.declared.header.Mode.TheVariants.{T2, T3}
 use Rattle.tally_base.specs.Events.{is_ordered, stops_reserved}
 use Rattle.tally_base.specs.Tally.{moves_floor}
+use Rattle.tally_base.specs.Limits.{time_limit, wrap_limit}
 use Rattle.ptu_definitions.specs.declared.records.Raw.{Raw}
 use Rattle.ptu_definitions.specs.declared.records.Raw.TheVariants.{Photon, Marker, Wrap, Reserved}
 use Rattle.ptu_definitions.specs.Kinds.{is_reserved}
-use Rattle.ptu_definitions.specs.Times.{event_of, amount}
+use Rattle.ptu_definitions.specs.Times.{event_after, event_of, events, amount}
 use Rattle.ptu_definitions.specs.Fitting.{Fits, KindFits}
 use Rattle.ptu_definitions.specs.Kept.{Marked, ordered_time}
 use Rattle.ptu_definitions.specs.Streams.{Reading, events_in}
-use Rattle.ptu_definitions.proofs.StreamLemmas.{clear-push, events_in-push, fresh}
+use Rattle.ptu_definitions.proofs.StreamLemmas.{clear-push, events-push, events_in-push, fresh}
 use Rattle.abs_time.specs.declared.clock.Placed.{Placed}
 use Rattle.abs_time.specs.declared.clock.Placed.TheVariants.{Event as InOrderPlaced, Late, Wrap as WrapPlaced, Reserved as ReservedPlaced}
 use Rattle.abs_time.specs.Placing.{IsClock, against, place_answer}
 use Rattle.abs_time.proofs.ClockLemmas.{IsClock-photon, IsClock-marker, IsClock-wrap, IsClock-reserved, answer-photon, answer-marker, answer-wrap, answer-reserved}
 use Rattle.event_block.proofs.Order.{floor-push, order-push}
-use Rattle.record_stream.specs.Blocks.{orders_markers, on_time, top_with, IsOnTime, Adds, IsInLine}
+use Rattle.settle.specs.Passing.{place_after}
+use Rattle.record_stream.specs.Blocks.{orders_markers, on_time, greatest_with, IsOnTime, Adds, IsInLine, PlacesRise, RisesWithin}
 use Rattle.record_stream.specs.Recorded.{refused_late}
-use Rattle.record_stream.proofs.Placed.{refused_by, marks_of, refusal-ok, refused-plain, fresh-plain}
+use Rattle.record_stream.proofs.Placed.{IsEarly, event_in, marks_of, comes, refusal-ok, refused-early, fresh-plain}
 
 pub moves_by : (mode : Mode) (e : Event) → moves_floor (orders_markers mode) e ≡ is_ordered mode e
 moves_by T2 e = refl
@@ -40,75 +42,79 @@ against-on_time mode top e on = by_case (is_ordered mode e) on
     by_case false on = refl
 
 -- and the greatest time with it
-greatest-on_time : (mode : Mode) (top : ℕ) (e : Event) → (IsTrue (is_ordered mode e) → top ≤ e.time) → max top (ordered_time mode e) ≡ (if is_ordered mode e then e.time else top)
+pub greatest-on_time : (mode : Mode) (top : ℕ) (e : Event) → (IsTrue (is_ordered mode e) → top ≤ e.time) → max top (ordered_time mode e) ≡ (if is_ordered mode e then e.time else top)
 greatest-on_time mode top e on = by_case (is_ordered mode e) on
   where
     by_case : (b : Bool) → (IsTrue b → top ≤ e.time) → max top (if b then e.time else 0) ≡ (if b then e.time else top)
     by_case true on = let h : top ≤ e.time = on refl in omega (arith, h)
     by_case false on = omega arith
 
-on_time-push : (es more : List Event) (l : Marked) → (l ++ on_time es) ++ on_time more ≡ l ++ on_time (es ++ more)
+pub on_time-push : (es more : List Event) (l : Marked) → (l ++ on_time es) ++ on_time more ≡ l ++ on_time (es ++ more)
 on_time-push es more l = append_assoc l (on_time es) (on_time more) ∙ ap (λ m. l ++ m) (sym (map-append (λ (e : Event). (e, false)) es more))
 
 module _ (how : Reading) (n base top : ℕ) (before ws : List ℕ) (w : ℕ) (es : List Event)
-    (a : Adds how n base top before ws es) (room : n < how.policy.records) (plain : how.policy.settle ≡ 0) where
+    (a : Adds how n base top before ws es) (room : n < how.policy.records) where
   adds-placed : (raw : Raw) (p : Placed) (more : List Event) (base' top' : ℕ)
       → raw ≡ how.meaning w → (is_reserved raw && stops_reserved how.policy.reserved) ≡ false
-      → Ok p ≡ place_answer how.mode (map how.meaning ws) raw → refused_by how p ≡ None → marks_of p ≡ on_time more
+      → Ok p ≡ place_answer how.mode (map how.meaning ws) raw → IsEarly p → event_in p ≡ more → marks_of p ≡ on_time more
       → IsClock how.mode (n + 1) base' top' (map how.meaning ws ++ raw ∷ [])
       → Adds how (n + 1) base' top' before (ws ++ w ∷ []) (es ++ more)
-  adds-placed raw p more base' top' means go answers none marks clock =
-      let fresh_is : fresh how ws (how.meaning w) ≡ on_time more = ap (fresh how ws) (sym means) ∙ fresh-plain how ws raw p plain (sym answers) ∙ marks in
-      let late : refused_late how (map how.meaning ws) (how.meaning w) ≡ None = ap (refused_late how (map how.meaning ws)) (sym means) ∙ refused-plain how (map how.meaning ws) raw p plain (sym answers) ∙ none in
+  adds-placed raw p more base' top' means go answers early is marks clock =
+      let fresh_is : how.policy.settle ≡ 0 → fresh how ws (how.meaning w) ≡ on_time more = λ plain. ap (fresh how ws) (sym means) ∙ fresh-plain how ws raw p plain (sym answers) ∙ marks in
+      let late : refused_late how (map how.meaning ws) (how.meaning w) ≡ None = ap (refused_late how (map how.meaning ws)) (sym means) ∙ refused-early how (map how.meaning ws) raw p early (sym answers) in
+      let comes_is : event_after (map how.meaning ws) (how.meaning w) ≡ more = ap (event_after (map how.meaning ws)) (sym means) ∙ (comes how.mode (map how.meaning ws) raw p (sym answers)).0 ∙ is in
       record {
         clear = clear-push how ws w a.clear (refusal-ok how ws w n raw p a.clock.placed room means go (sym answers) ∙ late);
         clock = rw map-append (rw means at clock);
-        events = events_in-push how ws w ∙ ap (λ m. events_in how ws ++ m) fresh_is ∙ ap (λ l. l ++ on_time more) a.events ∙ on_time-push es more (events_in how before);
+        came =
+            ap events (map-append how.meaning ws (w ∷ [])) ∙ events-push (map how.meaning ws) (how.meaning w) ∙ ap (λ l. events (map how.meaning ws) ++ l) comes_is
+            ∙ ap (λ l. l ++ more) a.came ∙ append_assoc (events (map how.meaning before)) es more;
+        delivers = λ plain. events_in-push how ws w ∙ ap (λ m. events_in how ws ++ m) (fresh_is plain) ∙ ap (λ l. l ++ on_time more) (a.delivers plain) ∙ on_time-push es more (events_in how before);
       }
 
   adds-photon : (input time dtime : ℕ) → Photon input time dtime ≡ how.meaning w
       → IsOnTime how.mode top (event_of (n + 1) base (Photon input time dtime))
-      → Adds how (n + 1) base (top_with how.mode top (event_of (n + 1) base (Photon input time dtime))) before (ws ++ w ∷ []) (es ++ event_of (n + 1) base (Photon input time dtime))
+      → Adds how (n + 1) base (greatest_with how.mode top (event_of (n + 1) base (Photon input time dtime))) before (ws ++ w ∷ []) (es ++ event_of (n + 1) base (Photon input time dtime))
   adds-photon input time dtime means on =
       let e : Event = record { place = n + 1; kind = PhotonEvent input dtime; time = base + time } in
-      adds-placed (Photon input time dtime) (InOrderPlaced e) (e ∷ []) base (top_with how.mode top (e ∷ [])) means refl
-      (ap Ok (sym (against-on_time how.mode top e on)) ∙ answer-photon how.mode n base top input time dtime (map how.meaning ws) a.clock) refl refl
+      adds-placed (Photon input time dtime) (InOrderPlaced e) (e ∷ []) base (greatest_with how.mode top (e ∷ [])) means refl
+      (ap Ok (sym (against-on_time how.mode top e on)) ∙ answer-photon how.mode n base top input time dtime (map how.meaning ws) a.clock) tt refl refl
       (subst (λ t. IsClock how.mode (n + 1) base t (map how.meaning ws ++ Photon input time dtime ∷ [])) (greatest-on_time how.mode top e on) (IsClock-photon how.mode n base top input time dtime (map how.meaning ws) a.clock))
 
   adds-marker : (bits time : ℕ) → Marker bits time ≡ how.meaning w
       → IsOnTime how.mode top (event_of (n + 1) base (Marker bits time))
-      → Adds how (n + 1) base (top_with how.mode top (event_of (n + 1) base (Marker bits time))) before (ws ++ w ∷ []) (es ++ event_of (n + 1) base (Marker bits time))
+      → Adds how (n + 1) base (greatest_with how.mode top (event_of (n + 1) base (Marker bits time))) before (ws ++ w ∷ []) (es ++ event_of (n + 1) base (Marker bits time))
   adds-marker bits time means on =
       let e : Event = record { place = n + 1; kind = MarkerEvent bits; time = base + time } in
-      adds-placed (Marker bits time) (InOrderPlaced e) (e ∷ []) base (top_with how.mode top (e ∷ [])) means refl
-      (ap Ok (sym (against-on_time how.mode top e on)) ∙ answer-marker how.mode n base top bits time (map how.meaning ws) a.clock) refl refl
+      adds-placed (Marker bits time) (InOrderPlaced e) (e ∷ []) base (greatest_with how.mode top (e ∷ [])) means refl
+      (ap Ok (sym (against-on_time how.mode top e on)) ∙ answer-marker how.mode n base top bits time (map how.meaning ws) a.clock) tt refl refl
       (subst (λ t. IsClock how.mode (n + 1) base t (map how.meaning ws ++ Marker bits time ∷ [])) (greatest-on_time how.mode top e on) (IsClock-marker how.mode n base top bits time (map how.meaning ws) a.clock))
 
-  adds-wrap : (ticks : ℕ) → Wrap ticks ≡ how.meaning w → base + ticks ≤ 2 ^ 62
+  adds-wrap : (ticks : ℕ) → Wrap ticks ≡ how.meaning w → base + ticks ≤ wrap_limit
       → Adds how (n + 1) (base + ticks) top before (ws ++ w ∷ []) (es ++ [])
   adds-wrap ticks means few =
       adds-placed (Wrap ticks) WrapPlaced [] (base + ticks) top means refl
-      (answer-wrap how.mode n base top ticks (map how.meaning ws) (omega (arith, few)) (omega (arith, few)) a.clock) refl refl
+      (answer-wrap how.mode n base top ticks (map how.meaning ws) (omega (arith, few)) (omega (arith, few)) a.clock) tt refl refl
       (IsClock-wrap how.mode n base top ticks (map how.meaning ws) a.clock)
 
   adds-reserved : Reserved ≡ how.meaning w → (is_reserved Reserved && stops_reserved how.policy.reserved) ≡ false
       → Adds how (n + 1) base top before (ws ++ w ∷ []) (es ++ [])
   adds-reserved means go =
       adds-placed Reserved ReservedPlaced [] base top means go
-      (answer-reserved how.mode (map how.meaning ws)) refl refl
+      (answer-reserved how.mode (map how.meaning ws)) tt refl refl
       (IsClock-reserved how.mode n base top (map how.meaning ws) a.clock)
 
   -- a word that is not refused and no late event
   pub adds-push : (raw : Raw) → raw ≡ how.meaning w → (is_reserved raw && stops_reserved how.policy.reserved) ≡ false
-      → base + amount raw ≤ 2 ^ 62 → IsOnTime how.mode top (event_of (n + 1) base raw)
-      → Adds how (n + 1) (base + amount raw) (top_with how.mode top (event_of (n + 1) base raw)) before (ws ++ w ∷ []) (es ++ event_of (n + 1) base raw)
+      → base + amount raw ≤ wrap_limit → IsOnTime how.mode top (event_of (n + 1) base raw)
+      → Adds how (n + 1) (base + amount raw) (greatest_with how.mode top (event_of (n + 1) base raw)) before (ws ++ w ∷ []) (es ++ event_of (n + 1) base raw)
   adds-push (Photon input time dtime) means go few on = rw add-zero (adds-photon input time dtime means on)
   adds-push (Marker bits time) means go few on = rw add-zero (adds-marker bits time means on)
   adds-push (Wrap ticks) means go few on = adds-wrap ticks means few
   adds-push Reserved means go few on = rw add-zero (adds-reserved means go)
 
 -- the events stay in line
-in_line-event : (mode : Mode) (low top : ℕ) (es : List Event) (e : Event) → IsInLine mode low top es → e.time ≤ 2 ^ 62 + 2 ^ 28 → KindFits mode e.kind
+pub in_line-event : (mode : Mode) (low top : ℕ) (es : List Event) (e : Event) → IsInLine mode low top es → e.time ≤ time_limit → KindFits mode e.kind
     → (IsTrue (is_ordered mode e) → top ≤ e.time) → IsInLine mode low (if is_ordered mode e then e.time else top) (es ++ e ∷ [])
 in_line-event mode low top es e line time kind on =
     let strict = orders_markers mode in
@@ -118,8 +124,8 @@ in_line-event mode low top es e line time kind on =
       fit = All-push (λ (e : Event). KindFits mode e.kind) es e line.fit kind;
     }
 
-pub in_line-push : (mode : Mode) (low top place base : ℕ) (es : List Event) (raw : Raw) → IsInLine mode low top es → Fits mode raw → base ≤ 2 ^ 62
-    → IsOnTime mode top (event_of place base raw) → IsInLine mode low (top_with mode top (event_of place base raw)) (es ++ event_of place base raw)
+pub in_line-push : (mode : Mode) (low top place base : ℕ) (es : List Event) (raw : Raw) → IsInLine mode low top es → Fits mode raw → base ≤ wrap_limit
+    → IsOnTime mode top (event_of place base raw) → IsInLine mode low (greatest_with mode top (event_of place base raw)) (es ++ event_of place base raw)
 in_line-push mode low top place base es (Photon input time dtime) line fits few on =
     in_line-event mode low top es (record { place = place; kind = PhotonEvent input dtime; time = base + time }) line (let h = fits.0 in omega (arith, few, h)) fits.1 on
 in_line-push mode low top place base es (Marker bits time) line fits few on =
@@ -130,3 +136,16 @@ in_line-push mode low top place base es (Marker bits time) line fits few on =
     marker-fits T3 bits = tt
 in_line-push mode low top place base es (Wrap ticks) line fits few on = rw append-nil line
 in_line-push mode low top place base es Reserved line fits few on = rw append-nil line
+
+-- and at places that rise
+places-event : (low last : ℕ) (es : List Event) (e : Event) → PlacesRise low es → place_after low es ≤ last → last < e.place → PlacesRise low (es ++ e ∷ []) × (place_after low (es ++ e ∷ []) ≡ e.place)
+places-event low last [] e rise most next = ((omega (arith, most, next), tt), refl)
+places-event low last (x ∷ es) e rise most next = let rest = places-event x.place last es e rise.1 most next in ((rise.0, rest.0), rest.1)
+
+pub places-push : (low n base : ℕ) (es : List Event) (raw : Raw) → RisesWithin low n es → RisesWithin low (n + 1) (es ++ event_of (n + 1) base raw)
+places-push low n base es (Photon input time dtime) within =
+    let r = places-event low n es (record { place = n + 1; kind = PhotonEvent input dtime; time = base + time }) within.rises within.last (omega arith) in record { rises = r.0; last = omega (arith, r.1) }
+places-push low n base es (Marker bits time) within =
+    let r = places-event low n es (record { place = n + 1; kind = MarkerEvent bits; time = base + time }) within.rises within.last (omega arith) in record { rises = r.0; last = omega (arith, r.1) }
+places-push low n base es (Wrap ticks) within = rw append-nil (record { rises = within.rises; last = omega (arith, within.last) })
+places-push low n base es Reserved within = rw append-nil (record { rises = within.rises; last = omega (arith, within.last) })

@@ -1,6 +1,8 @@
 -- The events of a block, one by one.
 use Rattle.std.proofs.Common.{◌≡◌, ◌+◌, ◌<◌, ℕ, zero, suc, List, [], ◌∷◌, ◌++◌, Bool, true, false, All, length, refl, sym, ap, subst, ◌∙◌, append_assoc, arith, length-append, ◌⊎◌, ⊎_elim}
 use Rattle.std.specs.Prelude.{◌&&◌, not, IsTrue, if◌then◌else◌}
+use Rattle.std.specs.List.{AllByRecursion}
+use Rattle.std.proofs.lemmas.List.Elements.{All-from_recursion}
 use Rattle.std.proofs.lemmas.Grind.{get_or_at_push}
 use Rattle.std.proofs.lemmas.List.{map-append, get_or_append_left}
 use Rattle.tally_base.specs.declared.event.Event.{Event}
@@ -32,6 +34,9 @@ all-rows P f (suc n) i lt all =
     (λ (is : i ≡ n). rw is (all-last P (rows f n) (f n) all))
     (λ (below : i < n). all-rows P f n i below (all-front P (rows f n) (f n) all))
     (last_or i n lt)
+
+pub each-rows : (P : Event → Type 0) (f : ℕ → Event) (n i : ℕ) → i < n → AllByRecursion P (rows f n) → P (f i)
+each-rows P f n i lt all = all-rows P f n i lt (All-from_recursion P (rows f n) all)
 
 pub on_time-rows : (l : Marked) (f : ℕ → Event) (i : ℕ) → (l ++ on_time (rows f i)) ++ (f i, false) ∷ [] ≡ l ++ on_time (rows f (i + 1))
 on_time-rows l f i =

@@ -1,23 +1,29 @@
 -- One word more in a block.
-use Rattle.std.proofs.Common.{◌≡◌, ◌+◌, ◌^◌, ◌<◌, ◌≤◌, ℕ, List, [], ◌∷◌, ◌++◌, Bool, true, false, length, map, get_or, refl, sym, ap, ◌∙◌, arith, ⊎_elim}
+use Rattle.std.proofs.Common.{◌≡◌, ◌+◌, ◌<◌, ◌≤◌, ℕ, List, [], ◌∷◌, ◌++◌, Bool, true, false, length, map, get_or, refl, sym, ap, subst, ◌∙◌, add-zero, append-nil, arith, ⊎_elim}
 use Rattle.std.specs.Prelude.{◌&&◌, nat_le, count_by, cond}
 use Rattle.std.specs.Int.{from_le_bytes, w32}
 use Rattle.std.proofs.lemmas.Bool.{cases_Bool}
 use Rattle.std.proofs.lemmas.List.Sums.{get_or-le-sum_by, sum_by-cons}
 use Rattle.tally_base.specs.declared.event.Event.{Event}
-use Rattle.tally_base.specs.Events.{stops_reserved}
+use Rattle.std.proofs.lemmas.List.Elements.{filter-append}
+use Rattle.tally_base.specs.declared.header.Mode.{Mode}
+use Rattle.tally_base.specs.Events.{is_ordered, stops_reserved}
+use Rattle.tally_base.specs.Limits.{wrap_limit}
 use Rattle.ptu_definitions.specs.declared.records.Raw.{Raw}
 use Rattle.ptu_definitions.specs.Kinds.{is_reserved}
-use Rattle.ptu_definitions.specs.Times.{event_of, amount}
+use Rattle.ptu_definitions.specs.Times.{event_of, events, amount}
 use Rattle.ptu_definitions.specs.Fitting.{Fits}
 use Rattle.ptu_definitions.specs.Fours.{numbers}
-use Rattle.ptu_definitions.specs.Streams.{Reading}
+use Rattle.ptu_definitions.specs.Streams.{Reading, events_in}
+use Rattle.abs_time.specs.Placing.{base_of}
 use Rattle.record_layout.specs.declared.row.Row.{Row}
 use Rattle.record_layout.specs.Rowed.{raw_of}
-use Rattle.record_stream.specs.Blocks.{Adds, IsInLine, top_with}
-use Rattle.record_stream.specs.Rows.{ordered_below, top_by}
+use Rattle.record_stream.specs.Blocks.{chosen, Adds, IsInLine, greatest_with}
+use Rattle.record_stream.specs.Rows.{ordered_below, greatest_with_row}
+use Rattle.record_stream.specs.Walking.{how_of, greatest_of, clock_in, AddsBehind, Gathers}
+use Rattle.record_stream.specs.declared.walk.Walk.{Walk}
 use Rattle.record_stream.proofs.Adding.{adds-push, in_line-push}
-use Rattle.record_stream.proofs.RowEvents.{top-row, on_time-row}
+use Rattle.record_stream.proofs.RowEvents.{greatest-row, on_time-row}
 
 -- counting by a test of what words mean, over their bytes
 count_by-meanings : (p : Raw → Bool) (meaning : ℕ → Raw) (words : List (List ℕ))
@@ -60,23 +66,54 @@ both true false h = cc
 both false b h = cc
 
 module _ (how : Reading) (low base top base' top' n : ℕ) (in_order in_order' : Bool) (es es' : List Event) (row : Row)
-    (base_is : base' ≡ base + row.amount) (top_is : top' ≡ top_by (ordered_below how.mode) top base row)
+    (base_is : base' ≡ base + row.amount) (top_is : top' ≡ greatest_with_row (ordered_below how.mode) top base row)
     (in_order_is : in_order' ≡ (in_order && nat_le top top')) (events_are : es' ≡ es ++ event_of (n + 1) base (raw_of row)) where
-  pub in_line-more : (w : ℕ) → raw_of row ≡ how.meaning w → Fits how.mode (how.meaning w) → base ≤ 2 ^ 62 → (in_order ≡ true → IsInLine how.mode low top es)
+  pub in_line-more : (w : ℕ) → raw_of row ≡ how.meaning w → Fits how.mode (how.meaning w) → base ≤ wrap_limit → (in_order ≡ true → IsInLine how.mode low top es)
       → in_order' ≡ true → IsInLine how.mode low top' es'
   in_line-more w means fits few line sure =
       let two = both in_order (nat_le top top') (sym in_order_is ∙ sure) in
       let on = on_time-row (n + 1) base row how.mode top (rw top_is at two.1) in
-      rw (top_is, events_are, ← (top-row (n + 1) base row how.mode top)) (in_line-push how.mode low top (n + 1) base es (raw_of row) (line two.0) (rw means fits) few on)
+      rw (top_is, events_are, ← (greatest-row (n + 1) base row how.mode top)) (in_line-push how.mode low top (n + 1) base es (raw_of row) (line two.0) (rw means fits) few on)
 
-  pub adds-more : (next : ℕ) (before ws : List ℕ) (w : ℕ) → how.policy.settle ≡ 0 → next ≡ n + 1 → raw_of row ≡ how.meaning w → row.amount ≡ amount (how.meaning w) → n < how.policy.records → base + row.amount ≤ 2 ^ 62
+  pub adds-more : (next : ℕ) (before ws : List ℕ) (w : ℕ) → next ≡ n + 1 → raw_of row ≡ how.meaning w → row.amount ≡ amount (how.meaning w) → n < how.policy.records → base + row.amount ≤ wrap_limit
       → (is_reserved (how.meaning w) && stops_reserved how.policy.reserved) ≡ false → (in_order ≡ true → Adds how n base top before ws es)
       → in_order' ≡ true → Adds how next base' top' before (ws ++ w ∷ []) es'
-  adds-more next before ws w plain counted means amounts room few go adds sure =
+  adds-more next before ws w counted means amounts room few go adds sure =
       let two = both in_order (nat_le top top') (sym in_order_is ∙ sure) in
       let on = on_time-row (n + 1) base row how.mode top (rw top_is at two.1) in
       let same : row.amount ≡ amount (raw_of row) = amounts ∙ ap amount (sym means) in
-      let pushed = adds-push how n base top before ws w es (adds two.0) room plain (raw_of row) means (rw means go) (rw (← same) few) on in
+      let pushed = adds-push how n base top before ws w es (adds two.0) room (raw_of row) means (rw means go) (rw (← same) few) on in
       let sum : base' ≡ base + amount (raw_of row) = base_is ∙ ap (λ k. base + k) same in
-      let greatest : top' ≡ top_with how.mode top (event_of (n + 1) base (raw_of row)) = top_is ∙ sym (top-row (n + 1) base row how.mode top) in
+      let greatest : top' ≡ greatest_with how.mode top (event_of (n + 1) base (raw_of row)) = top_is ∙ sym (greatest-row (n + 1) base row how.mode top) in
       rw (counted, sum, greatest, events_are) pushed
+
+-- All events of a list, or those in order alone.
+pub chosen-append : (only : Bool) (mode : Mode) (xs ys : List Event) → chosen only mode (xs ++ ys) ≡ chosen only mode xs ++ chosen only mode ys
+chosen-append false mode xs ys = refl
+chosen-append true mode xs ys = filter-append (λ (e : Event). is_ordered mode e) xs ys
+
+chosen-none : (only : Bool) (mode : Mode) → ◌≡◌ {A = List Event} [] (chosen only mode [])
+chosen-none false mode = refl
+chosen-none true mode = refl
+
+-- nothing is gathered of no words
+pub gathers-none : (walk : Walk) (words : List (List ℕ)) (only : Bool) (sum greatest : ℕ) (es : List Event) → words ≡ [] → es ≡ [] → sum ≡ base_of (clock_in walk) → greatest ≡ greatest_of walk → Gathers walk words only true sum greatest es
+gathers-none walk words only sum greatest es no_words none sum_is greatest_is = rw (no_words, none, sum_is, greatest_is) (record {
+  came = [];
+  chosen = chosen-none only (how_of walk).mode;
+  places = record { rises = tt; last = omega arith };
+  in_line = λ sure. record { in_order = tt; greatest = refl; fit = λ k d lt. absurd (omega (arith, lt)) };
+  adds = λ sure before h.
+      rw (append-nil, add-zero) (record {
+        clear = h.clear;
+        clock = rw (← walk.same_mode) h.placed;
+        came = sym (append-nil (events (map (how_of walk).meaning before)));
+        delivers = λ plain. sym (append-nil (events_in (how_of walk) before));
+      });
+})
+
+-- where all events are gathered
+pub gathers-all : (walk : Walk) (words : List (List ℕ)) (in_order : Bool) (sum greatest : ℕ) (es : List Event) → Gathers walk words false in_order sum greatest es → in_order ≡ true
+    → IsInLine (how_of walk).mode (greatest_of walk) greatest es × AddsBehind walk words sum greatest es
+gathers-all walk words in_order sum greatest es g sure =
+    (subst (IsInLine (how_of walk).mode (greatest_of walk) greatest) (sym g.chosen) (g.in_line sure), subst (AddsBehind walk words sum greatest) (sym g.chosen) (g.adds sure))

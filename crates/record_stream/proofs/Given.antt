@@ -36,24 +36,25 @@ length-on_time [] = refl
 length-on_time (e ∷ es) = omega (arith, length-on_time es)
 
 -- where the stream stands behind a block
-pub block_at : (how : Reading) (clock clock' : Clock) (sum sum' : Summary) (count count' n base top : ℕ) (before ws : List ℕ) (es : List Event) (k : KindCounts)
-    → IsAt how clock sum count before → Adds how n base top before (before ++ ws) es
+pub block_at : (how : Reading) (clock clock' : Clock) (sum sum' : Summary) (count count' n base top : ℕ) (before ws : List ℕ) (came es : List Event) (k : KindCounts)
+    → IsAt how clock sum count before → Adds how n base top before (before ++ ws) came → events_in how (before ++ ws) ≡ events_in how before ++ on_time es
     → mode_of clock' ≡ how.mode → placed_by clock' ≡ n → base_of clock' ≡ base → greatest_by clock' ≡ top
     → sum' ≡ with_block sum k es → k ≡ counts_of (map how.meaning ws) → count' ≡ count + length es
     → IsAt how clock' sum' count' (before ++ ws)
-block_at how clock clock' sum sum' count count' n base top before ws es k h a mode placed based greatest sums kinds counts = record {
+block_at how clock clock' sum sum' count count' n base top before ws came es k h a delivers mode placed based greatest sums kinds counts = record {
   clear = a.clear;
   placed = rw (mode, placed, based, greatest) a.clock;
-  summary = sums ∙ ap (λ s. with_block s k es) h.summary ∙ ap (λ k. with_block (so_far how before) k es) kinds ∙ sym (so_far-more how before ws es a.events);
-  counted = omega (arith, counts, h.counted, ap length a.events, length-append (events_in how before) (on_time es), length-on_time es);
+  summary = sums ∙ ap (λ s. with_block s k es) h.summary ∙ ap (λ k. with_block (so_far how before) k es) kinds ∙ sym (so_far-more how before ws es delivers);
+  counted = omega (arith, counts, h.counted, ap length delivers, length-append (events_in how before) (on_time es), length-on_time es);
 }
 
 pub floors_below : (mode : Mode) (low floor top : ℕ) (es : List Event) → low ≤ floor → floor_after (orders_markers mode) floor es ≡ top → floor_after (orders_markers mode) low es ≤ top
 floors_below mode low floor top es below is = omega (arith, floor-lower (orders_markers mode) low floor es below, is)
 
-module _ {T : Type 0} (g : Ghosts T) (how : Reading) (old new : T) (n base top : ℕ) (before now : List ℕ) (es : List Event) (clear : refusals how before ≡ []) (a : Adds how n base top before now es) where
+module _ {T : Type 0} (g : Ghosts T) (how : Reading) (old new : T) (n base top : ℕ) (before now : List ℕ) (came es : List Event) (clear : refusals how before ≡ []) (a : Adds how n base top before now came)
+    (delivers : events_in how now ≡ events_in how before ++ on_time es) where
   given-block : given how now ≡ given how before ++ on_time es
-  given-block = given-clear how now a.clear ∙ a.events ∙ ap (λ l. l ++ on_time es) (sym (given-clear how before clear))
+  given-block = given-clear how now a.clear ∙ delivers ∙ ap (λ l. l ++ on_time es) (sym (given-clear how before clear))
 
   -- what was given of the words
   pub block_fed : ((start : T) (l : Marked) → g.got start old l → g.got start new (l ++ on_time es)) → (record_refusal how now ≡ None) × GaveOn g how old new before now

@@ -71,23 +71,23 @@ given-count how clock sum count settle carried None bytes h none = rw (given-cle
 given-count how clock sum count settle carried (Some fault) bytes h none = cc
 
 -- where no event is put in its place the greatest time is the clock's, and else that of the last event let go
-pub plain-top : (how : Reading) (clock : Clock) (sum : Summary) (count : ℕ) (words : List ℕ) → how.policy.settle ≡ 0 → clock_mode clock ≡ how.mode → IsAt how clock sum count words → greatest_by clock ≡ floor_of how.mode (events_in how words)
-plain-top how clock sum count words zero same h =
+pub plain-greatest : (how : Reading) (clock : Clock) (sum : Summary) (count : ℕ) (words : List ℕ) → how.policy.settle ≡ 0 → clock_mode clock ≡ how.mode → IsAt how clock sum count words → greatest_by clock ≡ floor_of how.mode (events_in how words)
+plain-greatest how clock sum count words zero same h =
     h.placed.greatest ∙ ap (λ m. greatest m (events (map how.meaning words))) same
     ∙ sym (ap (floor_of how.mode) (ap (λ k. delivered k how.mode (events (map how.meaning words))) zero ∙ delivered-0 how.mode (events (map how.meaning words))) ∙ floor_of-marked how.mode (events (map how.meaning words)))
 
 pub some-settle : (k : ℕ) → (k == 0) ≡ false → k ≢ 0
 some-settle k is = λ zero. let e : (k == 0) ≡ true = rw zero refl in cc
 
-top_pick : (b : Bool) (how : Reading) (clock : Clock) (sum : Summary) (count : ℕ) (settle : Settle) (words : List ℕ) → (how.policy.settle == 0) ≡ b → clock_mode clock ≡ how.mode → IsAt how clock sum count words → Settles how settle words
+greatest_pick : (b : Bool) (how : Reading) (clock : Clock) (sum : Summary) (count : ℕ) (settle : Settle) (words : List ℕ) → (how.policy.settle == 0) ≡ b → clock_mode clock ≡ how.mode → IsAt how clock sum count words → Settles how settle words
     → (if b then greatest_by clock else last_time settle) ≡ floor_of how.mode (events_in how words)
-top_pick true how clock sum count settle words is same h come = plain-top how clock sum count words (eqb-true how.policy.settle 0 is) same h
-top_pick false how clock sum count settle words is same h come = (come (some-settle how.policy.settle is)).top
+greatest_pick true how clock sum count settle words is same h come = plain-greatest how clock sum count words (eqb-true how.policy.settle 0 is) same h
+greatest_pick false how clock sum count settle words is same h come = (come (some-settle how.policy.settle is)).greatest
 
-pub given-top : (how : Reading) (clock : Clock) (sum : Summary) (count : ℕ) (settle : Settle) (carried : List ℕ) (refused : Option Fault) (bytes : List ℕ) → clock_mode clock ≡ how.mode → Stands how clock sum count settle carried refused bytes → refused ≡ None
+pub given-greatest : (how : Reading) (clock : Clock) (sum : Summary) (count : ℕ) (settle : Settle) (carried : List ℕ) (refused : Option Fault) (bytes : List ℕ) → clock_mode clock ≡ how.mode → Stands how clock sum count settle carried refused bytes → refused ≡ None
     → (if how.policy.settle == 0 then greatest_by clock else last_time settle) ≡ floor_of how.mode (given how (words_of bytes))
-given-top how clock sum count settle carried None bytes same h none = top_pick (how.policy.settle == 0) how clock sum count settle (words_of bytes) refl same h.1.at h.1.settles ∙ ap (floor_of how.mode) (sym (given-clear how (words_of bytes) h.1.at.clear))
-given-top how clock sum count settle carried (Some fault) bytes same h none = cc
+given-greatest how clock sum count settle carried None bytes same h none = greatest_pick (how.policy.settle == 0) how clock sum count settle (words_of bytes) refl same h.1.at h.1.settles ∙ ap (floor_of how.mode) (sym (given-clear how (words_of bytes) h.1.at.clear))
+given-greatest how clock sum count settle carried (Some fault) bytes same h none = cc
 
 -- A stream of no words.
 pub at_none : (how : Reading) (clock : Clock) (sum : Summary) → HasPlaced clock [] → sum ≡ eventless [] → IsAt how clock sum 0 []
@@ -96,4 +96,4 @@ at_none how clock sum placed is = record { clear = refl; placed = placed; summar
 
 pub come_none : (how : Reading) (settle : Settle) → HasSettled settle [] [] → last_time settle ≡ 0 → HasCome how settle []
 unfolding events
-come_none how settle settled low = record { settled = rw delivered-none settled; top = rw delivered-none low }
+come_none how settle settled low = record { settled = rw delivered-none settled; greatest = rw delivered-none low }

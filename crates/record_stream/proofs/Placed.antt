@@ -143,9 +143,28 @@ fresh-plain how ws raw p zero answer =
     ap (delivered_after how.policy.settle how.mode (events (map how.meaning ws))) c.0 ∙ fresh-so how (events (map how.meaning ws)) p zero c.1
 
 -- Where events are put in their places.
-not_late : (b : Bool) (k : ℕ) (mode : Mode) (before : List Event) (e : Event) → is_late_by k mode before e ≡ b → is_late mode before e ≡ false → is_late_by k mode before e ≡ false
+pub not_late : (b : Bool) (k : ℕ) (mode : Mode) (before : List Event) (e : Event) → is_late_by k mode before e ≡ b → is_late mode before e ≡ false → is_late_by k mode before e ≡ false
 not_late true k mode before e is off = let on : is_late mode before e ≡ true = is_late-by k mode before e is in cc
 not_late false k mode before e is off = is
+
+-- it is no late event
+abbrev pub IsEarly : Placed → Type 0
+IsEarly (InOrder e) = Unit {0}
+IsEarly (Late e top) = ⊥
+IsEarly WrapPlaced = Unit {0}
+IsEarly ReservedPlaced = Unit {0}
+
+early-so : (how : Reading) (before : List Event) (p : Placed) → IsEarly p → IsSo how.mode before p
+    → (if stops_late how.policy.order then late_refusal how.policy.settle how.mode before (event_in p) else None) ≡ None
+early-so how before (InOrder e) early so = ap (λ b. late_if how b e (greatest how.mode before)) (not_late _ how.policy.settle how.mode before e refl so) ∙ nothing (stops_late how.policy.order)
+early-so how before (Late e top) early so = absurd early
+early-so how before WrapPlaced early so = nothing (stops_late how.policy.order)
+early-so how before ReservedPlaced early so = nothing (stops_late how.policy.order)
+
+pub refused-early : (how : Reading) (before : List Raw) (raw : Raw) (p : Placed) → IsEarly p → place_answer how.mode before raw ≡ Ok p → refused_late how before raw ≡ None
+refused-early how before raw p early answer =
+    let c = comes how.mode before raw p answer in
+    ap (λ es. if stops_late how.policy.order then late_refusal how.policy.settle how.mode (events before) es else None) c.0 ∙ early-so how (events before) p early c.1
 
 -- the greatest time that a placed record was compared with
 abbrev pub top_in : Placed → ℕ

@@ -1,5 +1,5 @@
 -- The event of a record, by its code.
-use Rattle.std.proofs.Common.{◌≡◌, ◌+◌, ◌<◌, ◌≤◌, ℕ, List, [], ◌∷◌, true, false, refl, arith, ⊎_elim}
+use Rattle.std.proofs.Common.{◌≡◌, ◌+◌, ◌<◌, ◌≤◌, ℕ, List, [], ◌∷◌, Bool, true, false, refl, sym, arith, ⊎_elim}
 use Rattle.std.specs.Prelude.{nat_lt, nat_le, ◌==◌, if◌then◌else◌}
 use Rattle.std.proofs.lemmas.Bool.{cases_lt, leb-true}
 use Rattle.std.proofs.lemmas.Bool.Decides.{nat_tests}
@@ -8,12 +8,13 @@ use Rattle.tally_base.specs.declared.header.Mode.{Mode}
 use Rattle.tally_base.specs.declared.header.Mode.TheVariants.{T2, T3}
 use Rattle.ptu_definitions.specs.declared.records.Raw.{Raw}
 use Rattle.ptu_definitions.specs.declared.records.Raw.TheVariants.{Wrap, Reserved}
+use Rattle.ptu_definitions.specs.Settled.{ordered}
 use Rattle.ptu_definitions.specs.Times.{event_of}
 use Rattle.event_block.specs.Columns.{event_by}
 use Rattle.record_layout.specs.declared.row.Row.{Row}
 use Rattle.record_layout.specs.Rowed.{raw_of}
-use Rattle.record_stream.specs.Blocks.{top_with, IsOnTime}
-use Rattle.record_stream.specs.Rows.{ordered_below, top_by}
+use Rattle.record_stream.specs.Blocks.{chosen, greatest_with, IsOnTime}
+use Rattle.record_stream.specs.Rows.{ordered_below, gathered_below, event_below, greatest_with_row}
 
 module _ (place base : ℕ) (row : Row) where
   skipped : (raw : Raw) → ◌≡◌ {A = List Event} (event_of place base (if row.code == 512 then Wrap row.amount else Reserved)) []
@@ -44,8 +45,8 @@ module _ (place base : ℕ) (row : Row) where
       (cases_lt row.code 256)
 
   -- the greatest time with it
-  pub top-row : (mode : Mode) (top : ℕ) → top_with mode top (event_of place base (raw_of row)) ≡ top_by (ordered_below mode) top base row
-  top-row T2 top =
+  pub greatest-row : (mode : Mode) (top : ℕ) → greatest_with mode top (event_of place base (raw_of row)) ≡ greatest_with_row (ordered_below mode) top base row
+  greatest-row T2 top =
       rw event-row (⊎_elim
       (λ (photon : row.code < 256).
       let a : nat_lt row.code 256 ≡ true = grind (arith, nat_tests, photon) in
@@ -62,7 +63,7 @@ module _ (place base : ℕ) (row : Row) where
       rw (a, b) refl)
       (cases_lt row.code 512))
       (cases_lt row.code 256))
-  top-row T3 top =
+  greatest-row T3 top =
       rw event-row (⊎_elim
       (λ (some : row.code < 512).
       let b : nat_lt row.code 512 ≡ true = grind (arith, nat_tests, some) in
@@ -72,8 +73,41 @@ module _ (place base : ℕ) (row : Row) where
       rw b refl)
       (cases_lt row.code 512))
 
+  -- those in order alone
+  ordered-row : (mode : Mode) → ordered mode (event_of place base (raw_of row)) ≡ event_below (ordered_below mode) place base row
+  ordered-row T2 =
+      rw event-row (⊎_elim
+      (λ (photon : row.code < 256).
+      let a : nat_lt row.code 256 ≡ true = grind (arith, nat_tests, photon) in
+      let b : nat_lt row.code 512 ≡ true = grind (arith, nat_tests, photon) in
+      rw (a, b) refl)
+      (λ (other : 256 ≤ row.code).
+      let a : nat_lt row.code 256 ≡ false = grind (arith, nat_tests, other) in
+      ⊎_elim
+      (λ (marker : row.code < 512).
+      let b : nat_lt row.code 512 ≡ true = grind (arith, nat_tests, marker) in
+      rw (a, b) refl)
+      (λ (none : 512 ≤ row.code).
+      let b : nat_lt row.code 512 ≡ false = grind (arith, nat_tests, none) in
+      rw (a, b) refl)
+      (cases_lt row.code 512))
+      (cases_lt row.code 256))
+  ordered-row T3 =
+      rw event-row (⊎_elim
+      (λ (some : row.code < 512).
+      let b : nat_lt row.code 512 ≡ true = grind (arith, nat_tests, some) in
+      rw b refl)
+      (λ (none : 512 ≤ row.code).
+      let b : nat_lt row.code 512 ≡ false = grind (arith, nat_tests, none) in
+      rw b refl)
+      (cases_lt row.code 512))
+
+  pub chosen-row : (only : Bool) (mode : Mode) → event_below (gathered_below only mode) place base row ≡ chosen only mode (event_of place base (raw_of row))
+  chosen-row false mode = sym event-row
+  chosen-row true mode = sym (ordered-row mode)
+
   -- It is not late where the greatest time does not fall.
-  pub on_time-row : (mode : Mode) (top : ℕ) → nat_le top (top_by (ordered_below mode) top base row) ≡ true → IsOnTime mode top (event_of place base (raw_of row))
+  pub on_time-row : (mode : Mode) (top : ℕ) → nat_le top (greatest_with_row (ordered_below mode) top base row) ≡ true → IsOnTime mode top (event_of place base (raw_of row))
   on_time-row T2 top on =
       rw event-row (⊎_elim
       (λ (photon : row.code < 256).

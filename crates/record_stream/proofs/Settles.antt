@@ -185,7 +185,7 @@ pub come_event : (how : Reading) (settle settle' : Settle) (ws : List ℕ) (w : 
     → HasSettled settle' (ordered how.mode (events (map how.meaning ws)) ++ ordered how.mode (e ∷ [])) (not_marked (events_in how ws) ++ not_marked (tells how.policy.settle how.mode (ordered how.mode (events (map how.meaning ws))) e))
     → ((l : Marked) → last_time settle ≡ floor_of how.mode l → last_time settle' ≡ floor_of how.mode (l ++ tells how.policy.settle how.mode (ordered how.mode (events (map how.meaning ws))) e))
     → HasCome how settle' (ws ++ w ∷ [])
-come_event how settle settle' ws w e come is adds settled greatest =
+come_event how settle settle' ws w e come is adds settled moves =
     let more : Marked = tells how.policy.settle how.mode (ordered how.mode (events (map how.meaning ws))) e in
     let delivers : events_in how (ws ++ w ∷ []) ≡ events_in how ws ++ more = events_in-push how ws w ∙ ap (λ l. events_in how ws ++ l) adds in
     let came : ordered how.mode (events (map how.meaning (ws ++ w ∷ []))) ≡ ordered how.mode (events (map how.meaning ws)) ++ ordered how.mode (e ∷ []) =
@@ -195,7 +195,7 @@ come_event how settle settle' ws w e come is adds settled greatest =
     let gone : not_marked (events_in how (ws ++ w ∷ [])) ≡ not_marked (events_in how ws) ++ not_marked more = ap not_marked delivers ∙ not_marked-append (events_in how ws) more in
     record {
       settled = subst (λ p. HasSettled settle' p (not_marked (events_in how (ws ++ w ∷ [])))) (sym came) (subst (λ l. HasSettled settle' (ordered how.mode (events (map how.meaning ws)) ++ ordered how.mode (e ∷ [])) l) (sym gone) settled);
-      top = greatest (events_in how ws) come.top ∙ ap (floor_of how.mode) (sym delivers);
+      greatest = moves (events_in how ws) come.greatest ∙ ap (floor_of how.mode) (sym delivers);
     }
 
 pub come_none : (how : Reading) (settle : Settle) (ws : List ℕ) (w : ℕ) → HasCome how settle ws → event_after (map how.meaning ws) (how.meaning w) ≡ [] → fresh how ws (how.meaning w) ≡ [] → HasCome how settle (ws ++ w ∷ [])
@@ -205,7 +205,7 @@ come_none how settle ws w come is adds =
     ap events (map-append how.meaning ws (w ∷ [])) ∙ events-push (map how.meaning ws) (how.meaning w) ∙ ap (λ l. events (map how.meaning ws) ++ l) is ∙ append-nil (events (map how.meaning ws)) in
     record {
       settled = subst (λ p. HasSettled settle (ordered how.mode p) (not_marked (events_in how (ws ++ w ∷ [])))) (sym came) (subst (λ l. HasSettled settle (ordered how.mode (events (map how.meaning ws))) (not_marked l)) (sym delivers) come.settled);
-      top = come.top ∙ ap (floor_of how.mode) (sym delivers);
+      greatest = come.greatest ∙ ap (floor_of how.mode) (sym delivers);
     }
 
 -- What a push lets go.

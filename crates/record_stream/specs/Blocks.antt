@@ -6,9 +6,12 @@ use Rattle.tally_base.specs.declared.header.Mode.TheVariants.{T2, T3}
 use Rattle.tally_base.specs.Events.{is_ordered}
 use Rattle.ptu_definitions.specs.Kept.{Marked}
 use Rattle.ptu_definitions.specs.Fitting.{KindFits}
+use Rattle.ptu_definitions.specs.Settled.{ordered}
 use Rattle.ptu_definitions.specs.Streams.{Reading, refusals, events_in}
+use Rattle.ptu_definitions.specs.Times.{events}
 use Rattle.abs_time.specs.Placing.{IsClock}
 use Rattle.event_block.specs.Order.{floor_after, InOrder}
+use Rattle.settle.specs.Passing.{place_after}
 
 -- markers come in the order of their times, as photons do
 abbrev pub orders_markers : Mode → Bool
@@ -31,22 +34,38 @@ pub record BrokeAmong {T : Type 0} (got broke : T → T → Marked → Type 0) (
   pub broken : (start : T) (l : Marked) → got start old l → broke start new (l ++ on_time front)
 
 -- the greatest time of the events in order, with these, at most one and not late
-abbrev pub top_with : Mode → ℕ → List Event → ℕ
-top_with mode top [] = top
-top_with mode top (e ∷ es) = if is_ordered mode e then e.time else top
+abbrev pub greatest_with : Mode → ℕ → List Event → ℕ
+greatest_with mode greatest [] = greatest
+greatest_with mode greatest (e ∷ es) = if is_ordered mode e then e.time else greatest
 
 abbrev pub IsOnTime : Mode → ℕ → List Event → Type 0
-IsOnTime mode top [] = Unit {0}
-IsOnTime mode top (e ∷ es) = IsTrue (is_ordered mode e) → top ≤ e.time
+IsOnTime mode greatest [] = Unit {0}
+IsOnTime mode greatest (e ∷ es) = IsTrue (is_ordered mode e) → greatest ≤ e.time
 
 -- Up to `now` no word is refused, and behind the first ones come these events, none of them late.
-pub record Adds (how : Reading) (count sum top : ℕ) (words now : List ℕ) (es : List Event) : Type 0 where
+pub record Adds (how : Reading) (count sum greatest : ℕ) (words now : List ℕ) (es : List Event) : Type 0 where
   pub clear : refusals how now ≡ []
-  pub clock : IsClock how.mode count sum top (map how.meaning now)
-  pub events : events_in how now ≡ events_in how words ++ on_time es
+  pub clock : IsClock how.mode count sum greatest (map how.meaning now)
+  pub came : events (map how.meaning now) ≡ events (map how.meaning words) ++ es
+  pub delivers : how.policy.settle ≡ 0 → events_in how now ≡ events_in how words ++ on_time es
+
+-- each event stands at a greater place than the one before it, and the first at a greater one than this
+abbrev pub PlacesRise : ℕ → List Event → Type 0
+PlacesRise low [] = Unit {0}
+PlacesRise low (e ∷ es) = (low < e.place) × PlacesRise e.place es
+
+-- The events stand at places that rise, behind one place and not behind another.
+pub record RisesWithin (low high : ℕ) (es : List Event) : Type 0 where
+  pub rises : PlacesRise low es
+  pub last : place_after low es ≤ high
+
+-- all events, or those in order alone
+abbrev pub chosen : Bool → Mode → List Event → List Event
+chosen false mode es = es
+chosen true mode es = ordered mode es
 
 -- The events are in order behind a time, and the last of those has this one.
-pub record IsInLine (mode : Mode) (low top : ℕ) (es : List Event) : Type 0 where
+pub record IsInLine (mode : Mode) (low last : ℕ) (es : List Event) : Type 0 where
   pub in_order : InOrder (orders_markers mode) low es
-  pub greatest : floor_after (orders_markers mode) low es ≡ top
+  pub greatest : floor_after (orders_markers mode) low es ≡ last
   pub fit : AllFit mode es

@@ -23,10 +23,10 @@ pub record IsAt (how : Reading) (clock : Clock) (sum : Summary) (count : ℕ) (w
 
 module _ {T : Type 0} (g : Ghosts T) where
   -- The taker is of this mode, and no further on than the stream.
-  pub record Follows (mode : Mode) (count top : ℕ) (taker : T) : Type 0 where
+  pub record Follows (mode : Mode) (count greatest : ℕ) (taker : T) : Type 0 where
     pub mode_is : g.mode taker ≡ mode
     pub few : g.taken taker ≤ count
-    pub before : g.floor taker ≤ top
+    pub before : g.floor taker ≤ greatest
 
   -- The event can come behind those that the taker got.
   pub record CanGet (mode : Mode) (count : ℕ) (e : Event) (late : Bool) (taker : T) : Type 0 where

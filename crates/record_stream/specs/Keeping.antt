@@ -36,7 +36,7 @@ pub record IsKeeping (walk : Walk) (settle : Settle) : Type 0 where
 -- The events in order of these words came, and those that are settled by now were emitted.
 pub record HasCome (how : Reading) (settle : Settle) (words : List ℕ) : Type 0 where
   pub settled : HasSettled settle (ordered how.mode (events (map how.meaning words))) (not_marked (events_in how words))
-  pub top : last_time settle ≡ floor_of how.mode (events_in how words)
+  pub greatest : last_time settle ≡ floor_of how.mode (events_in how words)
 
 -- What is kept back where events are put in their places.
 abbrev pub Settles : Reading → Settle → List ℕ → Type 0
@@ -46,10 +46,10 @@ Settles how settle words = how.policy.settle ≢ 0 → HasCome how settle words
 abbrev pub tells : ℕ → Mode → List Event → Event → Marked
 tells k mode before e = if is_ordered mode e then settles k before e else []
 
--- why it is refused, where `top` is the greatest time of these events
+-- why it is refused, where `greatest` is the greatest time of these events
 abbrev pub refused_for : Reading → List Event → Event → ℕ → Option Fault
-refused_for how before e top =
-    if stops_late how.policy.order then (if is_ordered how.mode e && is_overtaken how.policy.settle before e then Some (BackwardTime e.place e.time top) else None) else None
+refused_for how before e greatest =
+    if stops_late how.policy.order then (if is_ordered how.mode e && is_overtaken how.policy.settle before e then Some (BackwardTime e.place e.time greatest) else None) else None
 
 -- Where a stream stands that took these words and refused none, with what it keeps back.
 pub record StandsAt (how : Reading) (clock : Clock) (sum : Summary) (count : ℕ) (settle : Settle) (words : List ℕ) : Type 0 where

@@ -1,7 +1,9 @@
 -- What is known of a record by its code.
-use Rattle.std.specs.Prelude.{ℕ, ◌+◌, nat_lt, if◌then◌else◌}
+use Rattle.std.specs.Prelude.{ℕ, ◌+◌, Bool, true, false, nat_lt, List, [], ◌∷◌, if◌then◌else◌}
+use Rattle.tally_base.specs.declared.event.Event.{Event}
 use Rattle.tally_base.specs.declared.header.Mode.{Mode}
 use Rattle.tally_base.specs.declared.header.Mode.TheVariants.{T2, T3}
+use Rattle.event_block.specs.Columns.{event_by}
 use Rattle.record_layout.specs.declared.row.Row.{Row}
 
 -- the codes below this one are those of events in order
@@ -10,5 +12,14 @@ ordered_below T2 = 256
 ordered_below T3 = 512
 
 -- the greatest time with a record, which is not late
-abbrev pub top_by : ℕ → ℕ → ℕ → Row → ℕ
-top_by ordered top base row = if nat_lt row.code ordered then base + row.time else top
+abbrev pub greatest_with_row : ℕ → ℕ → ℕ → Row → ℕ
+greatest_with_row ordered greatest base row = if nat_lt row.code ordered then base + row.time else greatest
+
+-- those of all events, or of those in order alone
+abbrev pub gathered_below : Bool → Mode → ℕ
+gathered_below false mode = 512
+gathered_below true mode = ordered_below mode
+
+-- the event of a record, if its code is below this one
+abbrev pub event_below : ℕ → ℕ → ℕ → Row → List Event
+event_below below place base row = if nat_lt row.code below then event_by place row.code row.dtime (base + row.time) ∷ [] else []

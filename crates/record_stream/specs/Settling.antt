@@ -32,8 +32,8 @@ module _ {T : Type 0} (g : Ghosts T) where
     pub counted : records_of new ≡ records_of old + more
 
   -- Behind these events in order one more came, and what it adds was given.
-  pub record Told (how : Reading) (old new : Walk) (from settle : Settle) (taker now : T) (before given : List Event) (e : Event) (top : ℕ) : Type 0 where
-    pub unrefused : refused_for how before e top ≡ None
+  pub record Told (how : Reading) (old new : Walk) (from settle : Settle) (taker now : T) (before given : List Event) (e : Event) (latest : ℕ) : Type 0 where
+    pub unrefused : refused_for how before e latest ≡ None
     pub settled : HasSettled settle (before ++ ordered how.mode (e ∷ [])) (given ++ not_marked (tells how.policy.settle how.mode before e))
     pub greatest : (l : Marked) → last_time from ≡ floor_of how.mode l → last_time settle ≡ floor_of how.mode (l ++ tells how.policy.settle how.mode before e)
     pub got : (start : T) (l : Marked) → g.got start taker l → g.got start now (l ++ tells how.policy.settle how.mode before e)
@@ -41,13 +41,13 @@ module _ {T : Type 0} (g : Ghosts T) where
     pub counted : given_by new ≡ given_by old + length (tells how.policy.settle how.mode before e)
 
   -- It broke the taker.
-  pub record BrokeAt (how : Reading) (taker now : T) (before : List Event) (e : Event) (top : ℕ) : Type 0 where
-    pub unrefused : refused_for how before e top ≡ None
+  pub record BrokeAt (how : Reading) (taker now : T) (before : List Event) (e : Event) (latest : ℕ) : Type 0 where
+    pub unrefused : refused_for how before e latest ≡ None
     pub some : 0 < length (tells how.policy.settle how.mode before e)
     pub broken : (start : T) (l : Marked) → g.got start taker l → g.broke start now (l ++ tells how.policy.settle how.mode before e)
     pub rose : Rose (g.faults taker) (g.faults now)
 
   -- It is refused, or it broke the taker.
   abbrev pub Untold : Reading → T → T → List Event → Event → ℕ → Fault → Type 0
-  Untold how taker now before e top fault =
-      ((refused_for how before e top ≡ Some fault) × (now ≡ taker)) ⊎ ((fault ≡ WriteFault) × BrokeAt how taker now before e top)
+  Untold how taker now before e latest fault =
+      ((refused_for how before e latest ≡ Some fault) × (now ≡ taker)) ⊎ ((fault ≡ WriteFault) × BrokeAt how taker now before e latest)

@@ -26,8 +26,8 @@ abbrev pub given_by : RecordStream → ℕ
 given_by stream = stream.walk.given
 
 -- the greatest time of the ordered events that it gave and that weren't late
-abbrev pub top_of : RecordStream → ℕ
-top_of stream = if stream.walk.policy.settle == 0 then greatest_by stream.walk.clock else last_time stream.settle
+abbrev pub greatest_of : RecordStream → ℕ
+greatest_of stream = if stream.walk.policy.settle == 0 then greatest_by stream.walk.clock else last_time stream.settle
 
 abbrev pub refused_with : RecordStream → Option Fault
 refused_with stream = stream.refused
@@ -72,11 +72,11 @@ HasStreamed stream bytes = Stands (how_of stream) stream.walk.clock (summed stre
 module _ {T : Type 0} (g : Ghosts T) where
   -- The taker is of the mode of the stream, and no further on.
   abbrev pub IsFollowed : RecordStream → T → Type 0
-  IsFollowed stream taker = Follows g (how_of stream).mode (given_by stream) (top_of stream) taker
+  IsFollowed stream taker = Follows g (how_of stream).mode (given_by stream) (greatest_of stream) taker
 
   -- The stream took so many bytes more and refused none, and the taker is no further on.
   pub record StreamsOn (old new : RecordStream) (taker : T) (more : ℕ) : Type 0 where
-    pub follows : Follows g (how_of old).mode (given_by new) (top_of new) taker
+    pub follows : Follows g (how_of old).mode (given_by new) (greatest_of new) taker
     pub counted : bytes_in new ≡ bytes_in old + more
 
   -- Whatever the stream answers, it reads as before and was refused what it was, the taker keeps what a call leaves as it is, and the count of faults doesn't fall.

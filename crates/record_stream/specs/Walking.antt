@@ -1,5 +1,5 @@
 -- How far a walk is.
-use Rattle.std.specs.Prelude.{ℕ, Bool, ◌≡◌, ◌+◌, ◌≤◌, List, ◌++◌, length}
+use Rattle.std.specs.Prelude.{ℕ, Bool, true, ◌≡◌, ◌+◌, ◌≤◌, List, ◌++◌, length}
 use Rattle.tally_base.specs.declared.event.Event.{Event}
 use Rattle.ptu_definitions.specs.declared.records.Summary.{Summary}
 use Rattle.ptu_definitions.specs.Streams.{Reading, reading}
@@ -8,7 +8,7 @@ use Rattle.abs_time.specs.Placing.{greatest_by, placed_by}
 use Rattle.ptu_definitions.specs.Fours.{numbers}
 use Rattle.event_block.specs.Columns.{count, sorted}
 use Rattle.event_block.specs.declared.block.Block.{Block}
-use Rattle.record_stream.specs.Blocks.{Adds}
+use Rattle.record_stream.specs.Blocks.{chosen as chosen_of, Adds, IsInLine, RisesWithin}
 use Rattle.record_stream.specs.Feeding.{IsAt, Follows}
 use Rattle.record_stream.specs.declared.taker.EventTaker.{Ghosts}
 use Rattle.record_stream.specs.OneMore.{with_event}
@@ -23,8 +23,8 @@ abbrev pub given_by : Walk → ℕ
 given_by walk = walk.given
 
 -- the greatest time of the ordered events that it gave and that weren't late
-abbrev pub top_of : Walk → ℕ
-top_of walk = greatest_by walk.clock
+abbrev pub greatest_of : Walk → ℕ
+greatest_of walk = greatest_by walk.clock
 
 abbrev pub summary_in : Walk → Summary
 summary_in walk = summed walk.sums
@@ -53,8 +53,17 @@ IsBehind walk words = IsAt (how_of walk) walk.clock (summed walk.sums) walk.give
 
 -- What some words add behind any that it took: these events, up to this sum of wraps and this greatest time.
 abbrev pub AddsBehind : Walk → List (List ℕ) → ℕ → ℕ → List Event → Type 0
-AddsBehind walk words sum top es =
-    (before : List ℕ) → IsBehind walk before → Adds (how_of walk) (placed_by (clock_in walk) + length words) sum top before (before ++ numbers words) es
+AddsBehind walk words sum greatest es =
+    (before : List ℕ) → IsBehind walk before → Adds (how_of walk) (placed_by (clock_in walk) + length words) sum greatest before (before ++ numbers words) es
+
+-- These are the events of some words that come next, or those in order alone. Up to this sum of wraps and this greatest
+-- time none of them is late, where that is said.
+pub record Gathers (walk : Walk) (words : List (List ℕ)) (only_ordered in_order : Bool) (sum greatest : ℕ) (es : List Event) : Type 0 where
+  pub came : List Event
+  pub chosen : es ≡ chosen_of only_ordered (how_of walk).mode came
+  pub places : RisesWithin (placed_by (clock_in walk)) (placed_by (clock_in walk) + length words) came
+  pub in_line : in_order ≡ true → IsInLine (how_of walk).mode (greatest_of walk) greatest came
+  pub adds : in_order ≡ true → AddsBehind walk words sum greatest came
 
 -- A block with no events, of which no groups are known.
 pub record IsBlank (block : Block) : Type 0 where
@@ -64,11 +73,11 @@ pub record IsBlank (block : Block) : Type 0 where
 module _ {T : Type 0} (g : Ghosts T) where
   -- The taker is of the mode of the walk, and no further on.
   abbrev pub IsFollowed : Walk → T → Type 0
-  IsFollowed walk taker = Follows g (how_of walk).mode (given_by walk) (top_of walk) taker
+  IsFollowed walk taker = Follows g (how_of walk).mode (given_by walk) (greatest_of walk) taker
 
   -- The walk took so many words more and refused none, and the taker is no further on.
   pub record WalksOn (old new : Walk) (taker : T) (more : ℕ) : Type 0 where
-    pub follows : Follows g (how_of old).mode (given_by new) (top_of new) taker
+    pub follows : Follows g (how_of old).mode (given_by new) (greatest_of new) taker
     pub counted : records_of new ≡ records_of old + more
 
   -- Whatever a walk answers, it reads as before, the taker keeps what a call leaves as it is, and the count of faults doesn't fall.

@@ -4,6 +4,7 @@ ghost use Rattle.tally_base.specs.declared.header.Mode.{Mode};
 ghost use Rattle.tally_base.specs.declared.fault.Fault.TheVariants.{WriteFault};
 ghost use Rattle.tally_base.specs.FaultCounts.{HasCause};
 ghost use Rattle.tally_base.specs.Events.{stops_reserved};
+ghost use Rattle.tally_base.specs.Limits.{wrap_limit};
 ghost use Rattle.ptu_definitions.specs.Fours.{numbers};
 ghost use Rattle.ptu_definitions.specs.Kinds.{is_reserved, counts_of};
 ghost use Rattle.ptu_definitions.specs.Kept.{Marked};
@@ -12,51 +13,48 @@ ghost use Rattle.abs_time.specs.Placing.{base_of, placed_by};
 ghost use Rattle.event_block.specs.Columns.{count, sorted, gathered, written};
 ghost use Rattle.record_layout.specs.InColumns.{HasRows};
 ghost use Rattle.record_layout.specs.Rowed.{raw_of};
-ghost use Rattle.record_stream.specs.Blocks.{on_time, IsInLine, BrokeAmong};
-ghost use Rattle.record_stream.specs.Rows.{ordered_below, top_by};
+ghost use Rattle.record_stream.specs.Blocks.{on_time, BrokeAmong};
+ghost use Rattle.record_stream.specs.Rows.{ordered_below, gathered_below, event_below, greatest_with_row};
 ghost use Rattle.record_stream.specs.Feeding.{Fed};
-ghost use Rattle.record_stream.specs.Walking.{how_of, given_by, top_of, records_of, summary_in, clock_in, IsBehind, AddsBehind, IsBlank, IsFollowed, WalksOn, Stays};
+ghost use Rattle.record_stream.specs.Walking.{how_of, given_by, greatest_of, records_of, summary_in, clock_in, IsBehind, Gathers, IsBlank, IsFollowed, WalksOn, Stays};
 
 use crate::count::{add_block, stops_reserved};
 use crate::taker::EventTaker;
 use crate::walk::Walk;
-use event_block::Block;
+use event_block::{BLOCK_SIZE, Block};
 use record_layout::{Columns, RecordLayout, Row};
-use tally_base::{Fault, Mode};
-
-/// How many words are taken at once, as many as a block has places.
-const BLOCK: usize = 64;
+use tally_base::{Fault, Mode, WRAP_LIMIT};
 
 /// The greatest sum of wraps that those of a block of words can't make greater than 2^62.
-const EARLY_ENOUGH: u64 = (1 << 62) - (1 << 56);
+pub(crate) const EARLY_ENOUGH: u64 = WRAP_LIMIT - (1 << 56);
 
 /// How far the clock of a stream is within a block of words.
 #[derive(Clone, Copy)]
-struct Ahead {
+pub(crate) struct Ahead {
     /// The sum of all wraps.
-    base: u64,
+    pub base: u64,
     /// The time of the last event in order.
-    greatest: u64,
+    pub greatest: u64,
     /// How many events there are in the block.
-    len: usize,
+    pub len: usize,
     /// None of them is late.
-    in_order: bool,
+    pub in_order: bool,
 }
 
 impl Ahead {
-    /// Places a record. Its row is written in any case, and where it is no event the next one is written
-    /// over it. So no branch tests what the record is.
+    /// Places a record. Its row is written in any case, and where its code isn't below `below` the next one is
+    /// written over it. So no branch tests what the record is.
     #[inline(always)]
-    fn place(&mut self, row: &Row, place: u64, ordered: u16, block: &mut Block)
-        requires room { self.old.len < 64 }
+    fn place(&mut self, row: &Row, place: u64, ordered: u16, below: u16, block: &mut Block)
+        requires room { self.old.len < BLOCK_SIZE }
         requires behind { count block.old ≤ self.old.len }
-        requires base { self.old.base + row.now.amount ≤ 2 ^ 62 }
+        requires base { self.old.base + row.now.amount ≤ wrap_limit }
         ensures base { self.new.base ≡ self.old.base + row.now.amount }
-        ensures greatest { self.new.greatest ≡ top_by ordered self.old.greatest self.old.base row.now }
+        ensures greatest { self.new.greatest ≡ greatest_with_row ordered self.old.greatest self.old.base row.now }
         ensures in_order { self.new.in_order
             ≡ (self.old.in_order && nat_le self.old.greatest self.new.greatest) }
         ensures events { written block.new self.new.len ≡ written block.old self.old.len
-            ++ event_of place self.old.base (raw_of row.now) }
+            ++ event_below below place self.old.base row.now }
         ensures behind { self.old.len ≤ self.new.len }
         ensures few { self.new.len ≤ self.old.len + 1 }
         ensures count { count block.new ≡ count block.old }
@@ -71,7 +69,7 @@ impl Ahead {
         };
         self.in_order &= self.greatest <= greatest;
         self.greatest = greatest;
-        self.len += (row.code < 512) as usize;
+        self.len += (row.code < below) as usize;
         self.base += row.amount;
     }
 }
@@ -87,35 +85,46 @@ fn ordered_below(mode: Mode) -> u16
     }
 }
 
-/// Writes the events of words, whose records are in columns, into an empty block, where their policy lets
-/// each of them pass. Whether none is late is known at the end.
+/// The codes below this one are those of events, or of events in order.
 #[inline(always)]
-fn gather<R: RecordLayout>(
+fn gathered_below(only_ordered: bool, mode: Mode) -> u16
+    ensures { result ≡ gathered_below only_ordered mode }
+{
+    if only_ordered {
+        ordered_below(mode)
+    } else {
+        512
+    }
+}
+
+/// Writes the events of words, whose records are in columns, into an empty block, or those in order alone,
+/// where their policy lets each of them pass. Whether none is late is known at the end.
+#[inline(always)]
+pub(crate) fn gather<R: RecordLayout>(
     walk: &Walk,
     words: &[[u8; 4]],
     columns: &Columns,
+    only_ordered: bool,
     block: &mut Block,
 ) -> Ahead
     requires meaning { R.meaning ≡ (how_of walk.now).meaning }
-    requires plain { (how_of walk.now).policy.settle ≡ 0 }
     requires rows { HasRows R.meaning R.UNIT columns.now words.now }
-    requires few { length words.now ≤ 64 }
+    requires few { length words.now ≤ BLOCK_SIZE }
     requires empty { count block.old ≡ 0 }
     requires room { records_of walk.now + length words.now ≤ (how_of walk.now).policy.records }
-    requires base { base_of (clock_in walk.now) + 2 ^ 56 ≤ 2 ^ 62 }
+    requires base { base_of (clock_in walk.now) + 2 ^ 56 ≤ wrap_limit }
     requires reserved { stops_reserved (how_of walk.now).policy.reserved ≡ true
         → count_by is_reserved (map R.meaning (numbers words.now)) ≡ 0 }
-    ensures adds { result.in_order ≡ true → AddsBehind walk.now words.now result.base
-        result.greatest (written block.new result.len) }
-    ensures in_line { result.in_order ≡ true → IsInLine (how_of walk.now).mode (top_of walk.now)
+    ensures gathers { Gathers walk.now words.now only_ordered result.in_order result.base
         result.greatest (written block.new result.len) }
     ensures few { result.len ≤ length words.now }
-    ensures base { result.base ≤ 2 ^ 62 }
+    ensures base { result.base ≤ wrap_limit }
     ensures empty { count block.new ≡ 0 }
     ensures unsorted { sorted block.new ≡ sorted block.old }
 {
     let placed = walk.clock.placed();
     let ordered = ordered_below(walk.clock.mode());
+    let below = gathered_below(only_ordered, walk.clock.mode());
     let mut ahead = Ahead {
         base: walk.clock.base(),
         greatest: walk.clock.greatest(),
@@ -124,12 +133,12 @@ fn gather<R: RecordLayout>(
     };
     for i in 0..words.len() {
         let row = columns.get::<R>(i);
-        ahead.place(&row, placed + i as u64 + 1, ordered, block);
+        ahead.place(&row, placed + i as u64 + 1, ordered, below, block);
     }
     ahead
 }
 
-/// Takes at most 64 words, with columns for their records and an empty block for their events.
+/// Takes at most as many words as a block has places, with columns for their records and an empty block for their events.
 #[inline(always)]
 fn take_block<R: RecordLayout, S: EventTaker>(
     walk: &mut Walk,
@@ -138,7 +147,7 @@ fn take_block<R: RecordLayout, S: EventTaker>(
     block: &mut Block,
     taker: &mut S,
 ) -> Result<(), Fault>
-    requires few { length words.now ≤ 64 }
+    requires few { length words.now ≤ BLOCK_SIZE }
     requires blank { IsBlank block.old }
     requires meaning { R.meaning ≡ (how_of walk.old).meaning }
     requires plain { (how_of walk.old).policy.settle ≡ 0 }
@@ -160,7 +169,7 @@ fn take_block<R: RecordLayout, S: EventTaker>(
     if stops || !room || walk.clock.base() > EARLY_ENOUGH {
         return walk.words::<R, S>(words, taker);
     }
-    let ahead = gather::<R>(walk, words, columns, block);
+    let ahead = gather::<R>(walk, words, columns, false, block);
     if !ahead.in_order {
         return walk.words::<R, S>(words, taker);
     }
@@ -200,8 +209,8 @@ pub(crate) fn take_words<R: RecordLayout, S: EventTaker>(
     let mut columns = Columns::new();
     let mut block = Block::new();
     let mut rest = words;
-    'many: while rest.len() > BLOCK {
-        let (front, back) = rest.split_at(BLOCK);
+    'many: while rest.len() > BLOCK_SIZE {
+        let (front, back) = rest.split_at(BLOCK_SIZE);
         take_block::<R, S>(walk, front, &mut columns, &mut block, taker)?;
         rest = back;
     }

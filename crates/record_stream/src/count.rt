@@ -1,6 +1,7 @@
 // The summary of a stream, one record and one event at a time.
-ghost use Rattle.std.specs.Prelude.{◌≡◌, ◌+◌, ◌^◌, ◌<◌, ◌≤◌, ◌&&◌, if◌then◌else◌};
+ghost use Rattle.std.specs.Prelude.{◌≡◌, ◌+◌, ◌<◌, ◌≤◌, ◌&&◌, if◌then◌else◌};
 ghost use Rattle.tally_base.specs.Events.{stops_late, stops_reserved};
+ghost use Rattle.tally_base.specs.Limits.{record_limit};
 ghost use Rattle.ptu_definitions.specs.Kinds.{is_reserved};
 ghost use Rattle.record_stream.specs.OneMore.{with_raw, with_event, with_block};
 ghost use Rattle.event_block.specs.Columns.{gathered};
@@ -56,7 +57,7 @@ fn time_if(kept: bool, time: u64) -> Option<u64>
 /// Counts one more record.
 #[inline(always)]
 pub(crate) fn add_raw(sums: &mut Sums, raw: &Raw)
-    requires few { sums.old.records < 2 ^ 40 }
+    requires few { sums.old.records < record_limit }
     requires parts { sums.old.photons + sums.old.markers + sums.old.wraps + sums.old.reserved ≡
         sums.old.records }
     ensures value { summed sums.new ≡ with_raw (summed sums.old) raw.now }
@@ -77,7 +78,7 @@ pub(crate) fn add_raw(sums: &mut Sums, raw: &Raw)
 /// Notes one more event, whose record is counted already.
 #[inline(always)]
 pub(crate) fn add_event(sums: &mut Sums, event: &Event, late: bool)
-    requires { sums.old.late < 2 ^ 40 }
+    requires { sums.old.late < record_limit }
     ensures value { summed sums.new ≡ with_event (summed sums.old) event.now late }
     ensures records { sums.new.records ≡ sums.old.records }
     ensures parts { sums.new.photons + sums.new.markers + sums.new.wraps + sums.new.reserved ≡
@@ -116,7 +117,7 @@ pub(crate) fn stops_late(order: Order) -> bool
 
 /// Counts the records of a block, of which these are the kinds and the block has the events. None is late.
 pub(crate) fn add_block(sums: &mut Sums, counts: &KindCounts, block: &Block)
-    requires few { sums.old.records + counts.now.records ≤ 2 ^ 40 }
+    requires few { sums.old.records + counts.now.records ≤ record_limit }
     requires split { IsSplit counts.now }
     requires parts { sums.old.photons + sums.old.markers + sums.old.wraps + sums.old.reserved ≡
         sums.old.records }

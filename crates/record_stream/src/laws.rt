@@ -6,7 +6,7 @@ ghost use Rattle.ptu_definitions.specs.Kept.{floor_of};
 ghost use Rattle.ptu_definitions.specs.Shown.{Shows};
 ghost use Rattle.ptu_definitions.specs.Streams.{Reading, given, record_refusal, streamed};
 ghost use Rattle.record_stream.specs.declared.stream.RecordStream.{RecordStream};
-ghost use Rattle.record_stream.specs.Standing.{how_of, given_by, top_of, refused_with, HasStreamed};
+ghost use Rattle.record_stream.specs.Standing.{how_of, given_by, greatest_of, refused_with, HasStreamed};
 
 /// The two numbers of a stream that has refused nothing: how many events it has given, and the greatest
 /// time of those in order that were not late.
@@ -14,9 +14,9 @@ pub fn stream_numbers()
     ensures given { (stream : RecordStream) (bytes : List ℕ)
         → HasStreamed stream bytes → refused_with stream ≡ None
         → given_by stream ≡ length (given (how_of stream) (words_of bytes)) }
-    ensures top { (stream : RecordStream) (bytes : List ℕ)
+    ensures greatest { (stream : RecordStream) (bytes : List ℕ)
         → HasStreamed stream bytes → refused_with stream ≡ None
-        → top_of stream ≡ floor_of (how_of stream).mode (given (how_of stream) (words_of bytes)) }
+        → greatest_of stream ≡ floor_of (how_of stream).mode (given (how_of stream) (words_of bytes)) }
 {}
 
 /// A refusal of records stays, whatever comes behind: that of words, and what their bytes answer. What is

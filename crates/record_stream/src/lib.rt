@@ -4,9 +4,11 @@
 mod blocks;
 mod count;
 pub mod laws;
+mod letting_go;
 #[cfg(test)]
 mod refused_tests;
 mod settled;
+mod settled_blocks;
 #[cfg(test)]
 mod settled_tests;
 mod stream;
@@ -15,4 +17,4 @@ mod walk;
 
 pub use ptu_definitions::Summary;
 pub use stream::RecordStream;
-pub use taker::{EventTaker, moved_floor};
+pub use taker::{EventTaker, moved_floor, orders_markers};

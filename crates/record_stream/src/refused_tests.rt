@@ -1,8 +1,9 @@
 // Streams that have refused, which are fed once more.
-ghost use Rattle.std.specs.Prelude.{◌≡◌, ◌+◌, ◌^◌, ◌<◌, ◌≤◌, length, None, max};
+ghost use Rattle.std.specs.Prelude.{◌≡◌, ◌+◌, ◌<◌, ◌≤◌, length, None, max};
+ghost use Rattle.tally_base.specs.Limits.{record_limit};
 ghost use Rattle.ptu_definitions.specs.Kept.{floor_of};
 ghost use Rattle.record_stream.specs.Feeding.{Follows};
-ghost use Rattle.record_stream.specs.Standing.{how_of, given_by, top_of, refused_with};
+ghost use Rattle.record_stream.specs.Standing.{how_of, given_by, greatest_of, refused_with};
 
 use crate::{EventTaker, RecordStream, moved_floor};
 use std::test::Fail;
@@ -16,6 +17,13 @@ pub(crate) struct Counter {
     pub(crate) taken: u64,
     pub(crate) floor: u64,
     pub(crate) failed: u64,
+    /// It tells in what order the places came.
+    pub(crate) digest: u64,
+}
+
+/// The digest of places with one more.
+pub(crate) fn with_place(digest: u64, place: u64) -> u64 {
+    digest.wrapping_mul(31).wrapping_add(place)
 }
 
 impl EventTaker for Counter {
@@ -53,6 +61,7 @@ impl EventTaker for Counter {
             return Err(Failed);
         }
         self.taken += 1;
+        self.digest = with_place(self.digest, event.place);
         self.floor = moved_floor(self.mode, self.floor, event, late);
         Ok(())
     }
@@ -65,9 +74,9 @@ pub(crate) fn answer<S: EventTaker>(
     taker: &mut S,
 ) -> Option<Fault>
     requires { refused_with stream.old ≡ None → Follows S.EventTaker (how_of stream.old).mode
-        (given_by stream.old) (top_of stream.old) taker.old }
+        (given_by stream.old) (greatest_of stream.old) taker.old }
     ensures { refused_with stream.new ≡ None → Follows S.EventTaker (how_of stream.new).mode
-        (given_by stream.new) (top_of stream.new) taker.new }
+        (given_by stream.new) (greatest_of stream.new) taker.new }
 {
     match stream.feed(piece, taker) {
         Ok(()) => None,
@@ -78,7 +87,7 @@ pub(crate) fn answer<S: EventTaker>(
 /// What a stream of T3 records answers to these words, to an empty piece and to two photons more, and
 /// behind each how many events its taker took and how often it failed.
 fn answers(policy: Policy, room: u64, words: &[u8]) -> ([Option<Fault>; 3], [[u64; 2]; 3])
-    requires records { (0 < policy.records) × (policy.records ≤ 2 ^ 40) }
+    requires records { (0 < policy.records) × (policy.records ≤ record_limit) }
     requires settle { policy.settle ≤ 64 }
 {
     let mut stream = RecordStream::new(RecordType::HydraHarp2T3, policy);
@@ -88,6 +97,7 @@ fn answers(policy: Policy, room: u64, words: &[u8]) -> ([Option<Fault>; 3], [[u6
         taken: 0,
         floor: 0,
         failed: 0,
+        digest: 0,
     };
     let first = answer(&mut stream, words, &mut taker);
     let at_first = [taker.taken, taker.failed];

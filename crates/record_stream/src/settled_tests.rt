@@ -1,8 +1,11 @@
 // Streams whose events are put in their places.
-ghost use Rattle.std.specs.Prelude.{◌≡◌, ◌<◌, ◌≤◌, ◌^◌};
+ghost use Rattle.std.specs.Prelude.{◌≡◌, ◌<◌, ◌≤◌, None};
+ghost use Rattle.tally_base.specs.Limits.{record_limit};
+ghost use Rattle.record_stream.specs.Feeding.{Follows};
+ghost use Rattle.record_stream.specs.Standing.{how_of, given_by, greatest_of, refused_with};
 
-use crate::refused_tests::{Counter, answer};
-use crate::{RecordStream, Summary};
+use crate::refused_tests::{Counter, answer, with_place};
+use crate::{EventTaker, RecordStream, Summary};
 use std::test::Fail;
 use tally_base::{Fault, OnReserved, Order, Policy, RecordType};
 
@@ -14,7 +17,7 @@ fn settled(
     room: u64,
     words: &[u8],
 ) -> (Option<Fault>, [u64; 2], Result<Summary, Fault>, u64)
-    requires records { (0 < policy.records) × (policy.records ≤ 2 ^ 40) }
+    requires records { (0 < policy.records) × (policy.records ≤ record_limit) }
     requires settle { policy.settle ≤ 64 }
 {
     let mut stream = RecordStream::new(record_type, policy);
@@ -24,6 +27,7 @@ fn settled(
         taken: 0,
         floor: 0,
         failed: 0,
+        digest: 0,
     };
     let refused = answer(&mut stream, words, &mut taker);
     let fed = [taker.taken, stream.kept_back() as u64];
@@ -37,6 +41,8 @@ const ONE: Policy = Policy {
     records: 9,
     settle: 1,
 };
+
+const T3: RecordType = RecordType::HydraHarp2T3;
 
 const TWO: Policy = Policy { settle: 2, ..ONE };
 
@@ -101,5 +107,120 @@ fn markers_of_t2_are_counted_and_not_given(rt: HostRuntime) -> Result<(), Fail> 
     assert!(rt;
         settled(RecordType::HydraHarp2T2, ONE, 9, &words) == (None, [0, 1], Ok(summary), 1)
     );
+    Ok(())
+}
+
+/// Feeds pieces of this size. A refusal shows at the end.
+fn feed_pieces<S: EventTaker>(stream: &mut RecordStream, words: &[u8], size: usize, taker: &mut S)
+    requires some { 0 < size }
+    requires follows { refused_with stream.old ≡ None → Follows S.EventTaker (how_of stream.old).mode
+        (given_by stream.old) (greatest_of stream.old) taker.old }
+    ensures { refused_with stream.new ≡ None → Follows S.EventTaker (how_of stream.new).mode
+        (given_by stream.new) (greatest_of stream.new) taker.new }
+{
+    for piece in words.chunks(size) {
+        let _refused = answer(stream, piece, taker);
+    }
+}
+
+/// How many events come before the end where so many may overtake one, in pieces of this size; how many are
+/// late; and the digest of their places as they come.
+fn digested(
+    record_type: RecordType,
+    settle: u32,
+    words: &[u8],
+    size: usize,
+) -> (u64, Result<u64, Fault>, u64)
+    requires some { 0 < size }
+    requires settle { settle ≤ 64 }
+{
+    let policy = Policy {
+        records: 200,
+        settle,
+        ..ONE
+    };
+    let mut stream = RecordStream::new(record_type, policy);
+    let mut taker = Counter {
+        mode: record_type.mode(),
+        room: 200,
+        taken: 0,
+        floor: 0,
+        failed: 0,
+        digest: 0,
+    };
+    feed_pieces(&mut stream, words, size, &mut taker);
+    let before = taker.taken;
+    let late = match stream.finish(&mut taker) {
+        Ok(summary) => Ok(summary.late),
+        Err(fault) => Err(fault),
+    };
+    (before, late, taker.digest)
+}
+
+/// Photons at the places 1 to 130, each at the time of its place, but the one at 65 at this time.
+fn photons(time: u8) -> [u8; 520] {
+    let mut words = [0; 520];
+    for at in 0..130usize {
+        words[4 * at] = if at == 64 { time } else { at as u8 + 1 };
+    }
+    words
+}
+
+/// The digest of these photons, where the one at place 65 comes behind this one.
+fn digest_behind(last: u64) -> u64 {
+    let mut digest = 0;
+    for place in 1..131 {
+        if place != 65 {
+            digest = with_place(digest, place);
+        }
+        if place == last {
+            digest = with_place(digest, 65);
+        }
+    }
+    digest
+}
+
+#[test]
+fn blocks_are_settled_in_order(rt: HostRuntime) -> Result<(), Fail> {
+    let digest = digest_behind(64);
+    for size in [520, 300, 100, 5] {
+        assert!(rt; digested(T3, 4, &photons(65), size) == (126, Ok(0), digest));
+        assert!(rt; digested(T3, 64, &photons(65), size) == (66, Ok(0), digest));
+    }
+    Ok(())
+}
+
+#[test]
+fn an_event_is_put_into_the_block_before(rt: HostRuntime) -> Result<(), Fail> {
+    for size in [520, 300, 100, 5] {
+        assert!(rt; digested(T3, 4, &photons(61), size) == (126, Ok(0), digest_behind(61)));
+        assert!(rt; digested(T3, 64, &photons(61), size) == (66, Ok(0), digest_behind(61)));
+        assert!(rt; digested(T3, 2, &photons(61), size) == (128, Ok(1), digest_behind(62)));
+    }
+    Ok(())
+}
+
+/// The same photons in T2, where each tenth is a marker, and the digest of the others.
+fn with_markers() -> ([u8; 520], u64) {
+    let mut words = photons(65);
+    let mut digest = 0;
+    for at in 0..130usize {
+        if at % 10 == 9 {
+            words[4 * at + 3] = 0x82;
+        } else {
+            digest = with_place(digest, at as u64 + 1);
+        }
+    }
+    (words, digest)
+}
+
+#[test]
+fn markers_of_t2_stand_between_photons(rt: HostRuntime) -> Result<(), Fail> {
+    let (words, digest) = with_markers();
+    for size in [520, 300, 100, 5] {
+        let t2 = RecordType::HydraHarp2T2;
+        assert!(rt; digested(t2, 4, &words, size) == (113, Ok(0), digest));
+        assert!(rt; digested(t2, 64, &words, size) == (53, Ok(0), digest));
+    }
     Ok(())
 }

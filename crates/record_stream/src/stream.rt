@@ -1,12 +1,14 @@
 // A stream of records that comes in pieces.
-ghost use Rattle.std.specs.Prelude.{◌≡◌, ◌+◌, ◌*◌, ◌^◌, ◌<◌, ◌≤◌, ◌++◌, ◌∷◌, [], List, ℕ, length, None, Some, OnOk, OnErr, IfErr, ◌≢◌};
+ghost use Rattle.std.specs.Prelude.{◌≡◌, ◌+◌, ◌*◌, ◌<◌, ◌≤◌, ◌++◌, ◌∷◌, [], List, ℕ, length, None, Some, OnOk, OnErr, IfErr, ◌≢◌};
 ghost use Rattle.record_stream.specs.Keeping.{IsKeeping};
 ghost use Rattle.abs_time.proofs.Props.{kind_fits-prop};
 ghost use Rattle.std.proofs.Props.{props};
+ghost use Rattle.tally_base.specs.Limits.{record_limit};
 
 use crate::blocks::take_words;
 use crate::count::Sums;
-use crate::settled::{give_rest, settle_words};
+use crate::settled::give_rest;
+use crate::settled_blocks::settle_blocks;
 use crate::taker::EventTaker;
 use crate::walk::Walk;
 use abs_time::Clock;
@@ -52,7 +54,7 @@ impl RecordStream {
     ghost use Rattle.tally_base.specs.Faults.{is_outside};
     ghost use Rattle.std.specs.Prelude.{false};
     ghost use Rattle.record_stream.specs.Feeding.{Follows, Fed};
-    ghost use Rattle.record_stream.specs.Standing.{how_of, given_by, top_of, refused_with, carried_by, kept_back_by, records_of, bytes_in, summary_in, clock_in, IsBehind, CarriesOn, HasStreamed, IsFollowed, StreamsOn, Stays};
+    ghost use Rattle.record_stream.specs.Standing.{how_of, given_by, greatest_of, refused_with, carried_by, kept_back_by, records_of, bytes_in, summary_in, clock_in, IsBehind, CarriesOn, HasStreamed, IsFollowed, StreamsOn, Stays};
     ghost use Rattle.record_stream.specs.Ending.{Ended};
     ghost use Rattle.tally_base.specs.FaultCounts.{Rose};
     ghost use Rattle.tally_base.specs.Faults.{fault_in};
@@ -60,13 +62,13 @@ impl RecordStream {
     /// The stream of a file of this type, which was given no bytes. The greatest number of records is 1
     /// to 2^40, and at most 64 events may overtake one.
     pub fn new(record_type: RecordType, policy: Policy) -> RecordStream
-        requires records { (0 < policy.records) × (policy.records ≤ 2 ^ 40) }
+        requires records { (0 < policy.records) × (policy.records ≤ record_limit) }
         requires settle { policy.settle ≤ 64 }
         ensures how { how_of result ≡ reading record_type policy }
         ensures empty { HasStreamed result [] }
         ensures unrefused { refused_with result ≡ None }
         ensures given { given_by result ≡ 0 }
-        ensures top { top_of result ≡ 0 }
+        ensures greatest { greatest_of result ≡ 0 }
         ensures none { kept_back_by result ≡ [] }
     {
         RecordStream {
@@ -109,8 +111,8 @@ impl RecordStream {
 
     /// The greatest time of the events in order that it gave and that were not late, or 0 where there is
     /// none, as long as it refused nothing.
-    pub fn top(&self) -> u64
-        ensures { result ≡ top_of self.now }
+    pub fn greatest(&self) -> u64
+        ensures { result ≡ greatest_of self.now }
     {
         if self.walk.policy.settle == 0 {
             self.walk.clock.greatest()
@@ -148,7 +150,7 @@ impl RecordStream {
         if self.walk.policy.settle == 0 {
             take_words::<R, S>(&mut self.walk, words, taker)
         } else {
-            settle_words::<R, S>(&mut self.walk, &mut self.settle, words, taker)
+            settle_blocks::<R, S>(&mut self.walk, &mut self.settle, words, taker)
         }
     }
 
@@ -198,7 +200,7 @@ impl RecordStream {
     pub fn feed<S: EventTaker>(&mut self, piece: &[u8], taker: &mut S) -> Result<(), Fault>
         requires follows { refused_with self.old ≡ None
             → Follows S.EventTaker (how_of self.old).mode (given_by self.old)
-            (top_of self.old) taker.old }
+            (greatest_of self.old) taker.old }
         ensures taken { (bytes : List ℕ) → HasStreamed self.old bytes
             → HasStreamed self.new (bytes ++ piece.now) }
         ensures fed { refused_with self.old ≡ None → (bytes : List ℕ)
@@ -208,9 +210,9 @@ impl RecordStream {
             → (result ≡ Err fault) × (self.new ≡ self.old) × (taker.new ≡ taker.old) }
         ensures refused { refused_with self.new ≡ fault_in result }
         ensures follows { OnOk result (Follows S.EventTaker (how_of self.new).mode
-            (given_by self.new) (top_of self.new) taker.new) }
+            (given_by self.new) (greatest_of self.new) taker.new) }
         ensures counted { OnOk result (bytes_in self.new ≡ bytes_in self.old + length piece.now) }
-        ensures limit { bytes_in self.new ≤ 4 * 2 ^ 40 + 3 }
+        ensures limit { bytes_in self.new ≤ 4 * record_limit + 3 }
         ensures few { length (kept_back_by self.new) ≤ (how_of self.new).policy.settle }
         ensures shown { (bytes : List ℕ) → HasStreamed self.old bytes
             → IfErr result (λ fault. fault ≢ WriteFault → Shows (streamed (how_of self.old))
@@ -238,7 +240,7 @@ impl RecordStream {
     /// gives nothing. Where the taker fails it answers `WriteFault`.
     pub fn finish<S: EventTaker>(self, taker: &mut S) -> Result<Summary, Fault>
         requires follows { refused_with self ≡ None → Follows S.EventTaker (how_of self).mode
-            (given_by self) (top_of self) taker.old }
+            (given_by self) (greatest_of self) taker.old }
         ensures answer { refused_with self ≢ Some WriteFault → (bytes : List ℕ)
             → HasStreamed self bytes → Ended S.EventTaker (how_of self) taker.old taker.new
             bytes result }

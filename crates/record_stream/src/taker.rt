@@ -1,8 +1,9 @@
 // What events are given to.
-ghost use Rattle.std.specs.Prelude.{◌≡◌, ℕ, ◌+◌, ◌<◌, ◌≤◌, ◌^◌, ◌&&◌, not, IsTrue, List, [], ◌∷◌, ◌++◌, length, OnOk, OnErr, max};
+ghost use Rattle.std.specs.Prelude.{◌≡◌, ℕ, ◌+◌, ◌<◌, ◌≤◌, ◌&&◌, not, IsTrue, List, [], ◌∷◌, ◌++◌, length, OnOk, OnErr, max};
 ghost use Rattle.tally_base.specs.declared.header.Mode.{Mode};
 ghost use Rattle.tally_base.specs.FaultCounts.{HasCause};
 ghost use Rattle.tally_base.specs.Events.{is_ordered};
+ghost use Rattle.tally_base.specs.Limits.{record_limit, time_limit};
 ghost use Rattle.ptu_definitions.specs.Fitting.{KindFits};
 ghost use Rattle.ptu_definitions.specs.Kept.{Marked, floor_of};
 ghost use Rattle.record_stream.specs.Floors.{moved_floor};
@@ -34,8 +35,8 @@ pub trait EventTaker {
     ghost same: { Self → Self → Type 0 };
 
     fn take(&mut self, event: &Event, late: bool) -> Result<(), Failed>
-        requires room { taken self.old < 2 ^ 40 }
-        requires in_time { event.now.time ≤ 2 ^ 62 + 2 ^ 28 }
+        requires room { taken self.old < record_limit }
+        requires in_time { event.now.time ≤ time_limit }
         requires kind { KindFits (mode self.old) event.now.kind }
         requires in_order { IsTrue (is_ordered (mode self.old) event.now && not late)
             → floor self.old ≤ event.now.time }
@@ -52,7 +53,7 @@ pub trait EventTaker {
 
     /// Takes the events of a block, which come in order and none late. What it leaves of the block is open.
     fn take_block(&mut self, block: &mut Block) -> Result<(), Failed>
-        requires room { taken self.old + length (gathered block.old) ≤ 2 ^ 40 }
+        requires room { taken self.old + length (gathered block.old) ≤ record_limit }
         requires fit { AllFit (mode self.old) (gathered block.old) }
         requires in_order { InOrder (orders_markers (mode self.old)) (floor self.old)
             (gathered block.old) }
@@ -83,6 +84,17 @@ pub trait EventTaker {
     ghost same_none: { (t : Self) → same t t };
 
     ghost same_more: { (t u v : Self) → same t u → same u v → same t v };
+}
+
+/// Whether markers come in the order of their times, as photons do.
+#[inline(always)]
+pub fn orders_markers(mode: Mode) -> bool
+    ensures { result ≡ orders_markers mode }
+{
+    match mode {
+        Mode::T2 => false,
+        Mode::T3 => true,
+    }
 }
 
 /// The greatest time of the events in order that were not late, with one event more. It is what the

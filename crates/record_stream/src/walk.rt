@@ -1,7 +1,8 @@
 // The records of a stream, one behind the other.
-ghost use Rattle.std.specs.Prelude.{◌≡◌, ◌+◌, ◌*◌, ◌^◌, ◌<◌, ◌≤◌, ◌++◌, ◌∷◌, [], List, ℕ, length, Some, OnOk, OnErr, IfOk, IfErr};
+ghost use Rattle.std.specs.Prelude.{◌≡◌, ◌+◌, ◌*◌, ◌<◌, ◌≤◌, ◌++◌, ◌∷◌, [], List, ℕ, length, Some, OnOk, OnErr, IfOk, IfErr};
 ghost use Rattle.abs_time.specs.Placing.{mode_of as clock_mode, placed_by};
 ghost use Rattle.tally_base.specs.RecordTypes.{mode_of};
+ghost use Rattle.tally_base.specs.Limits.{record_limit};
 
 use crate::count::{Sums, add_event, add_raw, stops_at, stops_late};
 use crate::taker::EventTaker;
@@ -18,7 +19,7 @@ pub struct Walk {
     pub clock: Clock,
     pub sums: Sums,
     pub given: u64,
-    pub ghost limit: { policy.records ≤ 2 ^ 40 },
+    pub ghost limit: { policy.records ≤ record_limit },
     pub ghost few: { sums.records ≤ policy.records },
     pub ghost parts: { sums.photons + sums.markers + sums.wraps + sums.reserved ≡ sums.records },
     pub ghost few_given: { given ≤ sums.records },
@@ -40,7 +41,7 @@ impl Walk {
     ghost use Rattle.ptu_definitions.specs.Streams.{refusal};
     ghost use Rattle.record_stream.specs.Floors.{moved_floor};
     ghost use Rattle.record_stream.specs.Feeding.{Follows, CanGet, Fed};
-    ghost use Rattle.record_stream.specs.Walking.{how_of, given_by, top_of, records_of, Notes, KeepsPlace, IsBehind, IsFollowed, WalksOn, Stays};
+    ghost use Rattle.record_stream.specs.Walking.{how_of, given_by, greatest_of, records_of, Notes, KeepsPlace, IsBehind, IsFollowed, WalksOn, Stays};
     ghost use Rattle.record_stream.specs.Recorded.{IsPlaced, CountsOne, KeepsGiven};
 
     /// What a word means.
@@ -129,10 +130,10 @@ impl Walk {
         requires small { IsSmall (how_of self.old).mode event.now }
         ensures got { OnOk result ((start : S) (l : Marked) → S.got start taker.old l
             → S.got start taker.new (l ++ (event.now, late) ∷ [])) }
-        ensures follows { (top : ℕ) → moved_floor (how_of self.old).mode
-            (S.floor taker.old) event.now late ≤ top
+        ensures follows { (greatest : ℕ) → moved_floor (how_of self.old).mode
+            (S.floor taker.old) event.now late ≤ greatest
             → OnOk result (Follows S.EventTaker (how_of self.old).mode
-            (given_by self.new) top taker.new) }
+            (given_by self.new) greatest taker.new) }
         ensures noted { OnOk result (Notes self.old self.new event.now late) }
         ensures broken { OnErr result ((start : S) (l : Marked) → S.got start taker.old l
             → S.broke start taker.new (l ++ (event.now, late) ∷ [])) }

@@ -1,5 +1,5 @@
 // Events in order of time, of which the last few are kept back.
-ghost use Rattle.std.specs.Prelude.{◌≡◌, ◌+◌, ◌<◌, ◌≤◌, ◌++◌, ◌∷◌, [], List, true, false, ◌&&◌, not, nat_lt, length, IfSome, is_some};
+ghost use Rattle.std.specs.Prelude.{◌≡◌, ◌+◌, ◌<◌, ◌≤◌, ◌++◌, ◌∷◌, [], List, ℕ, true, false, ◌&&◌, not, nat_lt, length, IfSome, is_some};
 ghost use Rattle.std.specs.Option.{option_to_list};
 ghost use Rattle.std.specs.List.{All, AllByRecursion, AllWithin};
 ghost use Rattle.std.specs.List.Sorted.{IsNonDecreasingBy};
@@ -36,6 +36,7 @@ pub struct Settle {
 }
 
 impl Settle {
+    ghost use Rattle.settle.specs.Passing.{ComesBehind, HasPassed};
     ghost use Rattle.settle.specs.Standing.{reach_of, kept_back, last_time, last_place, was_popped, HasSettled};
 
     /// Keeps back at most so many events, and none yet.
@@ -117,6 +118,38 @@ impl Settle {
             emitted: Some(least),
             late: false,
         }
+    }
+
+    /// The events that it keeps back, in order of time and then of place.
+    pub fn waiting(&self) -> &[Event]
+        ensures value { result.now ≡ kept_back self.now }
+        ensures few { length result.now ≤ 64 }
+    {
+        self.waiting.as_slice()
+    }
+
+    /// Takes events that come in order behind all that it keeps back, which are as many as may be. Of both
+    /// together these last ones stay, as many, and all before these are let go, up to this time. The last
+    /// event that came has this place.
+    pub fn pass(&mut self, stay: &[Event], time: u64, place: u64)
+        requires unpopped { was_popped self.old ≡ false }
+        requires some { 0 < reach_of self.old }
+        requires full { length (kept_back self.old) ≡ reach_of self.old }
+        requires as_many { length stay.now ≡ reach_of self.old }
+        requires low { All (λ (x : Event). time ≤ x.time) stay.now }
+        requires rising { IsNonDecreasingBy (λ (x : Event). x.time) stay.now }
+        ensures passed { (pushed given came went : List Event) → HasSettled self.old pushed given
+            → ComesBehind self.old came went stay.now time place
+            → HasPassed self.old self.new pushed given came went }
+        ensures waits { kept_back self.new ≡ stay.now }
+        ensures time { last_time self.new ≡ time }
+        ensures place { last_place self.new ≡ place }
+        ensures same_reach { reach_of self.new ≡ reach_of self.old }
+        ensures still_unpopped { was_popped self.new ≡ false }
+    {
+        self.waiting.as_mut_slice().copy_from_slice(stay);
+        self.last = time;
+        self.place = place;
     }
 
     /// Takes out the least of the events kept back. No event can be pushed any more.

@@ -1,6 +1,8 @@
-use Rattle.std.proofs.Common.{◌≡◌, ◌+◌, ◌^◌, ◌<◌, ◌≤◌, ◌++◌, [], ℕ, take, get_or, refl, ap, ◌∙◌, arith}
+use Rattle.std.proofs.Common.{◌≡◌, ◌+◌, ◌^◌, ◌<◌, ◌≤◌, ◌++◌, [], ℕ, length, take, get_or, length-take-le, refl, sym, ap, subst, ◌∙◌, arith, rules}
+use Rattle.std.proofs.lemmas.List.{take_all}
 use Rattle.ptu_definitions.proofs.FittingLemmas.{meaning-fits}
 use Rattle.std.specs.Int.{from_le_bytes, w32}
+use Rattle.tally_base.specs.Limits.{wrap_limit}
 use Rattle.ptu_definitions.specs.Layouts.{meaning_of}
 use Rattle.ptu_definitions.specs.Fours.{numbers}
 use Rattle.ptu_definitions.specs.Times.{amount, event_of}
@@ -8,11 +10,13 @@ use Rattle.abs_time.specs.Placing.{placed_by}
 use Rattle.event_block.specs.Columns.{written}
 use Rattle.record_layout.specs.declared.row.Row.{Row}
 use Rattle.record_layout.specs.Rowed.{raw_of}
-use Rattle.record_stream.specs.Blocks.{Adds}
-use Rattle.record_stream.specs.Rows.{ordered_below, top_by}
-use Rattle.record_stream.specs.Walking.{how_of, top_of, clock_in}
+use Rattle.record_stream.specs.Blocks.{chosen, Adds}
+use Rattle.record_stream.specs.Rows.{ordered_below, gathered_below, event_below, greatest_with_row}
+use Rattle.record_stream.specs.Walking.{how_of, greatest_of, clock_in, Gathers}
+use Rattle.record_stream.proofs.Adding.{places-push}
 use Rattle.record_stream.proofs.Fours.{more_at}
-use Rattle.record_stream.proofs.Gathering.{none-reserved, in_line-more, adds-more}
+use Rattle.record_stream.proofs.Gathering.{chosen-append, gathers-none, none-reserved, in_line-more, adds-more}
+use Rattle.record_stream.proofs.RowEvents.{chosen-row}
 use Rattle.record_stream.proofs.Wraps.{amount-small}
 use Rattle.record_stream.proofs.blocks.gather.Goals as goal
 
@@ -40,23 +44,56 @@ loop-i-preserved g c =
     let n = placed_by (clock_in walk) + i in
     let amounts : row.amount ≡ amount (how.meaning w) = ap (λ (r : Row). r.amount) c.get-row.ensures ∙ is.amounts ∙ ap (λ (f : _). amount (f w)) c.requires.meaning in
     let small : row.amount < 2 ^ 50 = rw amounts (amount-small walk.record_type w) in
-    let few : ahead.base + row.amount ≤ 2 ^ 62 = omega (arith, small, inv.base, c.requires.base, c.requires.few, c.loop-i-test.true) in
-    let below : ahead.base ≤ 2 ^ 62 = omega (arith, few) in
+    let few : ahead.base + row.amount ≤ wrap_limit = omega (arith, small, inv.base, c.requires.base, c.requires.few, c.loop-i-test.true) in
+    let below : ahead.base ≤ wrap_limit = omega (arith, few) in
     let means : raw_of row ≡ how.meaning w = ap raw_of c.get-row.ensures ∙ is.raw ∙ ap (λ (f : _). f w) c.requires.meaning in
     let ordered_is : c.ordered_below-ordered.result ≡ ordered_below how.mode = c.ordered_below-ordered.ensures ∙ ap ordered_below (c.mode.ensures ∙ walk.same_mode) in
-    let top_is : now.greatest ≡ top_by (ordered_below how.mode) ahead.greatest ahead.base row = c.place.ensures.greatest ∙ ap (λ (k : ℕ). top_by k ahead.greatest ahead.base row) ordered_is in
-    let events_are : written c.place.new.block now.len ≡ written c.loop-i.block ahead.len ++ event_of (n + 1) ahead.base (raw_of row) =
-    c.place.ensures.events ∙ ap (λ (k : ℕ). written c.loop-i.block ahead.len ++ event_of (k + i + 1) ahead.base (raw_of row)) c.placed-placed.ensures.value in
+    let top_is : now.greatest ≡ greatest_with_row (ordered_below how.mode) ahead.greatest ahead.base row = c.place.ensures.greatest ∙ ap (λ (k : ℕ). greatest_with_row k ahead.greatest ahead.base row) ordered_is in
+    let mode_is : c.mode-2.result ≡ how.mode = c.mode-2.ensures ∙ walk.same_mode in
+    let below_is : c.gathered_below-below.result ≡ gathered_below c.args.only_ordered how.mode = c.gathered_below-below.ensures ∙ ap (gathered_below c.args.only_ordered) mode_is in
+    let old = inv.gathers in
+    let es = event_of (n + 1) ahead.base (raw_of row) in
+    let came = old.came ++ es in
+    let chosen_is : written c.place.new.block now.len ≡ chosen c.args.only_ordered how.mode came =
+    c.place.ensures.events ∙ ap (λ (k : ℕ). written c.loop-i.block ahead.len ++ event_below c.gathered_below-below.result (k + i + 1) ahead.base row) c.placed-placed.ensures.value
+    ∙ ap (λ (k : ℕ). written c.loop-i.block ahead.len ++ event_below k (n + 1) ahead.base row) below_is ∙ ap (λ l. written c.loop-i.block ahead.len ++ l) (chosen-row (n + 1) ahead.base row c.args.only_ordered how.mode)
+    ∙ ap (λ l. l ++ chosen c.args.only_ordered how.mode es) old.chosen ∙ sym (chosen-append c.args.only_ordered how.mode old.came es) in
+    let count : length (take i words) ≡ i = length-take-le i words (omega (arith, c.loop-i-test.true)) in
+    let next : length (take (i + 1) words) ≡ i + 1 = length-take-le (i + 1) words (omega (arith, c.loop-i-test.true)) in
     let room : n < how.policy.records = omega (arith, c.requires.room, walk.few_placed, c.loop-i-test.true) in
     let go = none-reserved how g.R.RecordLayout.meaning words i [] w c.requires.meaning c.loop-i-test.true refl c.requires.reserved in
+    let places = places-push (placed_by (clock_in walk)) n ahead.base old.came (raw_of row) (rw count at old.places) in
     record {
       few = omega (arith, inv.few, c.place.ensures.few);
       base = omega (arith, inv.base, c.place.ensures.base, small);
       empty = c.place.ensures.count ∙ inv.empty;
       unsorted = c.place.ensures.unsorted ∙ inv.unsorted;
-      in_line = in_line-more how (top_of walk) ahead.base ahead.greatest now.base now.greatest n ahead.in_order now.in_order (written c.loop-i.block ahead.len) (written c.place.new.block now.len) row c.place.ensures.base top_is c.place.ensures.in_order events_are w means (meaning-fits walk.record_type w) below inv.in_line;
-      adds = λ sure before h.
-          more_at (λ l. Adds how (placed_by (clock_in walk) + (i + 1)) now.base now.greatest before l (written c.place.new.block now.len)) before words i [] w c.loop-i-test.true refl
-          (adds-more how (top_of walk) ahead.base ahead.greatest now.base now.greatest n ahead.in_order now.in_order (written c.loop-i.block ahead.len) (written c.place.new.block now.len) row c.place.ensures.base top_is c.place.ensures.in_order events_are
-          (placed_by (clock_in walk) + (i + 1)) before (before ++ numbers (take i words)) w c.requires.plain (omega arith) means amounts room few go (λ o. inv.adds o before h) sure);
+      gathers = record {
+        came = came;
+        chosen = chosen_is;
+        places = record { rises = places.rises; last = omega (arith, places.last, next) };
+        in_line = in_line-more how (greatest_of walk) ahead.base ahead.greatest now.base now.greatest n ahead.in_order now.in_order old.came came row c.place.ensures.base top_is c.place.ensures.in_order refl w means (meaning-fits walk.record_type w) below old.in_line;
+        adds = λ sure before h.
+            more_at (λ l. Adds how (placed_by (clock_in walk) + length (take (i + 1) words)) now.base now.greatest before l came) before words i [] w c.loop-i-test.true refl
+            (adds-more how (greatest_of walk) ahead.base ahead.greatest now.base now.greatest n ahead.in_order now.in_order old.came came row c.place.ensures.base top_is c.place.ensures.in_order refl
+            (placed_by (clock_in walk) + length (take (i + 1) words)) before (before ++ numbers (take i words)) w (omega (arith, next)) means amounts room few go (λ o. rw count at (old.adds o before h)) sure);
+      };
     }
+
+pub loop-i-init : goal.loop-i-init
+loop-i-init g c =
+    let walk = c.args.walk.now in
+    record {
+      few = omega arith;
+      base = omega (arith, c.base.ensures.value);
+      empty = c.requires.empty;
+      unsorted = refl;
+      gathers = gathers-none walk (take 0 c.args.words.now) c.args.only_ordered c.base.result c.greatest.result [] refl refl c.base.ensures.value c.greatest.ensures;
+    }
+
+pub returns-clause-gathers : goal.returns-clause-gathers
+returns-clause-gathers g c =
+    let words = c.args.words.now in
+    let ahead = c.loop-i.ahead in
+    let all : take c.loop-i.i words ≡ words = take_all c.loop-i.i words (search (rules, arith)) in
+    subst (λ l. Gathers c.args.walk.now l c.args.only_ordered ahead.in_order ahead.base ahead.greatest (written c.loop-i.block ahead.len)) all c.loop-i.invariant.gathers

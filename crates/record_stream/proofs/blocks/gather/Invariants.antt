@@ -1,9 +1,7 @@
-use Rattle.std.proofs.Common.{◌≡◌, ◌+◌, ◌*◌, ◌^◌, ◌≤◌, ◌++◌, List, ℕ, take, true}
-use Rattle.ptu_definitions.specs.Fours.{numbers}
-use Rattle.abs_time.specs.Placing.{base_of, placed_by}
+use Rattle.std.proofs.Common.{◌≡◌, ◌+◌, ◌*◌, ◌^◌, ◌≤◌, take}
+use Rattle.abs_time.specs.Placing.{base_of}
 use Rattle.event_block.specs.Columns.{count, sorted, written}
-use Rattle.record_stream.specs.Blocks.{Adds, IsInLine}
-use Rattle.record_stream.specs.Walking.{how_of, top_of, clock_in, IsBehind}
+use Rattle.record_stream.specs.Walking.{clock_in, Gathers}
 use Rattle.record_stream.proofs.blocks.gather.Given as goal
 
 abbrev pub invariant-loop-i : goal.invariant-loop-i
@@ -12,7 +10,5 @@ invariant-loop-i g l = record {
   base : l.ahead.base ≤ base_of (clock_in l.walk) + l.i * 2 ^ 50;
   empty : count l.block ≡ 0;
   unsorted : sorted l.block ≡ sorted l.fn.block;
-  in_line : l.ahead.in_order ≡ true → IsInLine (how_of l.walk).mode (top_of l.walk) l.ahead.greatest (written l.block l.ahead.len);
-  adds : l.ahead.in_order ≡ true → (before : List ℕ) → IsBehind l.walk before
-      → Adds (how_of l.walk) (placed_by (clock_in l.walk) + l.i) l.ahead.base l.ahead.greatest before (before ++ numbers (take l.i l.words)) (written l.block l.ahead.len);
+  gathers : Gathers l.walk (take l.i l.words) l.only_ordered l.ahead.in_order l.ahead.base l.ahead.greatest (written l.block l.ahead.len);
 }

@@ -8,7 +8,8 @@ use Rattle.event_block.proofs.Lower.{order-lower}
 use Rattle.record_stream.specs.OneMore.{with_block}
 use Rattle.record_stream.specs.Blocks.{orders_markers, BrokeAmong}
 use Rattle.record_stream.specs.Summing.{summed}
-use Rattle.record_stream.specs.Walking.{how_of, top_of, clock_in}
+use Rattle.record_stream.specs.Walking.{how_of, greatest_of, clock_in}
+use Rattle.record_stream.proofs.Gathering.{gathers-all}
 use Rattle.record_stream.proofs.Given.{ok_of, err_of, block_at, block_fed, block_broke, floors_below}
 use Rattle.record_stream.proofs.blocks.take_block.Goals as goal
 
@@ -21,6 +22,7 @@ take_block-requires-clause-room g c =
     let b = c.gather-ahead.new.block in
     let es = written b ahead.len in
     let sure : ahead.in_order ≡ true = search rules in
+    let all = gathers-all c.args.walk.now c.args.words.now ahead.in_order ahead.base ahead.greatest es c.gather-ahead.ensures.gathers sure in
     let many : length (gathered c.keep.new.self) ≡ ahead.len = ap length c.keep.ensures.kept ∙ length-rows (event_at b) ahead.len in
     omega (arith, many, c.requires.follows.few, walk.few_given, walk.few, walk.limit, c.gather-ahead.ensures.few, c.kinds-counts.ensures.records, c.if-not-room.false)
 
@@ -33,8 +35,9 @@ take_block-requires-clause-in_order g c =
     let b = c.gather-ahead.new.block in
     let es = written b ahead.len in
     let sure : ahead.in_order ≡ true = search rules in
+    let all = gathers-all c.args.walk.now c.args.words.now ahead.in_order ahead.base ahead.greatest es c.gather-ahead.ensures.gathers sure in
     rw (c.keep.ensures.kept, c.requires.follows.mode_is)
-    (order-lower (orders_markers how.mode) (s.floor c.args.taker.now) (top_of walk) es c.requires.follows.before (c.gather-ahead.ensures.in_line sure).in_order)
+    (order-lower (orders_markers how.mode) (s.floor c.args.taker.now) (greatest_of walk) es c.requires.follows.before all.0.in_order)
 
 pub returns-then-is_err-clause-fed : goal.returns-then-is_err-clause-fed
 returns-then-is_err-clause-fed g c = λ before h.
@@ -45,10 +48,11 @@ returns-then-is_err-clause-fed g c = λ before h.
     let b = c.gather-ahead.new.block in
     let es = written b ahead.len in
     let sure : ahead.in_order ≡ true = search rules in
+    let all = gathers-all c.args.walk.now c.args.words.now ahead.in_order ahead.base ahead.greatest es c.gather-ahead.ensures.gathers sure in
     let broke : BrokeAmong s.got s.broke c.args.taker.now c.take_block.new.self (gathered c.keep.new.self) = err_of c.take_block.result (sym c.is_err.ensures.value ∙ c.if-is_err.true) c.take_block.ensures.broken in
     inr (
       refl,
-      block_broke s how c.args.taker.now c.take_block.new.self _ ahead.base ahead.greatest before (before ++ numbers c.args.words.now) es h.clear (c.gather-ahead.ensures.adds sure before h)
+      block_broke s how c.args.taker.now c.take_block.new.self _ ahead.base ahead.greatest before (before ++ numbers c.args.words.now) es es h.clear (all.1 before h) ((all.1 before h).delivers c.requires.plain)
           (rw c.keep.ensures.kept at broke) (err_of c.take_block.result (sym c.is_err.ensures.value ∙ c.if-is_err.true) c.take_block.ensures.cause.failed),
     )
 
@@ -67,14 +71,15 @@ returns-clause-at g c = λ before h.
     let b = c.gather-ahead.new.block in
     let es = written b ahead.len in
     let sure : ahead.in_order ≡ true = search rules in
+    let all = gathers-all c.args.walk.now c.args.words.now ahead.in_order ahead.base ahead.greatest es c.gather-ahead.ensures.gathers sure in
     let words = c.args.words.now in
     let counts = c.kinds-counts.result in
     let placed : placed_by c.go_on.new.self ≡ placed_by (clock_in walk) + length words = omega (arith, c.go_on.ensures.count, c.placed.ensures.value, c.kinds-counts.ensures.records) in
     let sums : summed c.add_block.new.sums ≡ with_block (summed walk.sums) counts es = c.add_block.ensures.value ∙ ap (with_block (summed walk.sums) counts) c.keep.ensures.kept in
     let kinds : counts ≡ counts_of (map how.meaning (numbers words)) = c.kinds-counts.ensures.value ∙ ap (λ (f : _). counts_of (map f (numbers words))) c.requires.meaning in
     let counted : walk.given + ahead.len ≡ walk.given + length es = ap (λ (k : ℕ). walk.given + k) (sym (length-rows (event_at b) ahead.len)) in
-    block_at how (clock_in walk) c.go_on.new.self (summed walk.sums) (summed c.add_block.new.sums) walk.given (walk.given + ahead.len) (placed_by (clock_in walk) + length words) ahead.base ahead.greatest before (numbers words) es counts
-    h (c.gather-ahead.ensures.adds sure before h) (c.go_on.ensures.same_mode ∙ walk.same_mode) placed c.go_on.ensures.base c.go_on.ensures.greatest sums kinds counted
+    block_at how (clock_in walk) c.go_on.new.self (summed walk.sums) (summed c.add_block.new.sums) walk.given (walk.given + ahead.len) (placed_by (clock_in walk) + length words) ahead.base ahead.greatest before (numbers words) es es counts
+    h (all.1 before h) ((all.1 before h).delivers c.requires.plain) (c.go_on.ensures.same_mode ∙ walk.same_mode) placed c.go_on.ensures.base c.go_on.ensures.greatest sums kinds counted
 
 pub returns-clause-fed : goal.returns-clause-fed
 returns-clause-fed g c = λ before h.
@@ -85,8 +90,9 @@ returns-clause-fed g c = λ before h.
     let b = c.gather-ahead.new.block in
     let es = written b ahead.len in
     let sure : ahead.in_order ≡ true = search rules in
+    let all = gathers-all c.args.walk.now c.args.words.now ahead.in_order ahead.base ahead.greatest es c.gather-ahead.ensures.gathers sure in
     let got = ok_of c.take_block.result (sym c.is_err.ensures.value ∙ c.if-is_err.false) c.take_block.ensures.follows in
-    block_fed s how c.args.taker.now c.take_block.new.self _ ahead.base ahead.greatest before (before ++ numbers c.args.words.now) es h.clear (c.gather-ahead.ensures.adds sure before h)
+    block_fed s how c.args.taker.now c.take_block.new.self _ ahead.base ahead.greatest before (before ++ numbers c.args.words.now) es es h.clear (all.1 before h) ((all.1 before h).delivers c.requires.plain)
     (rw c.keep.ensures.kept at got)
 
 pub returns-clause-goes_on : goal.returns-clause-goes_on
@@ -98,12 +104,13 @@ returns-clause-goes_on g c =
     let b = c.gather-ahead.new.block in
     let es = written b ahead.len in
     let sure : ahead.in_order ≡ true = search rules in
+    let all = gathers-all c.args.walk.now c.args.words.now ahead.in_order ahead.base ahead.greatest es c.gather-ahead.ensures.gathers sure in
     let fine = sym c.is_err.ensures.value ∙ c.if-is_err.false in
     let r = c.take_block.result in
     let many : length (gathered c.keep.new.self) ≡ ahead.len = ap length c.keep.ensures.kept ∙ length-rows (event_at b) ahead.len in
     let more = ok_of r fine c.take_block.ensures.more in
     let moved = rw (c.keep.ensures.kept, c.requires.follows.mode_is) at (ok_of r fine c.take_block.ensures.moved) in
-    let low = floors_below how.mode (s.floor c.args.taker.now) (top_of walk) ahead.greatest es c.requires.follows.before (c.gather-ahead.ensures.in_line sure).greatest in
+    let low = floors_below how.mode (s.floor c.args.taker.now) (greatest_of walk) ahead.greatest es c.requires.follows.before all.0.greatest in
     record {
       follows = record {
         mode_is = ok_of r fine c.take_block.ensures.same_mode ∙ c.requires.follows.mode_is;

@@ -2,7 +2,7 @@ use Rattle.std.proofs.Common.{◌≡◌, ◌+◌, ◌≤◌, ◌++◌, List, ℕ
 use Rattle.ptu_definitions.specs.Fours.{numbers}
 use Rattle.event_block.specs.Columns.{count, sorted}
 use Rattle.record_stream.specs.Feeding.{Follows, GaveOn}
-use Rattle.record_stream.specs.Walking.{how_of, given_by, top_of, records_of, IsBehind}
+use Rattle.record_stream.specs.Walking.{how_of, given_by, greatest_of, records_of, IsBehind}
 use Rattle.record_stream.proofs.blocks.take_words.Given as goal
 
 abbrev pub invariant-many : goal.invariant-many
@@ -11,7 +11,7 @@ invariant-many g l = record {
   counted : records_of l.walk + length l.rest ≡ records_of l.fn.walk + length l.words;
   empty : count l.block ≡ 0;
   unsorted : sorted l.block ≡ 0;
-  follows : Follows g.S.EventTaker (how_of l.fn.walk).mode (given_by l.walk) (top_of l.walk) l.taker;
+  follows : Follows g.S.EventTaker (how_of l.fn.walk).mode (given_by l.walk) (greatest_of l.walk) l.taker;
   so_far : (before : List ℕ) → IsBehind l.fn.walk before
       → (seen : List ℕ) × (numbers l.words ≡ seen ++ numbers l.rest) × IsBehind l.walk (before ++ seen) × GaveOn g.S.EventTaker (how_of l.fn.walk) l.fn.taker l.taker before (before ++ seen);
   later : g.S.EventTaker.faults l.fn.taker ≤ g.S.EventTaker.faults l.taker;

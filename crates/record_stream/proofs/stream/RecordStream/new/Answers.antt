@@ -7,6 +7,6 @@ use Rattle.record_stream.proofs.stream.RecordStream.new.Goals as goal
 pub returns-clause-empty : goal.returns-clause-empty
 returns-clause-empty c = (c.new-3.ensures, record { at = at_none _ _ _ c.new.ensures.empty refl; settles = λ some. come_none _ _ c.new-2.ensures.empty c.new-2.ensures.low })
 
-pub returns-clause-top : goal.returns-clause-top
+pub returns-clause-greatest : goal.returns-clause-greatest
 unfolding events
-returns-clause-top c = none-is _ _ _ c.new.ensures.empty.greatest c.new-2.ensures.low
+returns-clause-greatest c = none-is _ _ _ c.new.ensures.empty.greatest c.new-2.ensures.low

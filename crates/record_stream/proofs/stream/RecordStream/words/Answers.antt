@@ -8,8 +8,8 @@ use Rattle.record_stream.proofs.stream.RecordStream.words.Goals as goal
 pub take_words-requires-clause-follows : goal.take_words-requires-clause-follows
 take_words-requires-clause-follows g c = follows_to g.S.EventTaker (how_of c.args.self.now.walk) _ _ _ c.args.taker.now c.requires.follows (sym (plain-is _ _ _ c.if-self-eq0.true))
 
-pub settle_words-requires-clause-follows : goal.settle_words-requires-clause-follows
-settle_words-requires-clause-follows g c = follows_to g.S.EventTaker (how_of c.args.self.now.walk) _ _ _ c.args.taker.now c.requires.follows (sym (some-is _ _ _ c.if-self-eq0.false))
+pub settle_blocks-requires-clause-follows : goal.settle_blocks-requires-clause-follows
+settle_blocks-requires-clause-follows g c = follows_to g.S.EventTaker (how_of c.args.self.now.walk) _ _ _ c.args.taker.now c.requires.follows (sym (some-is _ _ _ c.if-self-eq0.false))
 
 pub returns-then-self-eq0-clause-at : goal.returns-then-self-eq0-clause-at
 returns-then-self-eq0-clause-at g c = λ before h.
@@ -27,14 +27,14 @@ returns-then-self-eq0-clause-goes_on g c =
 
 pub returns-else-self-eq0-clause-at : goal.returns-else-self-eq0-clause-at
 returns-else-self-eq0-clause-at g c = λ before h.
-    on_ok_weaker c.settle_words.result (λ b. record { at = b.behind; settles = λ some. b.come }) (c.settle_words.ensures.at before (record { behind = h.at; come = h.settles c.if-self-eq0.false }))
+    on_ok_weaker c.settle_blocks.result (λ b. record { at = b.behind; settles = λ some. b.come }) (c.settle_blocks.ensures.at before (record { behind = h.at; come = h.settles c.if-self-eq0.false }))
 
 pub returns-else-self-eq0-clause-fed : goal.returns-else-self-eq0-clause-fed
-returns-else-self-eq0-clause-fed g c = λ before h. c.settle_words.ensures.fed before (record { behind = h.at; come = h.settles c.if-self-eq0.false })
+returns-else-self-eq0-clause-fed g c = λ before h. c.settle_blocks.ensures.fed before (record { behind = h.at; come = h.settles c.if-self-eq0.false })
 
 pub returns-else-self-eq0-clause-goes_on : goal.returns-else-self-eq0-clause-goes_on
 returns-else-self-eq0-clause-goes_on g c =
-    let some : (how_of c.settle_words.new.walk).policy.settle ≢ 0 = λ zero. c.if-self-eq0.false (sym (ap (λ (h : Reading). h.policy.settle) c.settle_words.ensures.stays.same_how) ∙ zero) in
-    on_ok_weaker c.settle_words.result
-    (λ on. record { follows = follows_to g.S.EventTaker (how_of c.args.self.now.walk) _ _ _ c.settle_words.new.taker on.follows (some-is _ _ _ some); counted = omega (arith, on.counted) })
-    c.settle_words.ensures.goes_on
+    let some : (how_of c.settle_blocks.new.walk).policy.settle ≢ 0 = λ zero. c.if-self-eq0.false (sym (ap (λ (h : Reading). h.policy.settle) c.settle_blocks.ensures.stays.same_how) ∙ zero) in
+    on_ok_weaker c.settle_blocks.result
+    (λ on. record { follows = follows_to g.S.EventTaker (how_of c.args.self.now.walk) _ _ _ c.settle_blocks.new.taker on.follows (some-is _ _ _ some); counted = omega (arith, on.counted) })
+    c.settle_blocks.ensures.goes_on

@@ -1,0 +1,248 @@
+-- Events in order behind all that are kept back, and those that are let go with them.
+use Rattle.std.proofs.Common.{◌≡◌, ◌≢◌, ◌+◌, ◌-◌, ◌<◌, ◌≤◌, ℕ, zero, suc, List, [], ◌∷◌, ◌++◌, true, false, cond, drop, length, map, refl, sym, ap, subst, ◌∙◌, append_assoc, append-nil, arith, length-append}
+use Rattle.std.specs.Prelude.{if◌then◌else◌}
+use Rattle.std.specs.List.{All, AllByRecursion}
+use Rattle.std.specs.List.Sorted.{IsNonDecreasingBy}
+use Rattle.std.proofs.Math.Seq.{drop-append_seam}
+use Rattle.std.proofs.lemmas.Bool.{ne_eqb}
+use Rattle.std.proofs.lemmas.List.Elements.{All-tail, All-from_recursion, filter-append, recursion_from_All}
+use Rattle.tally_base.specs.declared.event.Event.{Event}
+use Rattle.tally_base.specs.declared.header.Mode.{Mode}
+use Rattle.tally_base.specs.Events.{is_ordered}
+use Rattle.tally_base.specs.Tally.{moves_floor}
+use Rattle.ptu_definitions.specs.Fitting.{KindFits}
+use Rattle.ptu_definitions.specs.Kept.{mark}
+use Rattle.ptu_definitions.specs.Prefixes.{each_after}
+use Rattle.ptu_definitions.specs.Settled.{not_marked, ordered, Rises, settles}
+use Rattle.ptu_definitions.specs.Streams.{Reading, events_in}
+use Rattle.ptu_definitions.specs.Times.{events}
+use Rattle.ptu_definitions.proofs.DeliveredLaws.{delivered-append, delivered_after}
+use Rattle.ptu_definitions.proofs.SettledLemmas.{IsNonDecreasingBy-Rises}
+use Rattle.ptu_definitions.proofs.SettlingLemmas.{each-weaker}
+use Rattle.abs_time.specs.Placing.{placed_by}
+use Rattle.event_block.specs.Columns.{rows}
+use Rattle.event_block.specs.Order.{floor_after, InOrder}
+use Rattle.event_block.proofs.Lower.{order-lower}
+use Rattle.event_block.proofs.Order.{order-append, order-parts}
+use Rattle.event_block.proofs.Rows.{length-rows, rows-split}
+use Rattle.settle.specs.Passing.{ComesBehind, ComesOn, HasPassed, place_after, time_after}
+use Rattle.settle.specs.Standing.{HasSettled, kept_back, last_place, last_time, reach_of, was_popped}
+use Rattle.settle.specs.declared.settle.Settle.{Settle}
+use Rattle.record_stream.specs.Blocks.{orders_markers, on_time, AllFit, PlacesRise}
+use Rattle.record_stream.specs.Keeping.{CanWait, IsKeeping}
+use Rattle.record_stream.specs.LettingGo.{AreOrdered, ComesNext, IsFull, LetsGo, IsDelivered}
+use Rattle.record_stream.specs.Walking.{how_of, greatest_of, clock_in}
+use Rattle.record_stream.specs.declared.walk.Walk.{Walk}
+use Rattle.record_stream.proofs.Adding.{moves_by}
+use Rattle.record_stream.proofs.LettingGo.{place-push}
+
+-- Lists of which each event is in order.
+pub ordered-same : (mode : Mode) (es : List Event) → AreOrdered mode es → ordered mode es ≡ es
+ordered-same mode [] all = refl
+ordered-same mode (e ∷ es) all = ap (λ b. cond b (e ∷ ordered mode es) (ordered mode es)) all.0 ∙ ap (λ l. e ∷ l) (ordered-same mode es all.1)
+
+pub each-append : (P : Event → Type 0) (xs ys : List Event) → AllByRecursion P xs → AllByRecursion P ys → AllByRecursion P (xs ++ ys)
+each-append P [] ys first second = second
+each-append P (x ∷ xs) ys first second = (first.0, each-append P xs ys first.1 second)
+
+pub each-parts : (P : Event → Type 0) (xs ys : List Event) → AllByRecursion P (xs ++ ys) → AllByRecursion P xs × AllByRecursion P ys
+each-parts P [] ys all = (tt, all)
+each-parts P (x ∷ xs) ys all = let rest = each-parts P xs ys all.1 in ((all.0, rest.0), rest.1)
+
+-- Their order.
+moves-on : (mode : Mode) (e : Event) → is_ordered mode e ≡ true → moves_floor (orders_markers mode) e ≡ true
+moves-on mode e on = moves_by mode e ∙ on
+
+line-on : (mode : Mode) (t : ℕ) (e : Event) (es : List Event) → is_ordered mode e ≡ true → InOrder (orders_markers mode) t (e ∷ es) → (t ≤ e.time) × InOrder (orders_markers mode) e.time es
+line-on mode t e es on line =
+    let moves = moves-on mode e on in
+    (line.1 moves, subst (λ b. InOrder (orders_markers mode) (if b then e.time else t) es) moves line.2)
+
+floor-all : (mode : Mode) (t : ℕ) (es : List Event) → AreOrdered mode es → floor_after (orders_markers mode) t es ≡ time_after t es
+floor-all mode t [] all = refl
+floor-all mode t (e ∷ es) all = ap (λ b. floor_after (orders_markers mode) (if b then e.time else t) es) (moves-on mode e all.0) ∙ floor-all mode e.time es all.1
+
+comes-line : (mode : Mode) (place low t : ℕ) (es : List Event) → place ≤ low → PlacesRise low es → InOrder (orders_markers mode) t es → AreOrdered mode es → ComesOn place t es
+comes-line mode place low t [] below places line all = tt
+comes-line mode place low t (e ∷ es) below places line all =
+    let h : low < e.place = places.0 in
+    let step = line-on mode t e es all.0 line in
+    (omega (arith, below, h), step.0, comes-line mode e.place e.place e.time es (omega arith) places.1 step.1 all.1)
+
+line-waiting : (mode : Mode) (t : ℕ) (w : List Event) → All (λ (x : Event). t ≤ x.time) w → IsNonDecreasingBy (λ (x : Event). x.time) w → All (CanWait mode) w → InOrder (orders_markers mode) t w
+line-waiting mode t [] low up fit = tt
+line-waiting mode t (x ∷ w) low up fit =
+    let here : CanWait mode x = fit 0 x (omega arith) in
+    let rest = line-waiting mode x.time w (λ k d lt. up 0 (suc k) d (omega arith) (omega (arith, lt))) (λ i j d le lt. up (suc i) (suc j) d (omega (arith, le)) (omega (arith, lt))) (All-tail (CanWait mode) x w fit) in
+    (here.small.in_time, (λ _. low 0 x (omega arith)), subst (λ b. InOrder (orders_markers mode) (if b then x.time else t) w) (sym (moves-on mode x here.ordered)) rest)
+
+rises-line : (mode : Mode) (t : ℕ) (es : List Event) → InOrder (orders_markers mode) t es → AreOrdered mode es → Rises t es
+rises-line mode t [] line all = tt
+rises-line mode t (e ∷ es) line all = let step = line-on mode t e es all.0 line in (step.0, rises-line mode e.time es step.1 all.1)
+
+low-rises : (t : ℕ) (es : List Event) → Rises t es → AllByRecursion (λ (x : Event). t ≤ x.time) es
+low-rises t [] up = tt
+low-rises t (e ∷ es) up =
+    let h : t ≤ e.time = up.0 in
+    (h, each-weaker (λ (x : Event). e.time ≤ x.time) (λ (x : Event). t ≤ x.time) es (λ x le. omega (arith, h, le)) (low-rises e.time es up.1))
+
+wait-line : (mode : Mode) (t : ℕ) (es : List Event) → InOrder (orders_markers mode) t es → AllByRecursion (λ (e : Event). KindFits mode e.kind) es → AreOrdered mode es → AllByRecursion (CanWait mode) es
+wait-line mode t [] line fit all = tt
+wait-line mode t (e ∷ es) line fit all =
+    let step = line-on mode t e es all.0 line in
+    (record { small = record { in_time = line.0; kind = fit.0 }; ordered = all.0 }, wait-line mode e.time es step.1 fit.1 all.1)
+
+time-most : (t top : ℕ) (w : List Event) → t ≤ top → AllByRecursion (λ (x : Event). x.time ≤ top) w → time_after t w ≤ top
+time-most t top [] most all = most
+time-most t top (x ∷ w) most all = time-most x.time top w all.0 all.1
+
+pub time-push : (t : ℕ) (es : List Event) (e : Event) → time_after t (es ++ e ∷ []) ≡ e.time
+time-push t [] e = refl
+time-push t (x ∷ es) e = time-push x.time es e
+
+-- Of all that are kept back and all that came, the first go and the last stay.
+pub joins : (w came gone rest front back : List Event) → w ≡ gone ++ rest → came ≡ front ++ back → (0 < length rest → length front ≡ 0) → w ++ came ≡ (gone ++ front) ++ (rest ++ back)
+joins w came gone [] front back held parts one = ap (λ l. l ++ came) (held ∙ append-nil gone) ∙ ap (λ l. gone ++ l) parts ∙ sym (append_assoc gone front back)
+joins w came gone (x ∷ rest) [] back held parts one =
+    ap (λ l. l ++ came) held ∙ ap (λ l. (gone ++ x ∷ rest) ++ l) parts ∙ append_assoc gone (x ∷ rest) back ∙ ap (λ l. l ++ ((x ∷ rest) ++ back)) (sym (append-nil gone))
+joins w came gone (x ∷ rest) (y ∷ front) back held parts one = let h : suc (length front) ≡ 0 = one (omega arith) in absurd (omega (arith, h))
+
+pub rows-parts : (f : ℕ → Event) (from n : ℕ) → from ≤ n → rows f n ≡ rows f from ++ drop from (rows f n)
+rows-parts f from n within =
+    let split = rows-split f from n within in
+    let back : drop from (rows f n) ≡ split.0 =
+    ap (drop from) split.1 ∙ ap (λ k. drop k (rows f from ++ split.0)) (sym (length-rows f from)) ∙ drop-append_seam (rows f from) split.0 in
+    split.1 ∙ ap (λ l. rows f from ++ l) (sym back)
+
+pub block-joins : (f : ℕ → Event) (from n : ℕ) (w gone rest went stay : List Event) → w ≡ gone ++ rest → went ≡ gone ++ rows f from → stay ≡ rest ++ drop from (rows f n) → from ≤ n → (0 < length rest → from ≡ 0)
+    → w ++ rows f n ≡ went ++ stay
+block-joins f from n w gone rest went stay held goes stays within one =
+    rw (goes, stays) (joins w (rows f n) gone rest (rows f from) (drop from (rows f n)) held (rows-parts f from n within) (λ many. length-rows f from ∙ one many))
+
+pub time-rows : (t : ℕ) (f : ℕ → Event) (n : ℕ) → 0 < n → time_after t (rows f n) ≡ (f (n - 1)).time
+time-rows t f zero some = absurd (omega (arith, some))
+time-rows t f (suc n) some = let e : suc n - 1 ≡ n = omega arith in rw e (time-push t (rows f n) (f n))
+
+pub place-rows : (place : ℕ) (f : ℕ → Event) (n : ℕ) → 0 < n → place_after place (rows f n) ≡ (f (n - 1)).place
+place-rows place f zero some = absurd (omega (arith, some))
+place-rows place f (suc n) some = let e : suc n - 1 ≡ n = omega arith in rw e (place-push place (rows f n) (f n))
+
+module _ (walk : Walk) (from : Settle) (came went stay : List Event) (settles : (how_of walk).policy.settle ≢ 0) (keeps : IsKeeping walk from) (is_full : IsFull walk from) (next : ComesNext walk came)
+    (all : AreOrdered (how_of walk).mode came) (joined : kept_back from ++ came ≡ went ++ stay) where
+  abbrev pub mode : Mode
+  mode = (how_of walk).mode
+
+  abbrev pub low : ℕ
+  low = placed_by (clock_in walk)
+
+  abbrev pub top : ℕ
+  top = greatest_of walk
+
+  some : 0 < length (kept_back from)
+  some = let full : length (kept_back from) ≡ reach_of from = is_full.full in omega (arith, full, keeps.reach, settles)
+
+  waits : All (CanWait mode) (kept_back from)
+  waits = keeps.fit
+
+  below : All (λ (x : Event). x.time ≤ top) (kept_back from)
+  below = is_full.below
+
+  lows : All (λ (x : Event). last_time from ≤ x.time) (kept_back from)
+  lows = from.low
+
+  up : IsNonDecreasingBy (λ (x : Event). x.time) (kept_back from)
+  up = from.rising
+
+  line : InOrder (orders_markers mode) top came
+  line = next.in_order
+
+  fit : AllFit mode came
+  fit = next.fit
+
+  low-top : last_time from ≤ top
+  low-top = first (kept_back from) some lows below
+    where
+      first : (w : List Event) → 0 < length w → All (λ (x : Event). last_time from ≤ x.time) w → All (λ (x : Event). x.time ≤ top) w → last_time from ≤ top
+      first [] many a b = absurd (omega (arith, many))
+      first (x ∷ w) many a b = let h : last_time from ≤ x.time = a 0 x (omega arith) in let g : x.time ≤ top = b 0 x (omega arith) in omega (arith, h, g)
+
+  all-waiting : AllByRecursion (CanWait mode) (went ++ stay)
+  all-waiting = subst (λ l. AllByRecursion (CanWait mode) l) joined (each-append (CanWait mode) (kept_back from) came (recursion_from_All (CanWait mode) (kept_back from) waits) (wait-line mode top came line (recursion_from_All (λ (e : Event). KindFits mode e.kind) came fit) all))
+
+  went-waiting : AllByRecursion (CanWait mode) went
+  went-waiting = (each-parts (CanWait mode) went stay all-waiting).0
+
+  stay-waiting : AllByRecursion (CanWait mode) stay
+  stay-waiting = (each-parts (CanWait mode) went stay all-waiting).1
+
+  are_ordered : (es : List Event) → AllByRecursion (CanWait mode) es → AreOrdered mode es
+  are_ordered es can = each-weaker (CanWait mode) (λ (e : Event). is_ordered mode e ≡ true) es (λ x c. c.ordered) can
+
+  held-last : floor_after (orders_markers mode) (last_time from) (kept_back from) ≤ top
+  held-last =
+      let t = floor-all mode (last_time from) (kept_back from) (are_ordered (kept_back from) (recursion_from_All (CanWait mode) (kept_back from) waits)) in
+      let most = time-most (last_time from) top (kept_back from) low-top (recursion_from_All (λ (x : Event). x.time ≤ top) (kept_back from) below) in
+      omega (arith, t, most)
+
+  whole : InOrder (orders_markers mode) (last_time from) went × InOrder (orders_markers mode) (floor_after (orders_markers mode) (last_time from) went) stay
+  whole =
+      let strict = orders_markers mode in
+      order-parts strict (last_time from) went stay
+      (subst (λ l. InOrder strict (last_time from) l) joined
+      (order-append strict (last_time from) (kept_back from) came (line-waiting mode (last_time from) (kept_back from) lows up waits)
+      (order-lower strict (floor_after strict (last_time from) (kept_back from)) top came held-last line)))
+
+  stay-rises : Rises (time_after (last_time from) went) stay
+  stay-rises = subst (λ t. Rises t stay) (floor-all mode (last_time from) went (are_ordered went went-waiting)) (rises-line mode (floor_after (orders_markers mode) (last_time from) went) stay whole.1 (are_ordered stay stay-waiting))
+
+  -- what stays is in order behind what goes
+  pub stays-low : All (λ (x : Event). time_after (last_time from) went ≤ x.time) stay
+  stays-low = All-from_recursion (λ (x : Event). time_after (last_time from) went ≤ x.time) stay (low-rises (time_after (last_time from) went) stay stay-rises)
+
+  pub stays-rising : IsNonDecreasingBy (λ (x : Event). x.time) stay
+  stays-rising = IsNonDecreasingBy-Rises (time_after (last_time from) went) stay stay-rises
+
+  pub comes_behind : (time place : ℕ) → time ≡ time_after (last_time from) went → place ≡ place_after (last_place from) came → ComesBehind from came went stay time place
+  comes_behind time place time_is place_is = record {
+    greatest = top;
+    low = low-top;
+    below = recursion_from_All (λ (x : Event). x.time ≤ top) (kept_back from) below;
+    comes = comes-line mode (last_place from) low top came (keeps.behind settles) next.places line all;
+    joined = joined;
+    time_is = time_is;
+    place_is = place_is;
+  }
+
+  pub lets_passed : (new : Settle) → kept_back new ≡ stay → length stay ≡ length (kept_back from) → last_time new ≡ time_after (last_time from) went → last_place new ≡ place_after low came → reach_of new ≡ reach_of from → was_popped new ≡ false
+      → LetsGo mode low from new came went
+  lets_passed new kept as_many time place reach unpopped =
+      let count : length (kept_back from) + length came ≡ length went + length stay = sym (length-append (kept_back from) came) ∙ ap length joined ∙ length-append went stay in
+      record {
+        line = record {
+          in_order = whole.0;
+          greatest = floor-all mode (last_time from) went (are_ordered went went-waiting) ∙ sym time;
+          fit = All-from_recursion (λ (e : Event). KindFits mode e.kind) went (each-weaker (CanWait mode) (λ (e : Event). KindFits mode e.kind) went (λ x c. c.small.kind) went-waiting);
+        };
+        fit = subst (λ l. All (CanWait mode) l) (sym kept) (All-from_recursion (CanWait mode) stay stay-waiting);
+        reach = reach;
+        unpopped = unpopped;
+        behind = omega (arith, place);
+        few = omega (arith, count, as_many);
+        count = omega (arith, count, ap length kept);
+      }
+
+-- What is delivered then.
+pub delivers_passed : (how : Reading) (from new : Settle) (words : List ℕ) (came went : List Event) → how.policy.settle ≢ 0 → reach_of from ≡ how.policy.settle → AreOrdered how.mode came
+    → HasPassed from new (ordered how.mode (events (map how.meaning words))) (not_marked (events_in how words)) came went → IsDelivered how new words came went
+delivers_passed how from new words came went some reach all p =
+    let before = events (map how.meaning words) in
+    let k = how.policy.settle in
+    let parts : ordered how.mode (before ++ came) ≡ ordered how.mode before ++ came = filter-append (λ (x : Event). is_ordered how.mode x) before came ∙ ap (λ l. ordered how.mode before ++ l) (ordered-same how.mode came all) in
+    let after : delivered_after k how.mode before came ≡ on_time went =
+    ap (λ b. cond b (each_after (mark how.mode) before came) (each_after (settles k) (ordered how.mode before) (ordered how.mode came))) (ne_eqb k 0 some)
+    ∙ ap (each_after (settles k) (ordered how.mode before)) (ordered-same how.mode came all)
+    ∙ ap (λ n. each_after (settles n) (ordered how.mode before) came) (sym reach) ∙ p.tells in
+    record {
+      settled = subst (λ l. HasSettled new l (not_marked (events_in how words) ++ went)) (sym parts) p.settled;
+      delivers = delivered-append k how.mode before came ∙ ap (λ l. events_in how words ++ l) after;
+    }

@@ -1,0 +1,78 @@
+use Rattle.std.proofs.Common.{◌≡◌, ◌+◌, ◌<◌, ◌++◌, [], ◌∷◌, true, map, ap, sym, subst, ◌∙◌, arith, rules}
+use Rattle.tally_base.specs.declared.event.Event.{Event}
+use Rattle.tally_base.specs.Events.{is_ordered}
+use Rattle.ptu_definitions.specs.Fitting.{KindFits}
+use Rattle.ptu_definitions.specs.Kept.{greatest}
+use Rattle.ptu_definitions.specs.Settled.{not_marked, ordered}
+use Rattle.ptu_definitions.specs.Streams.{events_in}
+use Rattle.ptu_definitions.specs.Times.{events}
+use Rattle.abs_time.specs.Placing.{IsSmall, placed_by}
+use Rattle.event_block.specs.Columns.{event_at, gathered, rows}
+use Rattle.event_block.proofs.Order.{order-at}
+use Rattle.event_block.proofs.Rows.{length-rows, more_rows}
+use Rattle.settle.specs.Passing.{place_after}
+use Rattle.record_stream.specs.Blocks.{orders_markers}
+use Rattle.record_stream.specs.LettingGo.{LetsGo, IsDelivered}
+use Rattle.record_stream.specs.Walking.{how_of, greatest_of, clock_in}
+use Rattle.record_stream.proofs.Eaches.{all-rows, each-rows}
+use Rattle.record_stream.proofs.LettingGo.{early-row, places-at, lets_on, delivers_on}
+use Rattle.record_stream.proofs.letting_go.push_block.Goals as goal
+
+pub push-settled-requires-clause-behind : goal.push-settled-requires-clause-behind
+push-settled-requires-clause-behind c =
+    let b = c.args.block.now in
+    let low = placed_by (clock_in c.args.walk.now) in
+    let within : c.loop-at.at < b.len = search (rules, arith) in
+    let next : place_after low (rows (event_at b) c.loop-at.at) < c.event.result.place = rw c.event.ensures (places-at low (event_at b) b.len c.loop-at.at within c.requires.comes.places) in
+    omega (arith, c.loop-at.invariant.lets_go.behind, next)
+
+pub push_some-requires : goal.push_some-requires
+push_some-requires c =
+    let b = c.args.block.now in
+    let within : c.loop-at.at < b.len = search (rules, arith) in
+    record { room = omega (arith, c.loop-at.invariant.lets_go.few, length-rows (event_at b) c.loop-at.at, within, b.few) }
+
+pub loop-at-preserved : goal.loop-at-preserved
+loop-at-preserved c =
+    let walk = c.args.walk.now in
+    let how = how_of walk in
+    let b = c.args.block.now in
+    let f = event_at b in
+    let i = c.loop-at.at in
+    let low = placed_by (clock_in walk) in
+    let inv = c.loop-at.invariant in
+    let old = c.loop-at.settle in
+    let went = gathered c.loop-at.out in
+    let e = c.event.result in
+    let is : e ≡ f i = c.event.ensures in
+    let within : i < b.len = search (rules, arith) in
+    let grown : rows f i ++ e ∷ [] ≡ rows f (i + 1) = ap (λ x. rows f i ++ x ∷ []) is ∙ sym (more_rows f i) in
+    let small : IsSmall how.mode e = rw is (record {
+      in_time = (order-at (orders_markers how.mode) (greatest_of walk) f b.len i within c.requires.comes.in_order).0;
+      kind = all-rows (λ e. KindFits how.mode e.kind) f b.len i within c.requires.comes.fit;
+    }) in
+    let on : is_ordered how.mode e ≡ true = rw is (each-rows (λ (x : Event). is_ordered how.mode x ≡ true) f b.len i within c.requires.ordered) in
+    let push = c.push-settled.ensures in
+    let new = c.push-settled.new.self in
+    let o = c.push-settled.result.emitted in
+    let late = c.push-settled.result.late in
+    let went' = gathered c.push_some.new.block in
+    record {
+      lets_go =
+          subst (λ l. LetsGo how.mode low c.args.settle.now new l went') grown
+          (lets_on how.mode low c.args.settle.now old new (rows f i) went e inv.lets_go went' on small push.place push.same_reach push.still_unpopped o late _ c.push_some.ensures.more push.emits push.left_out push.kept push.time push.same_time push.rises);
+      delivers = λ words h.
+          let d = inv.delivers words h in
+          let pushed = ordered how.mode (events (map how.meaning words) ++ rows f i) in
+          let given = not_marked (events_in how words) ++ went in
+          let top_is : greatest_of walk ≡ greatest how.mode (events (map how.meaning words)) = h.behind.placed.greatest ∙ ap (λ m. greatest m (events (map how.meaning words))) walk.same_mode in
+          let first = early-row how.policy.settle how.mode (events (map how.meaning words)) f b.len i (greatest_of walk) e within top_is c.requires.comes.in_order is on in
+          subst (λ l. IsDelivered how new words l went') grown
+          (delivers_on how old new words (rows f i) went e c.requires.settles d went' o late old.reach (inv.lets_go.reach ∙ c.requires.keeps.reach) on c.push_some.ensures.more first (push.late pushed given d.settled) (push.settles pushed given d.settled) (push.settled pushed given d.settled));
+      unsorted = c.push_some.ensures.unsorted ∙ inv.unsorted;
+    }
+
+pub returns-clause-delivers : goal.returns-clause-delivers
+returns-clause-delivers c = λ words h.
+    let end : c.loop-at.at ≡ c.args.block.now.len = search (rules, arith) in
+    rw end at (c.loop-at.invariant.delivers words h)

@@ -1,0 +1,55 @@
+-- What events in order let go, none of them late.
+use Rattle.std.specs.Prelude.{ℕ, ◌≡◌, ◌+◌, ◌≤◌, true, false, List, ◌++◌, length, map}
+use Rattle.std.specs.List.{All, AllByRecursion}
+use Rattle.tally_base.specs.declared.event.Event.{Event}
+use Rattle.tally_base.specs.declared.header.Mode.{Mode}
+use Rattle.tally_base.specs.Events.{is_ordered}
+use Rattle.ptu_definitions.specs.Settled.{delivered, not_marked, ordered}
+use Rattle.ptu_definitions.specs.Streams.{Reading, events_in}
+use Rattle.ptu_definitions.specs.Times.{events}
+use Rattle.abs_time.specs.Placing.{placed_by}
+use Rattle.event_block.specs.Order.{InOrder}
+use Rattle.settle.specs.Standing.{HasSettled, kept_back, last_place, last_time, reach_of, was_popped}
+use Rattle.settle.specs.declared.settle.Settle.{Settle}
+use Rattle.settle.specs.Passing.{place_after}
+use Rattle.record_stream.specs.Blocks.{orders_markers, on_time, AllFit, IsInLine, PlacesRise}
+use Rattle.record_stream.specs.Keeping.{CanWait}
+use Rattle.record_stream.specs.Walking.{how_of, greatest_of, clock_in, IsBlank}
+use Rattle.record_stream.specs.declared.settled_blocks.Room.{Room}
+use Rattle.record_stream.specs.declared.walk.Walk.{Walk}
+
+-- each event is in order
+abbrev pub AreOrdered : Mode → List Event → Type 0
+AreOrdered mode es = AllByRecursion (λ e. is_ordered mode e ≡ true) es
+
+-- Events that come next, none of them late.
+pub record ComesNext (walk : Walk) (es : List Event) : Type 0 where
+  pub places : PlacesRise (placed_by (clock_in walk)) es
+  pub in_order : InOrder (orders_markers (how_of walk).mode) (greatest_of walk) es
+  pub fit : AllFit (how_of walk).mode es
+
+-- As many events are kept back as may be, and none is later than the greatest time so far.
+pub record IsFull (walk : Walk) (settle : Settle) : Type 0 where
+  pub full : length (kept_back settle) ≡ reach_of settle
+  pub below : All (λ (x : Event). x.time ≤ greatest_of walk) (kept_back settle)
+
+-- Events came at places behind this one, and some were let go with them: in order, behind the last one before them, and
+-- as few as there are events that came or waited.
+pub record LetsGo (mode : Mode) (low : ℕ) (from settle : Settle) (came went : List Event) : Type 0 where
+  pub line : IsInLine mode (last_time from) (last_time settle) went
+  pub fit : All (CanWait mode) (kept_back settle)
+  pub reach : reach_of settle ≡ reach_of from
+  pub unpopped : was_popped settle ≡ false
+  pub behind : last_place settle ≤ place_after low came
+  pub few : length went ≤ length came
+  pub count : length went + length (kept_back settle) ≤ length (kept_back from) + length came
+
+-- Behind the events of these words these came, and with them these are delivered, none of them late.
+pub record IsDelivered (how : Reading) (settle : Settle) (words : List ℕ) (came went : List Event) : Type 0 where
+  pub settled : HasSettled settle (ordered how.mode (events (map how.meaning words) ++ came)) (not_marked (events_in how words) ++ went)
+  pub delivers : delivered how.policy.settle how.mode (events (map how.meaning words) ++ came) ≡ events_in how words ++ on_time went
+
+-- None of its blocks has events.
+pub record AreBlank (room : Room) : Type 0 where
+  pub block : IsBlank room.block
+  pub out : IsBlank room.out

@@ -1,0 +1,184 @@
+// What the events of a block let go, where events are put in their places.
+ghost use Rattle.std.specs.Prelude.{◌≡◌, ◌≢◌, ◌+◌, ◌-◌, ◌<◌, ◌≤◌, ◌++◌, List, ℕ, true, length, take, drop};
+ghost use Rattle.std.specs.Option.{option_to_list};
+ghost use Rattle.abs_time.specs.Placing.{placed_by};
+ghost use Rattle.event_block.specs.Columns.{count, sorted, gathered, written};
+ghost use Rattle.record_stream.specs.Keeping.{IsKeeping};
+ghost use Rattle.record_stream.specs.LettingGo.{AreOrdered, ComesNext, IsFull, LetsGo, IsDelivered};
+ghost use Rattle.record_stream.specs.Settling.{IsSettledBehind};
+ghost use Rattle.record_stream.specs.Walking.{how_of, clock_in, IsBlank};
+
+use crate::walk::Walk;
+use arrayvec::ArrayVec;
+use event_block::{BLOCK_SIZE, Block};
+use settle::Settle;
+use tally_base::Event;
+
+/// Puts an event behind the others, if there is one.
+#[inline(always)]
+fn push_some(block: &mut Block, event: Option<Event>)
+    requires room { length (gathered block.old) < BLOCK_SIZE }
+    ensures more { gathered block.new ≡ gathered block.old ++ option_to_list event }
+    ensures unsorted { sorted block.new ≡ sorted block.old }
+{
+    if let Some(event) = event {
+        block.push(&event);
+    }
+}
+
+/// Puts events behind the others.
+#[inline(always)]
+fn push_all(block: &mut Block, events: &[Event])
+    requires room { length (gathered block.old) + length events.now ≤ BLOCK_SIZE }
+    ensures more { gathered block.new ≡ gathered block.old ++ events.now }
+    ensures unsorted { sorted block.new ≡ sorted block.old }
+{
+    for event in events {
+        block.push(event);
+    }
+}
+
+/// Puts the first so many events of another block behind the others.
+#[inline(always)]
+fn push_front(block: &mut Block, other: &Block, front: usize)
+    requires inside { front ≤ count other.now }
+    requires room { length (gathered block.old) + front ≤ BLOCK_SIZE }
+    ensures more { gathered block.new ≡ gathered block.old ++ written other.now front }
+    ensures unsorted { sorted block.new ≡ sorted block.old }
+{
+    let len = block.len();
+    for at in 0..front {
+        let place = other.event(at).place;
+        block.write(
+            len + at,
+            place,
+            other.code(at),
+            other.dtime(at),
+            other.time(at),
+        );
+    }
+    block.keep(len + front);
+}
+
+/// Puts events behind the others.
+#[inline(always)]
+fn stay_all(stay: &mut ArrayVec<Event, 64>, events: &[Event])
+    requires { length stay.old.items + length events.now ≤ 64 }
+    ensures { stay.new.items ≡ stay.old.items ++ events.now }
+{
+    for event in events {
+        stay.push(*event);
+    }
+}
+
+/// Puts the events of a block from one on behind the others.
+#[inline(always)]
+fn stay_back(stay: &mut ArrayVec<Event, 64>, block: &Block, from: usize)
+    requires inside { from ≤ count block.now }
+    requires room { length stay.old.items + (count block.now - from) ≤ 64 }
+    ensures { stay.new.items ≡ stay.old.items ++ drop from (gathered block.now) }
+{
+    for at in from..block.len() {
+        stay.push(block.event(at));
+    }
+}
+
+/// Whether as many events are kept back as may be, and none of them is later than the greatest time so far.
+#[inline(always)]
+fn is_full(walk: &Walk, settle: &Settle) -> bool
+    requires { IsKeeping walk.now settle.now }
+    ensures { result ≡ true → IsFull walk.now settle.now }
+{
+    match settle.waiting().last() {
+        Some(last) => {
+            settle.held() == walk.policy.settle as usize && last.time <= walk.clock.greatest()
+        }
+        None => false,
+    }
+}
+
+/// Takes the events of a block, all in order and none late, one by one, and puts those that are let go with
+/// them into an empty block.
+fn push_block(walk: &Walk, block: &Block, settle: &mut Settle, out: &mut Block)
+    requires settles { (how_of walk.now).policy.settle ≢ 0 }
+    requires keeps { IsKeeping walk.now settle.old }
+    requires comes { ComesNext walk.now (gathered block.now) }
+    requires ordered { AreOrdered (how_of walk.now).mode (gathered block.now) }
+    requires blank { IsBlank out.old }
+    ensures lets_go { LetsGo (how_of walk.now).mode (placed_by (clock_in walk.now)) settle.old
+        settle.new (gathered block.now) (gathered out.new) }
+    ensures delivers { (words : List ℕ) → IsSettledBehind walk.now settle.old words
+        → IsDelivered (how_of walk.now) settle.new words (gathered block.now) (gathered out.new) }
+    ensures unsorted { sorted out.new ≡ 0 }
+{
+    for at in 0..block.len() {
+        let settled = settle.push(block.event(at));
+        push_some(out, settled.emitted);
+    }
+}
+
+/// The same, at once, where they come behind as many that are kept back as may be. What stays is written to
+/// an array first.
+fn pass_block(
+    walk: &Walk,
+    block: &Block,
+    settle: &mut Settle,
+    out: &mut Block,
+    stay: &mut ArrayVec<Event, 64>,
+)
+    requires settles { (how_of walk.now).policy.settle ≢ 0 }
+    requires keeps { IsKeeping walk.now settle.old }
+    requires full { IsFull walk.now settle.old }
+    requires comes { ComesNext walk.now (gathered block.now) }
+    requires ordered { AreOrdered (how_of walk.now).mode (gathered block.now) }
+    requires blank { IsBlank out.old }
+    ensures lets_go { LetsGo (how_of walk.now).mode (placed_by (clock_in walk.now)) settle.old
+        settle.new (gathered block.now) (gathered out.new) }
+    ensures delivers { (words : List ℕ) → IsSettledBehind walk.now settle.old words
+        → IsDelivered (how_of walk.now) settle.new words (gathered block.now) (gathered out.new) }
+    ensures unsorted { sorted out.new ≡ 0 }
+{
+    let len = block.len();
+    if len == 0 {
+        return;
+    }
+    let from = len - len.min(settle.held());
+    let (gone, rest) = settle.waiting().split_at(len - from);
+    push_all(out, gone);
+    push_front(out, block, from);
+    stay.clear();
+    stay_all(stay, rest);
+    stay_back(stay, block, from);
+    settle.pass(
+        stay.as_slice(),
+        out.time(len - 1),
+        block.event(len - 1).place,
+    );
+}
+
+/// Takes the events of a block, all in order and none late, and puts those that are let go with them into an
+/// empty block. It has an array for those that stay.
+pub(crate) fn let_go(
+    walk: &Walk,
+    block: &Block,
+    settle: &mut Settle,
+    out: &mut Block,
+    stay: &mut ArrayVec<Event, 64>,
+)
+    requires settles { (how_of walk.now).policy.settle ≢ 0 }
+    requires keeps { IsKeeping walk.now settle.old }
+    requires comes { ComesNext walk.now (gathered block.now) }
+    requires ordered { AreOrdered (how_of walk.now).mode (gathered block.now) }
+    requires blank { IsBlank out.old }
+    ensures lets_go { LetsGo (how_of walk.now).mode (placed_by (clock_in walk.now)) settle.old
+        settle.new (gathered block.now) (gathered out.new) }
+    ensures delivers { (words : List ℕ) → IsSettledBehind walk.now settle.old words
+        → IsDelivered (how_of walk.now) settle.new words (gathered block.now) (gathered out.new) }
+    ensures unsorted { sorted out.new ≡ 0 }
+{
+    if is_full(walk, settle) {
+        pass_block(walk, block, settle, out, stay);
+    } else {
+        push_block(walk, block, settle, out);
+    }
+}

@@ -1,0 +1,140 @@
+// The words of a piece in blocks, where events are put in their places.
+ghost use Rattle.std.specs.Prelude.{◌≡◌, ◌≢◌, ◌+◌, ◌<◌, ◌≤◌, ◌++◌, [], List, ℕ, false, length, OnOk};
+ghost use Rattle.std.specs.Option.{option_to_list};
+ghost use Rattle.tally_base.specs.declared.event.Event.{Event};
+ghost use Rattle.tally_base.specs.declared.fault.Fault.TheVariants.{WriteFault};
+ghost use Rattle.tally_base.specs.FaultCounts.{HasCause};
+ghost use Rattle.ptu_definitions.specs.Fours.{numbers};
+ghost use Rattle.abs_time.specs.Placing.{placed_by};
+ghost use Rattle.event_block.specs.Columns.{count, sorted, gathered, written};
+ghost use Rattle.event_block.specs.Order.{InOrder};
+ghost use Rattle.settle.specs.Standing.{last_time};
+ghost use Rattle.record_stream.specs.Blocks.{orders_markers, on_time, AllFit, PlacesRise};
+ghost use Rattle.record_stream.specs.Feeding.{Follows, Fed};
+ghost use Rattle.record_stream.specs.Keeping.{IsKeeping};
+ghost use Rattle.record_stream.specs.LettingGo.{AreBlank, LetsGo, IsDelivered};
+ghost use Rattle.record_stream.specs.Settling.{IsSettledBehind, IsFollowedBy, SettlesOn};
+ghost use Rattle.record_stream.specs.Walking.{how_of, given_by, greatest_of, records_of, clock_in, summary_in, IsBlank, Stays};
+
+use crate::blocks::{EARLY_ENOUGH, gather};
+use crate::count::{add_block, stops_reserved};
+use crate::letting_go::let_go;
+use crate::settled::settle_words;
+use crate::taker::EventTaker;
+use crate::walk::Walk;
+use arrayvec::ArrayVec;
+use event_block::{BLOCK_SIZE, Block};
+use record_layout::{Columns, RecordLayout};
+use settle::Settle;
+use tally_base::{Event, Fault};
+
+/// Room for a block of words.
+#[derive(Drop)]
+struct Room {
+    /// Their records.
+    columns: Columns,
+    /// Their events in order.
+    block: Block,
+    /// Those that are let go with them.
+    out: Block,
+    /// Those that stay.
+    stay: ArrayVec<Event, 64>,
+}
+
+impl Room {
+    fn new() -> Room
+        ensures { AreBlank result }
+    {
+        Room {
+            columns: Columns::new(),
+            block: Block::new(),
+            out: Block::new(),
+            stay: ArrayVec::new(),
+        }
+    }
+}
+
+/// Takes at most as many words as a block has places, with empty blocks.
+#[inline(always)]
+fn settle_block<R: RecordLayout, S: EventTaker>(
+    walk: &mut Walk,
+    settle: &mut Settle,
+    words: &[[u8; 4]],
+    room: &mut Room,
+    taker: &mut S,
+) -> Result<(), Fault>
+    requires few { length words.now ≤ BLOCK_SIZE }
+    requires blank { AreBlank room.old }
+    requires meaning { R.meaning ≡ (how_of walk.old).meaning }
+    requires settles { (how_of walk.old).policy.settle ≢ 0 }
+    requires keeps { IsKeeping walk.old settle.old }
+    requires follows { IsFollowedBy S.EventTaker walk.old settle.old taker.old }
+    ensures blank { OnOk result (AreBlank room.new) }
+    ensures at { (before : List ℕ) → IsSettledBehind walk.old settle.old before
+        → OnOk result (IsSettledBehind walk.new settle.new (before ++ numbers words.now)) }
+    ensures fed { (before : List ℕ) → IsSettledBehind walk.old settle.old before
+        → Fed S.EventTaker (how_of walk.old) taker.old taker.new before
+        (before ++ numbers words.now) result }
+    ensures goes_on { OnOk result
+        (SettlesOn S.EventTaker walk.old walk.new settle.new taker.new (length words.now)) }
+    ensures keeps { IsKeeping walk.new settle.new }
+    ensures stays { Stays S.EventTaker walk.old walk.new taker.old taker.new }
+{
+    room.columns.fill::<R>(words);
+    let counts = room.columns.kinds::<R>(words);
+    let stops = stops_reserved(walk.policy.reserved) && counts.reserved > 0;
+    let fits = counts.records <= walk.policy.records - walk.sums.records;
+    if stops || !fits || walk.clock.base() > EARLY_ENOUGH {
+        return settle_words::<R, S>(walk, settle, words, taker);
+    }
+    let ahead = gather::<R>(walk, words, &room.columns, true, &mut room.block);
+    if !ahead.in_order {
+        return settle_words::<R, S>(walk, settle, words, taker);
+    }
+    room.block.keep(ahead.len);
+    let_go(walk, &room.block, settle, &mut room.out, &mut room.stay);
+    room.block.clear();
+    add_block(&mut walk.sums, &counts, &room.out);
+    let placed = walk.clock.placed() + counts.records;
+    walk.clock.go_on(placed, ahead.base, ahead.greatest);
+    walk.given += room.out.len() as u64;
+    if taker.take_block(&mut room.out).is_err() {
+        return Err(Fault::WriteFault);
+    }
+    room.out.clear();
+    Ok(())
+}
+
+/// Takes the next words, in blocks, where events are put in their places.
+pub(crate) fn settle_blocks<R: RecordLayout, S: EventTaker>(
+    walk: &mut Walk,
+    settle: &mut Settle,
+    words: &[[u8; 4]],
+    taker: &mut S,
+) -> Result<(), Fault>
+    requires meaning { R.meaning ≡ (how_of walk.old).meaning }
+    requires settles { (how_of walk.old).policy.settle ≢ 0 }
+    requires keeps { IsKeeping walk.old settle.old }
+    requires follows { IsFollowedBy S.EventTaker walk.old settle.old taker.old }
+    ensures at { (before : List ℕ) → IsSettledBehind walk.old settle.old before
+        → OnOk result (IsSettledBehind walk.new settle.new (before ++ numbers words.now)) }
+    ensures fed { (before : List ℕ) → IsSettledBehind walk.old settle.old before
+        → Fed S.EventTaker (how_of walk.old) taker.old taker.new before
+        (before ++ numbers words.now) result }
+    ensures goes_on { OnOk result
+        (SettlesOn S.EventTaker walk.old walk.new settle.new taker.new (length words.now)) }
+    ensures keeps { IsKeeping walk.new settle.new }
+    ensures stays { Stays S.EventTaker walk.old walk.new taker.old taker.new }
+{
+    if words.len() < 2 {
+        return settle_words::<R, S>(walk, settle, words, taker);
+    }
+    let mut room = Room::new();
+    let mut rest = words;
+    'many: while rest.len() > BLOCK_SIZE {
+        let (front, back) = rest.split_at(BLOCK_SIZE);
+        settle_block::<R, S>(walk, settle, front, &mut room, taker)?;
+        rest = back;
+    }
+    settle_block::<R, S>(walk, settle, rest, &mut room, taker)
+}

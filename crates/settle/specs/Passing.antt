@@ -1,0 +1,40 @@
+-- Events that come in order behind all that are kept back.
+use Rattle.std.specs.Prelude.{ℕ, ◌≡◌, ◌<◌, ◌≤◌, ◌++◌, false, List, [], ◌∷◌}
+use Rattle.std.specs.List.{AllByRecursion}
+use Rattle.tally_base.specs.declared.event.Event.{Event}
+use Rattle.ptu_definitions.specs.Prefixes.{each_after}
+use Rattle.ptu_definitions.specs.Settled.{marked_as, settles}
+use Rattle.settle.specs.Standing.{HasSettled, kept_back, last_place, last_time, reach_of}
+use Rattle.settle.specs.declared.settle.Settle.{Settle}
+
+-- no place and no time falls: each place is greater than the one before it and the first greater than this, and no
+-- time is less than the one before it or than this
+abbrev pub ComesOn : ℕ → ℕ → List Event → Type 0
+ComesOn place time [] = Unit {0}
+ComesOn place time (e ∷ es) = (place < e.place) × (time ≤ e.time) × ComesOn e.place e.time es
+
+-- the place of the last of these events, or this one
+abbrev pub place_after : ℕ → List Event → ℕ
+place_after place [] = place
+place_after place (e ∷ es) = place_after e.place es
+
+-- and its time
+abbrev pub time_after : ℕ → List Event → ℕ
+time_after time [] = time
+time_after time (e ∷ es) = time_after e.time es
+
+-- These events come in order behind all that are kept back. Of both together the first go, up to this time, and the
+-- last stay. The last that came has this place.
+pub record ComesBehind (s : Settle) (came went stay : List Event) (time place : ℕ) : Type 0 where
+  pub greatest : ℕ
+  pub low : last_time s ≤ greatest
+  pub below : AllByRecursion (λ x. x.time ≤ greatest) (kept_back s)
+  pub comes : ComesOn (last_place s) greatest came
+  pub joined : kept_back s ++ came ≡ went ++ stay
+  pub time_is : time ≡ time_after (last_time s) went
+  pub place_is : place ≡ place_after (last_place s) came
+
+-- Behind some events these came, and with them these were let go, none of them late.
+pub record HasPassed (old new : Settle) (pushed given came went : List Event) : Type 0 where
+  pub settled : HasSettled new (pushed ++ came) (given ++ went)
+  pub tells : each_after (settles (reach_of old)) pushed came ≡ marked_as false went
