@@ -1,12 +1,12 @@
 -- One row more.
-use Rattle.std.proofs.Common.{◌≡◌, ◌∙◌, ℕ, zero, suc, ◌+◌, ◌-◌, ◌%◌, ◌<◌, ◌≤◌, List, [], ◌∷◌, ◌++◌, length, get_or, set, ap, refl, arith, length-append, append_assoc, append-nil, ◌⊎◌, ⊎_elim}
+use Rattle.std.proofs.Common.{◌≡◌, ◌∙◌, ℕ, zero, suc, ◌+◌, ◌-◌, ◌^◌, ◌%◌, ◌<◌, ◌≤◌, List, [], ◌∷◌, ◌++◌, length, get_or, set, ap, refl, arith, length-append, append_assoc, append-nil, ◌⊎◌, ⊎_elim}
 use Rattle.std.proofs.lemmas.Grind.{common_steps}
 use Rattle.std.proofs.lemmas.List.{get_or-set_same}
 use Rattle.std.proofs.lemmas.Bool.Decides.{nat_tests}
 use Rattle.tally_base.specs.declared.event.Event.{Event}
 use Rattle.tally_base.specs.declared.event.EventKind.{EventKind}
 use Rattle.tally_base.specs.declared.event.EventKind.TheVariants.{Photon, Marker}
-use Rattle.event_block.specs.Codes.{code_of, dtime_of, kind_of, IsByte}
+use Rattle.event_block.specs.Codes.{code_of, dtime_of, kind_of, joined, code_in, dtime_in, IsByte}
 use Rattle.event_block.specs.Columns.{row, rows}
 
 pub length-rows : {A : Type 0} (f : ℕ → A) (n : ℕ) → length (rows f n) ≡ n
@@ -30,33 +30,40 @@ here xs n v inside = get_or-set_same xs n v 0 inside
 other : (xs : List ℕ) (n i v : ℕ) → i < n → get_or (set xs n v) i 0 ≡ get_or xs i 0
 other xs n i v lt = grind (arith, common_steps)
 
-pub rows-push : (places times codes dtimes : List ℕ) (n place time code dtime : ℕ) (e : Event)
-    → n < length places → n < length times → n < length codes → n < length dtimes
-    → IsByte e.kind → place ≡ e.place → time ≡ e.time → code ≡ code_of e.kind → dtime ≡ dtime_of e.kind
-    → rows (row (set places n place) (set times n time) (set codes n code) (set dtimes n dtime)) (n + 1) ≡ rows (row places times codes dtimes) n ++ e ∷ []
-rows-push places times codes dtimes n place time code dtime e in1 in2 in3 in4 byte p t c d =
-    let f = row (set places n place) (set times n time) (set codes n code) (set dtimes n dtime) in
-    let one : rows f (n + 1) ≡ rows f n ++ f n ∷ [] = more_rows f n in
-    let old : rows f n ≡ rows (row places times codes dtimes) n = same-rows f (row places times codes dtimes) n (λ i lt. rw (other places n i place lt, other times n i time lt, other codes n i code lt, other dtimes n i dtime lt) refl) in
-    let new : f n ≡ e = rw (here places n place in1, here times n time in2, here codes n code in3, here dtimes n dtime in4, p, t, c, d, kind-again e.kind byte) refl in
-    one ∙ rw (old, new) refl
+-- the parts of what was joined
+pub code-again : (code dtime : ℕ) → code < 2 ^ 16 → code_in (joined code dtime) ≡ code
+code-again code dtime few = omega (arith, few)
+
+pub dtime-again : (code dtime : ℕ) → code < 2 ^ 16 → dtime_in (joined code dtime) ≡ dtime
+dtime-again code dtime few = omega (arith, few)
+
+pub kind-joined : (code dtime : ℕ) → code < 2 ^ 16 → kind_of (code_in (joined code dtime)) (dtime_in (joined code dtime)) ≡ kind_of code dtime
+kind-joined code dtime few = rw (code-again code dtime few, dtime-again code dtime few) refl
 
 -- the rows before one that is written
-pub rows-before : (places times codes dtimes : List ℕ) (n place time code dtime : ℕ)
-    → rows (row (set places n place) (set times n time) (set codes n code) (set dtimes n dtime)) n ≡ rows (row places times codes dtimes) n
-rows-before places times codes dtimes n place time code dtime =
-    same-rows (row (set places n place) (set times n time) (set codes n code) (set dtimes n dtime)) (row places times codes dtimes) n (λ i lt. rw (other places n i place lt, other times n i time lt, other codes n i code lt, other dtimes n i dtime lt) refl)
+pub rows-before : (places times marks : List ℕ) (n place time mark : ℕ)
+    → rows (row (set places n place) (set times n time) (set marks n mark)) n ≡ rows (row places times marks) n
+rows-before places times marks n place time mark =
+    same-rows (row (set places n place) (set times n time) (set marks n mark)) (row places times marks) n (λ i lt. rw (other places n i place lt, other times n i time lt, other marks n i mark lt) refl)
 
 -- with the row that is written
-pub rows-written : (places times codes dtimes : List ℕ) (n place time code dtime : ℕ)
-    → n < length places → n < length times → n < length codes → n < length dtimes
-    → rows (row (set places n place) (set times n time) (set codes n code) (set dtimes n dtime)) (n + 1)
-    ≡ rows (row places times codes dtimes) n ++ record { place = place; kind = kind_of code dtime; time = time } ∷ []
-rows-written places times codes dtimes n place time code dtime in1 in2 in3 in4 =
-    let f = row (set places n place) (set times n time) (set codes n code) (set dtimes n dtime) in
-    let old = rows-before places times codes dtimes n place time code dtime in
-    let new : f n ≡ record { place = place; kind = kind_of code dtime; time = time } = rw (here places n place in1, here times n time in2, here codes n code in3, here dtimes n dtime in4) refl in
+pub rows-written : (places times marks : List ℕ) (n place time mark code dtime : ℕ)
+    → n < length places → n < length times → n < length marks → mark ≡ joined code dtime → code < 2 ^ 16
+    → rows (row (set places n place) (set times n time) (set marks n mark)) (n + 1)
+    ≡ rows (row places times marks) n ++ record { place = place; kind = kind_of code dtime; time = time } ∷ []
+rows-written places times marks n place time mark code dtime in1 in2 in3 is few =
+    let f = row (set places n place) (set times n time) (set marks n mark) in
+    let old = rows-before places times marks n place time mark in
+    let new : f n ≡ record { place = place; kind = kind_of code dtime; time = time } = rw (here places n place in1, here times n time in2, here marks n mark in3, is, kind-joined code dtime few) refl in
     more_rows f n ∙ rw (old, new) refl
+
+pub rows-push : (places times marks : List ℕ) (n place time mark code dtime : ℕ) (e : Event)
+    → n < length places → n < length times → n < length marks → mark ≡ joined code dtime → code < 2 ^ 16
+    → IsByte e.kind → place ≡ e.place → time ≡ e.time → code ≡ code_of e.kind → dtime ≡ dtime_of e.kind
+    → rows (row (set places n place) (set times n time) (set marks n mark)) (n + 1) ≡ rows (row places times marks) n ++ e ∷ []
+rows-push places times marks n place time mark code dtime e in1 in2 in3 is few byte p t c d =
+    let new : record { place = place; kind = kind_of code dtime; time = time } ≡ e = rw (p, t, c, d, kind-again e.kind byte) refl in
+    rows-written places times marks n place time mark code dtime in1 in2 in3 is few ∙ rw new refl
 
 -- the rows up to one, and those behind it
 pub rows-split : {A : Type 0} (f : ℕ → A) (i n : ℕ) → i ≤ n → (back : List A) × (rows f n ≡ rows f i ++ back)

@@ -6,7 +6,7 @@ use Rattle.std.proofs.lemmas.Bool.Decides.{nat_tests}
 use Rattle.std.proofs.lemmas.List.{get_or-set_same}
 use Rattle.std.proofs.lemmas.Nat.Bits.{bit_at-zero}
 use Rattle.tally_base.specs.Events.{is_in}
-use Rattle.event_block.specs.Codes.{InNoGroup}
+use Rattle.event_block.specs.Codes.{code_in, InNoGroup}
 
 in_none : (group : ℕ) → is_in 0 group ≡ false
 in_none group = ap (λ n. n == 1) (bit_at-zero (group - 1))
@@ -29,15 +29,15 @@ behind : (xs : List ℕ) (n i v : ℕ) → i < n → get_or (set xs n v) i 0 ≡
 behind xs n i v lt = grind (arith, common_steps)
 
 -- one row more, whose groups aren't known
-pub none-push : (codes groups : List ℕ) (sorted n code : ℕ) → sorted ≤ n → InNoGroup sorted codes groups → InNoGroup sorted (set codes n code) groups
-none-push codes groups sorted n code few none = λ i lt marker. none i lt (rw (behind codes n i code (omega (arith, few, lt))) at marker)
+pub none-push : (marks groups : List ℕ) (sorted n mark : ℕ) → sorted ≤ n → InNoGroup sorted marks groups → InNoGroup sorted (set marks n mark) groups
+none-push marks groups sorted n mark few none = λ i lt marker. none i lt (rw (behind marks n i mark (omega (arith, few, lt))) at marker)
 
 last_or : (i n : ℕ) → i < n + 1 → (i ≡ n) ⊎ (i < n)
 last_or i n lt = grind (arith, lt)
 
 -- the groups of one row more
-pub none-put : (codes groups : List ℕ) (n more : ℕ) → n < length groups → InNoGroup n codes groups → (256 ≤ slice_index codes n → more ≡ 0) → InNoGroup (n + 1) codes (set groups n more)
-none-put codes groups n more inside none marker = λ i lt here.
+pub none-put : (marks groups : List ℕ) (n more : ℕ) → n < length groups → InNoGroup n marks groups → (256 ≤ code_in (slice_index marks n) → more ≡ 0) → InNoGroup (n + 1) marks (set groups n more)
+none-put marks groups n more inside none marker = λ i lt here.
     ⊎_elim
     (λ (is : i ≡ n). rw is (get_or-set_same groups n more 0 inside ∙ marker (rw is at here)))
     (λ (below : i < n). behind groups n i more below ∙ none i below here)

@@ -2,12 +2,12 @@
 use Rattle.std.specs.Prelude.{◌≡◌, ℕ, zero, suc, List, [], ◌∷◌, ◌++◌, slice_index}
 use Rattle.tally_base.specs.declared.event.Event.{Event}
 use Rattle.tally_base.specs.Tally.{History}
-use Rattle.event_block.specs.Codes.{kind_of}
+use Rattle.event_block.specs.Codes.{kind_of, code_in, dtime_in}
 use Rattle.event_block.specs.declared.block.Block.{Block}
 
 -- the event in row i of the columns
-abbrev pub row : List ℕ → List ℕ → List ℕ → List ℕ → ℕ → Event
-row places times codes dtimes i = record { place = slice_index places i; kind = kind_of (slice_index codes i) (slice_index dtimes i); time = slice_index times i }
+abbrev pub row : List ℕ → List ℕ → List ℕ → ℕ → Event
+row places times marks i = record { place = slice_index places i; kind = kind_of (code_in (slice_index marks i)) (dtime_in (slice_index marks i)); time = slice_index times i }
 
 -- the first so many rows
 abbrev pub rows : {A : Type 0} → (ℕ → A) → ℕ → List A
@@ -15,16 +15,16 @@ rows f zero = []
 rows f (suc n) = rows f n ++ f n ∷ []
 
 abbrev pub event_at : Block → ℕ → Event
-event_at b i = row b.places b.times b.codes b.dtimes i
+event_at b i = row b.places b.times b.marks i
 
 abbrev pub groups_at : Block → ℕ → ℕ
 groups_at b i = slice_index b.groups i
 
 abbrev pub code_at : Block → ℕ → ℕ
-code_at b i = slice_index b.codes i
+code_at b i = code_in (slice_index b.marks i)
 
 abbrev pub dtime_at : Block → ℕ → ℕ
-dtime_at b i = slice_index b.dtimes i
+dtime_at b i = dtime_in (slice_index b.marks i)
 
 abbrev pub time_at : Block → ℕ → ℕ
 time_at b i = slice_index b.times i

@@ -2,3 +2,4 @@ pub mod Size
 pub mod Codes
 pub mod Columns
 pub mod Order
+pub mod Tables

@@ -1,7 +1,7 @@
 // Events in columns.
 ghost use Rattle.std.specs.Prelude.{◌≡◌, ◌≤◌};
 ghost use Rattle.event_block.specs.Size.{block_size};
-ghost use Rattle.event_block.specs.Codes.{code_of, dtime_of, kind_of, IsByte, InNoGroup};
+ghost use Rattle.event_block.specs.Codes.{code_of, dtime_of, kind_of, joined, code_in, dtime_in, IsByte, InNoGroup};
 
 use tally_base::{Event, EventKind, is_in};
 
@@ -14,15 +14,15 @@ pub struct Block {
     len: usize,
     places: [u64; BLOCK_SIZE],
     times: [u64; BLOCK_SIZE],
-    // The input of a photon, or 256 and the bits of a marker.
-    codes: [u16; BLOCK_SIZE],
-    dtimes: [u16; BLOCK_SIZE],
+    // The input of a photon, or 256 and the bits of a marker, and its dtime in the upper half: one column, so
+    // that an event takes a store less.
+    marks: [u32; BLOCK_SIZE],
     groups: [u64; BLOCK_SIZE],
     // How many have their groups.
     sorted: usize,
     ghost few: { len ≤ block_size },
     ghost some: { sorted ≤ len },
-    ghost markers: { InNoGroup sorted codes groups },
+    ghost markers: { InNoGroup sorted marks groups },
 }
 
 impl Block {
@@ -40,8 +40,7 @@ impl Block {
             len: 0,
             places: [0; BLOCK_SIZE],
             times: [0; BLOCK_SIZE],
-            codes: [0; BLOCK_SIZE],
-            dtimes: [0; BLOCK_SIZE],
+            marks: [0; BLOCK_SIZE],
             groups: [0; BLOCK_SIZE],
             sorted: 0,
         }
@@ -74,7 +73,7 @@ impl Block {
     {
         Event {
             place: self.places[at],
-            kind: kind_of(self.codes[at], self.dtimes[at]),
+            kind: kind_of(code_in(self.marks[at]), dtime_in(self.marks[at])),
             time: self.times[at],
         }
     }
@@ -85,7 +84,7 @@ impl Block {
         requires { at < count self.now }
         ensures { result ≡ code_at self.now at }
     {
-        self.codes[at]
+        code_in(self.marks[at])
     }
 
     /// The dtime of the event at a place, from 0. That of a marker has no meaning.
@@ -94,7 +93,7 @@ impl Block {
         requires { at < count self.now }
         ensures { result ≡ dtime_at self.now at }
     {
-        self.dtimes[at]
+        dtime_in(self.marks[at])
     }
 
     /// The time of the event at a place, from 0.
@@ -134,7 +133,7 @@ impl Block {
         let mut at = self.len().min(BLOCK_SIZE);
         'back: while at > 0 {
             at -= 1;
-            let moves = strict | (self.codes[at] < 256);
+            let moves = strict | (code_in(self.marks[at]) < 256);
             if moves {
                 return self.times[at];
             }
@@ -156,8 +155,7 @@ impl Block {
     {
         self.places[at] = place;
         self.times[at] = time;
-        self.codes[at] = code;
-        self.dtimes[at] = dtime;
+        self.marks[at] = joined(code, dtime);
     }
 
     /// Takes in what was written up to this place.
@@ -181,8 +179,7 @@ impl Block {
         let at = self.len;
         self.places[at] = e.place;
         self.times[at] = e.time;
-        self.codes[at] = code_of(&e.kind);
-        self.dtimes[at] = dtime_of(&e.kind);
+        self.marks[at] = joined(code_of(&e.kind), dtime_of(&e.kind));
         self.len = at + 1;
     }
 
@@ -196,7 +193,7 @@ impl Block {
         ensures count { count self.new ≡ count self.old }
         ensures unsorted { sorted self.new ≡ sorted self.old }
     {
-        self.dtimes[at] = dtime;
+        self.marks[at] = joined(code_in(self.marks[at]), dtime);
     }
 
     /// Puts the groups of the event at a place, from 0, once those before it have theirs. A marker has none.
@@ -276,4 +273,28 @@ fn kind_of(code: u16, dtime: u16) -> EventKind
             bits: (code % 256) as u8,
         }
     }
+}
+
+/// A code and a dtime as one number.
+#[inline(always)]
+fn joined(code: u16, dtime: u16) -> u32
+    ensures { result ≡ joined code dtime }
+{
+    u32::from(code) + 0x1_0000 * u32::from(dtime)
+}
+
+/// The code in such a number.
+#[inline(always)]
+fn code_in(mark: u32) -> u16
+    ensures { result ≡ code_in mark }
+{
+    (mark % 0x1_0000) as u16
+}
+
+/// The dtime in such a number.
+#[inline(always)]
+fn dtime_in(mark: u32) -> u16
+    ensures { result ≡ dtime_in mark }
+{
+    (mark / 0x1_0000) as u16
 }

@@ -1,9 +1,8 @@
 -- Shifted dtimes, events at the ends of gates, and in several groups.
-use Rattle.std.proofs.Common.{◌≡◌, refl, List, [], ◌∷◌}
+use Rattle.std.proofs.Common.{◌≡◌, refl, [], ◌∷◌}
 use Rattle.tally_base.specs.declared.event.Event.{Event}
 use Rattle.tally_base.specs.declared.event.EventKind.{EventKind}
 use Rattle.tally_base.specs.declared.event.EventKind.TheVariants.{Photon, Marker}
-use Rattle.tally_base.specs.Settings.{GroupView}
 use Rattle.gate_plan.specs.Shifting.{Sorting, shifted}
 use Rattle.gate_plan.specs.Taking.{groups_in}
 

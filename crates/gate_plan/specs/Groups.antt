@@ -1,5 +1,5 @@
 -- How gates sort events.
-use Rattle.std.specs.Prelude.{ℕ, map}
+use Rattle.std.specs.Prelude.{map}
 use Rattle.tally_base.specs.Settings.{group_view, shift_view}
 use Rattle.gate_plan.specs.Shifting.{Sorting}
 use Rattle.gate_plan.specs.declared.gates.Gates.{Gates}

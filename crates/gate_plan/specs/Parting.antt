@@ -4,6 +4,7 @@ use Rattle.std.specs.List.{list_any}
 use Rattle.tally_base.specs.Settings.{GroupView}
 use Rattle.gate_plan.specs.Taking.{is_among, is_in_gate, one_if, bits_of}
 use Rattle.gate_plan.specs.declared.gated.Gated.{Gated}
+use Rattle.gate_plan.specs.declared.gated.OnlyGate.{OnlyGate}
 
 abbrev pub is_open : List (ℕ × ℕ) → Bool
 is_open [] = true
@@ -35,3 +36,7 @@ gated_bit input dtime group = one_if (slice_index_or group.has input false && pa
 
 abbrev pub gated_sum : List Gated → ℕ → ℕ → ℕ
 gated_sum gated input dtime = sum_by (gated_bit input dtime) gated
+
+-- the bit of the group of an only gate
+abbrev pub bit_behind : ℕ → ℕ → OnlyGate → ℕ
+bit_behind input dtime only = one_if (slice_index_or only.has input false && is_in_gate dtime only.gate) * 2 ^ only.place

@@ -1,13 +1,14 @@
 // The shifted dtimes of events, and the groups that they are in.
 ghost use Rattle.std.specs.Prelude.{◌≡◌, ◌<◌, ◌≤◌, ℕ, map, length, None, slice_index, slice_index_or};
+ghost use Rattle.std.specs.Option.{ForSome};
 ghost use Rattle.tally_base.specs.Settings.{group_view, shift_view};
 ghost use Rattle.gate_plan.specs.Shifting.{shift_of};
-ghost use Rattle.gate_plan.specs.Parting.{plain_bits, gated_bits, gated_sum};
+ghost use Rattle.gate_plan.specs.Parting.{plain_bits, gated_bits, gated_sum, bit_behind};
 
 use crate::copies::groups_again;
-use crate::gated::Gated;
+use crate::gated::{Gated, OnlyGate};
 use crate::shifts::{shift_table, shifted_by};
-use crate::table::{bits_of_gated, gated_of, plain_table};
+use crate::table::{bit_behind, bits_of_gated, gated_of, only_gate, plain_table};
 use arrayvec::ArrayVec;
 use plan_text::Plan;
 use tally_base::{Event, EventKind, Group, ShiftSet};
@@ -24,6 +25,8 @@ pub struct Gates {
     plain: [u64; 256],
     // The groups that have gates.
     gated: ArrayVec<Gated, 64>,
+    // The gate of those, where there is only one.
+    only: Option<OnlyGate>,
     ghost some_period: { (0 < period) × (period ≤ 32768) },
     ghost few: { length groups.items ≤ 64 },
     ghost shifts_are: { (input : ℕ) → input < 256
@@ -32,6 +35,8 @@ pub struct Gates {
         → slice_index plain input ≡ plain_bits (map group_view groups.items) input },
     ghost gated_is: { (input dtime : ℕ) → gated_sum gated.items input dtime
         ≡ gated_bits (map group_view groups.items) input dtime },
+    ghost only_is: { ForSome only (λ gate. (input dtime : ℕ)
+        → bit_behind input dtime gate ≡ gated_bits (map group_view groups.items) input dtime) },
 }
 
 impl Gates {
@@ -52,6 +57,7 @@ impl Gates {
         let groups = groups_again(plan.groups.as_slice());
         let plain = plain_table(groups.as_slice());
         let gated = gated_of(groups.as_slice());
+        let only = only_gate(gated.as_slice());
         Gates {
             period: plan.period,
             shifts,
@@ -59,6 +65,7 @@ impl Gates {
             groups,
             plain,
             gated,
+            only,
         }
     }
 
@@ -96,13 +103,24 @@ impl Gates {
         }
     }
 
+    /// The groups with a gate that a photon is in, by its shifted dtime. One gate takes no loop.
+    #[inline(always)]
+    fn of_gated(&self, input: u8, dtime: u16) -> u64
+        ensures { result ≡ gated_bits (sorting_of self.now).groups input dtime }
+    {
+        match &self.only {
+            Some(only) => bit_behind(only, input, dtime),
+            None => bits_of_gated(self.gated.as_slice(), input, dtime),
+        }
+    }
+
     /// The groups that a photon is in, by its shifted dtime.
     #[inline(always)]
     pub fn of_photon(&self, input: u8, dtime: u16) -> u64
         ensures { result ≡ plain_bits (sorting_of self.now).groups input
             + gated_bits (sorting_of self.now).groups input dtime }
     {
-        self.of_input(input) + bits_of_gated(self.gated.as_slice(), input, dtime)
+        self.of_input(input) + self.of_gated(input, dtime)
     }
 
     /// Whether a group has a gate.

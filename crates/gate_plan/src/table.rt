@@ -1,12 +1,13 @@
 // The groups without a gate by input, and those with gates.
 ghost use Rattle.std.specs.Prelude.{◌≡◌, ◌<◌, ◌≤◌, ◌*◌, ◌^◌, ℕ, map, length, slice_index, slice_index_or, false};
 ghost use Rattle.std.specs.Int.{bit_at};
+ghost use Rattle.std.specs.Option.{ForSome};
 ghost use Rattle.tally_base.specs.Settings.{group_view};
 ghost use Rattle.gate_plan.specs.Taking.{is_among, is_in_gate, one_if};
-ghost use Rattle.gate_plan.specs.Parting.{takes_plainly, takes_gated, passes, gates_of, plain_bits, gated_bits, gated_bit, gated_sum};
+ghost use Rattle.gate_plan.specs.Parting.{takes_plainly, takes_gated, passes, gates_of, plain_bits, gated_bits, gated_bit, gated_sum, bit_behind};
 
 use crate::copies::gates_again;
-use crate::gated::Gated;
+use crate::gated::{Gated, OnlyGate};
 use arrayvec::ArrayVec;
 use tally_base::Group;
 
@@ -78,20 +79,35 @@ fn gated_at(group: &Group, place: u64) -> Gated
     }
 }
 
-/// The number of those of these groups that a photon is in. One group takes no loop.
-#[inline(always)]
-pub(crate) fn bits_of_gated(gated: &[Gated], input: u8, dtime: u16) -> u64
-    requires fits { gated_sum gated.now input dtime < 2 ^ 64 }
-    ensures { result ≡ gated_sum gated.now input dtime }
+/// The only gate of these groups, if they are one group that has one gate.
+pub(crate) fn only_gate(gated: &[Gated]) -> Option<OnlyGate>
+    ensures { ForSome result (λ gate. (input dtime : ℕ)
+        → gated_sum gated.now input dtime ≡ bit_behind input dtime gate) }
 {
     match gated {
-        [group] => bit_in(group, input, dtime),
-        _ => bits_of_several(gated, input, dtime),
+        [group] if group.others.is_empty() => Some(OnlyGate {
+            place: group.place,
+            has: group.has,
+            gate: group.gate,
+        }),
+        _ => None,
     }
 }
 
-/// The number of those of several groups that a photon is in.
-fn bits_of_several(gated: &[Gated], input: u8, dtime: u16) -> u64
+/// The bit of the group of a gate, if a photon is in it. It takes no branch on the input or on the dtime.
+#[inline(always)]
+pub(crate) fn bit_behind(only: &OnlyGate, input: u8, dtime: u16) -> u64
+    ensures { result ≡ bit_behind input dtime only.now }
+{
+    let set = only.has[input as usize] & is_in_gate(&only.gate, dtime);
+    u64::from(set) << only.place
+}
+
+/// The number of those of these groups that a photon is in.
+// Not inlined, so that the loop over the events has the registers for itself: most plans have one gate at most.
+#[cold]
+#[inline(never)]
+pub(crate) fn bits_of_gated(gated: &[Gated], input: u8, dtime: u16) -> u64
     requires fits { gated_sum gated.now input dtime < 2 ^ 64 }
     ensures { result ≡ gated_sum gated.now input dtime }
 {

@@ -1,8 +1,8 @@
 -- The parts of a record say what its fields say.
-use Rattle.std.proofs.Common.{◌≡◌, ◌<◌, ℕ, Bool, true, false, arith}
+use Rattle.std.proofs.Common.{◌≡◌, ℕ, Bool, true, false, arith}
 use Rattle.std.proofs.lemmas.Grind.{common_steps}
 use Rattle.std.proofs.lemmas.Bool.Decides.{nat_tests}
-use Rattle.ptu_definitions.specs.Layouts.{bits, pico_t2_special, pico_t3_special}
+use Rattle.ptu_definitions.specs.Layouts.{bits}
 use Rattle.ptu_definitions.specs.Times.{amount}
 use Rattle.record_layout.specs.Rowed.{raw_of, hydra_t2_code, hydra_t3_code, hydra_t2_amount, hydra_t3_amount, pico_code, pico_amount}
 use Rattle.record_layout.specs.Joins.{joined_pico_t2, joined_pico_t3, joined_hydra_t2, joined_hydra_t3}

@@ -4,6 +4,7 @@ ghost use Rattle.std.specs.Int.{from_le_bytes, w32};
 ghost use Rattle.ptu_definitions.specs.Fours.{numbers};
 ghost use Rattle.ptu_definitions.specs.Kinds.{counts_of};
 ghost use Rattle.record_layout.specs.Sums.{IsSplit};
+ghost use Rattle.record_layout.specs.InColumns.{joined, code_in, dtime_in};
 
 use crate::layout::RecordLayout;
 use crate::row::Row;
@@ -13,9 +14,9 @@ use ptu_definitions::KindCounts;
 /// words at once.
 #[derive(Clone, Copy)]
 pub struct Columns {
-    codes: [u16; 64],
+    // The code of each record, and its dtime in the upper half, as a block of events has them.
+    marks: [u32; 64],
     times: [u32; 64],
-    dtimes: [u16; 64],
     // How many wraps each record stands for: narrower than how much later the times behind it are.
     wraps: [u32; 64],
 }
@@ -26,9 +27,8 @@ impl Columns {
     /// Columns for records, which say nothing yet.
     pub fn new() -> Columns {
         Columns {
-            codes: [0; 64],
+            marks: [0; 64],
             times: [0; 64],
-            dtimes: [0; 64],
             wraps: [0; 64],
         }
     }
@@ -55,9 +55,8 @@ impl Columns {
             → row_at unit self.new at ≡ row.now }
         ensures before { (unit i : ℕ) → i < at → row_at unit self.new i ≡ row_at unit self.old i }
     {
-        self.codes[at] = row.code;
+        self.marks[at] = joined(row.code, row.dtime);
         self.times[at] = row.time;
-        self.dtimes[at] = row.dtime;
         self.wraps[at] = wraps;
     }
 
@@ -74,7 +73,7 @@ impl Columns {
         let mut markers = 0u16;
         let mut wraps = 0u16;
         for i in 0..words.len() {
-            let code = self.codes[i];
+            let code = code_in(self.marks[i]);
             photons += (code < 256) as u16;
             markers += ((256 <= code) & (code < 512)) as u16;
             wraps += (code == 512) as u16;
@@ -97,10 +96,34 @@ impl Columns {
         ensures { result ≡ row_at R.UNIT self.now at }
     {
         Row {
-            code: self.codes[at],
+            code: code_in(self.marks[at]),
             time: self.times[at],
-            dtime: self.dtimes[at],
+            dtime: dtime_in(self.marks[at]),
             amount: R::unit() * self.wraps[at] as u64,
         }
     }
+}
+
+/// A code and a dtime as one number.
+#[inline(always)]
+fn joined(code: u16, dtime: u16) -> u32
+    ensures { result ≡ joined code dtime }
+{
+    u32::from(code) + 0x1_0000 * u32::from(dtime)
+}
+
+/// The code in such a number.
+#[inline(always)]
+fn code_in(mark: u32) -> u16
+    ensures { result ≡ code_in mark }
+{
+    (mark % 0x1_0000) as u16
+}
+
+/// The dtime in such a number.
+#[inline(always)]
+fn dtime_in(mark: u32) -> u16
+    ensures { result ≡ dtime_in mark }
+{
+    (mark / 0x1_0000) as u16
 }

@@ -30,7 +30,7 @@ pub struct Hist {
 impl Hist {
     ghost use Rattle.std.specs.Prelude.{◌++◌, IfOk, [], false};
     ghost use Rattle.tally_base.specs.Settings.PartSettings.{HistSettings};
-    ghost use Rattle.event_block.specs.Order.{floor_after, InOrder};
+    ghost use Rattle.event_block.specs.Tables.{MayTake, HasTaken};
     ghost use Rattle.tcspc_hist.specs.Hist.{Holds, set_of};
 
     /// A histogram of no events, with all the memory that it ever takes, or `AllocError` where it is wanting.
@@ -79,18 +79,9 @@ impl Hist {
     /// Takes the events of a block, as `event` does one by one.
     pub fn events(&mut self, block: &Block)
         requires sorted { IsSorted block.now }
-        requires open { ⟦<Hist as Tally>⟧.closed self.old ≡ false }
-        requires room { ⟦<Hist as Tally>⟧.taken self.old + length (gathered block.now) ≤ record_limit }
-        requires in_order { InOrder false (⟦<Hist as Tally>⟧.floor self.old) (gathered block.now) }
-        ensures follows { (h : History) → Holds self.old h
-            → Holds self.new (h ++ events_in block.now) }
-        ensures still_open { ⟦<Hist as Tally>⟧.closed self.new ≡ false }
-        ensures more { ⟦<Hist as Tally>⟧.taken self.new
-            ≡ ⟦<Hist as Tally>⟧.taken self.old + length (gathered block.now) }
-        ensures moved { ⟦<Hist as Tally>⟧.floor self.new
-            ≡ floor_after false (⟦<Hist as Tally>⟧.floor self.old) (gathered block.now) }
-        ensures same_settings { ⟦<Hist as Tally>⟧.settings self.new
-            ≡ ⟦<Hist as Tally>⟧.settings self.old }
+        requires may { MayTake ⟦<Hist as Tally>⟧ (gathered block.now) self.old }
+        ensures { HasTaken ⟦<Hist as Tally>⟧ (gathered block.now) (events_in block.now)
+            self.old self.new }
     {
         self.taken += block.len() as u64;
         self.floor = block.floor_after(false, self.floor);
@@ -115,26 +106,25 @@ fn count_block(set: &HistSet, cells: &mut [u64], over: u64, block: &Block) -> u6
         // No branch on the group, which is as good as random from photon to photon.
         let more = block.photons_in(at, group);
         let bin = bin_of(width, block.dtime(at));
-        over += put(cells, bin, more);
+        put(cells, &mut over, bin, more);
     }
     over
 }
 
-/// Adds to the cell of a bin, or answers what is to be added past the last.
+/// Adds to the cell of a bin, or past the last.
 #[inline(always)]
-fn put(cells: &mut [u64], bin: u32, more: u64) -> u64
-    requires { sum cells.old + more < 2 ^ 64 }
+fn put(cells: &mut [u64], over: &mut u64, bin: u32, more: u64)
+    requires { sum cells.old + over.old + more < 2 ^ 64 }
     ensures cells { (b : ℕ) → b < length cells.old → slice_index cells.new b
         ≡ slice_index cells.old b + (if bin == b then more else 0) }
-    ensures rest { result ≡ (if nat_le (length cells.old) bin then more else 0) }
-    ensures sum { sum cells.new + result ≡ sum cells.old + more }
+    ensures rest { over.new ≡ over.old + (if nat_le (length cells.old) bin then more else 0) }
+    ensures sum { sum cells.new + over.new ≡ sum cells.old + over.old + more }
 {
     let bin = bin as usize;
     if bin < cells.len() {
         cells[bin] += more;
-        0
     } else {
-        more
+        *over += more;
     }
 }
 

@@ -6,4 +6,4 @@ pub invariant_of-self-clause-markers : goal.invariant_of-self-clause-markers
 invariant_of-self-clause-markers c =
     let b = c.args.self.now in
     let inside : c.args.at < length b.groups = search (rules, arith) in
-    none-put b.codes b.groups c.args.at c.args.groups inside (rw c.requires.next b.markers) c.requires.marker
+    none-put b.marks b.groups c.args.at c.args.groups inside (rw c.requires.next b.markers) c.requires.marker

@@ -1,5 +1,5 @@
 use Rattle.std.proofs.Common.{◌-◌, ◌∙◌, sym, map}
-use Rattle.gate_plan.specs.Shifting.{shifted, shifted_dtime}
+use Rattle.gate_plan.specs.Shifting.{shifted}
 use Rattle.gate_plan.specs.Taking.{takes}
 use Rattle.gate_plan.specs.Groups.{sorting_of}
 use Rattle.gate_plan.proofs.Bits.{bit_is}

@@ -1,21 +1,11 @@
-use Rattle.std.proofs.Common.{◌≡◌, ◌∙◌, arith, ap, get_or, rules}
+use Rattle.std.proofs.Common.{◌≡◌, arith, get_or, rules}
 use Rattle.gate_plan.specs.Groups.{sorting_of}
-use Rattle.gate_plan.specs.Parting.{plain_bits, gated_sum}
-use Rattle.gate_plan.proofs.Parts.{parted_fits, gated_fits, few_groups}
+use Rattle.gate_plan.specs.Parting.{plain_bits}
+use Rattle.gate_plan.proofs.Parts.{parted_fits, few_groups}
 use Rattle.gate_plan.proofs.gates.Gates.of_photon.Goals as goal
-
-pub bits_of_gated-requires : goal.bits_of_gated-requires
-bits_of_gated-requires c = record { fits = rw (c.as_slice.ensures.value, c.args.self.now.gated_is c.args.input c.args.dtime) (gated_fits (sorting_of c.args.self.now).groups c.args.input c.args.dtime (few_groups c.args.self.now.groups.items c.args.self.now.few)) }
 
 pub overflow_add-result : goal.overflow_add-result
 overflow_add-result c =
-    let is = c.bits_of_gated.ensures ∙ ap (λ gated. gated_sum gated c.args.input c.args.dtime) c.as_slice.ensures.value ∙ c.args.self.now.gated_is c.args.input c.args.dtime in
     let plain : get_or c.args.self.now.plain c.args.input 0 ≡ plain_bits (sorting_of c.args.self.now).groups c.args.input = c.args.self.now.plain_is c.args.input (search (rules, arith)) in
     let fits = parted_fits (sorting_of c.args.self.now).groups c.args.input c.args.dtime (few_groups c.args.self.now.groups.items c.args.self.now.few) in
-    search (rules, arith, is, plain, fits)
-
-pub returns : goal.returns
-returns c =
-    let is = c.bits_of_gated.ensures ∙ ap (λ gated. gated_sum gated c.args.input c.args.dtime) c.as_slice.ensures.value ∙ c.args.self.now.gated_is c.args.input c.args.dtime in
-    let plain : get_or c.args.self.now.plain c.args.input 0 ≡ plain_bits (sorting_of c.args.self.now).groups c.args.input = c.args.self.now.plain_is c.args.input (search (rules, arith)) in
-    search (rules, arith, is, plain)
+    search (rules, arith, plain, fits)

@@ -1,4 +1,4 @@
-use Rattle.std.proofs.Common.{◌≡◌, ◌∙◌, ◌/◌, false, length, sym, ap, rules, arith, length-append}
+use Rattle.std.proofs.Common.{◌≡◌, ◌∙◌, ◌/◌, false, length, refl, sym, ap, rules, arith, length-append}
 use Rattle.std.specs.Prelude.{nat_le, ◌==◌}
 use Rattle.tally_base.specs.Settings.{hist_view}
 use Rattle.event_block.specs.Columns.{item, gathered, events_in}
@@ -10,22 +10,28 @@ use Rattle.tcspc_hist.proofs.Blocks.{count-append}
 use Rattle.event_block.proofs.Slices.{whole_slice}
 use Rattle.tcspc_hist.proofs.hist.Hist.events.Goals as goal
 
-pub returns-clause-follows : goal.returns-clause-follows
-returns-clause-follows c = λ h is.
-    let t = c.args.self.now in
-    let set = hist_view t.set in
-    let block = c.args.block.now in
-    let e = rw c.deref_mut.ensures.value at c.count_block-self.ensures in
-    let count : length c.count_block-self.new.cells ≡ length t.cells.items = search rules in
-    let all : t.cells.len ≡ length t.cells.items = search rules in
-    let ordered : InOrder false (greatest_time false h) (gathered block) = rw (← is.floor) c.requires.in_order in
-    record {
-      cells = λ b lt.
-          let more = count-append set (λ dtime. dtime / set.width == b) h (events_in block) in
-          rw (whole_slice c.count_block-self.new.cells t.cells.items t.cells.len count all) (omega (arith, e.cells b lt, is.cells b lt, more));
-      over =
-          let more = count-append set (λ dtime. nat_le set.bins (dtime / set.width)) h (events_in block) in
-          omega (arith, e.over, is.over, more);
-      taken = omega (arith, is.taken, c.len.ensures.count, length-append h (events_in block), length-rows (item block) block.len);
-      floor = c.floor_after-self.ensures ∙ ap (λ n. floor_after false n (gathered block)) is.floor ∙ sym (greatest-rows false h (item block) block.len ordered);
-    }
+pub returns : goal.returns
+returns c = record {
+  follows = λ h is.
+      let t = c.args.self.now in
+      let set = hist_view t.set in
+      let block = c.args.block.now in
+      let e = rw c.deref_mut.ensures.value at c.count_block-self.ensures in
+      let count : length c.count_block-self.new.cells ≡ length t.cells.items = search rules in
+      let all : t.cells.len ≡ length t.cells.items = search rules in
+      let ordered : InOrder false (greatest_time false h) (gathered block) = rw (← is.floor) c.requires.may.in_order in
+      record {
+        cells = λ b lt.
+            let more = count-append set (λ dtime. dtime / set.width == b) h (events_in block) in
+            rw (whole_slice c.count_block-self.new.cells t.cells.items t.cells.len count all) (omega (arith, e.cells b lt, is.cells b lt, more));
+        over =
+            let more = count-append set (λ dtime. nat_le set.bins (dtime / set.width)) h (events_in block) in
+            omega (arith, e.over, is.over, more);
+        taken = omega (arith, is.taken, c.len.ensures.count, length-append h (events_in block), length-rows (item block) block.len);
+        floor = c.floor_after-self.ensures ∙ ap (λ n. floor_after false n (gathered block)) is.floor ∙ sym (greatest-rows false h (item block) block.len ordered);
+      };
+  still_open = c.requires.may.open';
+  count = search (rules, arith);
+  moved = c.floor_after-self.ensures;
+  same_settings = refl;
+}

@@ -1,7 +1,7 @@
 use Rattle.std.proofs.Common.{◌≡◌, ◌+◌, drop}
 use Rattle.std.specs.Prelude.{sum_by}
 use Rattle.gate_plan.specs.Parting.{gated_bit, gated_sum}
-use Rattle.gate_plan.proofs.table.bits_of_several.Given as goal
+use Rattle.gate_plan.proofs.table.bits_of_gated.Given as goal
 
 abbrev pub invariant-gated : goal.invariant-gated
 invariant-gated l = record {
