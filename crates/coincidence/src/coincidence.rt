@@ -37,7 +37,7 @@ impl Coincidence {
     ghost use Rattle.tally_base.specs.Settings.{coincidence_cells};
     ghost use Rattle.tally_base.specs.Settings.PartSettings.{CoincidenceSettings};
     ghost use Rattle.event_block.specs.Columns.{gathered, events_in, IsSorted};
-    ghost use Rattle.event_block.specs.Order.{floor_after, InOrder};
+    ghost use Rattle.event_block.specs.Tables.{MayTake, HasTaken};
     ghost use Rattle.coincidence.specs.Coincidence.{Holds, set_of, settings, is_closed, taken_by, floor_by, cells_in, spent_by};
     ghost use Rattle.coincidence.specs.Pairs.{coincidences};
 
@@ -89,16 +89,9 @@ impl Coincidence {
     /// Takes the events of a block, as `event` does one by one.
     pub fn events<L: Ledger>(&mut self, block: &Block, steps: &mut Steps<L>)
         requires sorted { IsSorted block.now }
-        requires open { is_closed self.old ≡ false }
-        requires room { taken_by self.old + length (gathered block.now) ≤ record_limit }
-        requires in_order { InOrder false (floor_by self.old) (gathered block.now) }
-        ensures follows { (h : History) → Holds self.old h
-            → Holds self.new (h ++ events_in block.now) }
-        ensures still_open { is_closed self.new ≡ false }
-        ensures more { taken_by self.new ≡ taken_by self.old + length (gathered block.now) }
-        ensures moved { floor_by self.new ≡ floor_after false (floor_by self.old)
-            (gathered block.now) }
-        ensures same_settings { settings self.new ≡ settings self.old }
+        requires may { MayTake ⟦<Coincidence as Tally>⟧ (gathered block.now) self.old }
+        ensures took { HasTaken ⟦<Coincidence as Tally>⟧ (gathered block.now) (events_in block.now)
+            self.old self.new }
         ensures same_set { set_of self.new ≡ set_of self.old }
         ensures steps { steps.new + spent_by self.old ≡ steps.old + spent_by self.new }
     {

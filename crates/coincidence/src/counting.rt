@@ -10,7 +10,7 @@ ghost use Rattle.coincidence.specs.Starts.{since_in};
 
 use crate::start::{Start, ended, start_behind};
 use event_block::{BLOCK_SIZE, Block};
-use tally_base::StartStopSet;
+use tally_base::{Divisor, StartStopSet};
 
 /// Counts the intervals that the photons of a block end, and answers how many are now past the last bin.
 pub(crate) fn count_block(
@@ -33,6 +33,7 @@ pub(crate) fn count_block(
 {
     // Copies, so that no field is read again for each photon.
     let own = *set;
+    let width = Divisor::new(set.width);
     let mut last = *start;
     let mut over = over;
     for at in 0..block.len().min(BLOCK_SIZE) {
@@ -41,7 +42,7 @@ pub(crate) fn count_block(
             let starts = block.has_photon(at, own.start);
             let stops = block.has_photon(at, own.stop);
             let time = block.time(at);
-            let bin = bin_of(time - last.since, own.width);
+            let bin = width.quotient(time - last.since);
             over += put(cells, bin, ended(last, stops));
             last = start_behind(last, time, starts, stops);
         }

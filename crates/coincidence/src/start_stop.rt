@@ -35,7 +35,7 @@ pub struct StartStop {
 impl StartStop {
     ghost use Rattle.std.specs.Prelude.{◌<◌, ◌++◌, length, IfOk, [], false};
     ghost use Rattle.event_block.specs.Columns.{gathered, events_in, IsSorted};
-    ghost use Rattle.event_block.specs.Order.{floor_after, InOrder};
+    ghost use Rattle.event_block.specs.Tables.{MayTake, HasTaken};
     ghost use Rattle.tally_base.specs.Settings.{startstop_view};
     ghost use Rattle.tally_base.specs.Settings.PartSettings.{StartStopSettings};
     ghost use Rattle.coincidence.specs.Intervals.{in_interval, count_over};
@@ -87,19 +87,9 @@ impl StartStop {
     /// Takes the events of a block, as `event` does one by one.
     pub fn events(&mut self, block: &Block)
         requires sorted { IsSorted block.now }
-        requires open { ⟦<StartStop as Tally>⟧.closed self.old ≡ false }
-        requires room { ⟦<StartStop as Tally>⟧.taken self.old + length (gathered block.now) ≤ record_limit }
-        requires in_order { InOrder false (⟦<StartStop as Tally>⟧.floor self.old)
-            (gathered block.now) }
-        ensures follows { (h : History) → Holds self.old h
-            → Holds self.new (h ++ events_in block.now) }
-        ensures still_open { ⟦<StartStop as Tally>⟧.closed self.new ≡ false }
-        ensures more { ⟦<StartStop as Tally>⟧.taken self.new
-            ≡ ⟦<StartStop as Tally>⟧.taken self.old + length (gathered block.now) }
-        ensures moved { ⟦<StartStop as Tally>⟧.floor self.new
-            ≡ floor_after false (⟦<StartStop as Tally>⟧.floor self.old) (gathered block.now) }
-        ensures same_settings { ⟦<StartStop as Tally>⟧.settings self.new
-            ≡ ⟦<StartStop as Tally>⟧.settings self.old }
+        requires may { MayTake ⟦<StartStop as Tally>⟧ (gathered block.now) self.old }
+        ensures { HasTaken ⟦<StartStop as Tally>⟧ (gathered block.now) (events_in block.now)
+            self.old self.new }
     {
         self.taken += block.len() as u64;
         self.floor = block.floor_after(false, self.floor);

@@ -2,6 +2,5 @@ pub mod Rows
 pub mod Lasts
 pub mod Steps
 pub mod Parts
-pub mod Shares
 pub mod Starts
 pub mod Strips

@@ -3,6 +3,5 @@ pub mod Marks
 pub mod Places
 pub mod Rows
 pub mod Lines
-pub mod Divisors
 pub mod Strips
 pub mod PlacesBy

@@ -2,13 +2,12 @@
 #![tactic(auto)]
 
 mod bits;
-mod divisor;
 pub mod laws;
 mod lines;
 mod strip;
 
 pub use lines::Lines;
-pub use strip::Strip;
+pub use strip::{Strip, Way};
 
 #[cfg(test)]
 mod tests;

@@ -5,12 +5,11 @@ ghost use Rattle.tally_base.specs.Settings.{image_view};
 ghost use Rattle.tally_base.specs.Limits.{record_limit};
 ghost use Rattle.marker_map.specs.Places.{runs_back};
 ghost use Rattle.marker_map.specs.Rows.{line_at, row_after};
-ghost use Rattle.marker_map.specs.Divisors.{divisor_of};
+ghost use Rattle.tally_base.specs.Divisors.{divisor_of};
 
 use crate::bits::{has_bit, has_named_bit};
-use crate::divisor::Divisor;
 use crate::strip::Strip;
-use tally_base::ImageSet;
+use tally_base::{Divisor, ImageSet};
 
 /// A line that no stop has ended, and its row.
 #[derive(Clone, Copy)]
@@ -172,6 +171,7 @@ impl Lines {
             open: true,
             start: line.start,
             row: line.row as u32,
+            near: self.dwell.short_end(self.set.width),
             backwards: runs_back(&self.set, line.row),
             width: self.set.width,
             height: self.set.height,
@@ -191,6 +191,7 @@ impl Lines {
             open: false,
             start: 0,
             row: 0,
+            near: 0,
             backwards: false,
             width: self.set.width,
             height: self.set.height,

@@ -17,19 +17,19 @@ use Rattle.scan_image.specs.Totals.{in_all_cells, photons_of_group}
 use Rattle.scan_image.proofs.Behind.{one_if}
 use Rattle.scan_image.proofs.Counts.{placed-photon, placed-other}
 
-sum-agree : (f g : ℕ → ℕ) → ((i : ℕ) → f i ≡ g i) → (xs : List ℕ) → sum_by f xs ≡ sum_by g xs
+pub sum-agree : (f g : ℕ → ℕ) → ((i : ℕ) → f i ≡ g i) → (xs : List ℕ) → sum_by f xs ≡ sum_by g xs
 sum-agree f g same [] = refl
 sum-agree f g same (x ∷ xs) =
     let more = sum-agree f g same xs in
     omega (arith, more, same x, sum_by-cons f x xs, sum_by-cons g x xs)
 
-sum-plus : (f g : ℕ → ℕ) (xs : List ℕ) → sum_by (λ i. f i + g i) xs ≡ sum_by f xs + sum_by g xs
+pub sum-plus : (f g : ℕ → ℕ) (xs : List ℕ) → sum_by (λ i. f i + g i) xs ≡ sum_by f xs + sum_by g xs
 sum-plus f g [] = refl
 sum-plus f g (x ∷ xs) =
     let more = sum-plus f g xs in
     omega (arith, more, sum_by-cons (λ i. f i + g i) x xs, sum_by-cons f x xs, sum_by-cons g x xs)
 
-sum-none : (xs : List ℕ) → sum_by (λ i. 0) xs ≡ 0
+pub sum-none : (xs : List ℕ) → sum_by (λ i. 0) xs ≡ 0
 sum-none [] = refl
 sum-none (x ∷ xs) =
     let more = sum-none xs in
@@ -55,7 +55,7 @@ met a start n count false is low behind =
     omega (arith, more, here, sum_by-cons (λ i. cond (eqb a i) count 0) start (range_with_len (start + 1) n))
 
 -- A number of the range is met once.
-in-range : (a start n count : ℕ) → start ≤ a → a < start + n → sum_by (λ i. cond (eqb a i) count 0) (range_with_len start n) ≡ count
+pub in-range : (a start n count : ℕ) → start ≤ a → a < start + n → sum_by (λ i. cond (eqb a i) count 0) (range_with_len start n) ≡ count
 in-range a start zero count low high = absurd (omega arith)
 in-range a start (suc n) count low high = met a start n count (eqb a start) refl low (λ above. in-range a (start + 1) n count above (omega arith))
 
@@ -77,7 +77,7 @@ inside-by set time row None = tt
 inside-by set time None (Some line) = tt
 inside-by set time (Some row) (Some line) = tested set ((time - line.time) / set.dwell) row _ refl
 
-place-inside : (set : ImageView) (time : ℕ) (ms : List Mark) → Inside set (place_of set time ms)
+pub place-inside : (set : ImageView) (time : ℕ) (ms : List Mark) → Inside set (place_of set time ms)
 place-inside set time ms = inside-by set time (row_of set ms) (line_of set ms)
 
 both : (a b : Bool) → one_if (a && b) ≡ cond a (one_if b) 0
@@ -102,7 +102,7 @@ met-once set (Some place) inside =
     let one = in-range place.1 0 set.height 1 (omega arith) (omega (arith, inside.1)) in
     omega (arith, rows, one)
 
-cells-more : (set : ImageView) (h later : History) (more : ℕ → ℕ → ℕ) → ((x y : ℕ) → in_cell set x y later ≡ in_cell set x y h + more x y) → in_all_cells set later ≡ in_all_cells set h + sum_by (λ y. sum_by (λ x. more x y) (range_with_len 0 set.width)) (range_with_len 0 set.height)
+pub cells-more : (set : ImageView) (h later : History) (more : ℕ → ℕ → ℕ) → ((x y : ℕ) → in_cell set x y later ≡ in_cell set x y h + more x y) → in_all_cells set later ≡ in_all_cells set h + sum_by (λ y. sum_by (λ x. more x y) (range_with_len 0 set.width)) (range_with_len 0 set.height)
 cells-more set h later more is =
     let row : (y : ℕ) → sum_by (λ x. in_cell set x y later) (range_with_len 0 set.width) ≡ sum_by (λ x. in_cell set x y h) (range_with_len 0 set.width) + sum_by (λ x. more x y) (range_with_len 0 set.width) =
     λ y. sum-agree (λ x. in_cell set x y later) (λ x. in_cell set x y h + more x y) (λ x. is x y) (range_with_len 0 set.width)
@@ -137,7 +137,7 @@ total-push set h x false is so_far =
     let here = ap one_if is in
     omega (arith, so_far, cells, rows, none, outside, photons, here)
 
-by-pushes : (P : History → Type 0) → ((h : History) (x : Event × ℕ) → P h → P (h ++ x ∷ [])) → (front rest : History) → P front → P (front ++ rest)
+pub by-pushes : (P : History → Type 0) → ((h : History) (x : Event × ℕ) → P h → P (h ++ x ∷ [])) → (front rest : History) → P front → P (front ++ rest)
 by-pushes P step front [] so_far = subst P (sym (append-nil front)) so_far
 by-pushes P step front (x ∷ rest) so_far = subst P (append_assoc front (x ∷ []) rest) (by-pushes P step (front ++ x ∷ []) rest (step front x so_far))
 

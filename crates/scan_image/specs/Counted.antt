@@ -23,6 +23,11 @@ pub record Counted (set : ImageView) (lines : Lines) (cells : List ℕ) (outside
 abbrev pub with_front : History → Block → ℕ → History
 with_front h block n = h ++ rows (item block) n
 
+-- Where these cells count the events up to one place of a block, those count them up to another.
+abbrev pub CountsOn : ImageView → Lines → Block → ℕ → ℕ → List ℕ → ℕ → List ℕ → ℕ → Type 0
+CountsOn set lines block from at cells outside cells' outside' =
+    (h : History) → Counted set lines cells outside (with_front h block from) → Counted set lines cells' outside' (with_front h block at)
+
 -- The strip tells where photons are behind the markers that the lines saw.
 abbrev pub IsStripOf : Lines → Strip → Type 0
 IsStripOf lines strip = (ms : List Mark) → Saw lines ms → (time : ℕ) → place_on strip time ≡ place_of (image_of lines) time ms

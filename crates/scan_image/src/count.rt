@@ -8,11 +8,11 @@ ghost use Rattle.event_block.specs.Order.{floor_after, InOrder};
 ghost use Rattle.marker_map.specs.Lines.{image_of, markers_given, line_start};
 ghost use Rattle.marker_map.specs.declared.lines.Lines.{Lines};
 ghost use Rattle.marker_map.specs.Strips.{start_of};
-ghost use Rattle.scan_image.specs.Counted.{Counted, with_front, IsStripOf, IsOfSize};
+ghost use Rattle.scan_image.specs.Counted.{Counted, CountsOn, IsStripOf, IsOfSize};
 ghost use Rattle.scan_image.specs.ImageCounts.{is_at};
 
 use event_block::{BLOCK_SIZE, Block};
-use marker_map::{Lines, Strip};
+use marker_map::{Lines, Strip, Way};
 use tally_base::ImageSet;
 
 /// Counts the photons of a block, and answers how many are now outside the image.
@@ -81,10 +81,8 @@ fn count_run(
     requires of_set { image_of lines.now ≡ image_view set.now }
     requires in_time { (i : ℕ) → from ≤ i → i < count block.now
         → line_start lines.now ≤ time_at block.now i }
-    ensures follows { (h : History)
-        → Counted (image_view set.now) lines.now cells.old outside (with_front h block.now from)
-        → Counted (image_view set.now) lines.now cells.new result.outside
-        (with_front h block.now result.at) }
+    ensures follows { CountsOn (image_view set.now) lines.now block.now from result.at cells.old
+        outside cells.new result.outside }
     ensures onward { from ≤ result.at }
     ensures inside { result.at ≤ count block.now }
     ensures marker { result.at < count block.now → 256 ≤ code_at block.now result.at }
@@ -92,9 +90,23 @@ fn count_run(
 {
     let strip = lines.strip();
     if strip.is_backwards() {
-        count_on(set, &strip.facing(true), cells, outside, block, from)
+        count_on(
+            set,
+            &strip.facing(Way::Backwards),
+            cells,
+            outside,
+            block,
+            from,
+        )
     } else {
-        count_on(set, &strip.facing(false), cells, outside, block, from)
+        count_on(
+            set,
+            &strip.facing(Way::Forwards),
+            cells,
+            outside,
+            block,
+            from,
+        )
     }
 }
 
@@ -111,15 +123,13 @@ fn count_on(
     requires sorted { IsSorted block.now }
     requires within { from ≤ count block.now }
     requires sized { length cells.old ≡ set.now.width * set.now.height }
-    requires room { sum cells.old + outside + count block.now ≤ 2 ^ 40 + from }
+    requires room { sum cells.old + outside + count block.now ≤ record_limit + from }
     requires of_set { IsOfSize set.now strip.now }
     requires in_time { (i : ℕ) → from ≤ i → i < count block.now
         → start_of strip.now ≤ time_at block.now i }
-    ensures follows { (lines : Lines) (h : History)
-        → IsStripOf lines strip.now → image_of lines ≡ image_view set.now
-        → Counted (image_view set.now) lines cells.old outside (with_front h block.now from)
-        → Counted (image_view set.now) lines cells.new result.outside
-        (with_front h block.now result.at) }
+    ensures follows { (lines : Lines) → IsStripOf lines strip.now
+        → image_of lines ≡ image_view set.now → CountsOn (image_view set.now) lines block.now from
+        result.at cells.old outside cells.new result.outside }
     ensures onward { from ≤ result.at }
     ensures inside { result.at ≤ count block.now }
     ensures marker { result.at < count block.now → 256 ≤ code_at block.now result.at }
@@ -137,28 +147,27 @@ fn count_on(
         // No branch on the group, which is as good as random from photon to photon.
         let more = block.photons_in(at, own.group);
         let place = line.place(block.time(at));
-        outside += put(&own, cells, place, more);
+        put(&own, cells, &mut outside, place, more);
     }
     Run { at: len, outside }
 }
 
-/// Adds to the cell of a place, or answers what is to be added outside the image.
+/// Adds to the cell of a place, or outside the image.
 #[inline(always)]
-fn put(set: &ImageSet, cells: &mut [u64], place: Option<(u32, u32)>, more: u64) -> u64
+fn put(set: &ImageSet, cells: &mut [u64], outside: &mut u64, place: Option<(u32, u32)>, more: u64)
     requires sized { length cells.old ≡ set.now.width * set.now.height }
     requires inside { IfSome place (λ place. (place.0 < set.now.width) × (place.1 < set.now.height)) }
-    requires room { sum cells.old + more < 2 ^ 64 }
+    requires room { sum cells.old + outside.old + more < 2 ^ 64 }
     ensures cells { (x y : ℕ) → x < set.now.width → y < set.now.height
         → slice_index cells.new (y * set.now.width + x)
         ≡ slice_index cells.old (y * set.now.width + x) + (if is_at x y place then more else 0) }
-    ensures rest { result ≡ (if is_none place then more else 0) }
-    ensures sum { sum cells.new + result ≡ sum cells.old + more }
+    ensures rest { outside.new ≡ outside.old + (if is_none place then more else 0) }
+    ensures sum { sum cells.new + outside.new ≡ sum cells.old + outside.old + more }
 {
     if let Some((column, row)) = place {
         cells[cell_of(set, column, row)] += more;
-        0
     } else {
-        more
+        *outside += more;
     }
 }
 

@@ -37,7 +37,7 @@ pub struct Image {
 impl Image {
     ghost use Rattle.std.specs.Prelude.{◌++◌, length, true, IfOk, [], false};
     ghost use Rattle.event_block.specs.Columns.{gathered, events_in, IsSorted};
-    ghost use Rattle.event_block.specs.Order.{floor_after, InOrder};
+    ghost use Rattle.event_block.specs.Tables.{MayTake, HasTaken};
     ghost use Rattle.tally_base.specs.Settings.PartSettings.{ImageSettings};
     ghost use Rattle.scan_image.specs.ImageCounts.{in_cell, count_outside};
     ghost use Rattle.scan_image.specs.Image.{Holds, set_of};
@@ -90,18 +90,9 @@ impl Image {
     /// Takes the events of a block, as `event` does one by one.
     pub fn events(&mut self, block: &Block)
         requires sorted { IsSorted block.now }
-        requires open { ⟦<Image as Tally>⟧.closed self.old ≡ false }
-        requires room { ⟦<Image as Tally>⟧.taken self.old + length (gathered block.now) ≤ record_limit }
-        requires in_order { InOrder true (⟦<Image as Tally>⟧.floor self.old) (gathered block.now) }
-        ensures follows { (h : History) → Holds self.old h
-            → Holds self.new (h ++ events_in block.now) }
-        ensures still_open { ⟦<Image as Tally>⟧.closed self.new ≡ false }
-        ensures more { ⟦<Image as Tally>⟧.taken self.new
-            ≡ ⟦<Image as Tally>⟧.taken self.old + length (gathered block.now) }
-        ensures moved { ⟦<Image as Tally>⟧.floor self.new
-            ≡ floor_after true (⟦<Image as Tally>⟧.floor self.old) (gathered block.now) }
-        ensures same_settings { ⟦<Image as Tally>⟧.settings self.new
-            ≡ ⟦<Image as Tally>⟧.settings self.old }
+        requires may { MayTake ⟦<Image as Tally>⟧ (gathered block.now) self.old }
+        ensures { HasTaken ⟦<Image as Tally>⟧ (gathered block.now) (events_in block.now)
+            self.old self.new }
     {
         self.taken += block.len() as u64;
         self.floor = block.floor_after(true, self.floor);

@@ -6,6 +6,7 @@ mod image;
 pub mod laws;
 
 pub use image::Image;
+pub use marker_map::Lines;
 
 #[cfg(test)]
 mod greatest_tests;

@@ -35,12 +35,12 @@ loop-at-preserved c =
     let place = c.place-place.result in
     let found : (lines : Lines) → IsStripOf lines c.args.strip.now → image_of lines ≡ set → (ms : List Mark) → Saw lines ms → place_of set time ms ≡ place = λ lines strip of_set ms saw. sym (ap (λ image. place_of image time ms) of_set) ∙ (sym (strip ms saw time) ∙ sym (rw c.time.ensures at c.place-place.ensures.value)) in
     record {
-      counted = λ lines h strip of_set is. rw (more_rows (item b) at, ← append_assoc) (photon_step set lines c.loop-at.cells c.put-outside.new.cells c.loop-at.outside _ more place (h ++ rows (item b) at) (item b at) code (dtime_at b at) kind of_group (found lines strip of_set) c.put-outside.ensures.cells (ap (λ n. c.loop-at.outside + n) c.put-outside.ensures.rest) (inv.counted lines h strip of_set is));
-      few = omega (arith, c.put-outside.ensures.sum, inv.few, few_more (is_in (groups_at b at) set.group), of_group);
+      counted = λ lines h strip of_set is. rw (more_rows (item b) at, ← append_assoc) (photon_step set lines c.loop-at.cells c.put.new.cells c.loop-at.outside _ more place (h ++ rows (item b) at) (item b at) code (dtime_at b at) kind of_group (found lines strip of_set) c.put.ensures.cells c.put.ensures.rest (inv.counted lines h strip of_set is));
+      few = omega (arith, c.put.ensures.sum, inv.few, few_more (is_in (groups_at b at) set.group), of_group);
     }
 
 pub returns-clause-follows : goal.returns-clause-follows
-returns-clause-follows c = λ lines h strip of_set is.
+returns-clause-follows c = λ lines strip of_set h is.
     let b = c.args.block.now in
     let len : c.min-len.result ≡ b.len = search (rules, arith) in
     let end : c.loop-at.at ≡ c.min-len.result = omega (arith, len, c.requires.within, c.loop-at-test.false, c.loop-at.auto.at-end) in

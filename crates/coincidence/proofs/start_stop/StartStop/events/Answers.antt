@@ -1,4 +1,4 @@
-use Rattle.std.proofs.Common.{◌≡◌, ◌∙◌, false, length, sym, ap, rules, arith, length-append}
+use Rattle.std.proofs.Common.{◌≡◌, ◌∙◌, false, length, refl, sym, ap, rules, arith, length-append}
 use Rattle.tally_base.specs.Tally.{greatest_time}
 use Rattle.event_block.specs.Columns.{item, gathered, events_in}
 use Rattle.event_block.specs.Order.{floor_after, InOrder}
@@ -10,7 +10,7 @@ use Rattle.coincidence.specs.Starts.{since_in}
 use Rattle.coincidence.proofs.start_stop.StartStop.events.Goals as goal
 
 pub count_block-self-requires-clause-in_order : goal.count_block-self-requires-clause-in_order
-count_block-self-requires-clause-in_order c = let t = c.args.self.now in order-lower false (since_in t.start) t.floor (gathered c.args.block.now) t.started c.requires.in_order
+count_block-self-requires-clause-in_order c = let t = c.args.self.now in order-lower false (since_in t.start) t.floor (gathered c.args.block.now) t.started c.requires.may.in_order
 
 pub invariant_of-self : goal.invariant_of-self
 invariant_of-self c =
@@ -25,19 +25,25 @@ invariant_of-self c =
       started = rw c.floor_after-self.ensures (omega (arith, e.begun, floor-lower false (since_in t.start) t.floor es t.started));
     }
 
-pub returns-clause-follows : goal.returns-clause-follows
-returns-clause-follows c = λ h is.
-    let t = c.args.self.now in
-    let block = c.args.block.now in
-    let e = rw c.deref_mut.ensures.value at c.count_block-self.ensures in
-    let count : length c.count_block-self.new.cells ≡ length t.cells.items = search rules in
-    let all : t.cells.len ≡ length t.cells.items = search rules in
-    let ordered : InOrder false (greatest_time false h) (gathered block) = rw (← is.floor) c.requires.in_order in
-    let now = e.follows h (record { each = is.cells; rest = is.over; open' = is.start }) in
-    record {
-      cells = λ b lt. rw (whole_slice c.count_block-self.new.cells t.cells.items t.cells.len count all) (now.each b lt);
-      over = now.rest;
-      start = now.open';
-      taken = omega (arith, is.taken, c.len.ensures.count, length-append h (events_in block), length-rows (item block) block.len);
-      floor = c.floor_after-self.ensures ∙ ap (λ n. floor_after false n (gathered block)) is.floor ∙ sym (greatest-rows false h (item block) block.len ordered);
-    }
+pub returns : goal.returns
+returns c = record {
+  follows = λ h is.
+      let t = c.args.self.now in
+      let block = c.args.block.now in
+      let e = rw c.deref_mut.ensures.value at c.count_block-self.ensures in
+      let count : length c.count_block-self.new.cells ≡ length t.cells.items = search rules in
+      let all : t.cells.len ≡ length t.cells.items = search rules in
+      let ordered : InOrder false (greatest_time false h) (gathered block) = rw (← is.floor) c.requires.may.in_order in
+      let now = e.follows h (record { each = is.cells; rest = is.over; open' = is.start }) in
+      record {
+        cells = λ b lt. rw (whole_slice c.count_block-self.new.cells t.cells.items t.cells.len count all) (now.each b lt);
+        over = now.rest;
+        start = now.open';
+        taken = omega (arith, is.taken, c.len.ensures.count, length-append h (events_in block), length-rows (item block) block.len);
+        floor = c.floor_after-self.ensures ∙ ap (λ n. floor_after false n (gathered block)) is.floor ∙ sym (greatest-rows false h (item block) block.len ordered);
+      };
+  still_open = c.requires.may.open';
+  count = search (rules, arith);
+  moved = c.floor_after-self.ensures;
+  same_settings = refl;
+}
