@@ -12,6 +12,7 @@ pub mod Keeping
 pub mod Nexts
 pub mod Together
 pub mod Runs
+pub mod Close
 pub mod Blocks
 pub mod Takes
 pub mod Spaced

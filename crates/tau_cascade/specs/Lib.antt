@@ -4,6 +4,7 @@ pub mod Opens
 pub mod Levels
 pub mod Paired
 pub mod Dense
+pub mod Laid
 pub mod Bins
 pub mod StandsFor
 pub mod Cascade

@@ -41,7 +41,7 @@ impl Cascade {
     ghost use Rattle.std.specs.Option.{ForSome, option_map};
     ghost use Rattle.tally_base.specs.Settings.PartSettings.{CorrelationSettings};
     ghost use Rattle.event_block.specs.Columns.{gathered, events_in, IsSorted};
-    ghost use Rattle.event_block.specs.Order.{floor_after, InOrder};
+    ghost use Rattle.event_block.specs.Tables.{MayTake, HasTaken};
     ghost use Rattle.tau_cascade.specs.Cascade.{Holds, cells_at, ring_at, open_at, set_of, spent_by, added_below};
     ghost use Rattle.tau_cascade.specs.Correlation.{correlation, lag_count, skipped_lags};
     ghost use Rattle.tau_cascade.specs.Opens.{open_bin};
@@ -73,19 +73,9 @@ impl Cascade {
     /// Takes the events of a block, as `event` does one by one.
     pub fn events<L: Ledger>(&mut self, block: &Block, steps: &mut Steps<L>)
         requires sorted { IsSorted block.now }
-        requires open { ⟦<Cascade as Tally>⟧.closed self.old ≡ false }
-        requires room { ⟦<Cascade as Tally>⟧.taken self.old + length (gathered block.now) ≤ record_limit }
-        requires in_order { InOrder false (⟦<Cascade as Tally>⟧.floor self.old)
-            (gathered block.now) }
-        ensures follows { (h : History) → Holds self.old h
-            → Holds self.new (h ++ events_in block.now) }
-        ensures still_open { ⟦<Cascade as Tally>⟧.closed self.new ≡ false }
-        ensures more { ⟦<Cascade as Tally>⟧.taken self.new
-            ≡ ⟦<Cascade as Tally>⟧.taken self.old + length (gathered block.now) }
-        ensures moved { ⟦<Cascade as Tally>⟧.floor self.new
-            ≡ floor_after false (⟦<Cascade as Tally>⟧.floor self.old) (gathered block.now) }
-        ensures same_settings { ⟦<Cascade as Tally>⟧.settings self.new
-            ≡ ⟦<Cascade as Tally>⟧.settings self.old }
+        requires may { MayTake ⟦<Cascade as Tally>⟧ (gathered block.now) self.old }
+        ensures took { HasTaken ⟦<Cascade as Tally>⟧ (gathered block.now) (events_in block.now)
+            self.old self.new }
         ensures same_set { set_of self.new ≡ set_of self.old }
         ensures steps { steps.new + spent_by self.old ≡ steps.old + spent_by self.new }
     {

@@ -40,7 +40,7 @@ const SOME: usize = 4;
 /// No bin of a window has an index from here on.
 const END: u64 = 1 << 63;
 
-/// Adds pairs to a cell, if there are any.
+/// Adds pairs to a cell, also where there are none: a branch on that would cost more.
 #[inline(always)]
 fn add_some<L: Ledger>(cells: &mut PairCells, at: u32, pairs: u32, steps: &mut Steps<L>)
     requires inside { at < length cells.old.cells }
@@ -51,15 +51,13 @@ fn add_some<L: Ledger>(cells: &mut PairCells, at: u32, pairs: u32, steps: &mut S
         → slice_index cells.new.cells p ≡ slice_index cells.old.cells p }
     ensures spends { Spends cells.old cells.new steps.old steps.new 1 }
 {
-    if pairs > 0 {
-        cells.add(at, u128::from(pairs), steps);
-    }
+    cells.add(at, u128::from(pairs), steps);
 }
 
 /// Adds sums to so many cells from one on. They stand in the other order: the first cell has the last
 /// sum.
 #[inline(always)]
-fn add_sums<L: Ledger>(
+pub(crate) fn add_sums<L: Ledger>(
     cells: &mut PairCells,
     at: u32,
     count: u32,

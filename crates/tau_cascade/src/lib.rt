@@ -5,6 +5,7 @@ mod bins;
 mod carry;
 mod cascade;
 mod dense;
+mod laid;
 mod level;
 mod pairing;
 

@@ -7,6 +7,7 @@ ghost use Rattle.tau_cascade.specs.Levels.{weight_before, entries_at_lags};
 ghost use Rattle.tau_cascade.specs.Paired.{paired};
 
 use crate::dense::{ROOM, is_dense, pair_together, window_from};
+use crate::laid::pair_close;
 use lag_ring::{Entry, FEW_LAGS, PairCells};
 use std::sync::ledger::Ledger;
 use tally_base::Steps;
@@ -271,9 +272,8 @@ fn pair_runs<L: Ledger>(
     }
 }
 
-/// Pairs the bins of a list from `start` on with those before them, at the lags above `skipped` and up
-/// to `lags`. Where the bins are dense, lag by lag over windows.
-pub(crate) fn pair_all<L: Ledger>(
+/// The same: lag by lag over windows, where the bins are dense.
+fn pair_by_density<L: Ledger>(
     cells: &mut PairCells,
     skipped: u32,
     lags: u32,
@@ -297,5 +297,33 @@ pub(crate) fn pair_all<L: Ledger>(
         pair_runs(cells, skipped, lags, list, start, steps);
     } else {
         pair_each(cells, skipped, lags, list, start, steps);
+    }
+}
+
+/// Pairs the bins of a list from `start` on with those before them, at the lags above `skipped` and up
+/// to `lags`. Where there are few lags, and bins are near one another, over one window in which they are laid
+/// close together.
+pub(crate) fn pair_all<L: Ledger>(
+    cells: &mut PairCells,
+    skipped: u32,
+    lags: u32,
+    list: &[Entry],
+    start: usize,
+    steps: &mut Steps<L>,
+)
+    requires lags { (skipped ≤ lags) × (length cells.old.cells ≡ lags - skipped) }
+    requires start { start ≤ length list.now }
+    requires rising { IsRising list.now }
+    requires fits { (p : ℕ) → p < lags - skipped → slice_index cells.old.cells p
+        + paired (p + skipped + 1) (take start list.now) (drop start list.now) ≤ 2 ^ 80 }
+    requires count { cells.old.added + (lags - skipped) * (length list.now - start) < 2 ^ 64 }
+    ensures cells { (p : ℕ) → p < lags - skipped → slice_index cells.new.cells p
+        ≡ slice_index cells.old.cells p
+        + paired (p + skipped + 1) (take start list.now) (drop start list.now) }
+    ensures spends { Spends cells.old cells.new steps.old steps.new
+        ((lags - skipped) * (length list.now - start)) }
+{
+    if !pair_close(cells, skipped, lags, list, start, steps) {
+        pair_by_density(cells, skipped, lags, list, start, steps);
     }
 }

@@ -1,0 +1,184 @@
+-- Bins that are laid close together.
+use Rattle.std.proofs.Common.{◌≡◌, ◌∙◌, ℕ, zero, suc, ◌+◌, ◌-◌, ◌*◌, ◌<◌, ◌≤◌, true, false, eqb, ltb, cond, min, List, [], ◌∷◌, ◌++◌, length, get_or, take, drop, refl, sym, ap, arith, append_assoc}
+use Rattle.std.specs.List.{sum_by, AllByRecursion}
+use Rattle.std.proofs.Math.Nat.{mul-le-mul, mul-le-mul_left}
+use Rattle.std.proofs.lemmas.Bool.Decides.{nat_tests}
+use Rattle.std.proofs.lemmas.List.{take-append-drop, length-drop, length-take-le}
+use Rattle.std.proofs.lemmas.List.Sums.{sum_by-append, sum_by_push}
+use Rattle.lag_ring.specs.declared.ring.Entry.{Entry}
+use Rattle.lag_ring.specs.declared.window.Side.TheVariants.{First, Second}
+use Rattle.lag_ring.specs.Ring.{IsRising}
+use Rattle.lag_ring.specs.Window.{weight_at, product_at}
+use Rattle.lag_ring.proofs.Rising.{all_weaker, all_push, rising_front}
+use Rattle.lag_ring.proofs.Sums.{sum_by-agree, sum_by-same, sum_by-zero}
+use Rattle.lag_ring.proofs.Windows.{window-before}
+use Rattle.tau_cascade.specs.Levels.{weight_before}
+use Rattle.tau_cascade.specs.Paired.{paired}
+use Rattle.tau_cascade.specs.Laid.{laid, laid_pairs, IsLight}
+use Rattle.tau_cascade.proofs.Nexts.{paired-append}
+use Rattle.tau_cascade.proofs.Together.{paired-all}
+
+-- a bin that is laid at a place
+abbrev pub laid_at : ℕ → Entry → Entry
+laid_at place e = record { index = place; a = e.a; b = e.b }
+
+-- one bin more
+module _ (reach index place i p : ℕ) (front : List Entry) (e : Entry) (next : (rest : List Entry) → laid reach index place (front ++ rest) ≡ laid reach index place front ++ laid reach i p rest) where
+  pub laid_push : laid reach index place (front ++ e ∷ []) ≡ laid reach index place front ++ laid_at (p + min (e.index - i) reach) e ∷ []
+  laid_push = next (e ∷ [])
+
+  pub laid_next : (rest : List Entry) → laid reach index place ((front ++ e ∷ []) ++ rest) ≡ laid reach index place (front ++ e ∷ []) ++ laid reach e.index (p + min (e.index - i) reach) rest
+  laid_next rest =
+      let tail : List Entry = laid reach e.index (p + min (e.index - i) reach) rest in
+      let one : List Entry = laid_at (p + min (e.index - i) reach) e ∷ [] in
+      ap (laid reach index place) (append_assoc front (e ∷ []) rest)
+      ∙ next (e ∷ rest)
+      ∙ sym (append_assoc (laid reach index place front) one tail)
+      ∙ ap (λ ys. ys ++ tail) (sym laid_push)
+
+  pub weight_next : (q : ℕ) → weight_at First 32 0 q (laid reach index place (front ++ e ∷ [])) ≡ weight_at First 32 0 q (laid reach index place front) + cond (eqb (p + min (e.index - i) reach + 32) q) e.a 0
+  weight_next q =
+      let same : 0 + q ≡ q = omega arith in
+      rw laid_push (sum_by_push (λ (f : Entry). cond (eqb (f.index + 32) (0 + q)) f.a 0) (laid reach index place front) (laid_at (p + min (e.index - i) reach) e) ∙ ap (λ n. weight_at First 32 0 q (laid reach index place front) + cond (eqb (p + min (e.index - i) reach + 32) n) e.a 0) same)
+
+  pub sums_next : (window : List ℕ) (from : ℕ) → sum_by (product_at Second window 0 from) (laid reach index place (front ++ e ∷ [])) ≡ sum_by (product_at Second window 0 from) (laid reach index place front) + get_or window (p + min (e.index - i) reach + from) 0 * e.b
+  sums_next window from =
+      let same : p + min (e.index - i) reach - 0 ≡ p + min (e.index - i) reach = omega arith in
+      rw laid_push (sum_by_push (product_at Second window 0 from) (laid reach index place front) (laid_at (p + min (e.index - i) reach) e) ∙ ap (λ n. sum_by (product_at Second window 0 from) (laid reach index place front) + get_or window (n + from) 0 * e.b) same)
+
+-- a bin is laid at most so far behind
+pub laid_upto : (reach index place : ℕ) (es : List Entry) (most : ℕ) → place + reach * length es ≤ most → AllByRecursion (λ e. e.index ≤ most) (laid reach index place es)
+laid_upto reach index place [] most within = tt
+laid_upto reach index place (e ∷ es) most within =
+    let here : ℕ = place + min (e.index - index) reach in
+    let step : here + reach * length es ≤ place + reach * length (e ∷ es) = grind arith in
+    (omega (arith, step, within), laid_upto reach e.index here es most (omega (arith, step, within)))
+
+-- bins that rise are laid one behind the other
+laid_behind : (reach index place : ℕ) (es : List Entry) → 0 < reach → AllByRecursion (λ f. index < f.index) es → IsRising es → AllByRecursion (λ f. place < f.index) (laid reach index place es)
+laid_behind reach index place [] some up rising = tt
+laid_behind reach index place (e ∷ es) some up rising =
+    let here : ℕ = place + min (e.index - index) reach in
+    let above : place < here = omega (arith, some, up.0) in
+    (above, all_weaker (λ f. here < f.index) (λ f. place < f.index) (λ f more. omega (arith, above, more)) (laid reach e.index here es) (laid_behind reach e.index here es some rising.0 rising.1))
+
+pub laid_rising : (reach index place : ℕ) (es : List Entry) → 0 < reach → IsRising es → IsRising (laid reach index place es)
+laid_rising reach index place [] some rising = tt
+laid_rising reach index place (e ∷ es) some rising =
+    let here : ℕ = place + min (e.index - index) reach in
+    (laid_behind reach e.index here es some rising.0 rising.1, laid_rising reach e.index here es some rising.1)
+
+-- what stands so far before a bin, less than the reach, stands as far before the place where it is laid
+pub record Alike (reach index place : ℕ) (before beside : List Entry) : Type 0 where
+  pub upto : AllByRecursion (λ f. f.index ≤ index) before
+  pub laid_upto : AllByRecursion (λ f. f.index ≤ place) beside
+  pub same : (m : ℕ) → m < reach → weight_before m index before ≡ weight_before m place beside
+
+module _ (reach index place : ℕ) (before beside : List Entry) (alike : Alike reach index place before beside) (e : Entry) (up : index < e.index) where
+  abbrev pub there : ℕ
+  there = place + min (e.index - index) reach
+
+  near : (k : ℕ) → k < reach → e.index - index ≤ k → weight_before k e.index before ≡ weight_before k there beside
+  near k few close =
+      let m : ℕ = k - (e.index - index) in
+      sum_by-same (λ (f : Entry). cond (eqb (f.index + k) e.index) f.a 0) (λ (f : Entry). cond (eqb (f.index + m) index) f.a 0) before (λ f. ap (λ b. cond b f.a 0) (let t : eqb (f.index + k) e.index ≡ eqb (f.index + m) index = grind (arith, nat_tests) in t))
+      ∙ alike.same m (omega (arith, few))
+      ∙ sum_by-same (λ (f : Entry). cond (eqb (f.index + m) place) f.a 0) (λ (f : Entry). cond (eqb (f.index + k) there) f.a 0) beside (λ f. ap (λ b. cond b f.a 0) (let t : eqb (f.index + m) place ≡ eqb (f.index + k) there = (let d : there ≡ place + (e.index - index) = omega (arith, few, close) in grind (arith, nat_tests)) in t))
+
+  far : (k : ℕ) → k < reach → k < e.index - index → weight_before k e.index before ≡ weight_before k there beside
+  far k few out =
+      sum_by-zero (λ f. f.index ≤ index) (λ (f : Entry). cond (eqb (f.index + k) e.index) f.a 0) before alike.upto (λ f under. let not : eqb (f.index + k) e.index ≡ false = grind arith in rw not refl)
+      ∙ sym (sum_by-zero (λ f. f.index ≤ place) (λ (f : Entry). cond (eqb (f.index + k) there) f.a 0) beside alike.laid_upto (λ f under. let d : place + k < there = omega (arith, few, out) in let not : eqb (f.index + k) there ≡ false = grind arith in rw not refl))
+
+  pub as_far : (k : ℕ) → k < reach → weight_before k e.index before ≡ weight_before k there beside
+  as_far k few = (elim (ltb k (e.index - index)) as (λ b. ltb k (e.index - index) ≡ b → weight_before k e.index before ≡ weight_before k there beside) [
+    | true ↦ λ is. far k few (grind (arith, nat_tests, is))
+    | false ↦ λ is. near k few (grind (arith, nat_tests, is))
+  ]) refl
+
+  pub alike_next : Alike reach e.index there (before ++ e ∷ []) (beside ++ laid_at there e ∷ [])
+  alike_next = record {
+    upto = all_push (λ f. f.index ≤ e.index) before e (all_weaker (λ f. f.index ≤ index) (λ f. f.index ≤ e.index) (λ f under. omega (arith, up)) before alike.upto) (omega arith);
+    laid_upto = all_push (λ f. f.index ≤ there) beside (laid_at there e) (all_weaker (λ f. f.index ≤ place) (λ f. f.index ≤ there) (λ f under. omega arith) beside alike.laid_upto) (omega arith);
+    same = λ m few.
+        let test : eqb (e.index + m) e.index ≡ eqb (there + m) there = grind (arith, nat_tests) in
+        sum_by_push (λ (f : Entry). cond (eqb (f.index + m) e.index) f.a 0) before e
+        ∙ rw (as_far m few, test) refl
+        ∙ sym (sum_by_push (λ (f : Entry). cond (eqb (f.index + m) there) f.a 0) beside (laid_at there e));
+  }
+
+-- bins pair as they do where they are laid
+paired_alike : (reach index place k : ℕ) (before beside es : List Entry) → k < reach → Alike reach index place before beside → AllByRecursion (λ f. index < f.index) es → IsRising es → paired k before es ≡ paired k beside (laid reach index place es)
+paired_alike reach index place k before beside [] few alike up rising = refl
+paired_alike reach index place k before beside (e ∷ es) few alike up rising =
+    let one : weight_before k e.index before ≡ weight_before k (place + min (e.index - index) reach) beside = as_far reach index place before beside alike e up.0 k few in
+    let rest = paired_alike reach e.index (place + min (e.index - index) reach) k (before ++ e ∷ []) (beside ++ laid_at (place + min (e.index - index) reach) e ∷ []) es few (alike_next reach index place before beside alike e up.0) rising.0 rising.1 in
+    rw (one, rest) refl
+
+pub paired_laid : (reach index place k : ℕ) (es : List Entry) → k < reach → IsRising es → paired k [] es ≡ paired k [] (laid reach index place es)
+paired_laid reach index place k [] few rising = refl
+paired_laid reach index place k (e ∷ es) few rising =
+    let there : ℕ = place + min (e.index - index) reach in
+    let alike : Alike reach e.index there (e ∷ []) (laid_at there e ∷ []) = record {
+      upto = (omega arith, tt);
+      laid_upto = (omega arith, tt);
+      same = λ m small. let test : eqb (e.index + m) e.index ≡ eqb (there + m) there = grind (arith, nat_tests) in ap (λ b. 0 + cond b e.a 0) test;
+    } in
+    ap (λ n. 0 * e.b + n) (paired_alike reach e.index there k (e ∷ []) (laid_at there e ∷ []) es few alike rising.0 rising.1)
+
+-- the same from a bin on
+module _ (reach i p start : ℕ) (list : List Entry) (rising : IsRising list) (next : (rest : List Entry) → laid reach 0 0 (take start list ++ rest) ≡ laid reach 0 0 (take start list) ++ laid reach i p rest) where
+  abbrev front : List Entry
+  front = laid reach 0 0 (take start list)
+
+  abbrev back : List Entry
+  back = laid reach i p (drop start list)
+
+  both : front ++ back ≡ laid reach 0 0 list
+  both = sym (next (drop start list)) ∙ ap (laid reach 0 0) (take-append-drop start list)
+
+  pub paired_parts : (k : ℕ) → k < reach → paired k (take start list) (drop start list) ≡ paired k (laid reach 0 0 (take start list)) (laid reach i p (drop start list))
+  paired_parts k few =
+      let whole = paired_laid reach 0 0 k list few rising in
+      let first = paired_laid reach 0 0 k (take start list) few (rising_front (take start list) (drop start list) (rw (take-append-drop start list) rising)) in
+      let split : paired k [] list ≡ paired k [] (take start list) + paired k (take start list) (drop start list) = ap (paired k []) (sym (take-append-drop start list)) ∙ paired-append k [] (take start list) (drop start list) in
+      let other : paired k [] (laid reach 0 0 list) ≡ paired k [] front + paired k front back = ap (paired k []) (sym both) ∙ paired-append k [] front back in
+      omega (arith, whole, first, split, other)
+
+  -- and what stands in the window are the pairs
+  pub laid-paired : (window : List ℕ) → 0 < reach → length window ≡ 1408 → p + reach * length (drop start list) + 32 < 1408
+      → ((q : ℕ) → q < 1408 → get_or window q 0 ≡ weight_at First 32 0 q (laid reach 0 0 (take start list)) + weight_at First 32 0 q (laid reach i p (drop start list)))
+      → (k : ℕ) → 0 < k → k < reach → k ≤ 32 → laid_pairs window (laid reach i p (drop start list)) k ≡ paired k (take start list) (drop start list)
+  laid-paired window some long room has k from few upto =
+      let whole : (q : ℕ) → q < length window → get_or window q 0 ≡ weight_at First 32 0 q (front ++ back) = λ q inside. has q (omega (arith, long, inside)) ∙ sym (sum_by-append (λ (f : Entry). cond (eqb (f.index + 32) (0 + q)) f.a 0) front back) in
+      let up : IsRising (front ++ back) = rw both (laid_rising reach 0 0 list some rising) in
+      sum_by-agree (λ e. e.index ≤ 1375) (λ e. get_or window (e.index - 0 + (32 - k)) 0 * e.b) (λ e. weight_before k e.index (front ++ back) * e.b) back (laid_upto reach i p (drop start list) 1375 (omega (arith, room)))
+      (λ e at. ap (λ n. n * e.b) (window-before First window 0 32 (front ++ back) whole k e.index upto (omega arith) (omega (arith, at, long))))
+      ∙ sym (paired-all k (front ++ back) front back from refl up)
+      ∙ sym (paired_parts k few)
+
+-- each bin of a light list is light
+pub is_light_at : (most : ℕ) (es : List Entry) (i : ℕ) (none : Entry) → i < length es → IsLight most es → ((get_or es i none).a ≤ most) × ((get_or es i none).b ≤ most)
+is_light_at most [] i none inside light = absurd (omega (arith, inside))
+is_light_at most (e ∷ es) zero none inside light = light.0
+is_light_at most (e ∷ es) (suc i) none inside light = is_light_at most es i none (omega (arith, inside)) light.1
+
+-- where a bin is laid there is room behind it
+pub room_at : (reach i n place now from' count room : ℕ) → i < n → now ≤ place + reach * i → place + reach * n + from' + count ≤ room → now + reach + from' + count ≤ room
+room_at reach i n place now from' count room inside upto within =
+    let most : reach * (i + 1) ≤ reach * n = mul-le-mul_left reach (omega (arith, inside)) in
+    let ring : reach * (i + 1) ≡ reach * i + reach = grind arith in
+    omega (arith, most, ring, upto, within)
+
+-- all bins of a list have room
+pub all_room : (lags start : ℕ) (list : List Entry) (place : ℕ) → lags ≤ 16 → start ≤ length list → length list ≤ 80 → place ≤ 0 + (lags + 1) * length (take start list) → place + (lags + 1) * length (drop start list) + 32 < 1408
+all_room lags start list place few inside short upto =
+    let front : length (take start list) ≡ start = length-take-le start list inside in
+    let back : length (drop start list) ≡ length list - start = length-drop start list in
+    let reach : lags + 1 ≤ 17 = omega (arith, few) in
+    let most : (lags + 1) * length list ≤ 17 * 80 = mul-le-mul reach short in
+    let parts : length list ≡ start + (length list - start) = omega (arith, inside) in
+    let split : (lags + 1) * length list ≡ (lags + 1) * start + (lags + 1) * (length list - start) = grind (arith, parts) in
+    let near : place ≤ (lags + 1) * length (take start list) = omega (arith, upto) in
+    let under : place ≤ (lags + 1) * start = (rw front at near) in
+    rw back (omega (arith, most, split, under))

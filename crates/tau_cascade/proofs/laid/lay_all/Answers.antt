@@ -1,0 +1,61 @@
+use Rattle.std.proofs.Common.{◌≡◌, ◌∙◌, ℕ, ◌+◌, ◌*◌, ◌%◌, ◌≤◌, List, [], ◌∷◌, ◌++◌, eqb, length, get_or, take, refl, arith}
+use Rattle.std.proofs.Math.Nat.{mul-le-mul_left}
+use Rattle.std.proofs.lemmas.List.{take_more}
+use Rattle.lag_ring.specs.declared.ring.Entry.{Entry}
+use Rattle.lag_ring.proofs.Rising.{all_weaker, all_push}
+use Rattle.lag_ring.proofs.Windows.{part-le}
+use Rattle.tau_cascade.proofs.Close.{laid_next, weight_next}
+use Rattle.tau_cascade.proofs.laid.lay_all.Goals as goal
+
+abbrev none : Entry
+none = record { index = 0; a = 0; b = 0 }
+
+pub loop-bin-init : goal.loop-bin-init
+loop-bin-init c = record {
+  weights = λ light p inside. omega arith;
+  light = λ p inside. omega arith;
+  next = λ es. refl;
+  more = omega arith;
+  heaviest = tt;
+  place = omega arith;
+  same = refl;
+}
+
+pub lay_one-laying-requires-clause-place : goal.lay_one-laying-requires-clause-place
+lay_one-laying-requires-clause-place c =
+    let i : ℕ = c.loop-bin.bin-index in
+    let most : c.args.reach * (i + 1) ≤ c.args.reach * length c.args.list.now = mul-le-mul_left c.args.reach (omega (arith, c.loop-bin-test.true)) in
+    let ring : c.args.reach * (i + 1) ≡ c.args.reach * i + c.args.reach = grind arith in
+    omega (arith, most, ring, c.loop-bin.invariant.place, c.requires.place, c.requires.sized, c.loop-bin.invariant.same)
+
+pub lay_one-laying-requires-clause-fits : goal.lay_one-laying-requires-clause-fits
+lay_one-laying-requires-clause-fits c = λ p inside. omega (arith, c.loop-bin-test.true, c.loop-bin.invariant.light p inside, c.requires.fits p inside)
+
+pub loop-bin-preserved : goal.loop-bin-preserved
+loop-bin-preserved c =
+    let es : List Entry = c.args.list.now in
+    let i : ℕ = c.loop-bin.bin-index in
+    let e : Entry = get_or es i none in
+    let was = c.args.was.last in
+    let at = c.loop-bin.laying.last in
+    let inv = c.loop-bin.invariant in
+    let one = c.lay_one-laying.ensures in
+    let cut : take (i + 1) es ≡ take i es ++ e ∷ [] = take_more es i none c.loop-bin-test.true in
+    record {
+      weights = λ light p inside.
+          let all : e.a % 256 ≡ e.a = omega (arith, light, one.heaviest.1) in
+          let before = inv.weights (omega (arith, light, one.heaviest.0)) p inside in
+          let next = weight_next c.args.reach was.index was.place at.index at.place (take i es) e inv.next p in
+          let put = (rw (one.last.1, all) at (one.weights p inside)) in
+          rw cut (omega (arith, put, before, next));
+      light = λ p inside.
+          let part = part-le (eqb (c.lay_one-laying.result.last.place + 32) p) (e.a % 256) in
+          omega (arith, one.weights p inside, inv.light p inside, part);
+      next = λ rest. rw (one.last.0, one.last.1, cut) (laid_next c.args.reach was.index was.place at.index at.place (take i es) e inv.next rest);
+      more = omega (arith, inv.more, one.heaviest.0);
+      heaviest = rw cut (all_push (λ f. (f.a ≤ c.lay_one-laying.result.heaviest) × (f.b ≤ c.lay_one-laying.result.heaviest)) (take i es) e
+          (all_weaker (λ f. (f.a ≤ c.loop-bin.laying.heaviest) × (f.b ≤ c.loop-bin.laying.heaviest)) (λ f. (f.a ≤ c.lay_one-laying.result.heaviest) × (f.b ≤ c.lay_one-laying.result.heaviest)) (λ f light. (omega (arith, light.0, one.heaviest.0), omega (arith, light.1, one.heaviest.0))) (take i es) inv.heaviest)
+          (one.heaviest.1, one.heaviest.2));
+      place = (let ring : c.args.reach * (i + 1) ≡ c.args.reach * i + c.args.reach = grind arith in omega (arith, one.last.1, inv.place, ring));
+      same = one.same ∙ inv.same;
+    }
