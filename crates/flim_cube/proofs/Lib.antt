@@ -1,0 +1,5 @@
+pub mod Rows
+pub mod Cells
+pub mod Counts
+pub mod Steps
+pub mod Totals

@@ -1,0 +1,114 @@
+-- The bins of a cube and what is past them add up to the image.
+use Rattle.std.proofs.Common.{◌≡◌, ◌∙◌, ℕ, zero, suc, ◌+◌, ◌/◌, ◌<◌, ◌≤◌, Bool, true, false, ◌&&◌, cond, eqb, ltb, List, [], ◌∷◌, ◌++◌, refl, ap, sym, arith}
+use Rattle.std.specs.declared.option.Option.{Option}
+use Rattle.std.specs.Prelude.{None, Some, sum_by, nat_le}
+use Rattle.std.specs.List.{range_with_len}
+use Rattle.std.proofs.lemmas.Grind.{common_steps}
+use Rattle.std.proofs.lemmas.Bool.Decides.{nat_tests}
+use Rattle.std.proofs.lemmas.List.Sums.{sum_by-cons}
+use Rattle.tally_base.specs.declared.event.Event.{Event}
+use Rattle.tally_base.specs.declared.event.EventKind.{EventKind}
+use Rattle.tally_base.specs.declared.event.EventKind.TheVariants.{Photon, Marker}
+use Rattle.tally_base.specs.Events.{is_photon, is_photon_kind, is_in}
+use Rattle.tally_base.specs.Settings.{ImageView, CubeView}
+use Rattle.tally_base.specs.Tally.{History}
+use Rattle.marker_map.specs.Places.{place_of}
+use Rattle.scan_image.specs.ImageCounts.{markers, is_at, in_cell}
+use Rattle.scan_image.specs.Totals.{in_all_cells}
+use Rattle.scan_image.proofs.Counts.{placed-added, placed-other}
+use Rattle.scan_image.proofs.Totals.{Inside, sum-agree, sum-plus, sum-none, in-range, place-inside, by-pushes, cells-more}
+use Rattle.flim_cube.specs.CubeCounts.{is_in_cell, is_over, count_over, in_cell as in_bin}
+use Rattle.flim_cube.specs.Totals.{in_pixel, in_whole_cube}
+use Rattle.flim_cube.proofs.Counts.{met-photon, met-marker}
+
+-- a sum over the pixels of an image
+abbrev over_pixels : ImageView → (ℕ → ℕ → ℕ) → ℕ
+over_pixels set f = sum_by (λ y. sum_by (λ x. f x y) (range_with_len 0 set.width)) (range_with_len 0 set.height)
+
+pixels-agree : (set : ImageView) (f g : ℕ → ℕ → ℕ) → ((x y : ℕ) → f x y ≡ g x y) → over_pixels set f ≡ over_pixels set g
+pixels-agree set f g same = sum-agree (λ y. sum_by (λ x. f x y) (range_with_len 0 set.width)) (λ y. sum_by (λ x. g x y) (range_with_len 0 set.width)) (λ y. sum-agree (λ x. f x y) (λ x. g x y) (λ x. same x y) (range_with_len 0 set.width)) (range_with_len 0 set.height)
+
+pixels-plus : (set : ImageView) (f g : ℕ → ℕ → ℕ) → over_pixels set (λ x y. f x y + g x y) ≡ over_pixels set f + over_pixels set g
+pixels-plus set f g =
+    sum-agree (λ y. sum_by (λ x. f x y + g x y) (range_with_len 0 set.width)) (λ y. sum_by (λ x. f x y) (range_with_len 0 set.width) + sum_by (λ x. g x y) (range_with_len 0 set.width)) (λ y. sum-plus (λ x. f x y) (λ x. g x y) (range_with_len 0 set.width)) (range_with_len 0 set.height)
+    ∙ sum-plus (λ y. sum_by (λ x. f x y) (range_with_len 0 set.width)) (λ y. sum_by (λ x. g x y) (range_with_len 0 set.width)) (range_with_len 0 set.height)
+
+pixels-none : (set : ImageView) → over_pixels set (λ x y. 0) ≡ 0
+pixels-none set = sum-agree (λ y. sum_by (λ x. 0) (range_with_len 0 set.width)) (λ y. 0) (λ y. sum-none (range_with_len 0 set.width)) (range_with_len 0 set.height) ∙ sum-none (range_with_len 0 set.height)
+
+both : (a b : Bool) (n : ℕ) → cond (a && b) n 0 ≡ cond a (cond b n 0) 0
+both true b n = refl
+both false b n = refl
+
+-- A pixel of the image is met once.
+met-count : (set : ImageView) (place : ℕ × ℕ) (n : ℕ) → Inside set (Some place) → over_pixels set (λ x y. cond (is_at x y (Some place)) n 0) ≡ n
+met-count set place n inside =
+    let row : (y : ℕ) → sum_by (λ x. cond (is_at x y (Some place)) n 0) (range_with_len 0 set.width) ≡ cond (eqb place.1 y) n 0 =
+    λ y. sum-agree (λ x. cond (is_at x y (Some place)) n 0) (λ x. cond (eqb place.0 x) (cond (eqb place.1 y) n 0) 0) (λ x. both (eqb place.0 x) (eqb place.1 y) n) (range_with_len 0 set.width)
+    ∙ in-range place.0 0 set.width (cond (eqb place.1 y) n 0) (omega arith) (omega (arith, inside.0)) in
+    sum-agree (λ y. sum_by (λ x. cond (is_at x y (Some place)) n 0) (range_with_len 0 set.width)) (λ y. cond (eqb place.1 y) n 0) row (range_with_len 0 set.height)
+    ∙ in-range place.1 0 set.height n (omega arith) (omega (arith, inside.1))
+
+above-range : (a start n count : ℕ) → start + n ≤ a → sum_by (λ i. cond (eqb a i) count 0) (range_with_len start n) ≡ 0
+above-range a start zero count above = refl
+above-range a start (suc n) count above =
+    let more = above-range a (start + 1) n count (omega (arith, above)) in
+    let here : cond (eqb a start) count 0 ≡ 0 = grind (arith, common_steps, above) in
+    omega (arith, more, here, sum_by-cons (λ i. cond (eqb a i) count 0) start (range_with_len (start + 1) n))
+
+met-bin : (bins bin more : ℕ) (inside : Bool) → ltb bin bins ≡ inside → sum_by (λ b. cond (eqb bin b) more 0) (range_with_len 0 bins) ≡ cond inside more 0
+met-bin bins bin more true is = in-range bin 0 bins more (omega arith) (let low : bin < bins = grind (arith, common_steps, is) in omega (arith, low))
+met-bin bins bin more false is = above-range bin 0 bins more (let high : bins ≤ bin = grind (arith, common_steps, is) in omega (arith, high))
+
+-- A bin is met once in a pixel, unless it is behind the last.
+met-bins : (bins bin more : ℕ) (at : Bool) → sum_by (λ b. cond (at && eqb bin b) more 0) (range_with_len 0 bins) ≡ cond at (cond (ltb bin bins) more 0) 0
+met-bins bins bin more true = met-bin bins bin more (ltb bin bins) refl
+met-bins bins bin more false = sum-none (range_with_len 0 bins)
+
+in-or-over : (bins bin more : ℕ) → cond (ltb bin bins) more 0 + cond (nat_le bins bin) more 0 ≡ more
+in-or-over bins bin more = grind (arith, common_steps, nat_tests)
+
+-- what is to be shown of the events
+abbrev Total : CubeView → History → Type 0
+Total set h = in_whole_cube set h + count_over set h ≡ in_all_cells set.image h
+
+-- A photon adds to a bin or past the last what it adds to the image.
+parts : (set : CubeView) (place : Option (ℕ × ℕ)) (bin more : ℕ) → Inside set.image place → over_pixels set.image (λ x y. cond (is_at x y place) (cond (ltb bin set.dbins) more 0) 0) + cond (is_over set.dbins place bin) more 0 ≡ over_pixels set.image (λ x y. cond (is_at x y place) more 0)
+parts set None bin more inside = omega (arith, pixels-none set.image)
+parts set (Some place) bin more inside = omega (arith, met-count set.image place (cond (ltb bin set.dbins) more 0) inside, met-count set.image place more inside, in-or-over set.dbins bin more)
+
+whole-more : (set : CubeView) (h later : History) (more : ℕ → ℕ → ℕ → ℕ) → ((x y b : ℕ) → in_bin set x y b later ≡ in_bin set x y b h + more x y b) → in_whole_cube set later ≡ in_whole_cube set h + over_pixels set.image (λ x y. sum_by (λ b. more x y b) (range_with_len 0 set.dbins))
+whole-more set h later more is =
+    pixels-agree set.image (λ x y. in_pixel set x y later) (λ x y. in_pixel set x y h + sum_by (λ b. more x y b) (range_with_len 0 set.dbins)) (λ x y. sum-agree (λ b. in_bin set x y b later) (λ b. in_bin set x y b h + more x y b) (λ b. is x y b) (range_with_len 0 set.dbins) ∙ sum-plus (λ b. in_bin set x y b h) (λ b. more x y b) (range_with_len 0 set.dbins))
+    ∙ pixels-plus set.image (λ x y. in_pixel set x y h) (λ x y. sum_by (λ b. more x y b) (range_with_len 0 set.dbins))
+
+not_photon : (photon of_group : Bool) → photon ≡ false → (photon && of_group) ≡ false
+not_photon photon of_group is = ap (λ b. b && of_group) is
+
+total-push : (set : CubeView) (h : History) (x : Event × ℕ) (kind : EventKind) → x.0.kind ≡ kind → Total set h → Total set (h ++ x ∷ [])
+total-push set h x (Photon input dtime) kind so_far =
+    let place = place_of set.image x.0.time (markers h) in
+    let bin = dtime / set.dwidth in
+    let more = cond (is_in x.1 set.image.group) 1 0 in
+    let photon : is_photon x.0 ≡ true = ap is_photon_kind kind in
+    let whole = whole-more set h (h ++ x ∷ []) (λ column row b. cond (is_in_cell column row b place bin) more 0) (λ column row b. met-photon set.image (λ place dtime. is_in_cell column row b place (dtime / set.dwidth)) h x place input dtime more kind refl refl) in
+    let bins = pixels-agree set.image (λ column row. sum_by (λ b. cond (is_in_cell column row b place bin) more 0) (range_with_len 0 set.dbins)) (λ column row. cond (is_at column row place) (cond (ltb bin set.dbins) more 0) 0) (λ column row. met-bins set.dbins bin more (is_at column row place)) in
+    let over = met-photon set.image (λ place dtime. is_over set.dbins place (dtime / set.dwidth)) h x place input dtime more kind refl refl in
+    let image = cells-more set.image h (h ++ x ∷ []) (λ column row. cond (is_at column row place) more 0) (λ column row. placed-added set.image (is_at column row) h x place more photon refl refl) in
+    let part = parts set place bin more (place-inside set.image x.0.time (markers h)) in
+    omega (arith, so_far, whole, bins, over, image, part)
+total-push set h x (Marker bits) kind so_far =
+    let other : (is_photon x.0 && is_in x.1 set.image.group) ≡ false = not_photon (is_photon x.0) (is_in x.1 set.image.group) (ap is_photon_kind kind) in
+    let whole = pixels-agree set.image (λ column row. in_pixel set column row (h ++ x ∷ [])) (λ column row. in_pixel set column row h) (λ column row. sum-agree (λ b. in_bin set column row b (h ++ x ∷ [])) (λ b. in_bin set column row b h) (λ b. met-marker set.image (λ place dtime. is_in_cell column row b place (dtime / set.dwidth)) h x bits kind) (range_with_len 0 set.dbins)) in
+    let over = met-marker set.image (λ place dtime. is_over set.dbins place (dtime / set.dwidth)) h x bits kind in
+    let image = pixels-agree set.image (λ column row. in_cell set.image column row (h ++ x ∷ [])) (λ column row. in_cell set.image column row h) (λ column row. placed-other set.image (is_at column row) h x other) in
+    omega (arith, so_far, whole, over, image)
+
+total-none : (set : CubeView) → Total set []
+total-none set =
+    let whole = pixels-agree set.image (λ x y. sum_by (λ b. 0) (range_with_len 0 set.dbins)) (λ x y. 0) (λ x y. sum-none (range_with_len 0 set.dbins)) in
+    let none = pixels-none set.image in
+    omega (arith, whole, none)
+
+pub total : (set : CubeView) (h : History) → Total set h
+total set h = by-pushes (Total set) (λ h x. total-push set h x x.0.kind refl) [] h (total-none set)

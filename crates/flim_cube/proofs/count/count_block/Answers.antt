@@ -1,0 +1,59 @@
+use Rattle.std.proofs.Common.{◌≡◌, ◌∙◌, ◌+◌, ◌<◌, ◌≤◌, ◌%◌, [], ◌∷◌, ◌++◌, true, false, List, ap, subst, rules, arith, append_assoc}
+use Rattle.std.specs.Prelude.{nat_lt, if◌then◌else◌}
+use Rattle.std.proofs.lemmas.Bool.Decides.{nat_tests}
+use Rattle.tally_base.specs.declared.event.EventKind.TheVariants.{Photon, Marker}
+use Rattle.tally_base.specs.Settings.{image_view, cube_view}
+use Rattle.event_block.specs.Columns.{item, event_at, rows, code_at, dtime_at, time_at}
+use Rattle.event_block.proofs.Rows.{more_rows}
+use Rattle.event_block.proofs.Order.{floor-more}
+use Rattle.marker_map.specs.Lines.{Saw, line_start}
+use Rattle.marker_map.specs.Marks.{Mark, mark}
+use Rattle.flim_cube.specs.Counted.{Counted}
+use Rattle.flim_cube.proofs.Steps.{marker_step}
+use Rattle.scan_image.proofs.Later.{floor-below, floor-rises}
+use Rattle.flim_cube.proofs.count.count_block.Goals as goal
+
+pub count_run-run-requires-clause-in_time : goal.count_run-run-requires-clause-in_time
+count_run-run-requires-clause-in_time c = λ i from lt.
+    let b = c.args.block.now in
+    let low = line_start c.args.lines.now in
+    omega (arith, c.runs.invariant.before, floor-below low (event_at b) b.len c.runs.from i from lt c.requires.in_order)
+
+pub runs-preserved : goal.runs-preserved
+runs-preserved c =
+    let inv = c.runs.invariant in
+    let run = c.count_run-run.ensures in
+    let b = c.args.block.now in
+    let set = cube_view c.args.set.now in
+    let low = line_start c.args.lines.now in
+    let at = c.count_run-run.result.at in
+    let code = code_at b at in
+    let time = time_at b at in
+    let within : at < b.len = search (rules, arith) in
+    let marker : nat_lt code 256 ≡ false = grind (arith, nat_tests, run.marker within) in
+    let kind : (item b at).0.kind ≡ Marker (code % 256) = ap (λ t. if t then Photon code (dtime_at b at) else Marker (code % 256)) marker in
+    let lines' = c.marker.new.self in
+    let saw : (ms : List Mark) → Saw c.runs.lines ms → Saw lines' (ms ++ mark (code % 256) time ∷ []) = λ ms is. rw (c.time.ensures, c.code.ensures) at (c.marker.ensures.follows ms is) in
+    let moved = floor-more true low (event_at b) at in
+    let in_time : line_start c.runs.lines ≤ time = omega (arith, inv.before, floor-below low (event_at b) b.len c.runs.from at run.onward within c.requires.in_order) in
+    record {
+      counted = λ h is. rw (more_rows (item b) at, ← append_assoc) (marker_step set c.runs.lines lines' c.count_run-run.new.cells c.count_run-run.result.rest (h ++ rows (item b) at) (item b at) (code % 256) kind saw (run.follows h (inv.counted h is)));
+      within = omega (arith, within);
+      few = omega (arith, inv.few, run.few);
+      of_set = c.marker.ensures.same_image ∙ inv.of_set;
+      few_markers = omega (arith, inv.few_markers, c.marker.ensures.one_more, run.onward);
+      before = rw moved (omega (arith, c.marker.ensures.begun, c.time.ensures, in_time));
+    }
+
+pub returns-then-run-len-clause-follows : goal.returns-then-run-len-clause-follows
+returns-then-run-len-clause-follows c = λ h is.
+    let b = c.args.block.now in
+    let run = c.count_run-run in
+    let len : c.min-len.result ≡ b.len = search (rules, arith) in
+    let end : run.result.at ≡ b.len = omega (arith, len, run.ensures.inside, c.if-run-len.true) in
+    subst (λ n. Counted (cube_view c.args.set.now) c.runs.lines run.new.cells run.result.rest (h ++ rows (item b) n)) end (run.ensures.follows h (c.runs.invariant.counted h is))
+
+pub returns-then-run-len-clause-begun : goal.returns-then-run-len-clause-begun
+returns-then-run-len-clause-begun c =
+    let b = c.args.block.now in
+    omega (arith, c.runs.invariant.before, floor-rises (line_start c.args.lines.now) (event_at b) b.len c.runs.from c.runs.invariant.within c.requires.in_order)

@@ -1,0 +1,16 @@
+-- What holds of every cube.
+use Rattle.std.specs.Prelude.{◌≡◌, ◌≤◌, ◌+◌, true, length}
+use Rattle.std.proofs.Common.{rules}
+use Rattle.tally_base.specs.Settings.{entries}
+use Rattle.tally_base.specs.Tally.{History, greatest_time}
+use Rattle.flim_cube.specs.declared.cube.FlimCube.{FlimCube}
+use Rattle.flim_cube.specs.Cube.{Holds, settings}
+
+pub taken_is : (t : FlimCube) (h : History) → Holds t h → t.taken ≡ length h
+taken_is t h is = is.taken
+
+pub floor_is : (t : FlimCube) (h : History) → Holds t h → t.floor ≡ greatest_time true h
+floor_is t h is = is.floor
+
+pub within_bound : (t : FlimCube) → length t.cells.items + 5 ≤ entries (settings t)
+within_bound t = search rules

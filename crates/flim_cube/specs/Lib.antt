@@ -1,0 +1,5 @@
+pub mod CubeCounts
+pub mod Totals
+pub mod Cube
+pub mod Laws
+pub mod Counted

@@ -1,0 +1,173 @@
+// A cube: an image of a scan with a histogram in each pixel.
+ghost use Rattle.std.specs.Prelude.{◌≡◌, ◌+◌, ◌*◌, ◌<◌, ◌≤◌, vec_len, sum};
+ghost use Rattle.tally_base.specs.Settings.{image_view, cube_view};
+ghost use Rattle.tally_base.specs.Tally.{History};
+ghost use Rattle.marker_map.specs.Lines.{image_of, markers_given, line_start};
+
+use crate::count::{Rest, bin_of, cell_of, count_block, put};
+use event_block::Block;
+use scan_image::Lines;
+use std::alloc::{AllocError, Global};
+use std::sync::ledger::Ledger;
+use tally_base::{CubeSet, Event, EventKind, Steps, Tally, is_in};
+
+/// Counts the photons of a group by their places in a scan and by their dtimes.
+///
+/// Where a photon is, is told by the markers before it, as in an image. Bin b of a pixel counts the dtimes
+/// from `b * dwidth` on and below `(b + 1) * dwidth`. The photons of the group that have no place in the
+/// image are counted in one number, `outside`, and those that have one and a dtime past the last bin in
+/// another, `over`. Times are sync periods, dtimes are ticks.
+#[derive(Drop)]
+pub struct FlimCube {
+    set: CubeSet,
+    lines: Lines,
+    // Row by row, in each row by column, in each column by bin.
+    cells: Vec<u64>,
+    rest: Rest,
+    taken: u64,
+    floor: u64,
+    closed: bool,
+    ghost sized: { vec_len cells ≡ set.image.width * set.image.height * set.dbins },
+    ghost small: { sum cells.items + (rest.outside + rest.over) ≤ taken },
+    ghost of_set: { image_of lines ≡ image_view set.image },
+    ghost few_markers: { markers_given lines ≤ taken },
+    ghost begun: { line_start lines ≤ floor },
+}
+
+impl FlimCube {
+    ghost use Rattle.std.specs.Prelude.{◌++◌, length, true, IfOk, [], false};
+    ghost use Rattle.event_block.specs.Columns.{gathered, events_in, IsSorted};
+    ghost use Rattle.event_block.specs.Tables.{MayTake, HasTaken};
+    ghost use Rattle.tally_base.specs.Settings.PartSettings.{CubeSettings};
+    ghost use Rattle.scan_image.specs.ImageCounts.{count_outside};
+    ghost use Rattle.flim_cube.specs.CubeCounts.{in_cell, count_over};
+    ghost use Rattle.flim_cube.specs.Cube.{Holds, set_of};
+
+    /// A cube of no events, with all the memory that it ever takes, or `AllocError` where it is wanting.
+    pub fn open(alloc: Global, set: CubeSet) -> Result<FlimCube, AllocError>
+        ensures set { IfOk result (λ t. set_of t ≡ set) }
+        ensures settings { IfOk result (λ t.
+            ⟦<FlimCube as Tally>⟧.settings t ≡ CubeSettings (cube_view set)) }
+        ensures empty { IfOk result (λ t. Holds t []) }
+        ensures opened { IfOk result (λ t. ⟦<FlimCube as Tally>⟧.closed t ≡ false) }
+    {
+        let size = set.image.width * set.image.height * set.dbins;
+        Ok(FlimCube {
+            set,
+            lines: Lines::new(&set.image),
+            cells: vec![in alloc; 0; size as usize]?,
+            rest: Rest {
+                outside: 0,
+                over: 0,
+            },
+            taken: 0,
+            floor: 0,
+            closed: false,
+        })
+    }
+
+    /// What it was opened with.
+    pub fn set(&self) -> &CubeSet
+        ensures { result.now ≡ set_of self.now }
+    {
+        &self.set
+    }
+
+    /// How many photons of the group came in column `x` and row `y` with their dtime in bin `b`, which are
+    /// below the width, the height and the number of bins, of those that it was given so far.
+    pub fn cell(&self, x: u32, y: u32, b: u32) -> u64
+        requires column { x < (set_of self.now).image.width }
+        requires row { y < (set_of self.now).image.height }
+        requires bin { b < (set_of self.now).dbins }
+        ensures { (h : History) → Holds self.now h
+            → result ≡ in_cell (cube_view (set_of self.now)) x y b h }
+    {
+        self.cells[cell_of(&self.set, x, y, b)]
+    }
+
+    /// How many photons of the group came outside the image.
+    pub fn outside(&self) -> u64
+        ensures { (h : History) → Holds self.now h
+            → result ≡ count_outside (image_view (set_of self.now).image) h }
+    {
+        self.rest.outside
+    }
+
+    /// How many photons of the group came in the image with a dtime at or past the end of the last bin.
+    pub fn over(&self) -> u64
+        ensures { (h : History) → Holds self.now h
+            → result ≡ count_over (cube_view (set_of self.now)) h }
+    {
+        self.rest.over
+    }
+
+    /// Takes the events of a block, as `event` does one by one.
+    pub fn events(&mut self, block: &Block)
+        requires sorted { IsSorted block.now }
+        requires may { MayTake ⟦<FlimCube as Tally>⟧ (gathered block.now) self.old }
+        ensures { HasTaken ⟦<FlimCube as Tally>⟧ (gathered block.now) (events_in block.now)
+            self.old self.new }
+    {
+        self.taken += block.len() as u64;
+        self.floor = block.floor_after(true, self.floor);
+        self.rest = count_block(
+            &self.set,
+            &mut self.lines,
+            &mut self.cells,
+            self.rest,
+            block,
+        );
+    }
+}
+
+impl Tally for FlimCube {
+    ghost use Rattle.std.specs.Prelude.{length};
+    ghost use Rattle.flim_cube.specs.Cube.{Holds, settings};
+    ghost use Rattle.flim_cube.specs.Laws.{taken_is, floor_is, within_bound};
+
+    ghost holds = { Holds };
+
+    ghost taken = { λ t. t.taken };
+
+    ghost floor = { λ t. t.floor };
+
+    // The time and the row of the line and the row of the next line are entries, beside the cells and the
+    // two rest counts.
+    ghost held = { λ t. length t.cells.items + 5 };
+
+    ghost settings = { settings };
+
+    ghost closed = { λ t. t.closed };
+
+    ghost taken_is = { taken_is };
+
+    ghost floor_is = { floor_is };
+
+    ghost within = { within_bound };
+
+    #[inline(always)]
+    fn event<L: Ledger>(&mut self, e: &Event, groups: u64, _steps: &mut Steps<L>) {
+        self.taken += 1;
+        self.floor = e.time;
+        match e.kind {
+            EventKind::Marker { bits } => self.lines.marker(bits, e.time),
+            EventKind::Photon { dtime, .. } => {
+                // No branch on the group, which is as good as random from photon to photon.
+                let more = u64::from(is_in(groups, self.set.image.group));
+                let place = self.lines.place(e.time);
+                self.rest = put(
+                    &self.set,
+                    &mut self.cells,
+                    self.rest,
+                    place,
+                    bin_of(self.set.dwidth, dtime),
+                    more,
+                );
+            }
+        }
+    }
+
+    fn close<L: Ledger>(&mut self, _steps: &mut Steps<L>) {
+        self.closed = true;
+    }
+}

@@ -1,0 +1,11 @@
+//! Lifetime cubes: an image of a scan with a histogram of the dtimes in each pixel.
+#![tactic(auto)]
+
+mod count;
+mod cube;
+pub mod laws;
+
+pub use cube::FlimCube;
+
+#[cfg(test)]
+mod tests;
