@@ -6,6 +6,8 @@ mod coincidences;
 #[cfg(test)]
 mod correlations;
 #[cfg(test)]
+mod cubes;
+#[cfg(test)]
 mod images;
 #[cfg(test)]
 mod refusals;

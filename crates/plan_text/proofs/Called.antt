@@ -8,7 +8,7 @@ use Rattle.toml.specs.Data.{table, Members}
 use Rattle.toml_rules.specs.Rules.{Rule, all_kept, AllHold, IsLeast, Names}
 use Rattle.toml_rules.proofs.Least.{names_least, all_kept_nowhere}
 use Rattle.plan_text.specs.Plan.{PlanView, plan_rules, plan}
-use Rattle.plan_text.specs.Reading.{document, if_kept, plan_of_document, plan_answer, IsCalledFor, IsValid}
+use Rattle.plan_text.specs.Reading.{text_limit, document, if_kept, plan_of_document, plan_answer, IsCalledFor, IsValid}
 use Rattle.plan_text.proofs.Documents.{plan_answer_long, answer_in_time, answer_none, answer_some}
 use Rattle.plan_text.proofs.Rise.{plan_rules_rise}
 use Rattle.plan_text.proofs.Whole.{plan_is_whole}
@@ -16,17 +16,17 @@ use Rattle.plan_text.proofs.Whole.{plan_is_whole}
 abbrev Calls : List ℕ → Fault → Type 0
 Calls bytes fault = IsCalledFor bytes fault × (fault ≢ OutOfMemory)
 
-named : (bytes : List ℕ) (ms : Members) (fault : Fault) → length bytes ≤ 65536 → document bytes ≡ Some ms → Names (plan_rules (table ms)) fault → Calls bytes fault
+named : (bytes : List ℕ) (ms : Members) (fault : Fault) → length bytes ≤ text_limit → document bytes ≡ Some ms → Names (plan_rules (table ms)) fault → Calls bytes fault
 named bytes ms (PlanRule n index) short is names = ((short, ms, is, names), λ e. cc)
 named bytes ms _ short is names = absurd names
 
-by_rules : (bytes : List ℕ) (ms : Members) (r : Result (Unit {0}) Fault) (fault : Fault) → length bytes ≤ 65536 → document bytes ≡ Some ms → all_kept (plan_rules (table ms)) ≡ r → if_kept r (plan (table ms)) ≡ Err fault → Calls bytes fault
+by_rules : (bytes : List ℕ) (ms : Members) (r : Result (Unit {0}) Fault) (fault : Fault) → length bytes ≤ text_limit → document bytes ≡ Some ms → all_kept (plan_rules (table ms)) ≡ r → if_kept r (plan (table ms)) ≡ Err fault → Calls bytes fault
 by_rules bytes ms (Ok done) fault short is kept err = cc
 by_rules bytes ms (Err other) fault short is kept err =
     let same : fault ≡ other = cc in
     rw same (named bytes ms other short is (names_least 0 (plan_rules (table ms)) other (plan_rules_rise (table ms)) kept))
 
-by_document : (bytes : List ℕ) (read : Option Members) (fault : Fault) → length bytes ≤ 65536 → document bytes ≡ read → plan_of_document read ≡ Err fault → Calls bytes fault
+by_document : (bytes : List ℕ) (read : Option Members) (fault : Fault) → length bytes ≤ text_limit → document bytes ≡ read → plan_of_document read ≡ Err fault → Calls bytes fault
 unfolding plan_of_document
 by_document bytes None fault short is err =
     let same : fault ≡ PlanSyntax = cc in
@@ -34,27 +34,27 @@ by_document bytes None fault short is err =
 by_document bytes (Some ms) fault short is err = by_rules bytes ms (all_kept (plan_rules (table ms))) fault short is refl err
 
 pub called : (bytes : List ℕ) (fault : Fault) → plan_answer bytes ≡ Err fault → Calls bytes fault
-called bytes fault err = elim (cases_lt 65536 (length bytes)) [
+called bytes fault err = elim (cases_lt text_limit (length bytes)) [
   | inl long ↦ too_long (plan_answer_long bytes long) long
   | inr short ↦ by_document bytes (document bytes) fault short refl (sym (answer_in_time bytes short) ∙ err)
 ]
   where
-    too_long : plan_answer bytes ≡ Err PlanTooLong → 65536 < length bytes → Calls bytes fault
+    too_long : plan_answer bytes ≡ Err PlanTooLong → text_limit < length bytes → Calls bytes fault
     too_long is long = let same : fault ≡ PlanTooLong = cc in rw same (long, λ e. cc)
 
-valid_rules : (bytes : List ℕ) (ms : Members) (r : Result (Unit {0}) Fault) (view : PlanView) → length bytes ≤ 65536 → document bytes ≡ Some ms → all_kept (plan_rules (table ms)) ≡ r → if_kept r (plan (table ms)) ≡ Ok view → IsValid bytes
+valid_rules : (bytes : List ℕ) (ms : Members) (r : Result (Unit {0}) Fault) (view : PlanView) → length bytes ≤ text_limit → document bytes ≡ Some ms → all_kept (plan_rules (table ms)) ≡ r → if_kept r (plan (table ms)) ≡ Ok view → IsValid bytes
 valid_rules bytes ms (Ok done) view short is kept ok =
     let all = all_kept_nowhere (plan_rules (table ms)) kept in
     (short, ms, is, all, plan_is_whole (table ms) all)
 valid_rules bytes ms (Err fault) view short is kept ok = cc
 
-valid_document : (bytes : List ℕ) (read : Option Members) (view : PlanView) → length bytes ≤ 65536 → document bytes ≡ read → plan_of_document read ≡ Ok view → IsValid bytes
+valid_document : (bytes : List ℕ) (read : Option Members) (view : PlanView) → length bytes ≤ text_limit → document bytes ≡ read → plan_of_document read ≡ Ok view → IsValid bytes
 unfolding plan_of_document
 valid_document bytes None view short is ok = cc
 valid_document bytes (Some ms) view short is ok = valid_rules bytes ms (all_kept (plan_rules (table ms))) view short is refl ok
 
 pub valid : (bytes : List ℕ) (view : PlanView) → plan_answer bytes ≡ Ok view → IsValid bytes
-valid bytes view ok = elim (cases_lt 65536 (length bytes)) [
+valid bytes view ok = elim (cases_lt text_limit (length bytes)) [
   | inl long ↦ let e = plan_answer_long bytes long in cc
   | inr short ↦ valid_document bytes (document bytes) view short refl (sym (answer_in_time bytes short) ∙ ok)
 ]

@@ -9,7 +9,7 @@ use Rattle.toml.specs.Data.{Data, table, Members}
 use Rattle.toml.specs.Parse.{parse_document}
 use Rattle.toml_rules.specs.Rules.{all_kept}
 use Rattle.plan_text.specs.Plan.{plan_rules, plan}
-use Rattle.plan_text.specs.Reading.{document, if_kept, plan_of_document, plan_answer}
+use Rattle.plan_text.specs.Reading.{text_limit, document, if_kept, plan_of_document, plan_answer}
 
 pub document_of_text : (bytes : List ℕ) → IsUtf8 bytes → document bytes ≡ parse_document bytes
 unfolding document
@@ -23,21 +23,21 @@ document_of_none bytes other =
       | inr none ↦ rw none refl
     ]
 
--- what a plan is of which only the first 65,537 bytes are known
-pub plan_answer_long : (bytes : List ℕ) → 65536 < length bytes → plan_answer bytes ≡ Err PlanTooLong
+-- what a plan is of which only the first bytes are known, one more than it may have
+pub plan_answer_long : (bytes : List ℕ) → text_limit < length bytes → plan_answer bytes ≡ Err PlanTooLong
 unfolding plan_answer
 plan_answer_long bytes long =
-    let no : nat_le (length bytes) 65536 ≡ false = grind (arith, nat_tests) in
+    let no : nat_le (length bytes) text_limit ≡ false = grind (arith, nat_tests) in
     rw no refl
 
-pub answer_in_time : (bytes : List ℕ) → length bytes ≤ 65536 → plan_answer bytes ≡ plan_of_document (document bytes)
+pub answer_in_time : (bytes : List ℕ) → length bytes ≤ text_limit → plan_answer bytes ≡ plan_of_document (document bytes)
 unfolding plan_answer
-answer_in_time bytes short = rw (le-leb (length bytes) 65536 short) refl
+answer_in_time bytes short = rw (le-leb (length bytes) text_limit short) refl
 
-pub answer_none : (bytes : List ℕ) → length bytes ≤ 65536 → document bytes ≡ None → plan_answer bytes ≡ Err PlanSyntax
+pub answer_none : (bytes : List ℕ) → length bytes ≤ text_limit → document bytes ≡ None → plan_answer bytes ≡ Err PlanSyntax
 unfolding plan_of_document
 answer_none bytes short none = answer_in_time bytes short ∙ ap plan_of_document none
 
-pub answer_some : (bytes : List ℕ) (ms : Members) (d : Data) → length bytes ≤ 65536 → document bytes ≡ Some ms → d ≡ table ms → plan_answer bytes ≡ if_kept (all_kept (plan_rules d)) (plan d)
+pub answer_some : (bytes : List ℕ) (ms : Members) (d : Data) → length bytes ≤ text_limit → document bytes ≡ Some ms → d ≡ table ms → plan_answer bytes ≡ if_kept (all_kept (plan_rules d)) (plan d)
 unfolding plan_of_document
 answer_some bytes ms d short some is = rw is (answer_in_time bytes short ∙ ap plan_of_document some)

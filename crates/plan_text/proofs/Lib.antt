@@ -8,5 +8,6 @@ pub mod Rows
 pub mod Whole
 pub mod Misfits
 pub mod Called
+pub mod ByKind
 pub mod PartLists
 pub mod Bound

@@ -1,32 +1,15 @@
 -- Equal parts are equal lists of each kind.
-use Rattle.std.proofs.Common.{◌≡◌, refl, sym, ap, ℕ, ◌+◌, ◌≤◌, List, [], ◌∷◌, ◌++◌, map, length, arith}
+use Rattle.std.proofs.Common.{◌≡◌, refl, sym, ap, ℕ, ◌+◌, ◌≤◌, List, [], ◌∷◌, ◌++◌, length, arith}
 use Rattle.std.specs.List.{AllByRecursion, flat_map}
-use Rattle.tally_base.specs.Settings.{PartSettings, hist_view, trace_view, startstop_view, coincidence_view, image_view, correlation_view}
-use Rattle.tally_base.specs.Settings.PartSettings.{HistSettings, TraceSettings, StartStopSettings, CoincidenceSettings, ImageSettings, CorrelationSettings}
+use Rattle.tally_base.specs.Settings.{PartSettings}
 use Rattle.plan_text.specs.declared.plan.Plan.{Plan}
-use Rattle.plan_text.specs.Reading.{part_lists, HaveSameTables}
-
--- the place of a kind in the order of the report
-abbrev kind_at : PartSettings → ℕ
-kind_at (HistSettings set) = 0
-kind_at (TraceSettings set) = 1
-kind_at (StartStopSettings set) = 2
-kind_at (CoincidenceSettings set) = 3
-kind_at (ImageSettings set) = 4
-kind_at (CorrelationSettings set) = 5
-
--- each part is of the kind at this place
-abbrev AreAt : ℕ → List PartSettings → Type 0
-AreAt n = AllByRecursion (λ part. kind_at part ≡ n)
+use Rattle.plan_text.specs.Kinds.{part_lists}
+use Rattle.plan_text.specs.Reading.{HaveSameTables}
+use Rattle.plan_text.proofs.ByKind.{kind_at, AreAt, AreByKinds, by_kinds}
 
 -- each part is of the kind at this place or of a later one
 abbrev AreFrom : ℕ → List PartSettings → Type 0
 AreFrom n = AllByRecursion (λ part. n ≤ kind_at part)
-
--- the lists are of one kind after the other, from this place on
-abbrev AreByKinds : ℕ → List (List PartSettings) → Type 0
-AreByKinds n [] = Unit {0}
-AreByKinds n (list ∷ lists) = AreAt n list × AreByKinds (n + 1) lists
 
 abbrev joined : List (List PartSettings) → List PartSettings
 joined lists = flat_map (λ list. list) lists
@@ -75,31 +58,6 @@ lists_same n (xs ∷ one) (ys ∷ other) a b long same =
     let (here, later) = first_same n xs ys (joined one) (joined other) a.0 b.0 (from_kinds (n + 1) one a.1) (from_kinds (n + 1) other b.1) same in
     let rest : one ≡ other = lists_same (n + 1) one other a.1 b.1 (omega (arith, long)) later in
     rw (here, rest) refl
-
-of_kind : {S : Type 0} (settings : S → PartSettings) (n : ℕ) → ((set : S) → kind_at (settings set) ≡ n) → (sets : List S) → AreAt n (map settings sets)
-of_kind settings n is [] = tt
-of_kind settings n is (set ∷ sets) = (is set, of_kind settings n is sets)
-
-by_kinds : (plan : Plan) → AreByKinds 0 (part_lists plan)
-by_kinds plan = (
-  of_kind (λ set. HistSettings (hist_view set)) 0 (λ set. refl) plan.histograms.items,
-  (
-    of_kind (λ set. TraceSettings (trace_view set)) 1 (λ set. refl) plan.traces.items,
-    (
-      of_kind (λ set. StartStopSettings (startstop_view set)) 2 (λ set. refl) plan.startstops.items,
-      (
-        of_kind (λ set. CoincidenceSettings (coincidence_view set)) 3 (λ set. refl) plan.coincidences.items,
-        (
-          of_kind (λ set. ImageSettings (image_view set)) 4 (λ set. refl) plan.images.items,
-          (
-            of_kind (λ set. CorrelationSettings (correlation_view set)) 5 (λ set. refl) plan.correlations.items,
-            tt,
-          ),
-        ),
-      ),
-    ),
-  ),
-)
 
 pub same_tables : (one other : Plan) → HaveSameTables one other
 same_tables one other = lists_same 0 (part_lists one) (part_lists other) (by_kinds one) (by_kinds other) refl

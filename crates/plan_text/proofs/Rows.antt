@@ -1,16 +1,15 @@
 -- Plans with one bad thing, and small plans that are read.
-use Rattle.std.proofs.Common.{◌≡◌, ◌^◌, ◌*◌, refl, codes, ℕ, List, Ok, Err, Some, None, [], ◌∷◌, true, false}
+use Rattle.std.proofs.Common.{◌≡◌, ◌^◌, refl, codes, ℕ, List, Ok, Err, Some, None, [], ◌∷◌, true, false}
 use Rattle.tally_base.specs.declared.fault.Fault.TheVariants.{PlanSyntax, PlanRule, PlanMode}
 use Rattle.tally_base.specs.declared.header.Mode.TheVariants.{T2}
 use Rattle.tally_base.specs.declared.part.PartKind.TheVariants.{Gate, Shift}
 use Rattle.tally_base.specs.declared.event.Order.TheVariants as orders
 use Rattle.tally_base.specs.declared.event.OnReserved.TheVariants as choices
-use Rattle.tally_base.specs.Settings.{ShiftView, entries}
-use Rattle.tally_base.specs.Settings.PartSettings.{HistSettings, TraceSettings, StartStopSettings, CoincidenceSettings, ImageSettings, CorrelationSettings}
+use Rattle.tally_base.specs.Settings.{ShiftView}
+use Rattle.tally_base.specs.Settings.PartSettings.{TraceSettings, StartStopSettings, CoincidenceSettings, ImageSettings, CorrelationSettings, CubeSettings}
 use Rattle.plan_text.specs.Plan.{PlanView}
 use Rattle.plan_text.specs.Fits.{fits}
 use Rattle.plan_text.specs.Reading.{plan_answer}
-use Rattle.plan_text.specs.Bound.{greatest_bound, histogram_entries, trace_entries, startstop_entries, coincidence_entries, image_entries, correlation_entries}
 use Rattle.plan_text.proofs.OnLiterals.{plan_on_literals}
 
 pub row_byte : plan_answer (255 ∷ []) ≡ Err PlanSyntax
@@ -147,20 +146,6 @@ pub row_pairs_and_images : plan_answer (codes "group = [{ inputs = [0] }]\ncoinc
 unfolding plan_on_literals
 row_pairs_and_images = refl
 
--- ## The greatest bound
-
-pub row_bound : greatest_bound ≡ 119138272
-row_bound = refl
-
--- each kind's part of it is that of its most tables, each of its greatest settings
-pub row_bound_by_kind : (32 * entries (HistSettings (record { group = 1; width = 1; bins = 32768 })) ≡ histogram_entries)
-    × (32 * entries (TraceSettings (record { group = 1; origin = 0; width = 1; bins = 2 ^ 20 })) ≡ trace_entries)
-    × (16 * entries (StartStopSettings (record { start = 1; stop = 1; width = 1; bins = 32768 })) ≡ startstop_entries)
-    × (16 * entries (CoincidenceSettings (record { first = 1; second = 1; reach = 2 ^ 20; width = 1 })) ≡ coincidence_entries)
-    × (8 * entries (ImageSettings (record { group = 1; width = 2048; height = 2048; dwell = 1; line = 1; frame = None; stop = None; serpentine = false })) ≡ image_entries)
-    × (16 * entries (CorrelationSettings (record { first = 1; second = 1; lags = 128; levels = 40 })) ≡ correlation_entries)
-row_bound_by_kind = (refl, refl, refl, refl, refl, refl)
-
 -- ## Version 2
 
 -- a shift without a period
@@ -238,6 +223,20 @@ row_settle_too_great = refl
 pub row_settle_first : plan_answer (codes "settle = 1\n") ≡ Err (PlanRule 1 0)
 unfolding plan_on_literals
 row_settle_first = refl
+
+-- ## Cubes
+
+pub row_cube : plan_answer (codes "version = 2\ngroup = [{ inputs = [0] }]\ncube = [{ group = 1, width = 2048, height = 2048, dwell = 10, line = 1, frame = 2, dwidth = 5, dbins = 16 }]\n") ≡ Ok (record { order = orders.Drop; reserved = choices.Skip; records = 2 ^ 40; settle = 0; period = 1; shifts = []; groups = record { inputs = 1; gates = [] } ∷ []; parts = CubeSettings (record { image = record { group = 1; width = 2048; height = 2048; dwell = 10; line = 1; frame = Some 2; stop = None; serpentine = false }; dwidth = 5; dbins = 16 }) ∷ [] })
+unfolding plan_on_literals
+row_cube = refl
+
+pub row_cube_first : plan_answer (codes "cube = []\n") ≡ Err (PlanRule 1 0)
+unfolding plan_on_literals
+row_cube_first = refl
+
+pub row_cube_too_large : plan_answer (codes "version = 2\ngroup = [{ inputs = [0] }]\ncube = [{ group = 1, width = 2048, height = 2048, dwell = 10, line = 1, dwidth = 1, dbins = 17 }]\n") ≡ Err (PlanRule 29 1)
+unfolding plan_on_literals
+row_cube_too_large = refl
 
 -- ## The mode of a file
 

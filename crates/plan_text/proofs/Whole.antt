@@ -9,7 +9,7 @@ use Rattle.toml_rules.proofs.Least.{all_kept_after}
 use Rattle.plan_text.specs.Plan.{plan_rules, lists_kept, plan, IsWhole}
 use Rattle.plan_text.specs.Document.{document_rules}
 use Rattle.plan_text.specs.Kind.{Kind, tables, last_rule, kind_rules, list_of_kind}
-use Rattle.plan_text.specs.Kinds.{kinds, first_lists, second_lists, table_lists}
+use Rattle.plan_text.specs.Kinds.{kinds, first_kinds, second_kinds, first_lists, second_lists, table_lists}
 use Rattle.plan_text.specs.Groups.{group_rules, groups, group, group_of, inputs, gates}
 use Rattle.plan_text.specs.Shifts.{shift_rules, all_shifts}
 use Rattle.plan_text.specs.TableList.{TableList}
@@ -123,6 +123,15 @@ all_last : {X : Type 0} (P : X → Type 0) (xs ys : List X) → AllByRecursion P
 all_last P [] ys all = all
 all_last P (x ∷ xs) ys all = all_last P xs ys all.1
 
+all_both : {X : Type 0} (P : X → Type 0) (xs ys : List X) → AllByRecursion P xs → AllByRecursion P ys → AllByRecursion P (xs ++ ys)
+all_both P [] ys first last = last
+all_both P (x ∷ xs) ys first last = (first.0, all_both P xs ys first.1 last)
+
+-- what holds of each list holds of that of each kind
+pub kinds_of_lists : (P : TableList → Type 0) → AllByRecursion P table_lists → AllByRecursion P (map list_of_kind kinds)
+kinds_of_lists P all =
+    all_both P (map list_of_kind first_kinds) (map list_of_kind second_kinds) (all_first P first_lists second_lists all).1 (all_last P first_lists second_lists all).1
+
 pub plan_is_whole : (d : Data) → AllHold (plan_rules d) → IsWhole d
 unfolding plan_rules plan
 plan_is_whole d all =
@@ -132,5 +141,5 @@ plan_is_whole d all =
     record {
       shifts = shifts_in d second.0;
       groups = groups_in d first.0;
-      parts = kinds_whole kinds d first.1;
+      parts = kinds_whole kinds d (kinds_of_lists (Holds d) hold);
     }

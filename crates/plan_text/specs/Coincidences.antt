@@ -30,4 +30,11 @@ has_coincidence_keys = has_keys (codes "first" ∷ codes "second" ∷ codes "rea
 
 -- coincidences in a plan
 abbrev pub coincidence_kind : Kind
-coincidence_kind = record { key = codes "coincidence"; most = 16; before = λ d. each 17 has_coincidence_keys (coincidences d) ∷ []; last = 18; read = coincidence }
+coincidence_kind = record {
+  key = codes "coincidence";
+  most = 16;
+  before = λ d. each 17 has_coincidence_keys (coincidences d) ∷ [];
+  last = 18;
+  read = coincidence;
+  greatest = CoincidenceSettings (record { first = 1; second = 1; reach = 2 ^ 20; width = 1 });
+}

@@ -38,4 +38,11 @@ has_correlation_keys = has_keys (codes "first" ∷ codes "second" ∷ codes "lag
 
 -- correlations in a plan
 abbrev pub correlation_kind : Kind
-correlation_kind = record { key = codes "correlation"; most = 16; before = λ d. each 21 has_correlation_keys (correlations d) ∷ []; last = 22; read = correlation }
+correlation_kind = record {
+  key = codes "correlation";
+  most = 16;
+  before = λ d. each 21 has_correlation_keys (correlations d) ∷ [];
+  last = 22;
+  read = correlation;
+  greatest = CorrelationSettings (record { first = 1; second = 1; lags = 128; levels = 40 });
+}

@@ -1,6 +1,7 @@
 -- What the document of a plan says as a whole, and the rules on it.
-use Rattle.std.specs.Prelude.{ℕ, ◌^◌, ◌≤◌, Bool, nat_le, List, [], ◌∷◌, ◌++◌, length, codes, Option, None, Some, is_some, if◌then◌else◌}
+use Rattle.std.specs.Prelude.{ℕ, ◌≤◌, Bool, nat_le, List, [], ◌∷◌, ◌++◌, length, codes, Option, None, Some, is_some, if◌then◌else◌}
 use Rattle.std.specs.List.{AllByRecursion}
+use Rattle.tally_base.specs.Limits.{record_limit}
 use Rattle.toml.specs.Data.{Data, get}
 use Rattle.toml_rules.specs.Rules.{Rule, whole, each}
 use Rattle.toml_rules.specs.Values.{list_at, may_be_tables, has_keys, number_or, second_of}
@@ -17,8 +18,8 @@ reserved d = second_of (codes "skip") (codes "stop") (get (codes "reserved") d)
 
 -- the greatest number of records, of what may be a table of limits
 abbrev pub records_in : Option Data → Option ℕ
-records_in None = Some (2 ^ 40)
-records_in (Some d) = if has_keys [] (codes "records" ∷ []) d then number_or (2 ^ 40) 1 (2 ^ 40) (get (codes "records") d) else None
+records_in None = Some record_limit
+records_in (Some d) = if has_keys [] (codes "records" ∷ []) d then number_or record_limit 1 record_limit (get (codes "records") d) else None
 
 -- the greatest number of records
 unfoldable pub records : Data → Option ℕ

@@ -29,4 +29,11 @@ has_histogram_keys = has_keys (codes "group" ∷ codes "width" ∷ codes "bins" 
 
 -- histograms in a plan
 abbrev pub histogram_kind : Kind
-histogram_kind = record { key = codes "histogram"; most = 32; before = λ d. each 11 has_histogram_keys (histograms d) ∷ []; last = 12; read = histogram }
+histogram_kind = record {
+  key = codes "histogram";
+  most = 32;
+  before = λ d. each 11 has_histogram_keys (histograms d) ∷ [];
+  last = 12;
+  read = histogram;
+  greatest = HistSettings (record { group = 1; width = 1; bins = 32768 });
+}

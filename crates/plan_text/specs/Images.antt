@@ -1,8 +1,9 @@
 -- What the tables of images say, and the rules on them.
-use Rattle.std.specs.Prelude.{ℕ, ◌^◌, Bool, false, List, [], ◌∷◌, codes, Option, None, Some, option_map, if◌then◌else◌}
+use Rattle.std.specs.Prelude.{ℕ, Bool, false, List, [], ◌∷◌, codes, Option, None, Some, option_map, if◌then◌else◌}
 use Rattle.toml.specs.Data.{Data, get}
-use Rattle.tally_base.specs.Settings.{PartSettings}
+use Rattle.tally_base.specs.Settings.{PartSettings, ImageView}
 use Rattle.tally_base.specs.Settings.PartSettings.{ImageSettings}
+use Rattle.tally_base.specs.Limits.{wrap_limit}
 use Rattle.toml_rules.specs.Rules.{each}
 use Rattle.toml_rules.specs.Values.{list_at, has_keys, integer_in, number_in, truth_or}
 use Rattle.plan_text.specs.Groups.{group_number}
@@ -31,7 +32,7 @@ raster_of None height dwell = None
 
 -- the width, the height and the dwell of an image
 unfoldable pub raster : Data → Option (ℕ × (ℕ × ℕ))
-raster image = raster_of (number_in 1 2048 (get (codes "width") image)) (number_in 1 2048 (get (codes "height") image)) (number_in 1 (2 ^ 62) (get (codes "dwell") image))
+raster image = raster_of (number_in 1 2048 (get (codes "width") image)) (number_in 1 2048 (get (codes "height") image)) (number_in 1 wrap_limit (get (codes "dwell") image))
 
 -- the marker bits of a line, a frame and a stop, where each keeps its rule
 abbrev pub bits_of : Option ℕ → Option (Option ℕ) → Option (Option ℕ) → Option (ℕ × (Option ℕ × Option ℕ))
@@ -49,16 +50,20 @@ unfoldable pub serpentine : Data → Option Bool
 serpentine image = truth_or false (get (codes "serpentine") image)
 
 -- the settings of these values, where each keeps its rule
-abbrev pub image_of : Option ℕ → Option (ℕ × (ℕ × ℕ)) → Option (ℕ × (Option ℕ × Option ℕ)) → Option Bool → Option PartSettings
-image_of (Some group) (Some raster) (Some bits) (Some serpentine) = Some (ImageSettings (record { group = group; width = raster.0; height = raster.1.0; dwell = raster.1.1; line = bits.0; frame = bits.1.0; stop = bits.1.1; serpentine = serpentine }))
+abbrev pub image_of : Option ℕ → Option (ℕ × (ℕ × ℕ)) → Option (ℕ × (Option ℕ × Option ℕ)) → Option Bool → Option ImageView
+image_of (Some group) (Some raster) (Some bits) (Some serpentine) = Some (record { group = group; width = raster.0; height = raster.1.0; dwell = raster.1.1; line = bits.0; frame = bits.1.0; stop = bits.1.1; serpentine = serpentine })
 image_of (Some group) (Some raster) (Some bits) None = None
 image_of (Some group) (Some raster) None serpentine = None
 image_of (Some group) None bits serpentine = None
 image_of None raster bits serpentine = None
 
+-- the values of an image that a table of the document gives
+unfoldable pub image_values : Data → Data → Option ImageView
+image_values d set = image_of (group_number d (get (codes "group") set)) (raster set) (bits set) (serpentine set)
+
 -- the settings that a table of the document gives
-unfoldable pub image : Data → Data → Option PartSettings
-image d set = image_of (group_number d (get (codes "group") set)) (raster set) (bits set) (serpentine set)
+abbrev pub image : Data → Data → Option PartSettings
+image d set = option_map ImageSettings (image_values d set)
 
 -- the keys that an image may have or not, by the version
 abbrev pub other_image_keys : Bool → List (List ℕ)
@@ -70,4 +75,11 @@ has_image_keys d = has_keys (codes "group" ∷ codes "width" ∷ codes "height" 
 
 -- images in a plan
 abbrev pub image_kind : Kind
-image_kind = record { key = codes "image"; most = 8; before = λ d. each 19 (has_image_keys d) (images d) ∷ []; last = 20; read = image }
+image_kind = record {
+  key = codes "image";
+  most = 8;
+  before = λ d. each 19 (has_image_keys d) (images d) ∷ [];
+  last = 20;
+  read = image;
+  greatest = ImageSettings (record { group = 1; width = 2048; height = 2048; dwell = 1; line = 1; frame = None; stop = None; serpentine = false });
+}

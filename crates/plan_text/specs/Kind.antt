@@ -18,6 +18,8 @@ pub record Kind : Type 0 where
   pub last : ℕ
   -- the settings that a table of the document gives
   pub read : Data → Data → Option PartSettings
+  -- settings by which a table keeps as many entries as one of the kind may
+  pub greatest : PartSettings
 
 -- the tables of a kind in a document
 abbrev pub tables : Kind → Data → List Data

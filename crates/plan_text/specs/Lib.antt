@@ -7,6 +7,7 @@ pub mod Traces
 pub mod StartStops
 pub mod Coincidences
 pub mod Images
+pub mod Cubes
 pub mod Correlations
 pub mod Settle
 pub mod Shifts

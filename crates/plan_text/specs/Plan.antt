@@ -1,5 +1,5 @@
 -- All rules of a plan, and the plan that a document gives.
-use Rattle.std.specs.Prelude.{◌≡◌, map, ℕ, ◌^◌, Bool, true, false, List, [], ◌∷◌, ◌++◌, Result, Ok, Option, None, Some, unwrap_or, filter_map, flat_map}
+use Rattle.std.specs.Prelude.{◌≡◌, map, ℕ, Bool, true, false, List, [], ◌∷◌, ◌++◌, Result, Ok, Option, None, Some, unwrap_or, filter_map, flat_map}
 use Rattle.toml.specs.Data.{Data}
 use Rattle.tally_base.specs.declared.fault.Fault.{Fault}
 use Rattle.tally_base.specs.declared.event.Order.{Order}
@@ -7,6 +7,7 @@ use Rattle.tally_base.specs.declared.event.Order.TheVariants as orders
 use Rattle.tally_base.specs.declared.event.OnReserved.{OnReserved}
 use Rattle.tally_base.specs.declared.event.OnReserved.TheVariants as choices
 use Rattle.tally_base.specs.Settings.{GroupView, ShiftView, PartSettings}
+use Rattle.tally_base.specs.Limits.{record_limit}
 use Rattle.toml_rules.specs.Rules.{Rule, or_next, all_kept}
 use Rattle.plan_text.specs.Document.{order, reserved, records, document_rules}
 use Rattle.plan_text.specs.Groups.{groups, group}
@@ -60,7 +61,7 @@ unfoldable pub plan : Data → PlanView
 plan d = record {
   order = order_of (order d);
   reserved = reserved_of (reserved d);
-  records = unwrap_or (records d) (2 ^ 40);
+  records = unwrap_or (records d) record_limit;
   settle = settle_or_none d;
   period = period_or_one d;
   shifts = filter_map (λ set. set) (all_shifts d);

@@ -1,26 +1,15 @@
 -- What reading a plan answers.
-use Rattle.std.specs.Prelude.{◌≡◌, ◌<◌, ◌≤◌, ℕ, List, [], ◌∷◌, map, flat_map, length, nat_le, Option, None, Some, Result, Ok, Err, if◌then◌else◌}
+use Rattle.std.specs.Prelude.{◌≡◌, ◌<◌, ◌≤◌, ℕ, List, map, flat_map, length, nat_le, Option, None, Some, Result, Ok, Err, if◌then◌else◌}
 use Rattle.std.specs.Str.{is_utf8}
 use Rattle.tally_base.specs.declared.fault.Fault.{Fault}
 use Rattle.tally_base.specs.declared.fault.Fault.TheVariants.{OutOfMemory, PlanTooLong, PlanSyntax, PlanRule}
 use Rattle.toml.specs.Data.{table, Members}
 use Rattle.toml.specs.Parse.{parse_document}
-use Rattle.tally_base.specs.Settings.{PartSettings, group_view, shift_view, hist_view, trace_view, startstop_view, coincidence_view, image_view, correlation_view}
-use Rattle.tally_base.specs.Settings.PartSettings.{HistSettings, TraceSettings, StartStopSettings, CoincidenceSettings, ImageSettings, CorrelationSettings}
+use Rattle.tally_base.specs.Settings.{group_view, shift_view}
 use Rattle.toml_rules.specs.Rules.{all_kept, AllHold, IsLeast}
+use Rattle.plan_text.specs.Kinds.{part_lists}
 use Rattle.plan_text.specs.Plan.{PlanView, plan_rules, plan, IsWhole}
 use Rattle.plan_text.specs.declared.plan.Plan.{Plan}
-
--- the settings of a plan's tables: a list for each kind, in the order of the report
-abbrev pub part_lists : Plan → List (List PartSettings)
-part_lists plan =
-    map (λ set. HistSettings (hist_view set)) plan.histograms.items
-    ∷ map (λ set. TraceSettings (trace_view set)) plan.traces.items
-    ∷ map (λ set. StartStopSettings (startstop_view set)) plan.startstops.items
-    ∷ map (λ set. CoincidenceSettings (coincidence_view set)) plan.coincidences.items
-    ∷ map (λ set. ImageSettings (image_view set)) plan.images.items
-    ∷ map (λ set. CorrelationSettings (correlation_view set)) plan.correlations.items
-    ∷ []
 
 -- what a contract sees of a plan
 abbrev pub plan_view : Plan → PlanView

@@ -1,8 +1,9 @@
 -- What the tables of start-stops say, and the rules on them.
-use Rattle.std.specs.Prelude.{ℕ, ◌^◌, Bool, List, [], ◌∷◌, codes, Option, None, Some}
+use Rattle.std.specs.Prelude.{ℕ, Bool, List, [], ◌∷◌, codes, Option, None, Some}
 use Rattle.toml.specs.Data.{Data, get}
 use Rattle.tally_base.specs.Settings.{PartSettings}
 use Rattle.tally_base.specs.Settings.PartSettings.{StartStopSettings}
+use Rattle.tally_base.specs.Limits.{wrap_limit}
 use Rattle.toml_rules.specs.Rules.{each}
 use Rattle.toml_rules.specs.Values.{list_at, has_keys, number_in}
 use Rattle.plan_text.specs.Groups.{group_number}
@@ -22,7 +23,7 @@ startstop_of None stop width bins = None
 
 -- the settings that a table of the document gives
 unfoldable pub startstop : Data → Data → Option PartSettings
-startstop d set = startstop_of (group_number d (get (codes "start") set)) (group_number d (get (codes "stop") set)) (number_in 1 (2 ^ 62) (get (codes "width") set)) (number_in 1 32768 (get (codes "bins") set))
+startstop d set = startstop_of (group_number d (get (codes "start") set)) (group_number d (get (codes "stop") set)) (number_in 1 wrap_limit (get (codes "width") set)) (number_in 1 32768 (get (codes "bins") set))
 
 -- exactly the keys start, stop, width and bins
 unfoldable pub has_startstop_keys : Data → Bool
@@ -30,4 +31,11 @@ has_startstop_keys = has_keys (codes "start" ∷ codes "stop" ∷ codes "width" 
 
 -- start-stops in a plan
 abbrev pub startstop_kind : Kind
-startstop_kind = record { key = codes "startstop"; most = 16; before = λ d. each 15 has_startstop_keys (startstops d) ∷ []; last = 16; read = startstop }
+startstop_kind = record {
+  key = codes "startstop";
+  most = 16;
+  before = λ d. each 15 has_startstop_keys (startstops d) ∷ [];
+  last = 16;
+  read = startstop;
+  greatest = StartStopSettings (record { start = 1; stop = 1; width = 1; bins = 32768 });
+}

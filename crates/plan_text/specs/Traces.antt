@@ -3,6 +3,7 @@ use Rattle.std.specs.Prelude.{ℕ, ◌^◌, Bool, List, [], ◌∷◌, codes, Op
 use Rattle.toml.specs.Data.{Data, get}
 use Rattle.tally_base.specs.Settings.{PartSettings}
 use Rattle.tally_base.specs.Settings.PartSettings.{TraceSettings}
+use Rattle.tally_base.specs.Limits.{wrap_limit}
 use Rattle.toml_rules.specs.Rules.{each}
 use Rattle.toml_rules.specs.Values.{list_at, has_keys, number_in, number_or}
 use Rattle.plan_text.specs.Groups.{group_number}
@@ -22,11 +23,11 @@ trace_of None begin width bins = None
 
 -- the time at which a trace begins
 unfoldable pub origin : Data → Option ℕ
-origin trace = number_or 0 0 (2 ^ 62) (get (codes "origin") trace)
+origin trace = number_or 0 0 wrap_limit (get (codes "origin") trace)
 
 -- the settings that a table of the document gives
 unfoldable pub trace : Data → Data → Option PartSettings
-trace d set = trace_of (group_number d (get (codes "group") set)) (origin set) (number_in 1 (2 ^ 62) (get (codes "width") set)) (number_in 1 (2 ^ 20) (get (codes "bins") set))
+trace d set = trace_of (group_number d (get (codes "group") set)) (origin set) (number_in 1 wrap_limit (get (codes "width") set)) (number_in 1 (2 ^ 20) (get (codes "bins") set))
 
 -- the keys group, width and bins, and no other key but origin
 unfoldable pub has_trace_keys : Data → Bool
@@ -34,4 +35,11 @@ has_trace_keys = has_keys (codes "group" ∷ codes "width" ∷ codes "bins" ∷ 
 
 -- traces in a plan
 abbrev pub trace_kind : Kind
-trace_kind = record { key = codes "trace"; most = 32; before = λ d. each 13 has_trace_keys (traces d) ∷ []; last = 14; read = trace }
+trace_kind = record {
+  key = codes "trace";
+  most = 32;
+  before = λ d. each 13 has_trace_keys (traces d) ∷ [];
+  last = 14;
+  read = trace;
+  greatest = TraceSettings (record { group = 1; origin = 0; width = 1; bins = 2 ^ 20 });
+}

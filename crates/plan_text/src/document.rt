@@ -1,13 +1,14 @@
 // What the document says as a whole.
-ghost use Rattle.std.specs.Prelude.{◌≡◌, ◌<◌, ◌≤◌, ◌^◌, IfSome, OnOk, map, length, true, false, [], ◌∷◌};
+ghost use Rattle.std.specs.Prelude.{◌≡◌, ◌<◌, ◌≤◌, IfSome, OnOk, map, length, true, false, [], ◌∷◌};
+ghost use Rattle.tally_base.specs.Limits.{record_limit};
 ghost use Rattle.toml.specs.View.{view};
 ghost use Rattle.toml_rules.specs.Rules.{all_kept, kept};
 ghost use Rattle.toml_rules.specs.Values.{list_at, has_keys};
 ghost use Rattle.plan_text.specs.Kinds.{lists};
-ghost use Rattle.plan_text.specs.Document.{order, reserved, records, known_keys, has_known_keys, may_have_tables, has_at_most, rule_of_lists, rule_of_lengths, document_rules, AreShort, HasFewTables};
+ghost use Rattle.plan_text.specs.Document.{order, reserved, records, has_known_keys, may_have_tables, has_at_most, rule_of_lists, rule_of_lengths, document_rules, AreShort, HasFewTables};
 
 use crate::version::{is_second, version};
-use tally_base::Fault;
+use tally_base::{Fault, RECORD_LIMIT};
 use toml::Value;
 use toml_rules::{has_keys, held, list_at, may_be_tables, number_or, second_of};
 
@@ -31,80 +32,45 @@ pub(crate) fn reserved(document: &Value) -> Option<bool>
 #[tactic(auto, unfolding(crate::specs::Document::records))]
 pub(crate) fn records(document: &Value) -> Option<u64>
     ensures number { result ≡ records (view document.now) }
-    ensures range { IfSome result (λ n. (1 ≤ n) × (n ≤ 2 ^ 40)) }
+    ensures range { IfSome result (λ n. (1 ≤ n) × (n ≤ record_limit)) }
 {
     match document.get("limits") {
         Some(limits) => {
             if has_keys(limits, &[], &["records"]) {
-                number_or(limits, "records", 1 << 40, 1, 1 << 40)
+                number_or(limits, "records", RECORD_LIMIT, 1, RECORD_LIMIT)
             } else {
                 None
             }
         }
-        None => Some(1 << 40),
+        None => Some(RECORD_LIMIT),
     }
 }
 
-/// Whether the document has only keys of a plan of version 1.
-#[tactic(auto, unfolding(crate::specs::Document::known_keys))]
-fn has_first_keys(document: &Value) -> bool
-    ensures { result ≡ has_keys [] (known_keys false) (view document.now) }
-{
-    has_keys(
-        document,
-        &[],
-        &[
-            "version",
-            "order",
-            "reserved",
-            "limits",
-            "group",
-            "histogram",
-            "trace",
-            "startstop",
-            "coincidence",
-            "image",
-            "correlation",
-        ],
-    )
-}
-
-/// Whether the document has only keys of a plan of version 2.
-#[tactic(auto, unfolding(crate::specs::Document::known_keys))]
-fn has_second_keys(document: &Value) -> bool
-    ensures { result ≡ has_keys [] (known_keys true) (view document.now) }
-{
-    has_keys(
-        document,
-        &[],
-        &[
-            "version",
-            "order",
-            "reserved",
-            "limits",
-            "group",
-            "histogram",
-            "trace",
-            "startstop",
-            "coincidence",
-            "image",
-            "correlation",
-            "period",
-            "settle",
-            "shift",
-        ],
-    )
-}
-
-/// Whether the document has only keys of a plan of its version.
-#[tactic(auto, unfolding(crate::specs::Document::has_known_keys))]
+/// Whether the document has only keys of a plan of its version. The last four came with version 2.
 fn has_known_keys(document: &Value) -> bool
     ensures { result ≡ has_known_keys (view document.now) }
 {
+    let keys = [
+        "version",
+        "order",
+        "reserved",
+        "limits",
+        "group",
+        "histogram",
+        "trace",
+        "startstop",
+        "coincidence",
+        "image",
+        "correlation",
+        "period",
+        "settle",
+        "shift",
+        "cube",
+    ];
     if is_second(document) {
-        has_second_keys(document)
+        has_keys(document, &[], &keys)
     } else {
-        has_first_keys(document)
+        has_keys(document, &[], &keys[..keys.len() - 4])
     }
 }
 
@@ -155,10 +121,10 @@ fn have_at_most(document: &Value, lists: &[(&str, usize)]) -> Result<(), Fault>
 }
 
 /// The key and the greatest length of each list of a plan.
-fn lists() -> [(&'static str, usize); 8]
-    ensures { map (λ list. (list.0.now, list.1)) result ≡ lists }
+fn lists() -> &'static [(&'static str, usize)]
+    ensures { map (λ list. (list.0.now, list.1)) result.now ≡ lists }
 {
-    [
+    &[
         ("group", 64),
         ("histogram", 32),
         ("trace", 32),
@@ -167,6 +133,7 @@ fn lists() -> [(&'static str, usize); 8]
         ("image", 8),
         ("correlation", 16),
         ("shift", 65),
+        ("cube", 2),
     ]
 }
 
@@ -176,8 +143,8 @@ fn keeps_list_rules(document: &Value) -> Result<(), Fault>
     ensures few { OnOk result (HasFewTables (view document.now)) }
 {
     let lists = lists();
-    may_have_lists(document, &lists)?;
-    have_at_most(document, &lists)?;
+    may_have_lists(document, lists)?;
+    have_at_most(document, lists)?;
     Ok(())
 }
 

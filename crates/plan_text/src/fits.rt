@@ -4,16 +4,15 @@ ghost use Rattle.tally_base.specs.Settings.{group_view, shift_view};
 ghost use Rattle.plan_text.specs.Fits.{fits, groups_fit, shifts_fit, IsMisfit};
 ghost use Rattle.plan_text.specs.Reading.{plan_view};
 
-use crate::kind::suit_tables;
 use crate::plan::Plan;
 use tally_base::{Fault, Group, Mode, PartKind, ShiftSet};
 
 impl Plan {
     /// Whether each part suits files of a mode. T2 has no dtimes and no sync periods, so it suits no
-    /// gate, no shift, no histogram and no image. T3 suits no start-stop and no coincidence. `PlanMode`
-    /// names the first part that does not suit: gates before shifts, these before histograms and these
-    /// before images, start-stops before coincidences, and of a kind the least number. For a gate it is
-    /// its group's. A period alone suits both modes.
+    /// gate, no shift, no histogram, no image and no cube. T3 suits no start-stop and no coincidence. `PlanMode`
+    /// names the first part that does not suit: gates before shifts, these before histograms, these before
+    /// images and these before cubes, start-stops before coincidences, and of a kind the least number. For
+    /// a gate it is its group's. A period by itself suits either mode.
     pub fn fits(&self, mode: Mode) -> Result<(), Fault>
         ensures answer { result ≡ fits mode (plan_view self.now) }
         ensures first { IfErr result (IsMisfit mode (plan_view self.now)) }
@@ -25,18 +24,13 @@ impl Plan {
     }
 
     /// Goes through the parts in their order.
-    #[tactic(auto, using(crate::proofs::Misfits::parts_fit_after), unfolding(crate::specs::Fits::fits))]
+    #[tactic(auto, unfolding(crate::specs::Fits::fits))]
     fn suits(&self, mode: Mode) -> Result<(), Fault>
         ensures { result ≡ fits mode (plan_view self.now) }
     {
         suit_groups(self.groups.as_slice(), mode)?;
         suit_shifts(self.shifts.as_slice(), mode)?;
-        suit_tables(self.histograms.as_slice(), mode)?;
-        suit_tables(self.traces.as_slice(), mode)?;
-        suit_tables(self.startstops.as_slice(), mode)?;
-        suit_tables(self.coincidences.as_slice(), mode)?;
-        suit_tables(self.images.as_slice(), mode)?;
-        suit_tables(self.correlations.as_slice(), mode)?;
+        self.tables_suit(mode)?;
         Ok(())
     }
 }

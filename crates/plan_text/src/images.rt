@@ -1,15 +1,16 @@
 // The images of a plan.
-ghost use Rattle.std.specs.Prelude.{◌≡◌, ◌<◌, ◌≤◌, ◌^◌, length, option_map, IfSome};
+ghost use Rattle.std.specs.Prelude.{◌≡◌, ◌<◌, ◌≤◌, length, option_map, is_some, IfSome};
 ghost use Rattle.toml.specs.View.{view};
 ghost use Rattle.tally_base.specs.Settings.{image_view};
 ghost use Rattle.tally_base.specs.Settings.PartSettings.{ImageSettings};
+ghost use Rattle.tally_base.specs.Limits.{wrap_limit};
 ghost use Rattle.plan_text.specs.Groups.{groups};
-ghost use Rattle.plan_text.specs.Images.{bit, raster, bits, serpentine, image, has_image_keys, image_kind};
+ghost use Rattle.plan_text.specs.Images.{bit, raster, bits, serpentine, image_values, has_image_keys, image_kind};
 
 use crate::groups::group_number;
 use crate::kind::PlanKind;
 use crate::version::is_second;
-use tally_base::{Fault, ImageSet, Mode, PartKind};
+use tally_base::{Fault, ImageSet, Mode, PartKind, WRAP_LIMIT};
 use toml::Value;
 use toml_rules::{ListRule, each, has_keys, integer_in, list_at, number_in, truth_or};
 
@@ -34,7 +35,7 @@ fn raster(table: &Value) -> Option<(u32, (u32, u64))>
     ensures numbers { result ≡ raster (view table.now) }
     ensures width { IfSome result (λ raster. (0 < raster.0) × (raster.0 ≤ 2048)) }
     ensures height { IfSome result (λ raster. (0 < raster.1.0) × (raster.1.0 ≤ 2048)) }
-    ensures dwell { IfSome result (λ raster. (0 < raster.1.1) × (raster.1.1 ≤ 2 ^ 62)) }
+    ensures dwell { IfSome result (λ raster. (0 < raster.1.1) × (raster.1.1 ≤ wrap_limit)) }
 {
     let Some(width) = number_in(table, "width", 1, 2048) else {
         return None;
@@ -42,7 +43,7 @@ fn raster(table: &Value) -> Option<(u32, (u32, u64))>
     let Some(height) = number_in(table, "height", 1, 2048) else {
         return None;
     };
-    let Some(dwell) = number_in(table, "dwell", 1, 1 << 62) else {
+    let Some(dwell) = number_in(table, "dwell", 1, WRAP_LIMIT) else {
         return None;
     };
     Some((width as u32, (height as u32, dwell)))
@@ -76,11 +77,22 @@ fn serpentine(table: &Value) -> Option<bool>
     truth_or(table, "serpentine", false)
 }
 
+/// Whether each value of an image that a table asks for keeps its rule.
+#[tactic(auto, unfolding(crate::specs::Images::image_values))]
+pub(crate) fn has_image_values(document: &Value, table: &Value) -> bool
+    ensures { result ≡ is_some (image_values (view document.now) (view table.now)) }
+{
+    group_number(document, table, "group").is_some()
+        && raster(table).is_some()
+        && bits(table).is_some()
+        && serpentine(table).is_some()
+}
+
 /// The image that a table asks for.
-#[tactic(auto, unfolding(crate::specs::Images::image))]
-fn image(document: &Value, table: &Value) -> Option<ImageSet>
+#[tactic(auto, unfolding(crate::specs::Images::image_values))]
+pub(crate) fn image(document: &Value, table: &Value) -> Option<ImageSet>
     requires few { length (groups (view document.now)) ≤ 64 }
-    ensures { option_map (λ set. ImageSettings (image_view set)) result ≡ image (view document.now) (view table.now) }
+    ensures { option_map image_view result ≡ image_values (view document.now) (view table.now) }
 {
     let Some(group) = group_number(document, table, "group") else {
         return None;

@@ -3,6 +3,7 @@
 
 mod coincidences;
 mod correlations;
+mod cubes;
 mod document;
 mod fits;
 mod groups;
@@ -21,6 +22,8 @@ mod version;
 pub use plan::Plan;
 pub use read::{TEXT_LIMIT, read_plan};
 
+#[cfg(test)]
+mod cube_tests;
 #[cfg(test)]
 mod greatest_tests;
 #[cfg(test)]

@@ -1,10 +1,11 @@
 // A plan.
 ghost use Rattle.std.specs.Prelude.{◌<◌, ◌≤◌};
 
+use crate::kind::suit_tables;
 use arrayvec::ArrayVec;
 use tally_base::{
-    CoincidenceSet, CorrelationSet, Group, HistSet, ImageSet, Policy, ShiftSet, StartStopSet,
-    TraceSet,
+    CoincidenceSet, CorrelationSet, CubeSet, Fault, Group, HistSet, ImageSet, Mode, Policy,
+    ShiftSet, StartStopSet, TraceSet,
 };
 
 /// What a run refuses, and what it counts.
@@ -31,6 +32,30 @@ pub struct Plan {
     pub images: ArrayVec<ImageSet, 8>,
     /// The correlations of two groups.
     pub correlations: ArrayVec<CorrelationSet, 16>,
+    /// The images of a scan with a histogram of dtimes in each pixel. Each is of one of the groups.
+    pub cubes: ArrayVec<CubeSet, 2>,
     pub ghost few_kept_back: { policy.settle ≤ 64 },
     pub ghost some_period: { (0 < period) × (period ≤ 32768) },
+}
+
+impl Plan {
+    ghost use Rattle.std.specs.Prelude.{◌≡◌};
+    ghost use Rattle.plan_text.specs.Fits.{parts_fit};
+    ghost use Rattle.plan_text.specs.Plan.{parts_of};
+    ghost use Rattle.plan_text.specs.Reading.{plan_view};
+
+    /// Goes through the tables of each kind, in the order of the report.
+    #[tactic(auto, using(crate::proofs::Misfits::parts_fit_after))]
+    pub(crate) fn tables_suit(&self, mode: Mode) -> Result<(), Fault>
+        ensures { result ≡ parts_fit mode (parts_of (plan_view self.now)) }
+    {
+        suit_tables(self.histograms.as_slice(), mode)?;
+        suit_tables(self.traces.as_slice(), mode)?;
+        suit_tables(self.startstops.as_slice(), mode)?;
+        suit_tables(self.coincidences.as_slice(), mode)?;
+        suit_tables(self.images.as_slice(), mode)?;
+        suit_tables(self.correlations.as_slice(), mode)?;
+        suit_tables(self.cubes.as_slice(), mode)?;
+        Ok(())
+    }
 }

@@ -1,9 +1,10 @@
 // How a plan is read.
-ghost use Rattle.std.specs.Prelude.{◌≡◌, ◌≤◌, ◌<◌, ◌≢◌, map, filter_map, length, IfOk, IfErr, OnOk, Some, None, Err, unwrap_or, ◌^◌, false};
+ghost use Rattle.std.specs.Prelude.{◌≡◌, ◌≤◌, ◌<◌, ◌≢◌, map, filter_map, length, IfOk, IfErr, OnOk, Some, None, Err, unwrap_or, false};
 ghost use Rattle.tally_base.specs.Faults.{is_outside};
 ghost use Rattle.toml.specs.Data.{Members, table};
 ghost use Rattle.toml.specs.View.{view};
 ghost use Rattle.tally_base.specs.Settings.{group_view};
+ghost use Rattle.tally_base.specs.Limits.{record_limit};
 ghost use Rattle.toml_rules.specs.Rules.{all_kept, Names, AllHold};
 ghost use Rattle.plan_text.specs.Groups.{groups, group};
 ghost use Rattle.plan_text.specs.Document.{order, reserved, records, HasFewTables};
@@ -21,8 +22,8 @@ use crate::shifts::{keeps_shift_rules, period_or_one, shifts_of};
 use arrayvec::ArrayVec;
 use std::alloc::Global;
 use tally_base::{
-    CoincidenceSet, CorrelationSet, Fault, Group, HistSet, ImageSet, OnReserved, Order, Policy,
-    StartStopSet, TraceSet,
+    CoincidenceSet, CorrelationSet, CubeSet, Fault, Group, HistSet, ImageSet, OnReserved, Order,
+    Policy, RECORD_LIMIT, StartStopSet, TraceSet,
 };
 use toml::Value;
 use toml_rules::list_at;
@@ -41,7 +42,7 @@ pub fn read_plan(alloc: Global, bytes: &[u8]) -> Result<Plan, Fault>
     ensures answer { result ≢ Err Fault.OutOfMemory → plan_seen result ≡ plan_answer bytes.now }
     ensures refused { IfErr result (IsCalledFor bytes.now) }
     ensures valid { OnOk result (IsValid bytes.now) }
-    ensures records { IfOk result (λ plan. (0 < plan.policy.records) × (plan.policy.records ≤ 2 ^ 40)) }
+    ensures records { IfOk result (λ plan. (0 < plan.policy.records) × (plan.policy.records ≤ record_limit)) }
     ensures inside { IfErr result (λ fault. fault ≢ Fault.OutOfMemory → is_outside fault ≡ false) }
 {
     if TEXT_LIMIT < bytes.len() {
@@ -59,7 +60,7 @@ fn plan_by_rules(document: &Value) -> Result<Plan, Fault>
     ensures refused { IfErr result (Names (plan_rules (view document.now))) }
     ensures valid { OnOk result (AllHold (plan_rules (view document.now))) }
     ensures whole { OnOk result (IsWhole (view document.now)) }
-    ensures records { IfOk result (λ plan. (0 < plan.policy.records) × (plan.policy.records ≤ 2 ^ 40)) }
+    ensures records { IfOk result (λ plan. (0 < plan.policy.records) × (plan.policy.records ≤ record_limit)) }
     ensures inside { IfErr result (λ fault. is_outside fault ≡ false) }
 {
     match keeps_rules(document) {
@@ -114,6 +115,7 @@ fn keep_rules_of_lists(document: &Value) -> Result<(), Fault>
     keeps_kind_rules::<ImageSet>(document)?;
     keeps_kind_rules::<CorrelationSet>(document)?;
     keeps_shift_rules(document)?;
+    keeps_kind_rules::<CubeSet>(document)?;
     Ok(())
 }
 
@@ -122,7 +124,7 @@ fn keep_rules_of_lists(document: &Value) -> Result<(), Fault>
 fn plan_of(document: &Value) -> Plan
     requires few { HasFewTables (view document.now) }
     ensures plan { plan_view result ≡ plan (view document.now) }
-    ensures records { (0 < result.policy.records) × (result.policy.records ≤ 2 ^ 40) }
+    ensures records { (0 < result.policy.records) × (result.policy.records ≤ record_limit) }
 {
     Plan {
         policy: policy_of(document),
@@ -135,6 +137,7 @@ fn plan_of(document: &Value) -> Plan
         coincidences: list_of(document),
         images: list_of(document),
         correlations: list_of(document),
+        cubes: list_of(document),
     }
 }
 
@@ -142,10 +145,10 @@ fn plan_of(document: &Value) -> Plan
 fn policy_of(document: &Value) -> Policy
     ensures order { result.order ≡ order_of (order (view document.now)) }
     ensures reserved { result.reserved ≡ reserved_of (reserved (view document.now)) }
-    ensures records { result.records ≡ unwrap_or (records (view document.now)) (2 ^ 40) }
+    ensures records { result.records ≡ unwrap_or (records (view document.now)) record_limit }
     ensures settle { result.settle ≡ settle_or_none (view document.now) }
     ensures few { result.settle ≤ 64 }
-    ensures range { (0 < result.records) × (result.records ≤ 2 ^ 40) }
+    ensures range { (0 < result.records) × (result.records ≤ record_limit) }
 {
     let order = order_of(order(document));
     let reserved = reserved_of(reserved(document));
@@ -160,7 +163,7 @@ fn policy_of(document: &Value) -> Policy
         None => Policy {
             order,
             reserved,
-            records: 1 << 40,
+            records: RECORD_LIMIT,
             settle,
         },
     }

@@ -8,7 +8,7 @@ ghost use Rattle.plan_text.specs.StartStops.{startstop, has_startstop_keys, star
 
 use crate::groups::group_number;
 use crate::kind::PlanKind;
-use tally_base::{Fault, Mode, PartKind, StartStopSet};
+use tally_base::{Fault, Mode, PartKind, StartStopSet, WRAP_LIMIT};
 use toml::Value;
 use toml_rules::{ListRule, each, has_keys, list_at, number_in};
 
@@ -24,7 +24,7 @@ fn startstop(document: &Value, table: &Value) -> Option<StartStopSet>
     let Some(stop) = group_number(document, table, "stop") else {
         return None;
     };
-    let Some(width) = number_in(table, "width", 1, 1 << 62) else {
+    let Some(width) = number_in(table, "width", 1, WRAP_LIMIT) else {
         return None;
     };
     let Some(bins) = number_in(table, "bins", 1, 32768) else {

@@ -1,14 +1,15 @@
 // The traces of a plan.
-ghost use Rattle.std.specs.Prelude.{◌≡◌, ◌≤◌, ◌^◌, length, option_map, IfSome};
+ghost use Rattle.std.specs.Prelude.{◌≡◌, ◌≤◌, length, option_map, IfSome};
 ghost use Rattle.toml.specs.View.{view};
 ghost use Rattle.tally_base.specs.Settings.{trace_view};
 ghost use Rattle.tally_base.specs.Settings.PartSettings.{TraceSettings};
+ghost use Rattle.tally_base.specs.Limits.{wrap_limit};
 ghost use Rattle.plan_text.specs.Groups.{groups};
 ghost use Rattle.plan_text.specs.Traces.{origin, trace, has_trace_keys, trace_kind};
 
 use crate::groups::group_number;
 use crate::kind::PlanKind;
-use tally_base::{Fault, Mode, PartKind, TraceSet};
+use tally_base::{Fault, Mode, PartKind, TraceSet, WRAP_LIMIT};
 use toml::Value;
 use toml_rules::{ListRule, each, has_keys, list_at, number_in, number_or};
 
@@ -16,9 +17,9 @@ use toml_rules::{ListRule, each, has_keys, list_at, number_in, number_or};
 #[tactic(auto, unfolding(crate::specs::Traces::origin))]
 fn origin(table: &Value) -> Option<u64>
     ensures number { result ≡ origin (view table.now) }
-    ensures range { IfSome result (λ n. n ≤ 2 ^ 62) }
+    ensures range { IfSome result (λ n. n ≤ wrap_limit) }
 {
-    number_or(table, "origin", 0, 0, 1 << 62)
+    number_or(table, "origin", 0, 0, WRAP_LIMIT)
 }
 
 /// The trace that a table gives.
@@ -33,7 +34,7 @@ fn trace(document: &Value, table: &Value) -> Option<TraceSet>
     let Some(origin) = origin(table) else {
         return None;
     };
-    let Some(width) = number_in(table, "width", 1, 1 << 62) else {
+    let Some(width) = number_in(table, "width", 1, WRAP_LIMIT) else {
         return None;
     };
     let Some(bins) = number_in(table, "bins", 1, 1 << 20) else {

@@ -8,7 +8,7 @@ use Rattle.tally_base.specs.declared.header.Header.{Header}
 use Rattle.tally_base.specs.declared.header.RecordType.TheVariants.{HydraHarp2T3}
 use Rattle.tally_base.specs.Hexadecimal.{hexadecimal}
 use Rattle.tally_base.specs.Settings.{PartSettings}
-use Rattle.tally_base.specs.Settings.PartSettings.{HistSettings, TraceSettings, StartStopSettings, CoincidenceSettings, ImageSettings, CorrelationSettings}
+use Rattle.tally_base.specs.Settings.PartSettings.{HistSettings, TraceSettings, StartStopSettings, CoincidenceSettings, ImageSettings, CorrelationSettings, CubeSettings}
 use Rattle.tally_base.specs.Tally.{History}
 use Rattle.ptu_definitions.specs.declared.records.Summary.{Summary}
 use Rattle.table_out.specs.Report.{head_text, parts_text, report, with_events}
@@ -17,6 +17,7 @@ use Rattle.table_out.specs.Trace.{trace_printed}
 use Rattle.table_out.specs.StartStop.{startstop_printed}
 use Rattle.table_out.specs.Coincidence.{coincidence_printed}
 use Rattle.table_out.specs.Image.{image_printed}
+use Rattle.table_out.specs.Cube.{cube_printed}
 use Rattle.table_out.specs.Correlation.{correlation_printed}
 
 abbrev bench_header : Header
@@ -81,6 +82,10 @@ row-apart = refl
 abbrev timed : ℕ → ℕ → Event × ℕ
 timed place time = (record { place = place; kind = Photon 0 0; time = time }, 1)
 
+-- the same with a dtime
+abbrev delayed : ℕ → ℕ → ℕ → Event × ℕ
+delayed place time dtime = (record { place = place; kind = Photon 0 dtime; time = time }, 1)
+
 -- a trace of two bins, from 100 on and below 120
 abbrev short_trace : PartSettings
 short_trace = TraceSettings (record { group = 1; origin = 100; width = 10; bins = 2 })
@@ -126,6 +131,12 @@ pub row-image : parts_text ((ImageSettings (record { group = 1; width = 2; heigh
     ≡ codes "image 1 width 2 height 2 dwell 10\n0 0 1\n1 0 1\noutside 1\n"
 unfolding image_printed digits
 row-image = refl
+
+-- Two photons of the first pixel have the dtimes 0 and 9, one of the second is past the last bin, and one is past the last column.
+pub row-cube : parts_text ((CubeSettings (record { image = record { group = 1; width = 2; height = 2; dwell = 10; line = 1; frame = Some 2; stop = None; serpentine = false }; dwidth = 5; dbins = 2 }), framed 1 100 ∷ delayed 2 100 0 ∷ delayed 3 100 9 ∷ delayed 4 119 20 ∷ timed 5 120 ∷ []) ∷ [])
+    ≡ codes "cube 1 width 2 height 2 dwell 10 dwidth 5 dbins 2\n0 0 0 1\n0 0 1 1\noutside 1\nover 1\n"
+unfolding cube_printed digits
+row-cube = refl
 
 -- Level 0 has the lags 1 and 2, and level 1 the lag 2 alone.
 pub row-correlation : parts_text ((CorrelationSettings (record { first = 1; second = 1; lags = 2; levels = 2 }), timed 1 0 ∷ timed 2 1 ∷ timed 3 3 ∷ timed 4 4 ∷ []) ∷ [])

@@ -9,5 +9,6 @@ pub mod StartStop
 pub mod Coincidence
 pub mod Image
 pub mod Correlation
+pub mod Cube
 pub mod Report
 pub mod Puts

@@ -22,7 +22,7 @@ pub(crate) trait Prints: Tally {
         ensures short { length result.now ≤ 16 };
 
     /// Its settings, as its first line has them behind its number.
-    fn settings_text(&self) -> ArrayVec<u8, 96>
+    fn settings_text(&self) -> ArrayVec<u8, 160>
         ensures { result.items ≡ (printed (Self.settings self.now)).settings };
 
     /// How many rows it has.
@@ -127,7 +127,7 @@ fn put_rows<T: Prints, O: Sink>(table: &T, block: &mut Block, out: &mut O) -> Re
 }
 
 /// The first line of a table: the name of its kind, its number, and its settings.
-fn first_line<T: Prints>(number: u64, table: &T) -> ArrayVec<u8, 160>
+fn first_line<T: Prints>(number: u64, table: &T) -> ArrayVec<u8, 224>
     ensures { result.items ≡ first_line (printed (T.settings table.now)) number }
 {
     let mut line = ArrayVec::new();

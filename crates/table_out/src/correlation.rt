@@ -14,7 +14,7 @@ impl Prints for Cascade {
     }
 
     #[tactic(auto, unfolding(crate::specs::Correlation::correlation_printed))]
-    fn settings_text(&self) -> ArrayVec<u8, 96> {
+    fn settings_text(&self) -> ArrayVec<u8, 160> {
         let set = self.set();
         let mut text = ArrayVec::new();
         put_text(&mut text, b" lags ");

@@ -5,11 +5,11 @@ ghost use Rattle.table_out.specs.EventText.{event_text, events_text, kind_text, 
 
 use crate::backwards::{LINE_SIZE, write_number, write_text};
 use arrayvec::ArrayVec;
-use event_block::Block;
+use event_block::{BLOCK_SIZE, Block};
 use tally_base::{Event, EventKind, put_text};
 
 /// Room for the lines of a block of events, in bytes.
-pub const LINES_SIZE: usize = 64 * LINE_SIZE;
+pub const LINES_SIZE: usize = BLOCK_SIZE * LINE_SIZE;
 
 /// Writes what an event is, with its time, before what stands from `end` on, and returns where it starts.
 #[inline(always)]
@@ -59,9 +59,9 @@ fn write_end(line: &mut [u8], end: usize, late: bool) -> usize
 #[inline(always)]
 #[tactic(auto, unfolding(crate::specs::EventText::event_text))]
 fn write_event(text: &mut [u8], end: usize, event: &Event, late: bool) -> usize
-    requires room { 96 ≤ end }
+    requires room { LINE_SIZE ≤ end }
     requires inside { end ≤ length text.old }
-    ensures few { end ≤ result + 96 }
+    ensures few { end ≤ result + LINE_SIZE }
     ensures inside { result ≤ end }
     ensures written { drop result text.new ≡ event_text event.now late ++ drop end text.old }
 {
@@ -97,7 +97,7 @@ fn write_lines(text: &mut [u8; LINES_SIZE], block: &Block) -> usize
     ensures written { drop result text.new
         ≡ events_text (map (λ e. (e, false)) (gathered block.now)) }
 {
-    let mut at = block.len().min(64);
+    let mut at = block.len().min(BLOCK_SIZE);
     let mut start = LINES_SIZE;
     'back: while at > 0 {
         at -= 1;
@@ -117,7 +117,7 @@ pub fn format_block<'l>(block: &Block, text: &'l mut [u8; LINES_SIZE]) -> &'l [u
 /// Leaves exactly the line of an event in `into`, with its newline: the number of its record, `photon`
 /// with its input, time and dtime or `marker` with its bits and time, and `late` where it is late. All
 /// numbers are decimal.
-pub fn event_line(event: &Event, late: bool, into: &mut ArrayVec<u8, 96>)
+pub fn event_line(event: &Event, late: bool, into: &mut ArrayVec<u8, LINE_SIZE>)
     ensures { into.new.items ≡ event_text event.now late }
 {
     let mut line = [0; LINE_SIZE];

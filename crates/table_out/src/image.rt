@@ -15,7 +15,7 @@ impl Prints for Image {
     }
 
     #[tactic(auto, unfolding(crate::specs::Image::image_printed))]
-    fn settings_text(&self) -> ArrayVec<u8, 96> {
+    fn settings_text(&self) -> ArrayVec<u8, 160> {
         let set = self.set();
         let mut text = ArrayVec::new();
         put_text(&mut text, b" width ");

@@ -5,6 +5,7 @@ mod backwards;
 mod body;
 mod cells;
 mod correlation;
+mod cube;
 mod event;
 mod head;
 mod histogram;

@@ -24,6 +24,7 @@ fn word(part: &Part) -> &'static str
         Part::Coincidence(table) => table.word(),
         Part::Image(table) => table.word(),
         Part::Correlation(table) => table.word(),
+        Part::Cube(table) => table.word(),
     }
 }
 
@@ -67,6 +68,7 @@ fn put_part<O: Sink>(number: u64, part: &Part, block: &mut Block, out: &mut O) -
         Part::Coincidence(table) => put_table(number, table, block, out),
         Part::Image(table) => put_table(number, table, block, out),
         Part::Correlation(table) => put_table(number, table, block, out),
+        Part::Cube(table) => put_table(number, table, block, out),
     }
 }
 

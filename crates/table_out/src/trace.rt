@@ -15,7 +15,7 @@ impl Prints for Trace {
     }
 
     #[tactic(auto, unfolding(crate::specs::Trace::trace_printed))]
-    fn settings_text(&self) -> ArrayVec<u8, 96> {
+    fn settings_text(&self) -> ArrayVec<u8, 160> {
         let set = self.set();
         let mut text = ArrayVec::new();
         put_text(&mut text, b" origin ");

@@ -1,16 +1,17 @@
--- How far a stream is with one event more.
-use Rattle.std.proofs.Common.{◌≡◌, ◌∙◌, ◌+◌, List, [], ◌∷◌, ◌++◌, Bool, true, false, ap, refl}
+-- How far a stream is with one event more, and with none that waits.
+use Rattle.std.proofs.Common.{◌≡◌, ◌∙◌, ◌+◌, ℕ, List, [], ◌∷◌, ◌++◌, Bool, true, false, ap, refl, length, arith}
 use Rattle.std.specs.Prelude.{◌&&◌, not, if◌then◌else◌}
 use Rattle.tally_base.specs.declared.event.Event.{Event}
 use Rattle.tally_base.specs.declared.header.Mode.{Mode}
 use Rattle.tally_base.specs.declared.header.Mode.TheVariants.{T2, T3}
 use Rattle.tally_base.specs.Events.{is_ordered}
 use Rattle.tally_base.specs.Tally.{moves_floor}
+use Rattle.event_block.specs.declared.block.Block.{Block}
 use Rattle.event_block.specs.Order.{floor_after}
 use Rattle.event_block.proofs.Order.{floor-push}
 use Rattle.tally_engine.specs.declared.reached.Reached.{Reached}
 use Rattle.record_stream.specs.Blocks.{orders_markers}
-use Rattle.tally_engine.specs.Ahead.{floor_with}
+use Rattle.tally_engine.specs.Ahead.{floor_with, IsAt, NoneWaits}
 
 moves_by : (mode : Mode) (e : Event) → moves_floor (orders_markers mode) e ≡ is_ordered mode e
 moves_by T2 e = refl
@@ -34,3 +35,11 @@ first_floor mode late old new es e none is = rw none is
 pub passed_floor : (mode : Mode) (late : Bool) (old new : Reached) (es : List Event) (e : Event) → (late ≡ false → es ≡ []) → new.floor ≡ (if is_ordered mode e && not late then e.time else old.floor) → floor_with mode new es ≡ (if is_ordered mode e && not late then e.time else floor_with mode old es)
 passed_floor mode true old new es e none is = late_floor mode old new es e is
 passed_floor mode false old new es e none is = first_floor mode false old new es e (none refl) is
+
+-- where no event waits, the tables are as far as with those that do
+pub at_none : (mode : Mode) (reached : Reached) (block : Block) (count time : ℕ) → NoneWaits reached block count time → IsAt mode reached block count time
+at_none mode reached block count time none = record {
+  taken = omega (arith, none.taken, ap length none.empty);
+  floor = ap (floor_with mode reached) none.empty ∙ none.floor;
+  unsorted = none.unsorted;
+}

@@ -1,5 +1,5 @@
 -- A block more for all tables.
-use Rattle.std.proofs.Common.{◌≡◌, ◌+◌, ◌≤◌, ◌<◌, ℕ, List, [], ◌∷◌, ◌++◌, Bool, true, false, max, refl, sym, ap, ◌^◌, ◌∙◌, append_assoc, append-nil, arith, length, length-append}
+use Rattle.std.proofs.Common.{◌≡◌, ◌+◌, ◌≤◌, ◌<◌, ℕ, List, [], ◌∷◌, ◌++◌, Bool, true, false, max, refl, sym, ap, ◌∙◌, append_assoc, append-nil, arith, length, length-append}
 use Rattle.std.specs.Prelude.{◌&&◌, not, IsTrue, if◌then◌else◌, slice_index_or}
 use Rattle.std.proofs.lemmas.List.{map-append}
 use Rattle.std.proofs.lemmas.List.Elements.{filter-append}
@@ -10,6 +10,7 @@ use Rattle.tally_base.specs.declared.tally.Tally.{Ghosts}
 use Rattle.tally_base.specs.Events.{is_ordered}
 use Rattle.tally_base.specs.Settings.{is_strict}
 use Rattle.tally_base.specs.Tally.{moves_floor}
+use Rattle.tally_base.specs.Limits.{record_limit}
 use Rattle.ptu_definitions.specs.Kept.{Marked, floor_of}
 use Rattle.gate_plan.specs.Shifting.{Sorting}
 use Rattle.record_stream.specs.Blocks.{orders_markers, on_time}
@@ -19,7 +20,8 @@ use Rattle.event_block.proofs.Order.{floor-append, order-append, order-parts}
 use Rattle.event_block.proofs.Lower.{order-looser}
 use Rattle.tally_engine.specs.Histories.{with_groups}
 use Rattle.ptu_definitions.specs.Settled.{not_marked}
-use Rattle.tally_engine.specs.Give.{CanTake, Took, Holding, Moves}
+use Rattle.event_block.specs.Tables.{MayTake, HasTaken}
+use Rattle.tally_engine.specs.Give.{Holding, Moves}
 use Rattle.tally_engine.specs.Taker.{Waits, Gave}
 use Rattle.record_stream.proofs.Floors.{moved_floor-push}
 use Rattle.record_stream.proofs.Eaches.{not_late, ordered-moves}
@@ -52,11 +54,11 @@ floor_of-block mode l (e ∷ es) first now is all =
     ∙ ap (λ m. max first (floor_of mode m)) (append_assoc l ((e, false) ∷ []) (on_time es))
 
 module _ {T : Type 0} (g : Ghosts T) where
-  pub can_parts : (es more : List Event) (t : T) → CanTake g (es ++ more) t → CanTake g es t
+  pub can_parts : (es more : List Event) (t : T) → MayTake g (es ++ more) t → MayTake g es t
   can_parts es more t can = record { open' = can.open'; room = omega (arith, can.room, length-append es more); in_order = (order-parts (is_strict (g.settings t)) (g.floor t) es more can.in_order).0 }
 
   -- the rest, once the front was given
-  pub can_rest : (es more : List Event) (given : _) (old new : T) → CanTake g (es ++ more) old → Took g es given old new → CanTake g more new
+  pub can_rest : (es more : List Event) (given : _) (old new : T) → MayTake g (es ++ more) old → HasTaken g es given old new → MayTake g more new
   can_rest es more given old new can took = record {
     open' = took.still_open;
     room = omega (arith, can.room, took.count, length-append es more);
@@ -64,7 +66,7 @@ module _ {T : Type 0} (g : Ghosts T) where
   }
 
   -- what waited was given, and then the block
-  pub moves_two : (by : Sorting) (es more none : List Event) (old mid new : T) → none ≡ [] → Took g es (with_groups by es) old mid → Took g more (with_groups by more) mid new → Moves g by es none more old new
+  pub moves_two : (by : Sorting) (es more none : List Event) (old mid new : T) → none ≡ [] → HasTaken g es (with_groups by es) old mid → HasTaken g more (with_groups by more) mid new → Moves g by es none more old new
   moves_two by es more none old mid new empty first second = rw empty (record {
     follows = λ h held. (h ++ with_groups by more, sym (append-nil (h ++ with_groups by more)), second.follows h (rw held.1 (first.follows held.0 held.2)));
     still_open = second.still_open;
@@ -75,7 +77,7 @@ module _ {T : Type 0} (g : Ghosts T) where
   })
 
   -- a block that comes in order can be taken behind the events that wait
-  pub can_block : (mode : Mode) (taken floor : ℕ) (es more : List Event) (t : T) → Waits g mode taken floor es t → taken + length more ≤ 2 ^ 40 → InOrder (orders_markers mode) floor more → CanTake g (es ++ more) t
+  pub can_block : (mode : Mode) (taken floor : ℕ) (es more : List Event) (t : T) → Waits g mode taken floor es t → taken + length more ≤ record_limit → InOrder (orders_markers mode) floor more → MayTake g (es ++ more) t
   can_block mode taken floor es more t w room order =
       let strict = is_strict (g.settings t) in
       record {

@@ -67,6 +67,10 @@ history-ends by how words =
 pub at_same : {A : Type 0} (P : A → Type 0) (x y : A) → P x → x ≡ y → P y
 at_same P x y h is = subst P is h
 
+pub both_on_ok : {X P Q R : Type 0} (r : Result X Fault) → (P → Q → R) → OnOk r P → OnOk r Q → OnOk r R
+both_on_ok (Ok x) f p q = f p q
+both_on_ok (Err fault) f p q = tt
+
 on_ok : {X : Type 0} {A : Type 0} (r : Result X Fault) → ((x : X) → r ≡ Ok x → A) → OnOk r A
 on_ok (Ok x) f = f x refl
 on_ok (Err fault) f = tt

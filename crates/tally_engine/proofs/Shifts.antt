@@ -12,7 +12,7 @@ use Rattle.tally_base.specs.Tally.{History, moves_floor}
 use Rattle.event_block.specs.Columns.{rows}
 use Rattle.event_block.specs.Order.{floor_after, InOrder}
 use Rattle.gate_plan.specs.Shifting.{Sorting, shifted, shifted_kind}
-use Rattle.tally_engine.specs.Give.{CanTake, Took}
+use Rattle.event_block.specs.Tables.{MayTake, HasTaken}
 
 photon_kind : (by : Sorting) (kind : EventKind) → is_photon_kind (shifted_kind by kind) ≡ is_photon_kind kind
 photon_kind by (Photon input dtime) = refl
@@ -67,14 +67,14 @@ left_behind old now next at left others i above = others i (λ is. omega (arith,
 
 module _ {T : Type 0} (g : Ghosts T) where
   -- A table that may be given events may be given them with shifted dtimes.
-  pub can_take-shifted : (by : Sorting) (es es' : List Event) (t : T) → es' ≡ map (shifted by) es → CanTake g es t → CanTake g es' t
+  pub can_take-shifted : (by : Sorting) (es es' : List Event) (t : T) → es' ≡ map (shifted by) es → MayTake g es t → MayTake g es' t
   can_take-shifted by es es' t is can = rw is (record {
     open' = can.open';
     room = let same : length (map (shifted by) es) ≡ length es = simp length-map in omega (arith, same, can.room);
     in_order = order-shifted (is_strict (g.settings t)) by (g.floor t) es can.in_order;
   })
 
-  pub took-shifted : (by : Sorting) (es es' : List Event) (more : History) (old new : T) → es' ≡ map (shifted by) es → Took g es' more old new → Took g es more old new
+  pub took-shifted : (by : Sorting) (es es' : List Event) (more : History) (old new : T) → es' ≡ map (shifted by) es → HasTaken g es' more old new → HasTaken g es more old new
   took-shifted by es es' more old new is took = record {
     follows = took.follows;
     still_open = took.still_open;

@@ -5,7 +5,7 @@ use Rattle.tally_base.specs.declared.fault.Fault.{Fault}
 use Rattle.tally_base.specs.declared.header.Mode.{Mode}
 use Rattle.tally_base.specs.declared.header.Mode.TheVariants.{T2, T3}
 use Rattle.tally_base.specs.Settings.{is_strict, PartSettings}
-use Rattle.tally_base.specs.Settings.PartSettings.{ImageSettings}
+use Rattle.tally_base.specs.Settings.PartSettings.{ImageSettings, CubeSettings}
 use Rattle.toml_rules.specs.Rules.{or_next}
 use Rattle.plan_text.specs.Fits.{fits, misfit, refusal, groups_fit, shifts_fit, parts_fit}
 use Rattle.plan_text.specs.Plan.{PlanView, parts_of}
@@ -18,9 +18,10 @@ use Rattle.tally_engine.specs.Parts.{settings_in}
 abbrev Loose : PartSettings → Type 0
 Loose settings = is_strict settings ≡ false
 
--- only images are strict, and T2 refuses them
+-- only images and cubes are strict, and T2 refuses them
 loose : (settings : PartSettings) → misfit T2 settings ≡ None → Loose settings
 loose (ImageSettings set) suits = search (rules, suits)
+loose (CubeSettings set) suits = search (rules, suits)
 loose _ suits = refl
 
 first_ok : (r next : Result (Unit {0}) Fault) → or_next r next ≡ Ok (tt {0}) → r ≡ Ok (tt {0})

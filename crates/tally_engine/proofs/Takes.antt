@@ -1,5 +1,5 @@
 -- One event more for all tables.
-use Rattle.std.proofs.Common.{◌≡◌, ◌+◌, ◌≤◌, ◌<◌, ℕ, List, [], ◌∷◌, ◌++◌, Bool, true, false, refl, sym, ap, ◌^◌, ◌∙◌, map, append_assoc, append-nil, arith, length, length-append}
+use Rattle.std.proofs.Common.{◌≡◌, ◌+◌, ◌≤◌, ◌<◌, ℕ, List, [], ◌∷◌, ◌++◌, Bool, true, false, refl, sym, ap, ◌∙◌, map, append_assoc, append-nil, arith, length, length-append}
 use Rattle.std.specs.Prelude.{◌&&◌, not, IsTrue, if◌then◌else◌, slice_index_or}
 use Rattle.std.proofs.lemmas.List.{map-append}
 use Rattle.std.proofs.lemmas.List.Elements.{filter-append}
@@ -10,6 +10,7 @@ use Rattle.tally_base.specs.declared.tally.Tally.{Ghosts}
 use Rattle.tally_base.specs.Events.{is_ordered}
 use Rattle.tally_base.specs.Settings.{is_strict}
 use Rattle.tally_base.specs.Tally.{History, moves_floor}
+use Rattle.tally_base.specs.Limits.{record_limit, time_limit}
 use Rattle.ptu_definitions.specs.Kept.{Marked}
 use Rattle.gate_plan.specs.Shifting.{Sorting, shifted}
 use Rattle.gate_plan.specs.Taking.{groups_by, groups_in}
@@ -18,7 +19,8 @@ use Rattle.ptu_definitions.specs.Settled.{not_marked}
 use Rattle.record_stream.proofs.Floors.{moved_floor-push}
 use Rattle.event_block.specs.Order.{floor_after, InOrder}
 use Rattle.event_block.proofs.Order.{floor-push, order-push, order-front, order-last}
-use Rattle.tally_engine.specs.Give.{kept_of, CanTake, Took, Holding, Moves}
+use Rattle.event_block.specs.Tables.{MayTake, HasTaken}
+use Rattle.tally_engine.specs.Give.{kept_of, Holding, Moves}
 use Rattle.tally_engine.specs.Taker.{Standing, Waits, Gave}
 
 not_marked-late : (l : Marked) (e : Event) → not_marked (l ++ (e, true) ∷ []) ≡ not_marked l
@@ -59,7 +61,7 @@ late_floor true time floor = refl
 late_floor false time floor = refl
 
 module _ {T : Type 0} (g : Ghosts T) where
-  pub can_front : (es : List Event) (e : Event) (t : T) → CanTake g (es ++ e ∷ []) t → CanTake g es t
+  pub can_front : (es : List Event) (e : Event) (t : T) → MayTake g (es ++ e ∷ []) t → MayTake g es t
   can_front es e t can = record { open' = can.open'; room = omega (arith, can.room, length-append es (e ∷ [])); in_order = order-front (is_strict (g.settings t)) (g.floor t) es e can.in_order }
 
   pub moves_none : (by : Sorting) (es : List Event) (t : T) → g.closed t ≡ false → InOrder (is_strict (g.settings t)) (g.floor t) es → Moves g by es es [] t t
@@ -72,7 +74,7 @@ module _ {T : Type 0} (g : Ghosts T) where
     same_settings = refl;
   }
 
-  pub moves_all : (by : Sorting) (es none : List Event) (old new : T) → none ≡ [] → Took g es (with_groups by es) old new → Moves g by es none [] old new
+  pub moves_all : (by : Sorting) (es none : List Event) (old new : T) → none ≡ [] → HasTaken g es (with_groups by es) old new → Moves g by es none [] old new
   moves_all by es none old new empty took = rw empty (record {
     follows = λ h held. (held.0 ++ with_groups by es, append-nil h ∙ held.1 ∙ sym (append-nil (held.0 ++ with_groups by es)), took.follows held.0 held.2);
     still_open = took.still_open;
@@ -82,7 +84,7 @@ module _ {T : Type 0} (g : Ghosts T) where
     same_settings = took.same_settings;
   })
 
-  pub moves_push : (by : Sorting) (es es' now : List Event) (e : Event) (old new : T) → CanTake g (es ++ e ∷ []) old → now ≡ es' ++ e ∷ [] → Moves g by es es' [] old new → Moves g by es now (e ∷ []) old new
+  pub moves_push : (by : Sorting) (es es' now : List Event) (e : Event) (old new : T) → MayTake g (es ++ e ∷ []) old → now ≡ es' ++ e ∷ [] → Moves g by es es' [] old new → Moves g by es now (e ∷ []) old new
   moves_push by es es' now e old new can pushed m =
       let strict = is_strict (g.settings old) in
       let same : floor_after strict (g.floor new) es' ≡ floor_after strict (g.floor old) es = m.moved ∙ ap (floor_after strict (g.floor old)) (append-nil es) in
@@ -98,7 +100,7 @@ module _ {T : Type 0} (g : Ghosts T) where
         same_settings = m.same_settings;
       })
 
-  pub can_take : (mode : Mode) (taken floor : ℕ) (es : List Event) (e : Event) (late : Bool) (t : T) → Waits g mode taken floor es t → taken < 2 ^ 40 → e.time ≤ 2 ^ 62 + 2 ^ 28 → (IsTrue (is_ordered mode e && not late) → floor ≤ e.time) → CanTake g (es ++ kept_of late e) t
+  pub can_take : (mode : Mode) (taken floor : ℕ) (es : List Event) (e : Event) (late : Bool) (t : T) → Waits g mode taken floor es t → taken < record_limit → e.time ≤ time_limit → (IsTrue (is_ordered mode e && not late) → floor ≤ e.time) → MayTake g (es ++ kept_of late e) t
   can_take mode taken floor es e true t w room time order = rw (append-nil es) (record { open' = w.still_open; room = omega (arith, w.few, room); in_order = w.in_order })
   can_take mode taken floor es e false t w room time order = record {
     open' = w.still_open;
@@ -143,11 +145,11 @@ module _ {T : Type 0} (g : Ghosts T) where
   pub holding_none : (by : Sorting) (none : List Event) (t : T) (h : History) → none ≡ [] → g.holds t h → Holding g by none t h
   holding_none by none t h empty held = rw empty (h, sym (append-nil h), held)
 
-  pub holding_all : (by : Sorting) (es : List Event) (old new : T) (h : History) → Holding g by es old h → Took g es (with_groups by es) old new → g.holds new h
+  pub holding_all : (by : Sorting) (es : List Event) (old new : T) (h : History) → Holding g by es old h → HasTaken g es (with_groups by es) old new → g.holds new h
   holding_all by es old new h held took = rw held.1 (took.follows held.0 held.2)
 
   -- A table that was given the events that wait for it stands where they lead.
-  pub standing_took : (mode : Mode) (taken floor given top : ℕ) (es : List Event) (more : History) (old new : T) → Waits g mode taken floor es old → Took g es more old new → taken ≤ given → floor ≤ top → Standing g mode given top new
+  pub standing_took : (mode : Mode) (taken floor given top : ℕ) (es : List Event) (more : History) (old new : T) → Waits g mode taken floor es old → HasTaken g es more old new → taken ≤ given → floor ≤ top → Standing g mode given top new
   standing_took mode taken floor given top es more old new w took few before = record {
     still_open = took.still_open;
     few = omega (arith, w.few, took.count, few);

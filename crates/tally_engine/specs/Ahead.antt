@@ -1,7 +1,9 @@
 -- How far a stream is, with the events that wait for its tables.
-use Rattle.std.specs.Prelude.{ℕ, ◌+◌, List, length}
+use Rattle.std.specs.Prelude.{◌≡◌, ℕ, ◌+◌, List, [], length}
 use Rattle.tally_base.specs.declared.event.Event.{Event}
 use Rattle.tally_base.specs.declared.header.Mode.{Mode}
+use Rattle.event_block.specs.declared.block.Block.{Block}
+use Rattle.event_block.specs.Columns.{sorted, gathered}
 use Rattle.event_block.specs.Order.{floor_after}
 use Rattle.tally_engine.specs.declared.reached.Reached.{Reached}
 use Rattle.record_stream.specs.Blocks.{orders_markers}
@@ -11,3 +13,16 @@ taken_with reached es = reached.taken + length es
 
 abbrev pub floor_with : Mode → Reached → List Event → ℕ
 floor_with mode reached es = floor_after (orders_markers mode) reached.floor es
+
+-- The tables are so far with the events that wait in the block, which isn't sorted.
+pub record IsAt (mode : Mode) (reached : Reached) (block : Block) (count time : ℕ) : Type 0 where
+  pub taken : taken_with reached (gathered block) ≡ count
+  pub floor : floor_with mode reached (gathered block) ≡ time
+  pub unsorted : sorted block ≡ 0
+
+-- The tables are so far, and no event waits in the block.
+pub record NoneWaits (reached : Reached) (block : Block) (count time : ℕ) : Type 0 where
+  pub empty : gathered block ≡ []
+  pub taken : reached.taken ≡ count
+  pub floor : reached.floor ≡ time
+  pub unsorted : sorted block ≡ 0

@@ -4,6 +4,7 @@ pub mod Give
 pub mod Histories
 pub mod Part
 pub mod Parts
+pub mod Pieces
 pub mod Plans
 pub mod Same
 pub mod Taker

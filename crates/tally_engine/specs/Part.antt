@@ -13,10 +13,12 @@ use Rattle.coincidence.specs.CoincidenceLaws as pairs
 use Rattle.coincidence.specs.contracts.coincidence.CoincidenceTally.TheImpl.{ghosts as pairs_ghosts}
 use Rattle.scan_image.specs.Laws as image
 use Rattle.scan_image.specs.contracts.image.ImageTally.TheImpl.{ghosts as image_ghosts}
+use Rattle.flim_cube.specs.Laws as cube
+use Rattle.flim_cube.specs.contracts.cube.FlimCubeTally.TheImpl.{ghosts as cube_ghosts}
 use Rattle.tau_cascade.specs.Laws as cascade
 use Rattle.tau_cascade.specs.contracts.cascade.CascadeTally.TheImpl.{ghosts as cascade_ghosts}
 use Rattle.tally_engine.specs.declared.part.Part.{Part}
-use Rattle.tally_engine.specs.declared.part.Part.TheVariants.{Hist as InHist, Trace as InTrace, StartStop as InStartStop, Coincidence as InCoincidence, Image as InImage, Correlation as InCorrelation}
+use Rattle.tally_engine.specs.declared.part.Part.TheVariants.{Hist as InHist, Trace as InTrace, StartStop as InStartStop, Coincidence as InCoincidence, Image as InImage, Correlation as InCorrelation, Cube as InCube}
 
 -- what a table of any kind has
 abbrev pub by_kind {ℓ} : {X : Type ℓ} → ((T : Type 0) → Ghosts T → T → X) → Part → X
@@ -26,6 +28,7 @@ by_kind has (InStartStop t) = has _ startstop_ghosts t
 by_kind has (InCoincidence t) = has _ pairs_ghosts t
 by_kind has (InImage t) = has _ image_ghosts t
 by_kind has (InCorrelation t) = has _ cascade_ghosts t
+by_kind has (InCube t) = has _ cube_ghosts t
 
 -- What holds of every table, of whatever kind.
 pub record Laws (p : Part) : Type 0 where
@@ -40,3 +43,4 @@ laws_of (InStartStop t) = record { taken_is = startstop.taken_is t; floor_is = s
 laws_of (InCoincidence t) = record { taken_is = pairs.taken_is t; floor_is = pairs.floor_is t; within = pairs.within_bound t }
 laws_of (InImage t) = record { taken_is = image.taken_is t; floor_is = image.floor_is t; within = image.within_bound t }
 laws_of (InCorrelation t) = record { taken_is = cascade.taken_is t; floor_is = cascade.floor_is t; within = cascade.within_bound t }
+laws_of (InCube t) = record { taken_is = cube.taken_is t; floor_is = cube.floor_is t; within = cube.within_bound t }

@@ -3,7 +3,8 @@ ghost use Rattle.std.specs.Prelude.{◌≡◌, ℕ, All, List, None, Some, false
 ghost use Rattle.tally_base.specs.declared.fault.Fault.{Fault};
 ghost use Rattle.tally_base.specs.Faults.{is_outside};
 ghost use Rattle.tally_base.specs.RecordTypes.{mode_of};
-ghost use Rattle.record_stream.specs.Standing.{how_of, given_by, top_of, refused_with, HasStreamed};
+ghost use Rattle.tally_base.specs.Limits.{record_limit};
+ghost use Rattle.record_stream.specs.Standing.{how_of, given_by, greatest_of, refused_with, HasStreamed};
 ghost use Rattle.tally_engine.specs.Taker.{Standing};
 
 use crate::give::close_all;
@@ -40,14 +41,14 @@ pub struct Engine {
     parts: Vec<Part>,
     ghost same_mode: { (how_of stream).mode ≡ mode_of header.record_type },
     ghost standing: { refused_with stream ≡ None
-        → All (Standing ⟦<Part as Tally>⟧ (mode_of header.record_type) (given_by stream) (top_of stream)) parts.items },
+        → All (Standing ⟦<Part as Tally>⟧ (mode_of header.record_type) (given_by stream) (greatest_of stream)) parts.items },
     ghost streams: { ∥ ((bytes : List ℕ) × HasStreamed stream bytes) ∥₁ },
     ghost inside: { (fault : Fault) → refused_with stream ≡ Some fault
         → is_outside fault ≡ false },
 }
 
 impl Engine {
-    ghost use Rattle.std.specs.Prelude.{◌+◌, ◌*◌, ◌^◌, ◌<◌, ◌≤◌, [], ◌++◌, length, Err, OnOk, IfOk, IfErr};
+    ghost use Rattle.std.specs.Prelude.{◌+◌, ◌*◌, ◌<◌, ◌≤◌, [], ◌++◌, length, Err, OnOk, IfOk, IfErr};
     ghost use Rattle.plan_text.specs.Fits.{fits};
     ghost use Rattle.plan_text.specs.Reading.{plan_view};
     ghost use Rattle.tally_engine.specs.Plans.{OpensAs};
@@ -63,7 +64,7 @@ impl Engine {
     /// Refuses with `PlanMode` a part of the plan that doesn't suit the mode of the file, and else with
     /// `OutOfMemory` where memory for a table is wanting. The greatest number of records is 1 to 2^40.
     pub fn open(alloc: Global, plan: &Plan, header: &Header) -> Result<Engine, Fault>
-        requires records { (0 < plan.now.policy.records) × (plan.now.policy.records ≤ 2 ^ 40) }
+        requires records { (0 < plan.now.policy.records) × (plan.now.policy.records ≤ record_limit) }
         ensures answer { OpensAs (fits (mode_of header.now.record_type) (plan_view plan.now)) result }
         ensures made { IfOk result (λ engine. IsFor engine (plan_view plan.now) header.now) }
         ensures empty { IfOk result (λ engine. HasFed engine []) }
@@ -106,7 +107,7 @@ impl Engine {
             (Err fault)) }
         ensures inside { IfErr result (λ fault. is_outside fault ≡ false) }
         ensures counted { OnOk result (bytes_fed self.new ≡ bytes_fed self.old + length piece.now) }
-        ensures limit { bytes_fed self.new ≤ 4 * 2 ^ 40 + 3 }
+        ensures limit { bytes_fed self.new ≤ 4 * record_limit + 3 }
         ensures same { SameEngine self.old self.new }
         ensures within { held self.new ≤ bound self.new }
     {

@@ -1,5 +1,5 @@
 // A block of events to every table.
-ghost use Rattle.std.specs.Prelude.{◌≡◌, ℕ, ◌+◌, ◌^◌, ◌<◌, ◌≤◌, ◌++◌, ◌∷◌, [], All, false, map, length, if◌then◌else◌};
+ghost use Rattle.std.specs.Prelude.{◌≡◌, ℕ, ◌+◌, ◌<◌, ◌≤◌, ◌++◌, ◌∷◌, [], All, false, map, length, if◌then◌else◌};
 ghost use Rattle.tally_base.specs.declared.event.Event.{Event};
 ghost use Rattle.event_block.specs.Codes.{kind_of};
 ghost use Rattle.event_block.specs.Columns.{sorted, gathered, events_in, IsSorted};
@@ -8,14 +8,16 @@ ghost use Rattle.gate_plan.specs.Shifting.{shifted, shifted_dtime};
 ghost use Rattle.gate_plan.specs.Taking.{groups_by};
 ghost use Rattle.gate_plan.specs.Parting.{plain_bits, gated_bits};
 ghost use Rattle.tally_base.specs.Events.{is_ordered};
+ghost use Rattle.tally_base.specs.Limits.{record_limit};
 ghost use Rattle.record_stream.specs.Floors.{moved_floor};
-ghost use Rattle.tally_engine.specs.Ahead.{taken_with, floor_with};
-ghost use Rattle.tally_engine.specs.Give.{Each, CanTake, Took, Moves, Closed, kept_of};
+ghost use Rattle.tally_engine.specs.Ahead.{taken_with, floor_with, IsAt, NoneWaits};
+ghost use Rattle.event_block.specs.Tables.{MayTake, HasTaken};
+ghost use Rattle.tally_engine.specs.Give.{Each, Moves, Closed, kept_of};
 ghost use Rattle.tally_engine.specs.Histories.{grouped, with_groups};
 
 use crate::part::Part;
 use crate::reached::Reached;
-use event_block::Block;
+use event_block::{BLOCK_SIZE, Block};
 use gate_plan::Gates;
 use std::sync::ledger::Ledger;
 use tally_base::{Event, Mode, Steps, Tally};
@@ -33,18 +35,16 @@ pub(crate) fn gather<L: Ledger>(
     block: &mut Block,
     steps: &mut Steps<L>,
 )
-    requires may { All (CanTake ⟦<Part as Tally>⟧ (gathered block.old ++ kept_of late event.now)) parts.old }
-    requires room { taken_with reached.old (gathered block.old) < 2 ^ 40 }
+    requires may { All (MayTake ⟦<Part as Tally>⟧ (gathered block.old ++ kept_of late event.now)) parts.old }
+    requires room { taken_with reached.old (gathered block.old) < record_limit }
     requires idle { length parts.old ≡ 0 → gathered block.old ≡ [] }
     requires unsorted { sorted block.old ≡ 0 }
     ensures moves { Each (Moves ⟦<Part as Tally>⟧ (sorting_of gates.now) (gathered block.old)
         (gathered block.new) (kept_of late event.now)) parts.old parts.new }
-    ensures taken { taken_with reached.new (gathered block.new)
-        ≡ taken_with reached.old (gathered block.old) + 1 }
-    ensures floor { floor_with mode reached.new (gathered block.new)
-        ≡ moved_floor mode (floor_with mode reached.old (gathered block.old)) event.now late }
+    ensures stands { IsAt mode reached.new block.new
+        (taken_with reached.old (gathered block.old) + 1)
+        (moved_floor mode (floor_with mode reached.old (gathered block.old)) event.now late) }
     ensures idle { length parts.new ≡ 0 → gathered block.new ≡ [] }
-    ensures unsorted { sorted block.new ≡ 0 }
 {
     if late || parts.is_empty() {
         reached.pass(mode, event, late);
@@ -64,17 +64,15 @@ fn gather_one<L: Ledger>(
     block: &mut Block,
     steps: &mut Steps<L>,
 )
-    requires may { All (CanTake ⟦<Part as Tally>⟧ (gathered block.old ++ event.now ∷ [])) parts.old }
-    requires room { taken_with reached.old (gathered block.old) < 2 ^ 40 }
+    requires may { All (MayTake ⟦<Part as Tally>⟧ (gathered block.old ++ event.now ∷ [])) parts.old }
+    requires room { taken_with reached.old (gathered block.old) < record_limit }
     requires unsorted { sorted block.old ≡ 0 }
     ensures moves { Each (Moves ⟦<Part as Tally>⟧ (sorting_of gates.now) (gathered block.old)
         (gathered block.new) (event.now ∷ [])) parts.old parts.new }
-    ensures taken { taken_with reached.new (gathered block.new)
-        ≡ taken_with reached.old (gathered block.old) + 1 }
-    ensures floor { floor_with mode reached.new (gathered block.new)
-        ≡ (if is_ordered mode event.now then event.now.time
+    ensures stands { IsAt mode reached.new block.new
+        (taken_with reached.old (gathered block.old) + 1)
+        (if is_ordered mode event.now then event.now.time
         else floor_with mode reached.old (gathered block.old)) }
-    ensures unsorted { sorted block.new ≡ 0 }
 {
     make_room(gates, mode, parts, reached, block, steps);
     block.push(event);
@@ -90,19 +88,17 @@ fn make_room<L: Ledger>(
     block: &mut Block,
     steps: &mut Steps<L>,
 )
-    requires may { All (CanTake ⟦<Part as Tally>⟧ (gathered block.old)) parts.old }
-    requires room { taken_with reached.old (gathered block.old) ≤ 2 ^ 40 }
+    requires may { All (MayTake ⟦<Part as Tally>⟧ (gathered block.old)) parts.old }
+    requires room { taken_with reached.old (gathered block.old) ≤ record_limit }
     requires unsorted { sorted block.old ≡ 0 }
-    ensures room { length (gathered block.new) < 64 }
+    ensures room { length (gathered block.new) < BLOCK_SIZE }
     ensures moves { Each (Moves ⟦<Part as Tally>⟧ (sorting_of gates.now) (gathered block.old)
         (gathered block.new) []) parts.old parts.new }
-    ensures taken { taken_with reached.new (gathered block.new)
-        ≡ taken_with reached.old (gathered block.old) }
-    ensures floor { floor_with mode reached.new (gathered block.new)
-        ≡ floor_with mode reached.old (gathered block.old) }
-    ensures unsorted { sorted block.new ≡ 0 }
+    ensures stands { IsAt mode reached.new block.new
+        (taken_with reached.old (gathered block.old))
+        (floor_with mode reached.old (gathered block.old)) }
 {
-    if block.len() == 64 {
+    if block.len() == BLOCK_SIZE {
         flush(gates, mode, parts, reached, block, steps);
     }
 }
@@ -118,15 +114,14 @@ pub(crate) fn flush<L: Ledger>(
     block: &mut Block,
     steps: &mut Steps<L>,
 )
-    requires may { All (CanTake ⟦<Part as Tally>⟧ (gathered block.old)) parts.old }
-    requires room { taken_with reached.old (gathered block.old) ≤ 2 ^ 40 }
+    requires may { All (MayTake ⟦<Part as Tally>⟧ (gathered block.old)) parts.old }
+    requires room { taken_with reached.old (gathered block.old) ≤ record_limit }
     requires unsorted { sorted block.old ≡ 0 }
-    ensures empty { gathered block.new ≡ [] }
-    ensures took { Each (Took ⟦<Part as Tally>⟧ (gathered block.old)
+    ensures took { Each (HasTaken ⟦<Part as Tally>⟧ (gathered block.old)
         (with_groups (sorting_of gates.now) (gathered block.old))) parts.old parts.new }
-    ensures taken { reached.new.taken ≡ taken_with reached.old (gathered block.old) }
-    ensures floor { reached.new.floor ≡ floor_with mode reached.old (gathered block.old) }
-    ensures unsorted { sorted block.new ≡ 0 }
+    ensures given { NoneWaits reached.new block.new
+        (taken_with reached.old (gathered block.old))
+        (floor_with mode reached.old (gathered block.old)) }
 {
     shift(gates, block);
     sort(gates, block);
@@ -152,7 +147,7 @@ fn shift_each(gates: &Gates, block: &mut Block)
     ensures shifted { gathered block.new ≡ map (shifted (sorting_of gates.now)) (gathered block.old) }
     ensures unsorted { sorted block.new ≡ 0 }
 {
-    for at in 0..block.len().min(64) {
+    for at in 0..block.len().min(BLOCK_SIZE) {
         let dtime = dtime_behind(gates, block.code(at), block.dtime(at));
         block.set_dtime(at, dtime);
     }
@@ -183,8 +178,8 @@ fn sort(gates: &Gates, block: &mut Block)
 {
     let gated = gates.has_gates();
     // Of its own: a number behind the groups of a block is written again for each of them.
-    let mut groups = [0; 64];
-    for at in 0..block.len().min(64) {
+    let mut groups = [0; BLOCK_SIZE];
+    for at in 0..block.len().min(BLOCK_SIZE) {
         groups[at] = groups_at(gates, gated, block.code(at), block.dtime(at));
     }
     block.put_all(&groups);
@@ -222,8 +217,8 @@ fn photon_groups(gates: &Gates, gated: bool, input: u8, dtime: u16) -> u64
 /// Gives the events of a block to every table.
 fn give_all<L: Ledger>(parts: &mut [Part], block: &Block, steps: &mut Steps<L>)
     requires sorted { IsSorted block.now }
-    requires may { All (CanTake ⟦<Part as Tally>⟧ (gathered block.now)) parts.old }
-    ensures took { Each (Took ⟦<Part as Tally>⟧ (gathered block.now) (events_in block.now))
+    requires may { All (MayTake ⟦<Part as Tally>⟧ (gathered block.now)) parts.old }
+    ensures took { Each (HasTaken ⟦<Part as Tally>⟧ (gathered block.now) (events_in block.now))
         parts.old parts.new }
 {
     for part in parts.iter_mut() {

@@ -1,11 +1,13 @@
 // A block of events to every table, behind events that wait.
-ghost use Rattle.std.specs.Prelude.{◌≡◌, ℕ, ◌+◌, ◌^◌, ◌<◌, ◌≤◌, ◌++◌, [], All, false, length, slice_index_or};
+ghost use Rattle.std.specs.Prelude.{◌≡◌, ◌+◌, ◌<◌, ◌≤◌, ◌++◌, [], All, false, length};
+ghost use Rattle.tally_base.specs.Limits.{record_limit};
 ghost use Rattle.event_block.specs.Columns.{sorted, gathered};
 ghost use Rattle.event_block.specs.Order.{floor_after};
 ghost use Rattle.gate_plan.specs.Groups.{sorting_of};
 ghost use Rattle.record_stream.specs.Blocks.{orders_markers};
-ghost use Rattle.tally_engine.specs.Ahead.{taken_with, floor_with};
-ghost use Rattle.tally_engine.specs.Give.{CanTake, Each, Took, Moves};
+ghost use Rattle.tally_engine.specs.Ahead.{taken_with, floor_with, NoneWaits};
+ghost use Rattle.event_block.specs.Tables.{MayTake, HasTaken};
+ghost use Rattle.tally_engine.specs.Give.{Each, Moves};
 ghost use Rattle.tally_engine.specs.Histories.{with_groups};
 
 use crate::give::flush;
@@ -26,22 +28,17 @@ pub(crate) fn give_behind<L: Ledger>(
     block: &mut Block,
     steps: &mut Steps<L>,
 )
-    requires may { All (CanTake ⟦<Part as Tally>⟧ (gathered block.old ++ gathered more.old)) parts.old }
-    requires room { taken_with reached.old (gathered block.old) + length (gathered more.old) ≤ 2 ^ 40 }
+    requires may { All (MayTake ⟦<Part as Tally>⟧ (gathered block.old ++ gathered more.old)) parts.old }
+    requires room { taken_with reached.old (gathered block.old) + length (gathered more.old) ≤ record_limit }
     requires idle { length parts.old ≡ 0 → gathered block.old ≡ [] }
     requires unsorted { sorted block.old ≡ 0 }
     requires more_unsorted { sorted more.old ≡ 0 }
-    ensures moves { (k : ℕ) (d : Part) → k < length parts.old
-        → Moves ⟦<Part as Tally>⟧ (sorting_of gates.now) (gathered block.old)
-        (gathered block.new) (gathered more.old) (slice_index_or parts.old k d)
-        (slice_index_or parts.new k d) }
-    ensures taken { taken_with reached.new (gathered block.new)
-        ≡ taken_with reached.old (gathered block.old) + length (gathered more.old) }
-    ensures floor { floor_with mode reached.new (gathered block.new)
-        ≡ floor_after (orders_markers mode) (floor_with mode reached.old (gathered block.old))
-        (gathered more.old) }
-    ensures empty { gathered block.new ≡ [] }
-    ensures unsorted { sorted block.new ≡ 0 }
+    ensures moves { Each (Moves ⟦<Part as Tally>⟧ (sorting_of gates.now) (gathered block.old)
+        (gathered block.new) (gathered more.old)) parts.old parts.new }
+    ensures given { NoneWaits reached.new block.new
+        (taken_with reached.old (gathered block.old) + length (gathered more.old))
+        (floor_after (orders_markers mode) (floor_with mode reached.old (gathered block.old))
+        (gathered more.old)) }
 {
     if parts.is_empty() {
         reached.pass_block(mode, more);
@@ -63,15 +60,14 @@ pub(crate) fn flush_waiting<L: Ledger>(
     requires open { All (λ t. ⟦<Part as Tally>⟧.closed t ≡ false) parts.old }
     requires unsorted { sorted block.old ≡ 0 }
     requires may { 0 < length (gathered block.old)
-        → All (CanTake ⟦<Part as Tally>⟧ (gathered block.old)) parts.old }
+        → All (MayTake ⟦<Part as Tally>⟧ (gathered block.old)) parts.old }
     requires room { 0 < length (gathered block.old)
-        → taken_with reached.old (gathered block.old) ≤ 2 ^ 40 }
-    ensures empty { gathered block.new ≡ [] }
-    ensures took { Each (Took ⟦<Part as Tally>⟧ (gathered block.old)
+        → taken_with reached.old (gathered block.old) ≤ record_limit }
+    ensures took { Each (HasTaken ⟦<Part as Tally>⟧ (gathered block.old)
         (with_groups (sorting_of gates.now) (gathered block.old))) parts.old parts.new }
-    ensures taken { reached.new.taken ≡ taken_with reached.old (gathered block.old) }
-    ensures floor { reached.new.floor ≡ floor_with mode reached.old (gathered block.old) }
-    ensures unsorted { sorted block.new ≡ 0 }
+    ensures given { NoneWaits reached.new block.new
+        (taken_with reached.old (gathered block.old))
+        (floor_with mode reached.old (gathered block.old)) }
 {
     if block.len() > 0 {
         flush(gates, mode, parts, reached, block, steps);

@@ -1,7 +1,7 @@
 // The tables of a plan are opened.
 ghost use Rattle.std.specs.Prelude.{◌≡◌, ◌++◌, map, IfOk, OnOk};
-ghost use Rattle.tally_base.specs.Settings.{PartSettings, hist_view, trace_view, startstop_view, coincidence_view, image_view, correlation_view};
-ghost use Rattle.tally_base.specs.Settings.PartSettings.{HistSettings, TraceSettings, StartStopSettings, CoincidenceSettings, ImageSettings, CorrelationSettings};
+ghost use Rattle.tally_base.specs.Settings.{PartSettings, hist_view, trace_view, startstop_view, coincidence_view, image_view, correlation_view, cube_view};
+ghost use Rattle.tally_base.specs.Settings.PartSettings.{HistSettings, TraceSettings, StartStopSettings, CoincidenceSettings, ImageSettings, CorrelationSettings, CubeSettings};
 ghost use Rattle.plan_text.specs.Plan.{parts_of};
 ghost use Rattle.plan_text.specs.Reading.{plan_view};
 ghost use Rattle.tally_engine.specs.Parts.{settings_in, IsOpened, AllOpened};
@@ -9,10 +9,13 @@ ghost use Rattle.tally_engine.specs.Parts.{settings_in, IsOpened, AllOpened};
 use crate::part::Part;
 use coincidence::{Coincidence, StartStop};
 use count_trace::Trace;
+use flim_cube::FlimCube;
 use plan_text::Plan;
 use scan_image::Image;
 use std::alloc::{AllocError, Global};
-use tally_base::{CoincidenceSet, CorrelationSet, HistSet, ImageSet, StartStopSet, TraceSet};
+use tally_base::{
+    CoincidenceSet, CorrelationSet, CubeSet, HistSet, ImageSet, StartStopSet, TraceSet,
+};
 use tau_cascade::Cascade;
 use tcspc_hist::Hist;
 
@@ -74,6 +77,14 @@ impl OpensPart for CorrelationSet {
     }
 }
 
+impl OpensPart for CubeSet {
+    ghost settings = { λ set. CubeSettings (cube_view set) };
+
+    fn open(self, alloc: Global) -> Result<Part, AllocError> {
+        Ok(Part::Cube(FlimCube::open(alloc, self)?))
+    }
+}
+
 /// Puts tables of one kind behind the tables that are there.
 fn open_list<S: OpensPart>(
     alloc: Global,
@@ -105,5 +116,6 @@ pub(crate) fn open_all(alloc: Global, plan: &Plan) -> Result<Vec<Part>, AllocErr
     open_list(alloc, plan.coincidences.as_slice(), &mut parts)?;
     open_list(alloc, plan.images.as_slice(), &mut parts)?;
     open_list(alloc, plan.correlations.as_slice(), &mut parts)?;
+    open_list(alloc, plan.cubes.as_slice(), &mut parts)?;
     Ok(parts)
 }

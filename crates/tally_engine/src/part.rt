@@ -2,6 +2,7 @@
 use coincidence::{Coincidence, StartStop};
 use count_trace::Trace;
 use event_block::Block;
+use flim_cube::FlimCube;
 use scan_image::Image;
 use std::sync::ledger::Ledger;
 use tally_base::{Event, Steps, Tally};
@@ -23,6 +24,8 @@ pub enum Part {
     Image(Image),
     /// A correlation of two groups.
     Correlation(Cascade),
+    /// An image of a scan with a histogram of dtimes in each pixel.
+    Cube(FlimCube),
 }
 
 impl Tally for Part {
@@ -55,6 +58,7 @@ impl Tally for Part {
             Part::Coincidence(t) => t.event(e, groups, steps),
             Part::Image(t) => t.event(e, groups, steps),
             Part::Correlation(t) => t.event(e, groups, steps),
+            Part::Cube(t) => t.event(e, groups, steps),
         }
     }
 
@@ -66,35 +70,22 @@ impl Tally for Part {
             Part::Coincidence(t) => t.close(steps),
             Part::Image(t) => t.close(steps),
             Part::Correlation(t) => t.close(steps),
+            Part::Cube(t) => t.close(steps),
         }
     }
 }
 
 impl Part {
-    ghost use Rattle.std.specs.Prelude.{◌≡◌, ◌+◌, ◌^◌, ◌≤◌, ◌++◌, false, length};
-    ghost use Rattle.tally_base.specs.Settings.{is_strict};
-    ghost use Rattle.tally_base.specs.Tally.{History};
     ghost use Rattle.event_block.specs.Columns.{gathered, events_in, IsSorted};
-    ghost use Rattle.event_block.specs.Order.{floor_after, InOrder};
+    ghost use Rattle.event_block.specs.Tables.{MayTake, HasTaken};
 
     /// Takes the events of a block, each as `event` does. The kind of the table is tested once.
     #[inline]
     pub(crate) fn events<L: Ledger>(&mut self, block: &Block, steps: &mut Steps<L>)
         requires sorted { IsSorted block.now }
-        requires open { ⟦<Part as Tally>⟧.closed self.old ≡ false }
-        requires room { ⟦<Part as Tally>⟧.taken self.old + length (gathered block.now) ≤ 2 ^ 40 }
-        requires in_order { InOrder (is_strict (⟦<Part as Tally>⟧.settings self.old))
-            (⟦<Part as Tally>⟧.floor self.old) (gathered block.now) }
-        ensures follows { (h : History) → ⟦<Part as Tally>⟧.holds self.old h
-            → ⟦<Part as Tally>⟧.holds self.new (h ++ events_in block.now) }
-        ensures still_open { ⟦<Part as Tally>⟧.closed self.new ≡ false }
-        ensures more { ⟦<Part as Tally>⟧.taken self.new
-            ≡ ⟦<Part as Tally>⟧.taken self.old + length (gathered block.now) }
-        ensures moved { ⟦<Part as Tally>⟧.floor self.new
-            ≡ floor_after (is_strict (⟦<Part as Tally>⟧.settings self.old))
-            (⟦<Part as Tally>⟧.floor self.old) (gathered block.now) }
-        ensures same_settings { ⟦<Part as Tally>⟧.settings self.new
-            ≡ ⟦<Part as Tally>⟧.settings self.old }
+        requires may { MayTake ⟦<Part as Tally>⟧ (gathered block.now) self.old }
+        ensures { HasTaken ⟦<Part as Tally>⟧ (gathered block.now) (events_in block.now)
+            self.old self.new }
     {
         match self {
             Part::Hist(t) => t.events(block),
@@ -103,6 +94,7 @@ impl Part {
             Part::Coincidence(t) => t.events(block, steps),
             Part::Image(t) => t.events(block),
             Part::Correlation(t) => t.events(block, steps),
+            Part::Cube(t) => t.events(block),
         }
     }
 }

@@ -1,22 +1,20 @@
 // The taker of a stream's events that gives them to every table.
-ghost use Rattle.std.specs.Prelude.{◌≡◌, ◌≢◌, ℕ, ◌+◌, ◌*◌, ◌^◌, ◌<◌, ◌≤◌, ◌++◌, [], List, All, length, false, None, Some, Err, OnOk, IfErr};
-ghost use Rattle.tally_base.specs.declared.fault.Fault.{Fault};
-ghost use Rattle.tally_base.specs.declared.fault.Fault.TheVariants.{WriteFault};
-ghost use Rattle.ptu_definitions.specs.Shown.{Shows};
-ghost use Rattle.ptu_definitions.specs.Streams.{record_refusal, streamed};
-ghost use Rattle.ptu_definitions.specs.Words.{words_of};
-ghost use Rattle.record_stream.specs.Standing.{how_of, given_by, top_of, refused_with, bytes_in, HasStreamed};
+ghost use Rattle.std.specs.Prelude.{◌≡◌, ℕ, ◌+◌, ◌*◌, ◌<◌, ◌≤◌, [], List, All, length, false, None, OnOk, IfErr};
+ghost use Rattle.record_stream.specs.Standing.{how_of, given_by, greatest_of, refused_with, bytes_in, HasStreamed};
 ghost use Rattle.tally_base.specs.Faults.{fault_in};
 ghost use Rattle.tally_engine.specs.Histories.{with_groups};
 ghost use Rattle.tally_base.specs.Faults.{is_outside};
-ghost use Rattle.tally_engine.specs.Parts.{HoldOn, Ends};
+ghost use Rattle.tally_engine.specs.Parts.{Ends};
+ghost use Rattle.tally_engine.specs.Pieces.{AnswersPiece, TablesFollow};
 ghost use Rattle.tally_engine.specs.Same.{SameTables};
 ghost use Rattle.gate_plan.specs.Groups.{sorting_of};
 ghost use Rattle.event_block.specs.Columns.{sorted, gathered};
 ghost use Rattle.event_block.proofs.Props.{in_order-prop};
 ghost use Rattle.std.proofs.Props.{props};
+ghost use Rattle.tally_base.specs.Limits.{record_limit};
 ghost use Rattle.tally_engine.specs.Ahead.{taken_with, floor_with};
-ghost use Rattle.tally_engine.specs.Give.{Each, CanTake, Took};
+ghost use Rattle.event_block.specs.Tables.{MayTake, HasTaken};
+ghost use Rattle.tally_engine.specs.Give.{Each};
 ghost use Rattle.tally_engine.specs.Taker.{Standing, Waits};
 
 use crate::give::gather;
@@ -42,7 +40,7 @@ struct PartTaker<'g, 'p, 's, L: Ledger> {
     reached: Reached,
     block: Block,
     ghost waiting: { All (Waits ⟦<Part as Tally>⟧ mode (taken_with reached (gathered block)) (floor_with mode reached (gathered block)) (gathered block)) parts.now } by { Prim.hlevel (props, in_order-prop) },
-    ghost limit: { 0 < length (gathered block) → taken_with reached (gathered block) ≤ 2 ^ 40 },
+    ghost limit: { 0 < length (gathered block) → taken_with reached (gathered block) ≤ record_limit },
     ghost idle: { length parts.now ≡ 0 → gathered block ≡ [] },
     ghost unsorted: { sorted block ≡ 0 },
 }
@@ -121,22 +119,14 @@ pub(crate) fn feed_parts<L: Ledger>(
     requires mode { mode ≡ (how_of stream.old).mode }
     requires going { refused_with stream.old ≡ None }
     requires standing { All (Standing ⟦<Part as Tally>⟧ mode (given_by stream.old)
-        (top_of stream.old)) parts.old }
-    ensures taken { (bytes : List ℕ) → HasStreamed stream.old bytes
-        → HasStreamed stream.new (bytes ++ piece.now) }
-    ensures answer { (bytes : List ℕ) → HasStreamed stream.old bytes
-        → fault_in result ≡ record_refusal (how_of stream.old) (words_of (bytes ++ piece.now)) }
-    ensures counts { (bytes : List ℕ) → HasStreamed stream.old bytes
-        → OnOk result (HoldOn (sorting_of gates.now) (how_of stream.old) (words_of bytes)
-        (words_of (bytes ++ piece.now)) parts.old parts.new) }
+        (greatest_of stream.old)) parts.old }
+    ensures answers { (bytes : List ℕ) → HasStreamed stream.old bytes
+        → AnswersPiece (sorting_of gates.now) stream.old stream.new bytes piece.now parts.old
+        parts.new result }
     ensures refused { refused_with stream.new ≡ fault_in result }
-    ensures standing { OnOk result (All (Standing ⟦<Part as Tally>⟧ mode (given_by stream.new)
-        (top_of stream.new)) parts.new) }
-    ensures counted { OnOk result (bytes_in stream.new ≡ bytes_in stream.old + length piece.now) }
-    ensures limit { bytes_in stream.new ≤ 4 * 2 ^ 40 + 3 }
-    ensures shown { (bytes : List ℕ) → HasStreamed stream.old bytes
-        → IfErr result (λ fault. fault ≢ WriteFault → Shows (streamed (how_of stream.old))
-        (bytes ++ piece.now) (Err fault)) }
+    ensures follow { OnOk result
+        (TablesFollow mode stream.old stream.new parts.new (length piece.now)) }
+    ensures limit { bytes_in stream.new ≤ 4 * record_limit + 3 }
     ensures same_how { how_of stream.new ≡ how_of stream.old }
     ensures same_tables { SameTables ⟦<Part as Tally>⟧ parts.old parts.new }
 {
@@ -147,7 +137,7 @@ pub(crate) fn feed_parts<L: Ledger>(
         mode,
         reached: Reached {
             taken: stream.given(),
-            floor: stream.top(),
+            floor: stream.greatest(),
         },
         block: Block::new(),
     };
@@ -175,7 +165,7 @@ pub(crate) fn finish_parts<L: Ledger>(
 ) -> Result<Summary, Fault>
     requires mode { mode ≡ (how_of stream).mode }
     requires going { refused_with stream ≡ None }
-    requires standing { All (Standing ⟦<Part as Tally>⟧ mode (given_by stream) (top_of stream)) parts.old }
+    requires standing { All (Standing ⟦<Part as Tally>⟧ mode (given_by stream) (greatest_of stream)) parts.old }
     ensures ends { (bytes : List ℕ) → HasStreamed stream bytes
         → Ends (sorting_of gates.now) (how_of stream) bytes parts.old parts.new result }
     ensures still_open { All (λ t. ⟦<Part as Tally>⟧.closed t ≡ false) parts.new }
@@ -189,7 +179,7 @@ pub(crate) fn finish_parts<L: Ledger>(
         mode,
         reached: Reached {
             taken: stream.given(),
-            floor: stream.top(),
+            floor: stream.greatest(),
         },
         block: Block::new(),
     };

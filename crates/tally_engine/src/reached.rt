@@ -1,10 +1,11 @@
 // How far the tables of an engine are within a piece.
 ghost use Rattle.std.specs.Prelude.{◌≡◌};
+ghost use Rattle.tally_base.specs.Limits.{record_limit};
 ghost use Rattle.record_stream.specs.Floors.{moved_floor};
 ghost use Rattle.record_stream.specs.Blocks.{orders_markers};
 
 use event_block::Block;
-use record_stream::moved_floor;
+use record_stream::{moved_floor, orders_markers};
 use tally_base::{Event, Mode};
 
 /// How far the tables of an engine are within a piece.
@@ -17,14 +18,14 @@ pub(crate) struct Reached {
 }
 
 impl Reached {
-    ghost use Rattle.std.specs.Prelude.{◌+◌, ◌^◌, ◌<◌, ◌≤◌, length};
+    ghost use Rattle.std.specs.Prelude.{◌+◌, ◌<◌, ◌≤◌, length};
     ghost use Rattle.event_block.specs.Columns.{gathered};
     ghost use Rattle.event_block.specs.Order.{floor_after};
 
     /// One event more, which no table is given.
     #[inline(always)]
     pub(crate) fn pass(&mut self, mode: Mode, event: &Event, late: bool)
-        requires { self.old.taken < 2 ^ 40 }
+        requires { self.old.taken < record_limit }
         ensures taken { self.new.taken ≡ self.old.taken + 1 }
         ensures floor { self.new.floor ≡ moved_floor mode self.old.floor event.now late }
     {
@@ -34,21 +35,11 @@ impl Reached {
 
     /// The events of a block more, which were given to every table.
     pub(crate) fn pass_block(&mut self, mode: Mode, block: &Block)
-        requires { self.old.taken + length (gathered block.now) ≤ 2 ^ 40 }
+        requires { self.old.taken + length (gathered block.now) ≤ record_limit }
         ensures taken { self.new.taken ≡ self.old.taken + length (gathered block.now) }
         ensures floor { self.new.floor ≡ floor_after (orders_markers mode) self.old.floor (gathered block.now) }
     {
         self.taken += block.len() as u64;
         self.floor = block.floor_after(orders_markers(mode), self.floor);
-    }
-}
-
-/// Whether markers come in the order of their times, as photons do.
-fn orders_markers(mode: Mode) -> bool
-    ensures { result ≡ orders_markers mode }
-{
-    match mode {
-        Mode::T2 => false,
-        Mode::T3 => true,
     }
 }

@@ -1,5 +1,6 @@
 // What the tables of small files count.
-ghost use Rattle.std.specs.Prelude.{◌≡◌, ◌<◌, ◌≤◌, ◌^◌};
+ghost use Rattle.std.specs.Prelude.{◌≡◌, ◌<◌, ◌≤◌};
+ghost use Rattle.tally_base.specs.Limits.{record_limit};
 
 use crate::{Engine, Part, Results};
 use coincidence::StartStop;
@@ -79,7 +80,7 @@ fn run<L: Ledger>(
     requires name { blank.name ≡ L.name }
     requires parts { blank.parts ≡ L.parts }
     requires some { 0 < blank.parts }
-    requires records { (0 < plan.now.policy.records) × (plan.now.policy.records ≤ 2 ^ 40) }
+    requires records { (0 < plan.now.policy.records) × (plan.now.policy.records ≤ record_limit) }
     requires length { 0 < piece }
 {
     let header = Header {
@@ -140,14 +141,14 @@ fn image_counts(alloc: Global, image: &Image) -> Result<Vec<u64>, AllocError> {
 }
 
 /// The cells of a table, and then its rest counts. Tables of pairs, whose cells only a closed one shows,
-/// have none here: whole runs are tested with them.
+/// and cubes have none here: whole runs are tested with them.
 fn counts(alloc: Global, part: &Part) -> Result<Vec<u64>, AllocError> {
     match part {
         Part::Hist(hist) => hist_counts(alloc, hist),
         Part::Trace(trace) => trace_counts(alloc, trace),
         Part::StartStop(table) => startstop_counts(alloc, table),
         Part::Image(image) => image_counts(alloc, image),
-        Part::Coincidence(_) | Part::Correlation(_) => Ok(Vec::new(alloc)),
+        Part::Coincidence(_) | Part::Correlation(_) | Part::Cube(_) => Ok(Vec::new(alloc)),
     }
 }
 

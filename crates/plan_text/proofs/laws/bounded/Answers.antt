@@ -1,5 +1,5 @@
 use Rattle.plan_text.proofs.Bound.{bounded}
 use Rattle.plan_text.proofs.laws.bounded.Goals as goal
 
-pub returns : goal.returns
-returns c = bounded
+pub returns-clause-most : goal.returns-clause-most
+returns-clause-most c = bounded

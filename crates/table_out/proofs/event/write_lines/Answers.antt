@@ -1,6 +1,7 @@
 use Rattle.std.proofs.Common.{◌≡◌, ◌<◌, ◌≤◌, ◌*◌, ◌-◌, append-nil, rules, arith}
 use Rattle.std.proofs.Math.ListN.{drop_of_length-le}
 use Rattle.event_block.specs.Columns.{event_at, count, gathered}
+use Rattle.event_block.specs.Size.{block_size}
 use Rattle.table_out.proofs.BlockTexts.{lines, one-before}
 use Rattle.table_out.proofs.event.write_lines.Goals as goal
 
@@ -8,7 +9,7 @@ pub back-init : goal.back-init
 back-init c =
     let b = c.args.block.now in
     let len : c.min-at.result ≡ b.len = search (rules, arith) in
-    let few : c.min-at.result ≤ 64 = search (rules, arith) in
+    let few : c.min-at.result ≤ block_size = search (rules, arith) in
     record {
       few = omega (arith, len);
       room = omega (arith, few);

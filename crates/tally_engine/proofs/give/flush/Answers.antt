@@ -30,9 +30,11 @@ returns g c =
     let more : events_in c.sort.new.block ≡ with_groups by es = c.sort.ensures.sorted ∙ ap (grouped by.groups) c.shift.ensures.shifted in
     let same : length (map (shifted by) es) ≡ length es = simp length-map in
     record {
-      empty = c.clear.ensures.empty;
       took = λ k d within. took-shifted ghosts by es (gathered c.sort.new.block) (with_groups by es) _ _ is (rw more at (c.give_all.ensures.took k d within));
-      taken = omega (arith, c.pass_block.ensures.taken, same, ap length is);
-      floor = c.pass_block.ensures.floor ∙ (ap (floor_after (orders_markers c.args.mode) c.args.reached.now.floor) is ∙ floor-shifted (orders_markers c.args.mode) by c.args.reached.now.floor es);
-      unsorted = c.clear.ensures.unsorted;
+      given = record {
+        empty = c.clear.ensures.empty;
+        taken = omega (arith, c.pass_block.ensures.taken, same, ap length is);
+        floor = c.pass_block.ensures.floor ∙ (ap (floor_after (orders_markers c.args.mode) c.args.reached.now.floor) is ∙ floor-shifted (orders_markers c.args.mode) by c.args.reached.now.floor es);
+        unsorted = c.clear.ensures.unsorted;
+      };
     }

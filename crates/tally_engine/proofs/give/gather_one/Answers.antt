@@ -19,7 +19,9 @@ returns g c =
     let room = c.make_room.ensures in
     record {
       moves = λ k d within. moves_push ghosts (sorting_of c.args.gates.now) (gathered c.args.block.now) es (gathered c.push.new.self) e _ _ (c.requires.may k d within) c.push.ensures.more (room.moves k d within);
-      taken = omega (arith, ap length c.push.ensures.more, length-append es (e ∷ []), room.taken);
-      floor = ap (floor_with c.args.mode c.make_room.new.reached) c.push.ensures.more ∙ pushed_floor c.args.mode c.make_room.new.reached es e ∙ ap (λ n. if is_ordered c.args.mode e then e.time else n) room.floor;
-      unsorted = c.push.ensures.unsorted ∙ room.unsorted;
+      stands = record {
+        taken = omega (arith, ap length c.push.ensures.more, length-append es (e ∷ []), room.stands.taken);
+        floor = ap (floor_with c.args.mode c.make_room.new.reached) c.push.ensures.more ∙ pushed_floor c.args.mode c.make_room.new.reached es e ∙ ap (λ n. if is_ordered c.args.mode e then e.time else n) room.stands.floor;
+        unsorted = c.push.ensures.unsorted ∙ room.stands.unsorted;
+      };
     }

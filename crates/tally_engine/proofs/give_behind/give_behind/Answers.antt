@@ -23,20 +23,23 @@ flush-requires g c =
       may = λ k d inside.
           let within : k < length c.args.parts.now = omega (arith, same, inside) in
           can_rest ghosts (gathered c.args.block.now) (gathered c.args.more.now) _ _ _ (c.requires.may k d within) (c.flush_waiting.ensures.took k d within);
-      room = omega (arith, c.requires.room, c.flush_waiting.ensures.taken);
+      room = omega (arith, c.requires.room, c.flush_waiting.ensures.given.taken);
       unsorted = c.requires.more_unsorted;
     }
 
 pub returns : goal.returns
 returns g c =
     let waiting = c.flush_waiting.ensures in
+    let given = waiting.given in
     let same : length c.flush_waiting.new.parts ≡ length c.args.parts.now = search rules in
     record {
       moves = λ k d within.
           let inside : k < length c.flush_waiting.new.parts = omega (arith, same, within) in
-          moves_two ghosts (sorting_of c.args.gates.now) (gathered c.args.block.now) (gathered c.args.more.now) (gathered c.flush_waiting.new.block) _ _ _ waiting.empty (waiting.took k d within) (c.flush.ensures.took k d inside);
-      taken = omega (arith, c.flush.ensures.taken, waiting.taken, ap length waiting.empty);
-      floor = ap (floor_with c.args.mode c.flush.new.reached) waiting.empty ∙ c.flush.ensures.floor ∙ ap (λ n. floor_after (orders_markers c.args.mode) n (gathered c.args.more.now)) waiting.floor;
-      empty = waiting.empty;
-      unsorted = waiting.unsorted;
+          moves_two ghosts (sorting_of c.args.gates.now) (gathered c.args.block.now) (gathered c.args.more.now) (gathered c.flush_waiting.new.block) _ _ _ given.empty (waiting.took k d within) (c.flush.ensures.took k d inside);
+      given = record {
+        empty = given.empty;
+        taken = omega (arith, c.flush.ensures.given.taken, given.taken);
+        floor = c.flush.ensures.given.floor ∙ ap (λ n. floor_after (orders_markers c.args.mode) n (gathered c.args.more.now)) given.floor;
+        unsorted = given.unsorted;
+      };
     }

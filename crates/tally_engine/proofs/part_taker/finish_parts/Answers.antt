@@ -6,7 +6,7 @@ use Rattle.gate_plan.specs.Groups.{sorting_of}
 use Rattle.gate_plan.specs.Shifting.{Sorting}
 use Rattle.tally_engine.specs.contracts.part.PartTally.TheImpl.{ghosts}
 use Rattle.tally_engine.specs.declared.part.Part.{Part}
-use Rattle.tally_engine.specs.Give.{Took}
+use Rattle.event_block.specs.Tables.{HasTaken}
 use Rattle.tally_engine.specs.Histories.{settled_history, with_groups}
 use Rattle.tally_engine.specs.Parts.{Ends}
 use Rattle.tally_engine.specs.Taker.{gave_none}
@@ -28,7 +28,7 @@ returns-clause-ends g c = λ bytes h.
     rw (history-ends by how (words_of bytes))
     (holding_all ghosts by (gathered taker.block) _ _ _
     (got.follows (settled_history by how (words_of bytes)) (λ k d within. holding_none ghosts by _ _ _ c.new.ensures.empty (held k d within)) k d within)
-    (subst (λ (by : Sorting). Took ghosts (gathered taker.block) (with_groups by (gathered taker.block)) (get_or taker.parts.now k d) (get_or c.flush_waiting.new.parts k d)) got.same_sorting (c.flush_waiting.ensures.took k d within))))
+    (subst (λ (by : Sorting). HasTaken ghosts (gathered taker.block) (with_groups by (gathered taker.block)) (get_or taker.parts.now k d) (get_or c.flush_waiting.new.parts k d)) got.same_sorting (c.flush_waiting.ensures.took k d within))))
     (fin.answer (search rules) bytes h))
     (search rules)
 

@@ -1,6 +1,7 @@
 use Rattle.std.proofs.Common.{rules, arith, ◌≤◌, ◌≡◌, ◌++◌, refl, sym, ◌∙◌, None, Some, length}
 use Rattle.std.proofs.Math.Logic.{∥∥₁_map, ∥∥₁_elim}
 use Rattle.std.proofs.Props.{props}
+use Rattle.std.proofs.lemmas.Result.{on_ok_weaker}
 use Rattle.ptu_definitions.specs.Words.{words_of}
 use Rattle.std.specs.Vec.{with_items}
 use Rattle.record_stream.specs.Standing.{carried_by, refused_with}
@@ -17,22 +18,37 @@ pub invariant_of-self-2-clause-standing : goal.invariant_of-self-2-clause-standi
 invariant_of-self-2-clause-standing g c = λ none.
     let count : length c.feed_parts.new.parts ≡ length c.args.self.now.parts.items = search rules in
     let all : c.args.self.now.parts.len ≡ length c.args.self.now.parts.items = search rules in
-    rw (whole_slice _ _ _ count all, ← c.mode-mode.ensures) (where_taken c.feed_parts.result _ c.feed_parts.ensures.refused c.feed_parts.ensures.standing none)
+    rw (whole_slice _ _ _ count all, ← c.mode-mode.ensures) (where_taken c.feed_parts.result _ c.feed_parts.ensures.refused c.feed_parts.ensures.follow none).standing
 
 pub invariant_of-self-2-clause-streams : goal.invariant_of-self-2-clause-streams
-invariant_of-self-2-clause-streams g c = ∥∥₁_map c.args.self.now.streams (λ w. (w.0 ++ c.args.piece.now, c.feed_parts.ensures.taken w.0 w.1))
+invariant_of-self-2-clause-streams g c = ∥∥₁_map c.args.self.now.streams (λ w. (w.0 ++ c.args.piece.now, (c.feed_parts.ensures.answers w.0 w.1).taken))
 
 pub invariant_of-self-2-clause-inside : goal.invariant_of-self-2-clause-inside
 invariant_of-self-2-clause-inside g c = λ fault is.
     ∥∥₁_elim c.args.self.now.streams (hlevel props)
-    (λ w. record_refusal-inside _ (words_of (w.0 ++ c.args.piece.now)) fault (sym (c.feed_parts.ensures.answer w.0 w.1) ∙ sym c.feed_parts.ensures.refused ∙ is))
+    (λ w. record_refusal-inside _ (words_of (w.0 ++ c.args.piece.now)) fault (sym (c.feed_parts.ensures.answers w.0 w.1).answer ∙ sym c.feed_parts.ensures.refused ∙ is))
 
 pub returns-clause-shown : goal.returns-clause-shown
 returns-clause-shown g c = λ bytes h.
     let fed = c.feed_parts.ensures in
     of_faults c.feed_parts.result _ fed.refused
-    (λ fault is shows. shows (no_write fault (record_refusal-inside _ (words_of (bytes ++ c.args.piece.now)) fault (sym (fed.answer bytes h.0) ∙ sym fed.refused ∙ is))))
-    (fed.shown bytes h.0)
+    (λ fault is shows. shows (no_write fault (record_refusal-inside _ (words_of (bytes ++ c.args.piece.now)) fault (sym (fed.answers bytes h.0).answer ∙ sym fed.refused ∙ is))))
+    (fed.answers bytes h.0).shown
+
+pub returns-clause-taken : goal.returns-clause-taken
+returns-clause-taken g c = λ bytes h.
+    let fed = c.feed_parts.ensures in
+    let answers = rw c.deref_mut.ensures.value at (fed.answers bytes h.0) in
+    let going : refused_with c.args.self.now.stream ≡ None = search rules in
+    let count : length c.feed_parts.new.parts ≡ length c.args.self.now.parts.items = search rules in
+    let all : c.args.self.now.parts.len ≡ length c.args.self.now.parts.items = search rules in
+    (answers.taken, λ none. rw (fed.same_how, whole_slice _ _ _ count all) (where_taken c.feed_parts.result _ fed.refused answers.counts none (h.1 going)))
+
+pub returns-clause-answer : goal.returns-clause-answer
+returns-clause-answer g c = λ none bytes h. (c.feed_parts.ensures.answers bytes h.0).answer
+
+pub returns-clause-counted : goal.returns-clause-counted
+returns-clause-counted g c = on_ok_weaker c.feed_parts.result (λ follow. follow.counted) c.feed_parts.ensures.follow
 
 pub returns-in-Some-clause-taken : goal.returns-in-Some-clause-taken
 returns-in-Some-clause-taken g c = λ bytes h.

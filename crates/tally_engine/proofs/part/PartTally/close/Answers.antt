@@ -17,3 +17,6 @@ returns-in-Image-clause-keeps g c = λ h is. c.close-in-Image.ensures.keeps h (r
 
 pub returns-in-Correlation-clause-keeps : goal.returns-in-Correlation-clause-keeps
 returns-in-Correlation-clause-keeps g c = λ h is. c.close-in-Correlation.ensures.keeps h (rw c.in-Correlation.is at is)
+
+pub returns-in-Cube-clause-keeps : goal.returns-in-Cube-clause-keeps
+returns-in-Cube-clause-keeps g c = λ h is. c.close-in-Cube.ensures.keeps h (rw c.in-Cube.is at is)

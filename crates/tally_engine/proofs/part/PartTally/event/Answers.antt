@@ -17,3 +17,6 @@ returns-in-Image-clause-follows g c = λ h is. c.event-in-Image.ensures.follows 
 
 pub returns-in-Correlation-clause-follows : goal.returns-in-Correlation-clause-follows
 returns-in-Correlation-clause-follows g c = λ h is. c.event-in-Correlation.ensures.follows h (rw c.in-Correlation.is at is)
+
+pub returns-in-Cube-clause-follows : goal.returns-in-Cube-clause-follows
+returns-in-Cube-clause-follows g c = λ h is. c.event-in-Cube.ensures.follows h (rw c.in-Cube.is at is)

@@ -25,11 +25,11 @@ invariant_of-self g c =
     record {
       waiting = λ k d inside.
           let within : k < length t.parts.now = omega (arith, same, inside) in
-          waits_on ghosts (sorting_of t.gates.now) t.mode (taken_with t.reached es) _ (floor_with t.mode t.reached es) _ es (gathered c.gather.new.block) c.args.event.now c.args.late _ _ (t.waiting k d within) (c.gather.ensures.moves k d within) c.requires.in_order c.gather.ensures.taken c.gather.ensures.floor;
-      limit = λ some. omega (arith, c.requires.room, c.gather.ensures.taken);
+          waits_on ghosts (sorting_of t.gates.now) t.mode (taken_with t.reached es) _ (floor_with t.mode t.reached es) _ es (gathered c.gather.new.block) c.args.event.now c.args.late _ _ (t.waiting k d within) (c.gather.ensures.moves k d within) c.requires.in_order c.gather.ensures.stands.taken c.gather.ensures.stands.floor;
+      limit = λ some. omega (arith, c.requires.room, c.gather.ensures.stands.taken);
       idle = c.gather.ensures.idle;
-      unsorted = c.gather.ensures.unsorted;
+      unsorted = c.gather.ensures.stands.unsorted;
     }
 
 pub returns-clause-follows : goal.returns-clause-follows
-returns-clause-follows g c = λ start l gave. gave_more ghosts _ _ _ _ _ _ _ _ _ _ _ _ _ _ _ _ l _ _ gave (search rules) c.gather.ensures.moves c.requires.in_order c.gather.ensures.taken c.gather.ensures.floor
+returns-clause-follows g c = λ start l gave. gave_more ghosts _ _ _ _ _ _ _ _ _ _ _ _ _ _ _ _ l _ _ gave (search rules) c.gather.ensures.moves c.requires.in_order c.gather.ensures.stands.taken c.gather.ensures.stands.floor

@@ -3,6 +3,7 @@ use Rattle.event_block.specs.Columns.{gathered}
 use Rattle.gate_plan.specs.Groups.{sorting_of}
 use Rattle.tally_engine.specs.Ahead.{taken_with, floor_with}
 use Rattle.tally_engine.specs.contracts.part.PartTally.TheImpl.{ghosts}
+use Rattle.tally_engine.proofs.Aheads.{at_none}
 use Rattle.tally_engine.proofs.Behind.{can_block, waits_block, gave_block}
 use Rattle.tally_engine.proofs.part_taker.PartTakerEventTaker.take_block.Goals as goal
 
@@ -23,14 +24,17 @@ invariant_of-self g c =
     let t = c.args.self.now in
     let es = gathered t.block in
     let same : length c.give_behind.new.parts ≡ length t.parts.now = search rules in
+    let given = at_none t.mode _ _ _ _ c.give_behind.ensures.given in
     record {
       waiting = λ k d inside.
           let within : k < length t.parts.now = omega (arith, same, inside) in
-          waits_block ghosts (sorting_of t.gates.now) t.mode (taken_with t.reached es) _ (floor_with t.mode t.reached es) _ es (gathered c.give_behind.new.block) (gathered c.args.block.now) _ _ (t.waiting k d within) (c.give_behind.ensures.moves k d within) c.requires.in_order c.give_behind.ensures.taken c.give_behind.ensures.floor;
-      limit = λ some. omega (arith, c.requires.room, c.give_behind.ensures.taken);
-      idle = λ _. c.give_behind.ensures.empty;
-      unsorted = c.give_behind.ensures.unsorted;
+          waits_block ghosts (sorting_of t.gates.now) t.mode (taken_with t.reached es) _ (floor_with t.mode t.reached es) _ es (gathered c.give_behind.new.block) (gathered c.args.block.now) _ _ (t.waiting k d within) (c.give_behind.ensures.moves k d within) c.requires.in_order given.taken given.floor;
+      limit = λ some. omega (arith, c.requires.room, given.taken);
+      idle = λ _. c.give_behind.ensures.given.empty;
+      unsorted = given.unsorted;
     }
 
 pub returns-clause-follows : goal.returns-clause-follows
-returns-clause-follows g c = λ start l gave. gave_block ghosts _ _ _ _ _ _ _ _ _ _ _ _ _ _ _ _ _ l gave (search rules) c.give_behind.ensures.moves c.requires.in_order c.give_behind.ensures.taken c.give_behind.ensures.floor
+returns-clause-follows g c = λ start l gave.
+    let given = at_none c.args.self.now.mode _ _ _ _ c.give_behind.ensures.given in
+    gave_block ghosts _ _ _ _ _ _ _ _ _ _ _ _ _ _ _ _ _ l gave (search rules) c.give_behind.ensures.moves c.requires.in_order given.taken given.floor

@@ -1,0 +1,254 @@
+-- What proofs ask of each kind of table: its place in the order of the report, and that none of its tables keeps more
+-- than one of the greatest settings.
+use Rattle.std.proofs.Common.{◌≡◌, refl, ℕ, zero, suc, ◌+◌, ◌-◌, ◌*◌, ◌/◌, ◌^◌, ◌≤◌, Bool, true, false, cond, List, [], ◌∷◌, map, codes, Option, Some, None, arith, pos}
+use Rattle.std.specs.List.{AllByRecursion}
+use Rattle.std.specs.Option.{option_and_then, option_map}
+use Rattle.std.proofs.lemmas.Nat.{mul-le}
+use Rattle.std.proofs.Math.Nat.{div-le_of_le-mul}
+use Rattle.std.proofs.lemmas.Bool.Decides.{nat_tests}
+use Rattle.toml.specs.Data.{Data, get, integer}
+use Rattle.tally_base.specs.Settings.{PartSettings, ImageView, entries}
+use Rattle.tally_base.specs.Settings.PartSettings.{HistSettings, TraceSettings, StartStopSettings, CoincidenceSettings, ImageSettings, CorrelationSettings, CubeSettings}
+use Rattle.tally_base.specs.Limits.{wrap_limit}
+use Rattle.toml_rules.specs.Values.{integer_in, number_in}
+use Rattle.plan_text.specs.Kind.{Kind}
+use Rattle.plan_text.specs.Kinds.{kinds, lists}
+use Rattle.plan_text.specs.Groups.{group_number}
+use Rattle.plan_text.specs.Histograms.{histogram, hist_of}
+use Rattle.plan_text.specs.Traces.{trace, trace_of, origin}
+use Rattle.plan_text.specs.StartStops.{startstop, startstop_of}
+use Rattle.plan_text.specs.Coincidences.{coincidence, coincidence_of}
+use Rattle.plan_text.specs.Images.{image, image_values, image_of, raster, raster_of, bits, serpentine}
+use Rattle.plan_text.specs.Correlations.{correlation, correlation_of, lags, if_even}
+use Rattle.plan_text.specs.Cubes.{cube, cube_of, bins, has_few_bins}
+use Rattle.plan_text.specs.Plan.{plan}
+use Rattle.tally_base.specs.Settings.{hist_view, trace_view, startstop_view, coincidence_view, image_view, correlation_view, cube_view}
+use Rattle.plan_text.specs.declared.plan.Plan.{Plan}
+use Rattle.plan_text.specs.Kinds.{part_lists}
+
+-- ## Its place
+
+-- the place of a kind in the order of the report
+abbrev pub kind_at : PartSettings → ℕ
+kind_at (HistSettings set) = 0
+kind_at (TraceSettings set) = 1
+kind_at (StartStopSettings set) = 2
+kind_at (CoincidenceSettings set) = 3
+kind_at (ImageSettings set) = 4
+kind_at (CorrelationSettings set) = 5
+kind_at (CubeSettings set) = 6
+
+-- each part is of the kind at this place
+abbrev pub AreAt : ℕ → List PartSettings → Type 0
+AreAt n = AllByRecursion (λ part. kind_at part ≡ n)
+
+-- the lists are of one kind after the other, from this place on
+abbrev pub AreByKinds : ℕ → List (List PartSettings) → Type 0
+AreByKinds n [] = Unit {0}
+AreByKinds n (list ∷ lists) = AreAt n list × AreByKinds (n + 1) lists
+
+of_kind : {S : Type 0} (settings : S → PartSettings) (n : ℕ) → ((set : S) → kind_at (settings set) ≡ n) → (sets : List S) → AreAt n (map settings sets)
+of_kind settings n is [] = tt
+of_kind settings n is (set ∷ sets) = (is set, of_kind settings n is sets)
+
+pub by_kinds : (plan : Plan) → AreByKinds 0 (part_lists plan)
+by_kinds plan = (
+  of_kind (λ set. HistSettings (hist_view set)) 0 (λ set. refl) plan.histograms.items,
+  (
+    of_kind (λ set. TraceSettings (trace_view set)) 1 (λ set. refl) plan.traces.items,
+    (
+      of_kind (λ set. StartStopSettings (startstop_view set)) 2 (λ set. refl) plan.startstops.items,
+      (
+        of_kind (λ set. CoincidenceSettings (coincidence_view set)) 3 (λ set. refl) plan.coincidences.items,
+        (
+          of_kind (λ set. ImageSettings (image_view set)) 4 (λ set. refl) plan.images.items,
+          (
+            of_kind (λ set. CorrelationSettings (correlation_view set)) 5 (λ set. refl) plan.correlations.items,
+            (of_kind (λ set. CubeSettings (cube_view set)) 6 (λ set. refl) plan.cubes.items, tt),
+          ),
+        ),
+      ),
+    ),
+  ),
+)
+
+-- ## Its greatest table
+
+pub integer_most : (least greatest : ℕ) (d : Data) (n : ℕ) → integer_in least greatest d ≡ Some n → n ≤ greatest
+integer_most least greatest (integer (pos m)) n is = grind (arith, nat_tests, is)
+integer_most least greatest _ n is = cc
+
+-- a number that was read is not above the greatest
+most_read : (least greatest : ℕ) (found : Option Data) (n : ℕ) → number_in least greatest found ≡ Some n → n ≤ greatest
+most_read least greatest None n is = cc
+most_read least greatest (Some d) n is = integer_most least greatest d n is
+
+-- a number that may be there is at most so great
+abbrev IsAtMost : ℕ → Option ℕ → Type 0
+IsAtMost most found = (n : ℕ) → found ≡ Some n → n ≤ most
+
+-- ## The greatest table of each kind
+
+hist_keeps : (group width bins : Option ℕ) (p : PartSettings) → IsAtMost 32768 bins → hist_of group width bins ≡ Some p → entries p ≤ 32769
+hist_keeps (Some group) (Some width) (Some bins) p few is =
+    let same : p ≡ HistSettings (record { group = group; width = width; bins = bins }) = cc in
+    rw same (omega (arith, few bins refl))
+hist_keeps (Some group) (Some width) None p few is = cc
+hist_keeps (Some group) None bins p few is = cc
+hist_keeps None width bins p few is = cc
+
+histogram_keeps : (d t : Data) (p : PartSettings) → histogram d t ≡ Some p → entries p ≤ 32769
+unfolding histogram
+histogram_keeps d t p is =
+    hist_keeps (group_number d (get (codes "group") t)) (number_in 1 32768 (get (codes "width") t)) (number_in 1 32768 (get (codes "bins") t)) p (most_read 1 32768 (get (codes "bins") t)) is
+
+trace_of_keeps : (group begin width bins : Option ℕ) (p : PartSettings) → IsAtMost (2 ^ 20) bins → trace_of group begin width bins ≡ Some p → entries p ≤ 1048579
+trace_of_keeps (Some group) (Some begin) (Some width) (Some bins) p few is =
+    let same : p ≡ TraceSettings (record { group = group; origin = begin; width = width; bins = bins }) = cc in
+    rw same (omega (arith, few bins refl))
+trace_of_keeps (Some group) (Some begin) (Some width) None p few is = cc
+trace_of_keeps (Some group) (Some begin) None bins p few is = cc
+trace_of_keeps (Some group) None width bins p few is = cc
+trace_of_keeps None begin width bins p few is = cc
+
+trace_keeps : (d t : Data) (p : PartSettings) → trace d t ≡ Some p → entries p ≤ 1048579
+unfolding trace
+trace_keeps d t p is =
+    trace_of_keeps (group_number d (get (codes "group") t)) (origin t) (number_in 1 wrap_limit (get (codes "width") t)) (number_in 1 (2 ^ 20) (get (codes "bins") t)) p (most_read 1 (2 ^ 20) (get (codes "bins") t)) is
+
+startstop_of_keeps : (start stop width bins : Option ℕ) (p : PartSettings) → IsAtMost 32768 bins → startstop_of start stop width bins ≡ Some p → entries p ≤ 32770
+startstop_of_keeps (Some start) (Some stop) (Some width) (Some bins) p few is =
+    let same : p ≡ StartStopSettings (record { start = start; stop = stop; width = width; bins = bins }) = cc in
+    rw same (omega (arith, few bins refl))
+startstop_of_keeps (Some start) (Some stop) (Some width) None p few is = cc
+startstop_of_keeps (Some start) (Some stop) None bins p few is = cc
+startstop_of_keeps (Some start) None width bins p few is = cc
+startstop_of_keeps None stop width bins p few is = cc
+
+startstop_keeps : (d t : Data) (p : PartSettings) → startstop d t ≡ Some p → entries p ≤ 32770
+unfolding startstop
+startstop_keeps d t p is =
+    startstop_of_keeps (group_number d (get (codes "start") t)) (group_number d (get (codes "stop") t)) (number_in 1 wrap_limit (get (codes "width") t)) (number_in 1 32768 (get (codes "bins") t)) p (most_read 1 32768 (get (codes "bins") t)) is
+
+-- a quotient is not above what is divided
+quotient : (n m : ℕ) → n / m ≤ n
+quotient n zero = omega arith
+quotient n (suc m) = div-le_of_le-mul (suc m) (grind arith)
+
+coincidence_of_keeps : (first second reach width : Option ℕ) (p : PartSettings) → IsAtMost (2 ^ 20) reach → coincidence_of first second reach width ≡ Some p → entries p ≤ 3145731
+coincidence_of_keeps (Some first) (Some second) (Some reach) (Some width) p few is =
+    let same : p ≡ CoincidenceSettings (record { first = first; second = second; reach = reach; width = width }) = cc in
+    rw same (omega (arith, few reach refl, quotient (2 * reach) width))
+coincidence_of_keeps (Some first) (Some second) (Some reach) None p few is = cc
+coincidence_of_keeps (Some first) (Some second) None width p few is = cc
+coincidence_of_keeps (Some first) None reach width p few is = cc
+coincidence_of_keeps None second reach width p few is = cc
+
+coincidence_keeps : (d t : Data) (p : PartSettings) → coincidence d t ≡ Some p → entries p ≤ 3145731
+unfolding coincidence
+coincidence_keeps d t p is =
+    coincidence_of_keeps (group_number d (get (codes "first") t)) (group_number d (get (codes "second") t)) (number_in 1 (2 ^ 20) (get (codes "reach") t)) (number_in 1 (2 ^ 21) (get (codes "width") t)) p (most_read 1 (2 ^ 20) (get (codes "reach") t)) is
+
+-- a raster has at most 2,048 by 2,048 pixels
+raster_few : (width height dwell : Option ℕ) (r : ℕ × (ℕ × ℕ)) → IsAtMost 2048 width → IsAtMost 2048 height → raster_of width height dwell ≡ Some r → (r.0 ≤ 2048) × (r.1.0 ≤ 2048)
+raster_few (Some width) (Some height) (Some dwell) r narrow low is =
+    let same : r ≡ (width, (height, dwell)) = cc in
+    rw same (narrow width refl, low height refl)
+raster_few (Some width) (Some height) None r narrow low is = cc
+raster_few (Some width) None dwell r narrow low is = cc
+raster_few None height dwell r narrow low is = cc
+
+raster_in : (t : Data) (r : ℕ × (ℕ × ℕ)) → raster t ≡ Some r → (r.0 ≤ 2048) × (r.1.0 ≤ 2048)
+unfolding raster
+raster_in t r is =
+    raster_few (number_in 1 2048 (get (codes "width") t)) (number_in 1 2048 (get (codes "height") t)) (number_in 1 wrap_limit (get (codes "dwell") t)) r (most_read 1 2048 (get (codes "width") t)) (most_read 1 2048 (get (codes "height") t)) is
+
+image_of_keeps : (group : Option ℕ) (raster : Option (ℕ × (ℕ × ℕ))) (bits : Option (ℕ × (Option ℕ × Option ℕ))) (serpentine : Option Bool) (set : ImageView) → ((r : ℕ × (ℕ × ℕ)) → raster ≡ Some r → (r.0 ≤ 2048) × (r.1.0 ≤ 2048)) → image_of group raster bits serpentine ≡ Some set → entries (ImageSettings set) ≤ 4194308
+image_of_keeps (Some group) (Some raster) (Some bits) (Some serpentine) set few is =
+    let same : set ≡ record { group = group; width = raster.0; height = raster.1.0; dwell = raster.1.1; line = bits.0; frame = bits.1.0; stop = bits.1.1; serpentine = serpentine } = cc in
+    let few = few raster refl in
+    rw same (omega (arith, mul-le raster.0 raster.1.0 2048 2048 few.0 few.1))
+image_of_keeps (Some group) (Some raster) (Some bits) None set few is = cc
+image_of_keeps (Some group) (Some raster) None serpentine set few is = cc
+image_of_keeps (Some group) None bits serpentine set few is = cc
+image_of_keeps None raster bits serpentine set few is = cc
+
+values_keep : (d t : Data) (set : ImageView) → image_values d t ≡ Some set → entries (ImageSettings set) ≤ 4194308
+unfolding image_values
+values_keep d t set is = image_of_keeps (group_number d (get (codes "group") t)) (raster t) (bits t) (serpentine t) set (raster_in t) is
+
+settings_keep : (found : Option ImageView) (p : PartSettings) → ((set : ImageView) → found ≡ Some set → entries (ImageSettings set) ≤ 4194308) → option_map ImageSettings found ≡ Some p → entries p ≤ 4194308
+settings_keep None p few is = cc
+settings_keep (Some set) p few is =
+    let same : p ≡ ImageSettings set = cc in
+    rw same (few set refl)
+
+image_keeps : (d t : Data) (p : PartSettings) → image d t ≡ Some p → entries p ≤ 4194308
+image_keeps d t p is = settings_keep (image_values d t) p (values_keep d t) is
+
+correlation_of_keeps : (first second lags levels : Option ℕ) (p : PartSettings) → IsAtMost 128 lags → IsAtMost 40 levels → correlation_of first second lags levels ≡ Some p → entries p ≤ 7784
+correlation_of_keeps (Some first) (Some second) (Some lags) (Some levels) p near few is =
+    let same : p ≡ CorrelationSettings (record { first = first; second = second; lags = lags; levels = levels }) = cc in
+    let near = near lags refl in
+    let few = few levels refl in
+    rw same (omega (arith, mul-le levels (lags + 1) 40 129 few (omega (arith, near)), mul-le (levels - 1) (lags / 2) 39 64 (omega (arith, few)) (omega (arith, near))))
+correlation_of_keeps (Some first) (Some second) (Some lags) None p near few is = cc
+correlation_of_keeps (Some first) (Some second) None levels p near few is = cc
+correlation_of_keeps (Some first) None lags levels p near few is = cc
+correlation_of_keeps None second lags levels p near few is = cc
+
+even_most : (found : Option ℕ) (most : ℕ) → IsAtMost most found → IsAtMost most (option_and_then if_even found)
+even_most None most few n is = cc
+even_most (Some m) most few n is = let all = few m refl in grind (arith, nat_tests, is, all)
+
+lags_few : (t : Data) → IsAtMost 128 (lags t)
+unfolding lags
+lags_few t = even_most (number_in 2 128 (get (codes "lags") t)) 128 (most_read 2 128 (get (codes "lags") t))
+
+correlation_keeps : (d t : Data) (p : PartSettings) → correlation d t ≡ Some p → entries p ≤ 7784
+unfolding correlation
+correlation_keeps d t p is =
+    correlation_of_keeps (group_number d (get (codes "first") t)) (group_number d (get (codes "second") t)) (lags t) (number_in 1 40 (get (codes "levels") t)) p (lags_few t) (most_read 1 40 (get (codes "levels") t)) is
+
+few_bins_keep : (image : ImageView) (bins : ℕ × ℕ) (p : PartSettings) (few : Bool) → has_few_bins image bins.1 ≡ few → cond few (Some (CubeSettings (record { image = image; dwidth = bins.0; dbins = bins.1 }))) None ≡ Some p → entries p ≤ 67108869
+few_bins_keep image bins p true few is =
+    let same : p ≡ CubeSettings (record { image = image; dwidth = bins.0; dbins = bins.1 }) = cc in
+    let most : image.width * image.height * bins.1 ≤ 2 ^ 26 = grind (arith, nat_tests, few) in
+    rw same (omega (arith, most))
+few_bins_keep image bins p false few is = cc
+
+cube_of_keeps : (image : Option ImageView) (bins : Option (ℕ × ℕ)) (p : PartSettings) → cube_of image bins ≡ Some p → entries p ≤ 67108869
+cube_of_keeps (Some image) (Some bins) p is = few_bins_keep image bins p (has_few_bins image bins.1) refl is
+cube_of_keeps (Some image) None p is = cc
+cube_of_keeps None bins p is = cc
+
+cube_keeps : (d t : Data) (p : PartSettings) → cube d t ≡ Some p → entries p ≤ 67108869
+unfolding cube
+cube_keeps d t p is = cube_of_keeps (image_values d t) (bins t) p is
+
+-- ## All kinds
+
+-- No table of the kind keeps more than one of its greatest settings.
+abbrev pub KeepsFew : Data → Kind → Type 0
+KeepsFew d kind = (t : Data) (p : PartSettings) → kind.read d t ≡ Some p → entries p ≤ entries kind.greatest
+
+pub kinds_keep_few : (d : Data) → AllByRecursion (KeepsFew d) kinds
+kinds_keep_few d = (
+  histogram_keeps d,
+  (
+    trace_keeps d,
+    (
+      startstop_keeps d,
+      (
+        coincidence_keeps d,
+        (
+          image_keeps d,
+          (
+            correlation_keeps d,
+            (cube_keeps d, tt),
+          ),
+        ),
+      ),
+    ),
+  ),
+)

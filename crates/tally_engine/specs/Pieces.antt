@@ -1,0 +1,28 @@
+-- What a piece of the bytes does to a stream and to the tables behind it.
+use Rattle.std.specs.Prelude.{◌≡◌, ◌≢◌, ◌+◌, ℕ, List, ◌++◌, All, Result, Err, OnOk, IfErr}
+use Rattle.tally_base.specs.declared.fault.Fault.{Fault}
+use Rattle.tally_base.specs.declared.fault.Fault.TheVariants.{WriteFault}
+use Rattle.tally_base.specs.declared.header.Mode.{Mode}
+use Rattle.tally_base.specs.Faults.{fault_in}
+use Rattle.ptu_definitions.specs.Shown.{Shows}
+use Rattle.ptu_definitions.specs.Streams.{record_refusal, streamed}
+use Rattle.ptu_definitions.specs.Words.{words_of}
+use Rattle.record_stream.specs.declared.stream.RecordStream.{RecordStream}
+use Rattle.record_stream.specs.Standing.{how_of, given_by, greatest_of, bytes_in, HasStreamed}
+use Rattle.gate_plan.specs.Shifting.{Sorting}
+use Rattle.tally_engine.specs.declared.part.Part.{Part}
+use Rattle.tally_engine.specs.contracts.part.PartTally.TheImpl.{ghosts}
+use Rattle.tally_engine.specs.Parts.{HoldOn}
+use Rattle.tally_engine.specs.Taker.{Standing}
+
+-- Behind these bytes the stream was given the piece. The answer is the refusal that the words call for, and where there is none the tables were given their events.
+pub record AnswersPiece (by : Sorting) (old new : RecordStream) (bytes piece : List ℕ) (parts parts' : List Part) (r : Result (Unit {0}) Fault) : Type 0 where
+  pub taken : HasStreamed new (bytes ++ piece)
+  pub answer : fault_in r ≡ record_refusal (how_of old) (words_of (bytes ++ piece))
+  pub counts : OnOk r (HoldOn by (how_of old) (words_of bytes) (words_of (bytes ++ piece)) parts parts')
+  pub shown : IfErr r (λ fault. fault ≢ WriteFault → Shows (streamed (how_of old)) (bytes ++ piece) (Err fault))
+
+-- The stream took so many bytes more and refused none, and no table is further on than it is.
+pub record TablesFollow (mode : Mode) (old new : RecordStream) (parts : List Part) (more : ℕ) : Type 0 where
+  pub standing : All (Standing ghosts mode (given_by new) (greatest_of new)) parts
+  pub counted : bytes_in new ≡ bytes_in old + more
