@@ -345,12 +345,13 @@ def are_shifts(tables, at, period):
 
 
 MOST = {"group": 64, "histogram": 32, "trace": 32, "startstop": 16, "coincidence": 16, "image": 8, "correlation": 16}
+NEW_MOST = {"shift": 65, "cube": 2}
 
 
 def broken_rules(document):
     """Each broken rule of a document with its index, where those before it hold, in their order."""
     has_new = document.get("version") == 2 and type(document.get("version")) is int and GREATEST_VERSION >= 2
-    most = MOST | ({"shift": 65} if has_new else {})
+    most = MOST | (NEW_MOST if has_new else {})
     known = ["version", "order", "reserved", "limits", *most] + (["period", "settle"] if has_new else [])
     yield 1, 0, all(key in known for key in document)
     yield 2, 0, is_within(document.get("version", 1), 1, GREATEST_VERSION)
@@ -403,6 +404,18 @@ def broken_rules(document):
         for at, shift in enumerate(shifts):
             yield 25, at + 1, are_shifts(shifts, at, period)
         yield 26, 0, is_within(document.get("settle", 0), 0, 64)
+        cubes = document.get("cube", [])
+        sides = {"width": (1, 2048), "height": (1, 2048)}
+        needed = {"group": one_group, "dwell": big, "line": (1, 4), "dwidth": (1, 32768), "dbins": (1, 32768)} | sides
+        other = {"frame": (1, 4), "stop": (1, 4)}
+        for at, cube in enumerate(cubes, 1):
+            yield 27, at, has_keys(cube, tuple(needed), (*other, "serpentine"))
+        for at, cube in enumerate(cubes, 1):
+            ranges = needed | other
+            good = all(is_within(cube[name], *ranges[name]) for name in cube if name in ranges)
+            yield 28, at, good and type(cube.get("serpentine", False)) is bool
+        for at, cube in enumerate(cubes, 1):
+            yield 29, at, cube["width"] * cube["height"] * cube["dbins"] <= 2**26
 
 
 def read_plan(text):
@@ -419,7 +432,8 @@ def read_plan(text):
 def fits(plan, mode):
     """Refuses the first part that suits only the other mode."""
     gated = [at for at, group in enumerate(plan.get("group", []), 1) if "gate" in group or "gates" in group]
-    only = {"gate": gated, "shift": plan.get("shift", []), "histogram": plan.get("histogram", []), "image": plan.get("image", [])}
+    only = {"gate": gated, "shift": plan.get("shift", []), "histogram": plan.get("histogram", [])}
+    only |= {kind: plan.get(kind, []) for kind in ("image", "cube")}
     if mode == 3:
         only = {"startstop": plan.get("startstop", []), "coincidence": plan.get("coincidence", [])}
     for kind, parts in only.items():
@@ -541,6 +555,23 @@ def image(number, table, events, groups):
     return lines + f"outside {outside}\n"
 
 
+def cube(number, table, events, groups):
+    group = groups[table["group"] - 1]
+    cells = Counter()
+    for place, event in enumerate(events):
+        if takes(group, event):
+            pixel = place_of(event, events[:place], table)
+            cells[pixel and (*pixel, event.dtime // table["dwidth"])] += 1
+    outside = cells.pop(None, 0)
+    sizes = f"width {table['width']} height {table['height']} dwell {table['dwell']} dwidth {table['dwidth']} dbins {table['dbins']}"
+    lines = f"cube {number} {sizes}\n"
+    for x, y, b in sorted(cells, key=lambda cell: (cell[1], cell[0], cell[2])):
+        if b < table["dbins"]:
+            lines += f"{x} {y} {b} {cells[x, y, b]}\n"
+    over = sum(times for (_, _, b), times in cells.items() if b >= table["dbins"])
+    return lines + f"outside {outside}\nover {over}\n"
+
+
 KINDS = {
     "histogram": histogram,
     "trace": trace,
@@ -548,6 +579,7 @@ KINDS = {
     "coincidence": coincidence,
     "image": image,
     "correlation": correlation,
+    "cube": cube,
 }
 
 

@@ -252,10 +252,22 @@ def a_part(rng, kind, groups, version):
         return {"first": one(), "second": one(), "reach": reach, "width": number_to(rng, 2**21, 30)}
     if kind == "correlation":
         return {"first": one(), "second": one(), "lags": 2 * number_to(rng, 64, 6), "levels": number_to(rng, 40, 8)}
+    if kind == "cube":
+        return a_cube(rng, groups)
     side = 2048 if rng.randrange(100) == 0 else 60
     part = {"group": one(), "width": number_to(rng, side, 9), "height": number_to(rng, side, 9), "dwell": number_to(rng, 2**62, 60), "line": rng.randrange(1, 5)}
     part |= {key: rng.randrange(1, 5) for key in ("frame", "stop") if rng.randrange(2)}
     return part | ({"serpentine": rng.randrange(3) > 0} if version == 2 and rng.randrange(2) else {})
+
+
+def a_cube(rng, groups):
+    """A cube whose cells are mostly few, and now and then as many as may be."""
+    part = a_part(rng, "image", groups, 2)
+    part["dwidth"] = number_to(rng, 32768, 500)
+    part["dbins"] = min(number_to(rng, 32768, 60), 2**26 // (part["width"] * part["height"]))
+    if part["width"] * part["height"] * part["dbins"] > 2**18 and rng.randrange(50):
+        part["dbins"] = 1
+    return part
 
 
 def a_plan(rng, mode):
@@ -272,10 +284,13 @@ def a_plan(rng, mode):
     if groups or rng.randrange(4) == 0:
         plan["group"] = [a_group(rng, mode, version) for _ in range(groups)]
     suits = ["histogram", "trace", "image", "correlation"] if mode == 3 else ["trace", "startstop", "coincidence", "correlation"]
-    for kind in suits if rng.randrange(12) else list(brute.KINDS):
+    if version == 2 and mode == 3:
+        suits.append("cube")
+    most = brute.MOST | (brute.NEW_MOST if version == 2 else {})
+    for kind in suits if rng.randrange(12) else [kind for kind in brute.KINDS if kind in most]:
         parts = rng.choice([0, 0, 1, 1, 2, rng.randrange(12) if rng.randrange(10) == 0 else 1]) if groups else 0
         if parts or rng.randrange(10) == 0:
-            plan[kind] = [a_part(rng, kind, groups, version) for _ in range(min(parts, brute.MOST[kind]))]
+            plan[kind] = [a_part(rng, kind, groups, version) for _ in range(min(parts, most[kind]))]
     if version == 2 and (rng.randrange(3) == 0 and mode == 3 or rng.randrange(20) == 0):
         plan["period"] = rng.choice([1, 100, 4096, 32768, rng.randrange(1, 32769)])
         inputs = sorted(rng.sample(range(65), rng.randrange(4)) if rng.randrange(3) else range(rng.randrange(4)))
@@ -295,7 +310,7 @@ def change_table(rng, table):
     keys = list(table)
     kind = rng.randrange(6)
     if not keys or kind == 0:
-        table[rng.choice(["gate", "gates", "origin", "frame", "stop", "serpentine", "settle", "records", "a", "", "width", "Group"])] = an_odd_value(rng)
+        table[rng.choice(["gate", "gates", "origin", "frame", "stop", "serpentine", "settle", "dwidth", "dbins", "records", "a", "", "width", "Group"])] = an_odd_value(rng)
         return
     key = rng.choice(keys)
     if kind == 1:
@@ -331,7 +346,7 @@ def change_list(rng, values):
 def change_plan(rng, plan):
     kind = rng.randrange(8)
     if kind == 0:
-        key = rng.choice(["version", "order", "reserved", "limits", "period", "shift", "settle", "settles", "groups", "Version", *brute.MOST])
+        key = rng.choice(["version", "order", "reserved", "limits", "period", "settle", "settles", "groups", "Version", *brute.MOST, *brute.NEW_MOST])
         plan[key] = an_odd_value(rng)
     elif kind == 1:
         plan["version"] = rng.choice([0, 1, 2, 3, -1, Raw("1.0"), Raw("true"), Raw("'1'")])

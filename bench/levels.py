@@ -7,8 +7,9 @@ prints, for each photon of the two inputs,
 - the closings: how often the bin of a level was closed, once for each occupied bin;
 - the pairs of bins: of a closing bin with photons of the second input and an occupied bin at a lag of its level;
 - the additions, which are the steps that the contracts count (`spent`): ptu adds each pair of bins to its cell
-  where bins are far apart, and where they are dense the pairs of a run of bins at one lag together. They are
-  counted here by going through the file as the program does, by pieces of 8,192 bytes and blocks of 64 records;
+  where bins are far apart, and where some are near the pairs of all bins at one lag together, once for each lag.
+  They are counted here by going through the file as the program does, by pieces of 8,192 bytes and blocks of 64
+  records;
 - the bound on additions, `work`: lags times the occupied bins of level 0, and half of that for each level above;
 - the processor seconds of 'PROGRAM run', the best of five.
 
@@ -97,18 +98,19 @@ def each(bins, start, skipped, lags):
     )
 
 
-def together(bins, start, skipped, lags):
-    """The additions where pairs of one lag are added together: one for each lag that has a pair."""
-    firsts = {index: first for index, first, _ in bins}
-    return sum(
-        any(second and firsts.get(index - lag) for index, _, second in bins[start:])
-        for lag in range(skipped + 1, lags + 1)
-    )
+def is_close(bins, lags):
+    """Whether bins are laid close together in one window: few lags, some bins near, and none of many photons."""
+    if lags > 16 or len(bins) > 80:
+        return False
+    near = bins[0][0] <= lags or any(bins[at][0] - bins[at - 1][0] <= lags for at in range(1, len(bins)))
+    return near and all(first < 256 and second < 256 for _, first, second in bins)
 
 
 def paired(bins, start, skipped, lags):
     """The additions that pair the bins from a place on with those before them."""
     count = len(bins) - start
+    if is_close(bins, lags):
+        return lags - skipped
     if count < 4:
         return each(bins, start, skipped, lags)
     if lags - skipped <= 16:
@@ -126,8 +128,7 @@ def paired(bins, start, skipped, lags):
         early = near_from(bins, at, lags)
         run = bins[early:end]
         few = sum(e[1] for e in run) < 2**16 and sum(e[2] for e in bins[at:end]) < 2**16
-        way = together if end - at > 1 and few else each
-        added += way(run, at - early, skipped, lags)
+        added += lags - skipped if end - at > 1 and few else each(run, at - early, skipped, lags)
         at = end
     return added
 
@@ -142,9 +143,22 @@ def additions_by_level(path, lags, levels):
         added[level] += paired(bins, len(rings[level]), skipped, lags)
         rings[level] = [e for e in bins if e[0] + lags > shut[-1][0]]
 
-    def come(level, bins):
+    def is_alone(level, bins, apart):
+        """Whether the open bin, what came and what is kept are all out of reach of one another."""
+        waits, ring = opened[level], rings[level]
+        newest = ring[-1][0] if ring else 0
+        return waits and apart > lags and bins[0][0] - waits[0] > lags and waits[0] - newest > lags
+
+    def come(level, bins, least):
+        # `least`: a distance that no neighbours on the level from which they came unchanged fall below, or 0
+        up = 0
+        front = bins[0][0] if bins else 0
         while level < levels and bins:
             shut, waits = [], opened[level]
+            alone = is_alone(level, bins, least >> up)
+            if alone:
+                least = min(least, front - (waits[0] << up))
+                front = waits[0] << up
             for index, first, second in bins:
                 if waits and waits[0] == index:
                     waits = (index, waits[1] + first, waits[2] + second)
@@ -152,18 +166,23 @@ def additions_by_level(path, lags, levels):
                     shut += [waits] if waits else []
                     waits = (index, first, second)
             opened[level] = waits
-            if shut:
-                close(level, shut)
+            if alone:
+                rings[level], up = shut[-1:], up + 1
+            else:
+                if shut:
+                    close(level, shut)
+                least, up, front = 0, 1, shut[0][0] if shut else 0
             bins = [(index // 2, first, second) for index, first, second in shut]
             level += 1
 
     for block in blocks_of(path):
-        come(0, block)
+        gaps = [block[at][0] - block[at - 1][0] for at in range(1, len(block))]
+        come(0, block, min(gaps, default=2**64 - 1))
     for level in range(levels):
         if opened[level]:
             last, opened[level] = opened[level], None
             close(level, [last])
-            come(level + 1, [(last[0] // 2, last[1], last[2])])
+            come(level + 1, [(last[0] // 2, last[1], last[2])], 0)
     return added
 
 
