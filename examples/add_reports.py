@@ -12,7 +12,7 @@ import sys
 
 COUNTS = {"announced", "records", "photons", "markers", "wraps", "reserved", "late"}
 OF_ONE_FILE = {"first", "last"}
-KINDS = {"histogram", "trace", "startstop", "coincidence", "image", "correlation"}
+KINDS = {"histogram", "trace", "startstop", "coincidence", "image", "correlation", "cube"}
 
 
 def parts(path):
@@ -68,16 +68,16 @@ def main():
         print(head_line(word, [report[0][word] for _, report in reports]))
     for first, cells, rest in whole[1]:
         print(first)
-        for place, count in sorted((image_order(first, place), count) for place, count in cells.items()):
-            print(*(place[::-1] if first.startswith("image") else place), count)
+        for place in sorted(cells, key=lambda place: in_order(first, place)):
+            print(*place, cells[place])
         for place, count in rest.items():
             print(*place, count)
 
 
-def image_order(first, place):
-    """A cell's place as numbers in the order of the report: images go row by row, and have the column in front."""
+def in_order(first, place):
+    """A cell's place as numbers in the order of the report: images and cubes go row by row, and have the column in front."""
     numbers = tuple(map(int, place))
-    return numbers[::-1] if first.startswith("image") else numbers
+    return (numbers[1], numbers[0], *numbers[2:]) if first.startswith(("image", "cube")) else numbers
 
 
 if __name__ == "__main__":

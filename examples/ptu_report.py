@@ -9,6 +9,7 @@
     decay.ticks, decay.seconds                  # where each cell begins; seconds is None where the file has none
     decay.rest["over"]                          # what is in no cell
     report.table("correlation", 1).normalised(n1, n2)   # a curve that is 1 without correlation
+    report.table("cube", 1).mean_delays()       # of each pixel, in ticks of the dtime
 
     report = read_report("report.txt", "plan.toml")     # with its plan, which says what the groups are
     report.table("correlation", 1).normalised()         # so the photons of the groups are known
@@ -35,7 +36,7 @@ from dataclasses import dataclass, field
 
 import numpy as np
 
-KINDS = ("histogram", "trace", "startstop", "coincidence", "image", "correlation")
+KINDS = ("histogram", "trace", "startstop", "coincidence", "image", "correlation", "cube")
 SECONDS = ("global", "resolution")  # lines of the head that are floating-point numbers, bit for bit
 
 
@@ -46,8 +47,8 @@ class Table:
     kind: str
     number: int
     settings: dict  # by the words of its first line, as width and bins
-    counts: np.ndarray  # one dimension, but (rows, columns) of an image
-    ticks: np.ndarray  # where a cell begins; of a coincidence the middle of its differences, of a correlation its delay
+    counts: np.ndarray  # one dimension, but (rows, columns) of an image and (rows, columns, bins) of a cube
+    ticks: np.ndarray  # where a cell begins, of a cube a bin; of a coincidence the middle of its differences, of a correlation its delay
     seconds: np.ndarray | None  # the same in seconds, where the file tells how long a tick is
     rest: dict = field(default_factory=dict)  # what is in no cell, as over
     levels: np.ndarray | None = None  # of a correlation, the level of each cell
@@ -72,6 +73,17 @@ class Table:
         expected = self.expected(first_photons, second_photons)
         return np.where(expected > 0, self.counts.astype(float) / np.where(expected > 0, expected, 1), np.nan)
 
+    def mean_delays(self):
+        """Of each pixel of a cube the mean of its dtimes, taken in the middle of their bins, and nan where it has none.
+
+        What lies past the last bin is told for all pixels together, so it is left out.
+        """
+        if self.kind != "cube":
+            raise ValueError(f"a {self.kind} has no dtimes by pixels")
+        photons = self.counts.sum(axis=2)
+        middles = self.ticks + (self.settings["dwidth"] - 1) / 2
+        return np.where(photons > 0, self.counts @ middles / np.where(photons > 0, photons, 1), np.nan)
+
 
 @dataclass
 class Report:
@@ -88,7 +100,7 @@ class Report:
 
 def read_report(source, plan=None):
     """The report in a file, or in a text of more than one line. With the path of its plan the photons of the groups
-    of a correlation are known, where the plan also has a histogram, a trace or an image of each of them."""
+    of a correlation are known, where the plan also has a histogram, a trace, an image or a cube of each of them."""
     if "\n" not in source:
         with open(source, encoding="ascii") as file:
             source = file.read()
@@ -115,7 +127,7 @@ def tell_photons(report, path):
     with open(path, "rb") as file:
         plan = tomllib.load(file)
     photons = {}
-    for kind in ("histogram", "trace", "image"):
+    for kind in ("histogram", "trace", "image", "cube"):
         for number, settings in enumerate(plan.get(kind, []), 1):
             table = report.table(kind, number)
             photons[settings["group"]] = int(table.counts.sum()) + sum(table.rest.values())
@@ -140,7 +152,7 @@ def read_table(head, first, lines):
     settings = {word: int(value) for word, value in zip(first[2::2], first[3::2])}
     rest = {words[0]: int(words[1]) for words in lines if words[0].isalpha()}
     cells = [[int(word) for word in words] for words in lines if not words[0].isalpha()]
-    tick = head["resolution"] if kind == "histogram" else head["global"]
+    tick = head["resolution"] if kind in ("histogram", "cube") else head["global"]
     table = Table(kind, number, settings, *AXES[kind](settings), None, rest)
     table.seconds = None if tick is None else table.ticks * tick
     if kind == "correlation":
@@ -152,8 +164,8 @@ def read_table(head, first, lines):
 
 
 def place_of(kind, settings, place):
-    if kind == "image":
-        return place[1], place[0]
+    if kind in ("image", "cube"):
+        return place[1], place[0], *place[2:]
     if kind == "correlation":
         level, lag = place
         half = settings["lags"] // 2
@@ -191,6 +203,11 @@ def pixels(settings):
     return np.zeros((settings["height"], settings["width"]), dtype=np.int64), settings["dwell"] * np.arange(settings["width"])
 
 
+def pixels_by_bins(settings):
+    shape = settings["height"], settings["width"], settings["dbins"]
+    return np.zeros(shape, dtype=np.int64), settings["dwidth"] * np.arange(settings["dbins"])
+
+
 def delays(settings):
     ticks = [lag << level for level, lag in lags_of(settings)]
     return whole_numbers(len(ticks)), np.array(ticks, dtype=np.int64)
@@ -203,6 +220,7 @@ AXES = {
     "coincidence": differences,
     "image": pixels,
     "correlation": delays,
+    "cube": pixels_by_bins,
 }
 
 
@@ -235,6 +253,11 @@ def rows(table):
         for (y, x), count in np.ndenumerate(table.counts):
             yield [y, x, count]
         return
+    if table.kind == "cube":
+        yield ["row", "column", "ticks", *unit, "count"]
+        for (y, x, b), count in np.ndenumerate(table.counts):
+            yield [y, x, int(table.ticks[b]), *([] if table.seconds is None else [float(table.seconds[b])]), count]
+        return
     curve = None if table.photons is None else table.normalised()
     level = [] if table.levels is None else ["level"]
     yield ["ticks", *unit, *level, "count", *([] if curve is None else ["normalised"])]
@@ -259,7 +282,7 @@ def write_json(report, path):
             **table.settings,
             "ticks": table.ticks.tolist(),
             "seconds": None if table.seconds is None else table.seconds.tolist(),
-            "counts": [[int(c) for c in row] for row in table.counts] if table.kind == "image" else [int(c) for c in table.counts],
+            "counts": table.counts.tolist(),
             **table.rest,
         }
         for table in report.tables
@@ -372,6 +395,8 @@ def drawn_correlation(table):
 def drawn(table):
     if table.kind == "image":
         return picture(table.counts)
+    if table.kind == "cube":
+        return "<p>the mean dtime of each pixel</p>" + picture(np.nan_to_num(table.mean_delays()))
     if table.kind == "correlation":
         return drawn_correlation(table)
     if len(table.counts) == 1:

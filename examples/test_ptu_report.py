@@ -82,6 +82,21 @@ def test_a_report_of_a_scan():
     assert decay.seconds[1] == pytest.approx(16 * 32e-12)
 
 
+def test_a_cube_of_a_scan():
+    report = read_report(run("run", f"{ROOT}/examples/lifetimes.toml", f"{ROOT}/examples/scan.ptu"))
+    cube = report.table("cube")
+    image = read_report(run("run", f"{ROOT}/examples/scan.toml", f"{ROOT}/examples/scan.ptu")).table("image")
+    assert cube.counts.shape == (64, 64, 40)
+    assert cube.counts.sum() + cube.rest["over"] == image.counts.sum()
+    assert cube.rest["outside"] == image.rest["outside"]
+    assert cube.seconds[1] == pytest.approx(16 * 32e-12)
+    # the middle of a bead shines for 1.5 ns, a place on the ring for 4 ns
+    assert cube.mean_delays()[26, 24] < 150 < cube.mean_delays()[10, 32] < 300
+    assert list(rows(cube))[1] == [0, 0, 0, 0.0, cube.counts[0, 0, 0]]
+    with pytest.raises(ValueError):
+        image.mean_delays()
+
+
 def test_light_without_correlation_is_1_at_every_lag(tmp_path):
     draws = np.random.default_rng(24)
     ticks = 2_000_000
