@@ -286,7 +286,17 @@ def look_at_numbers(value, depth):
 
 
 # What TOML 1.1 allows and TOML 1.0 doesn't: \e and \x, times without seconds, newlines and a last comma in {}.
-NEW_IN_1_1 = re.compile(r"\\[ex]|\d\d:\d\d(?![:\d])|\{[^}\n]*\n|,[ \t]*\}")
+NEW_IN_1_1 = re.compile(r"\\[ex]|\d\d:\d\d(?![:\d])|,[ \t]*\}")
+
+
+def breaks_in_braces(text):
+    """Whether a line may end within an inline table."""
+    depth = 0
+    for c in text:
+        depth += (c == "{") - (c == "}")
+        if c == "\n" and depth > 0:
+            return True
+    return False
 
 
 def nests_deep(text):
@@ -309,7 +319,7 @@ def read_document(text):
     except (tomllib.TOMLDecodeError, RecursionError):
         if nests_deep(text):
             raise NotCompared("it nests deep") from None
-        if NEW_IN_1_1.search(text):
+        if NEW_IN_1_1.search(text) or breaks_in_braces(text):
             raise NotCompared("it may be TOML 1.1") from None
         raise Refused(7, "plan is not TOML") from None
     look_at_numbers(document, 0)
