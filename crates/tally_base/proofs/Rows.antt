@@ -8,7 +8,7 @@ use Rattle.tally_base.specs.declared.header.RecordType.{RecordType}
 use Rattle.tally_base.specs.declared.header.RecordType.TheVariants.{PicoHarpT2, PicoHarpT3, HydraHarpT2, HydraHarpT3, HydraHarp2T2, HydraHarp2T3, TimeHarp260NT2, TimeHarp260NT3, TimeHarp260PT2, TimeHarp260PT3, MultiHarpT2, MultiHarpT3}
 use Rattle.tally_base.specs.declared.part.PartKind.TheVariants.{Gate, Shift, Coincidence}
 use Rattle.tally_base.specs.declared.slot.Slot.TheVariants.{Plan, Data}
-use Rattle.tally_base.specs.declared.fault.Fault.TheVariants.{Usage, OpenFault, ReadFault, PlanRule, PlanMode, TruncatedHeader, TagType, TagLength, UnknownRecordType, TruncatedRecord, ReservedRecord, BackwardTime, RecordLimit, TimeLimit}
+use Rattle.tally_base.specs.declared.fault.Fault.TheVariants.{Usage, OpenFault, ReadFault, PlanRule, PlanMode, TruncatedHeader, TagType, TagLength, UnknownRecordType, TruncatedRecord, ReservedRecord, BackwardTime, RecordLimit, TimeLimit, NoGroup, PickTime}
 use Rattle.tally_base.specs.Faults.{line_of}
 use Rattle.tally_base.specs.Hexadecimal.{hexadecimal}
 use Rattle.tally_base.specs.RecordTypes.{code_of, type_of, type_with}
@@ -86,6 +86,14 @@ row-limit = refl
 pub row-greatest : line_of (TimeLimit 9) ≡ codes "ptu: record 9 passes the greatest time\n"
 unfolding digits
 row-greatest = refl
+
+pub row-no_group : line_of (NoGroup 0) ≡ codes "ptu: plan has no group 0\n"
+unfolding digits
+row-no_group = refl
+
+pub row-pick : line_of (PickTime 4099) ≡ codes "ptu: record 4099 is too late to write\n"
+unfolding digits
+row-pick = refl
 
 pub row-type : type_of (pos 0x01010304) ≡ Some HydraHarp2T3
 unfolding type_with

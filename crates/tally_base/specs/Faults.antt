@@ -9,9 +9,9 @@ use Rattle.tally_base.specs.declared.slot.Slot.TheVariants.{Plan, Data}
 use Rattle.tally_base.specs.declared.header.Mode.{Mode}
 use Rattle.tally_base.specs.declared.header.Mode.TheVariants.{T2, T3}
 use Rattle.tally_base.specs.declared.part.PartKind.{PartKind}
-use Rattle.tally_base.specs.declared.part.PartKind.TheVariants.{Gate, Shift, Histogram, StartStop, Coincidence, Image, Cube}
+use Rattle.tally_base.specs.declared.part.PartKind.TheVariants.{Gate, Shift, Histogram, StartStop, Coincidence, Image, Cube, Fold}
 use Rattle.tally_base.specs.declared.fault.Fault.{Fault}
-use Rattle.tally_base.specs.declared.fault.Fault.TheVariants.{Usage, OpenFault, ReadFault, WriteFault, OutOfMemory, PlanTooLong, PlanSyntax, PlanRule, PlanMode, BadMagic, TruncatedHeader, TagType, TagLength, NoRecordType, UnknownRecordType, HeaderLimit, TruncatedRecord, ReservedRecord, BackwardTime, RecordLimit, TimeLimit}
+use Rattle.tally_base.specs.declared.fault.Fault.TheVariants.{Usage, OpenFault, ReadFault, WriteFault, OutOfMemory, PlanTooLong, PlanSyntax, PlanRule, PlanMode, BadMagic, TruncatedHeader, TagType, TagLength, NoRecordType, UnknownRecordType, HeaderLimit, TruncatedRecord, ReservedRecord, BackwardTime, RecordLimit, TimeLimit, NoTrace, NoGroup, PickTime}
 
 abbrev pub status_of : Fault → ℕ
 status_of Usage = 1
@@ -35,6 +35,9 @@ status_of (ReservedRecord place word) = 18
 status_of (BackwardTime place time before) = 19
 status_of (RecordLimit limit) = 20
 status_of (TimeLimit place) = 21
+status_of NoTrace = 22
+status_of (NoGroup group) = 23
+status_of (PickTime place) = 24
 
 abbrev pub slot_name : Slot → List ℕ
 slot_name Plan = codes "plan"
@@ -48,6 +51,7 @@ kind_name StartStop = codes "startstop"
 kind_name Coincidence = codes "coincidence"
 kind_name Image = codes "image"
 kind_name Cube = codes "cube"
+kind_name Fold = codes "fold"
 
 abbrev pub mode_name : Mode → List ℕ
 mode_name T2 = codes "T2"
@@ -76,6 +80,9 @@ reason_of (ReservedRecord place word) = codes "record " ++ decimal place ++ code
 reason_of (BackwardTime place time before) = codes "record " ++ decimal place ++ codes " goes back from " ++ decimal before ++ codes " to " ++ decimal time
 reason_of (RecordLimit limit) = codes "more than " ++ decimal limit ++ codes " records"
 reason_of (TimeLimit place) = codes "record " ++ decimal place ++ codes " passes the greatest time"
+reason_of NoTrace = codes "plan has no trace"
+reason_of (NoGroup group) = codes "plan has no group " ++ decimal group
+reason_of (PickTime place) = codes "record " ++ decimal place ++ codes " is too late to write"
 
 -- the line on standard error
 abbrev pub line_of : Fault → List ℕ
@@ -104,6 +111,9 @@ is_outside (ReservedRecord place word) = false
 is_outside (BackwardTime place time before) = false
 is_outside (RecordLimit limit) = false
 is_outside (TimeLimit place) = false
+is_outside NoTrace = false
+is_outside (NoGroup group) = false
+is_outside (PickTime place) = false
 
 -- what each fault from outside says of its cause: an opening, a read, a write, want of memory
 abbrev pub HasReason : (Slot → Type 0) → (Slot → Type 0) → Type 0 → Type 0 → Fault → Type 0

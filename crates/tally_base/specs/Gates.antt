@@ -1,4 +1,4 @@
--- What the gates of a group are.
+-- What the gates of a group and the groups of a fold are.
 use Rattle.std.specs.Prelude.{ℕ, ◌<◌, ◌≤◌, List, [], ◌∷◌, ⊤}
 use Rattle.std.specs.Coded.{Unit-prop, le_prop}
 
@@ -11,3 +11,13 @@ AreGates low (gate ∷ gates) = (low ≤ gate.0) × (gate.0 < gate.1) × (gate.1
 pub AreGates-prop : (low : ℕ) (gates : List (ℕ × ℕ)) → IsProp (AreGates low gates)
 AreGates-prop low [] one other = Unit-prop one other
 AreGates-prop low (gate ∷ gates) one other = λ i. (le_prop one.0 other.0 i, le_prop one.1 other.1 i, le_prop one.2 other.2 i, AreGates-prop gate.1 gates one.3 other.3 i)
+
+-- numbers of groups that rise, each above low
+abbrev pub AreGroups : ℕ → List ℕ → Type 0
+AreGroups low [] = ⊤
+AreGroups low (group ∷ groups) = (low < group) × (group ≤ 64) × AreGroups group groups
+
+-- There is at most one proof of it.
+pub AreGroups-prop : (low : ℕ) (groups : List ℕ) → IsProp (AreGroups low groups)
+AreGroups-prop low [] one other = Unit-prop one other
+AreGroups-prop low (group ∷ groups) one other = λ i. (le_prop one.0 other.0 i, le_prop one.1 other.1 i, AreGroups-prop group groups one.2 other.2 i)

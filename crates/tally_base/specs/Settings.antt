@@ -1,5 +1,5 @@
 -- What a contract sees of the settings of a plan: their numbers alone, so that definitions can make them.
-use Rattle.std.specs.Prelude.{ℕ, ◌+◌, ◌-◌, ◌*◌, ◌/◌, Bool, true, false, List}
+use Rattle.std.specs.Prelude.{ℕ, ◌+◌, ◌-◌, ◌*◌, ◌/◌, ◌^◌, Bool, true, false, List, length}
 use Rattle.std.specs.declared.option.Option.{Option}
 use Rattle.tally_base.specs.declared.settings.Group.{Group}
 use Rattle.tally_base.specs.declared.settings.ShiftSet.{ShiftSet}
@@ -9,6 +9,7 @@ use Rattle.tally_base.specs.declared.settings.StartStopSet.{StartStopSet}
 use Rattle.tally_base.specs.declared.settings.CoincidenceSet.{CoincidenceSet}
 use Rattle.tally_base.specs.declared.settings.ImageSet.{ImageSet}
 use Rattle.tally_base.specs.declared.settings.CubeSet.{CubeSet}
+use Rattle.tally_base.specs.declared.settings.FoldSet.{FoldSet}
 use Rattle.tally_base.specs.declared.settings.CorrelationSet.{CorrelationSet}
 
 pub record GroupView : Type 0 where
@@ -63,6 +64,11 @@ pub record CubeView : Type 0 where
   pub dwidth : ℕ
   pub dbins : ℕ
 
+pub record FoldView : Type 0 where
+  pub groups : List ℕ
+  -- how many ticks after its first the last tick of a window is
+  pub window : ℕ
+
 pub record CorrelationView : Type 0 where
   pub first : ℕ
   pub second : ℕ
@@ -93,6 +99,9 @@ image_view set = record { group = set.group; width = set.width; height = set.hei
 abbrev pub cube_view : CubeSet → CubeView
 cube_view set = record { image = image_view set.image; dwidth = set.dwidth; dbins = set.dbins }
 
+abbrev pub fold_view : FoldSet → FoldView
+fold_view set = record { groups = set.groups.items; window = set.window }
+
 abbrev pub correlation_view : CorrelationSet → CorrelationView
 correlation_view set = record { first = set.first; second = set.second; lags = set.lags; levels = set.levels }
 
@@ -105,6 +114,7 @@ pub data PartSettings : Type 0 where
   ImageSettings : (set : ImageView) → PartSettings
   CorrelationSettings : (set : CorrelationView) → PartSettings
   CubeSettings : (set : CubeView) → PartSettings
+  FoldSettings : (set : FoldView) → PartSettings
 
 -- how many cells the differences from - reach to reach take
 abbrev pub coincidence_cells : CoincidenceView → ℕ
@@ -119,6 +129,7 @@ entries (CoincidenceSettings set) = coincidence_cells set + set.reach + 2
 entries (ImageSettings set) = set.width * set.height + 4
 entries (CorrelationSettings set) = set.levels * (set.lags + 1) + set.lags + (set.levels - 1) * (set.lags / 2)
 entries (CubeSettings set) = set.image.width * set.image.height * set.dbins + 5
+entries (FoldSettings set) = 2 ^ length set.groups + set.window + 2
 
 -- whether the times of markers may not fall in it either
 abbrev pub is_strict : PartSettings → Bool
@@ -129,3 +140,4 @@ is_strict (CoincidenceSettings set) = false
 is_strict (ImageSettings set) = true
 is_strict (CorrelationSettings set) = false
 is_strict (CubeSettings set) = true
+is_strict (FoldSettings set) = false

@@ -88,6 +88,16 @@ pub enum Fault {
     TimeLimit {
         place: u64,
     },
+    /// The plan has no trace, and the command prints one.
+    NoTrace,
+    /// The plan has no group of this number, and the command writes its photons.
+    NoGroup {
+        group: u64,
+    },
+    /// The photon at the record of this number comes too late to be written.
+    PickTime {
+        place: u64,
+    },
 }
 
 impl Fault {
@@ -117,6 +127,9 @@ impl Fault {
             Fault::BackwardTime { .. } => 19,
             Fault::RecordLimit { .. } => 20,
             Fault::TimeLimit { .. } => 21,
+            Fault::NoTrace => 22,
+            Fault::NoGroup { .. } => 23,
+            Fault::PickTime { .. } => 24,
         }
     }
 }
@@ -171,6 +184,14 @@ fn put_reason(into: &mut ArrayVec<u8, 96>, fault: &Fault)
         Fault::RecordLimit { limit } => put_around(into, b"more than ", *limit, b" records"),
         Fault::TimeLimit { place } => {
             put_around(into, b"record ", *place, b" passes the greatest time");
+        }
+        Fault::NoTrace => put_text(into, b"plan has no trace"),
+        Fault::NoGroup { group } => {
+            put_text(into, b"plan has no group ");
+            put_decimal(into, *group);
+        }
+        Fault::PickTime { place } => {
+            put_around(into, b"record ", *place, b" is too late to write");
         }
     }
 }
@@ -288,6 +309,7 @@ fn kind_text(kind: PartKind) -> &'static str
         PartKind::Coincidence => "coincidence",
         PartKind::Image => "image",
         PartKind::Cube => "cube",
+        PartKind::Fold => "fold",
     }
 }
 

@@ -21,8 +21,8 @@ pub use limits::{RECORD_LIMIT, WRAP_LIMIT};
 pub use line::{put_decimal, put_hexadecimal, put_signed, put_text};
 pub use part::PartKind;
 pub use settings::{
-    CoincidenceSet, CorrelationSet, CubeSet, Group, HistSet, ImageSet, ShiftSet, StartStopSet,
-    TraceSet,
+    CoincidenceSet, CorrelationSet, CubeSet, FoldSet, Group, HistSet, ImageSet, ShiftSet,
+    StartStopSet, TraceSet,
 };
 pub use slot::{Failed, Slot};
 pub use steps::Steps;

@@ -8,4 +8,5 @@ pub enum PartKind {
     Coincidence,
     Image,
     Cube,
+    Fold,
 }

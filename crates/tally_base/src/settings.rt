@@ -1,7 +1,7 @@
 // The settings of the groups and tables of a plan. Each has its ranges as facts of its type.
-ghost use Rattle.std.specs.Prelude.{◌≡◌, ◌*◌, ◌%◌, ◌^◌, ◌<◌, ◌≤◌};
+ghost use Rattle.std.specs.Prelude.{◌≡◌, ◌*◌, ◌%◌, ◌^◌, ◌<◌, ◌≤◌, length};
 ghost use Rattle.std.specs.Option.{ForSome};
-ghost use Rattle.tally_base.specs.Gates.{AreGates, AreGates-prop};
+ghost use Rattle.tally_base.specs.Gates.{AreGates, AreGates-prop, AreGroups, AreGroups-prop};
 ghost use Rattle.tally_base.specs.Limits.{wrap_limit};
 
 use arrayvec::ArrayVec;
@@ -137,6 +137,44 @@ pub struct CubeSet {
     pub ghost few_cells: { image.width * image.height * dbins ≤ 2 ^ 26 },
 }
 
+/// A table of the sets of groups that have a photon in the window that begins at a photon. For T2 files.
+#[derive(Drop)]
+pub struct FoldSet {
+    /// The numbers of the groups, 1 to 6 of them, from 1 to 64 and rising.
+    pub groups: ArrayVec<u8, 6>,
+    /// How many ticks after its first the last tick of a window is, 1 to 2^20.
+    pub window: u32,
+    pub ghost some_groups: { (0 < length groups.items) × (length groups.items ≤ 6) },
+    pub ghost rising_groups: { AreGroups 0 groups.items } by { AreGroups-prop 0 groups.items },
+    pub ghost some_window: { (0 < window) × (window ≤ 2 ^ 20) },
+}
+
+impl FoldSet {
+    ghost use Rattle.tally_base.specs.Settings.{fold_view};
+
+    /// The same settings once more.
+    pub fn copied(&self) -> FoldSet
+        ensures { fold_view result ≡ fold_view self.now }
+    {
+        FoldSet {
+            groups: copy_of(&self.groups),
+            window: self.window,
+        }
+    }
+}
+
+/// The same numbers once more.
+fn copy_of(groups: &[u8]) -> ArrayVec<u8, 6>
+    requires few { length groups.now ≤ 6 }
+    ensures { result.items ≡ groups.now }
+{
+    let mut found = ArrayVec::new();
+    for group in groups {
+        found.push(*group);
+    }
+    found
+}
+
 /// A correlation of two groups, whose times are halved from level to level.
 #[derive(Clone, Copy, Debug)]
 pub struct CorrelationSet {
@@ -242,6 +280,16 @@ impl Default for CubeSet {
             image: ImageSet::default(),
             dwidth: 1,
             dbins: 1,
+        }
+    }
+}
+
+/// The least fold, which fills unused room.
+impl Default for FoldSet {
+    fn default() -> FoldSet {
+        FoldSet {
+            groups: copy_of(&[1]),
+            window: 1,
         }
     }
 }

@@ -125,6 +125,16 @@ fn lines_of_faults(rt: HostRuntime) {
         },
         "ptu: cube 2 does not suit T2\n",
     );
+    says(
+        &rt,
+        9,
+        Fault::PlanMode {
+            kind: PartKind::Fold,
+            index: 1,
+            mode: Mode::T3,
+        },
+        "ptu: fold 1 does not suit T3\n",
+    );
     says(&rt, 10, Fault::BadMagic, "ptu: not a PTU file\n");
     says(
         &rt,
@@ -232,6 +242,19 @@ fn lines_of_faults(rt: HostRuntime) {
         21,
         Fault::TimeLimit { place: 9 },
         "ptu: record 9 passes the greatest time\n",
+    );
+    says(&rt, 22, Fault::NoTrace, "ptu: plan has no trace\n");
+    says(
+        &rt,
+        23,
+        Fault::NoGroup { group: u64::MAX },
+        "ptu: plan has no group 18446744073709551615\n",
+    );
+    says(
+        &rt,
+        24,
+        Fault::PickTime { place: 2 },
+        "ptu: record 2 is too late to write\n",
     );
 }
 

@@ -1,3 +1,4 @@
+use Rattle.std.proofs.Common.{append_assoc, codes, decimal}
 use Rattle.tally_base.proofs.fault.put_reason.Goals as goal
 
 pub returns-in-ReadFault-clause-items : goal.returns-in-ReadFault-clause-items
@@ -20,3 +21,6 @@ returns-in-HeaderLimit-clause-items c = rw c.in-HeaderLimit.is c.put_text-in-Hea
 
 pub returns-in-TruncatedRecord-clause-items : goal.returns-in-TruncatedRecord-clause-items
 returns-in-TruncatedRecord-clause-items c = rw c.in-TruncatedRecord.is c.put_around-in-TruncatedRecord.ensures.items
+
+pub returns-in-NoGroup-clause-items : goal.returns-in-NoGroup-clause-items
+returns-in-NoGroup-clause-items c = rw (c.in-NoGroup.is, c.put_decimal.ensures.items, c.put_text-in-NoGroup.ensures.items) (append_assoc c.args.into.now.items (codes "plan has no group ") (decimal c.in-NoGroup.group))
