@@ -1,4 +1,5 @@
 pub mod Rows
+pub mod Copied
 pub mod Order
 pub mod Props
 pub mod Greatest

@@ -183,6 +183,23 @@ impl Block {
         self.len = at + 1;
     }
 
+    /// Puts the first so many events of another block behind the others, each column at once. Their groups are
+    /// to be put.
+    #[inline(always)]
+    pub fn push_front(&mut self, other: &Block, front: usize)
+        requires inside { front ≤ count other.now }
+        requires room { length (gathered self.old) + front ≤ BLOCK_SIZE }
+        ensures more { gathered self.new ≡ gathered self.old ++ written other.now front }
+        ensures unsorted { sorted self.new ≡ sorted self.old }
+    {
+        let start = self.len();
+        let end = start + front;
+        self.places[start..end].copy_from_slice(&other.places[..front]);
+        self.times[start..end].copy_from_slice(&other.times[..front]);
+        self.marks[start..end].copy_from_slice(&other.marks[..front]);
+        self.len = end;
+    }
+
     /// Gives the event at a place, from 0, another dtime. That of a marker has no meaning.
     #[inline(always)]
     pub fn set_dtime(&mut self, at: usize, dtime: u16)

@@ -2,7 +2,7 @@
 ghost use Rattle.std.specs.Prelude.{◌≡◌, ◌≢◌, ◌+◌, ◌-◌, ◌<◌, ◌≤◌, ◌++◌, List, ℕ, true, length, take, drop};
 ghost use Rattle.std.specs.Option.{option_to_list};
 ghost use Rattle.abs_time.specs.Placing.{placed_by};
-ghost use Rattle.event_block.specs.Columns.{count, sorted, gathered, written};
+ghost use Rattle.event_block.specs.Columns.{count, sorted, gathered};
 ghost use Rattle.record_stream.specs.Keeping.{IsKeeping};
 ghost use Rattle.record_stream.specs.LettingGo.{AreOrdered, ComesNext, IsFull, LetsGo, IsDelivered};
 ghost use Rattle.record_stream.specs.Settling.{IsSettledBehind};
@@ -36,28 +36,6 @@ fn push_all(block: &mut Block, events: &[Event])
     for event in events {
         block.push(event);
     }
-}
-
-/// Puts the first so many events of another block behind the others.
-#[inline(always)]
-fn push_front(block: &mut Block, other: &Block, front: usize)
-    requires inside { front ≤ count other.now }
-    requires room { length (gathered block.old) + front ≤ BLOCK_SIZE }
-    ensures more { gathered block.new ≡ gathered block.old ++ written other.now front }
-    ensures unsorted { sorted block.new ≡ sorted block.old }
-{
-    let len = block.len();
-    for at in 0..front {
-        let place = other.event(at).place;
-        block.write(
-            len + at,
-            place,
-            other.code(at),
-            other.dtime(at),
-            other.time(at),
-        );
-    }
-    block.keep(len + front);
 }
 
 /// Puts events behind the others.
@@ -145,7 +123,7 @@ fn pass_block(
     let from = len - len.min(settle.held());
     let (gone, rest) = settle.waiting().split_at(len - from);
     push_all(out, gone);
-    push_front(out, block, from);
+    out.push_front(block, from);
     stay.clear();
     stay_all(stay, rest);
     stay_back(stay, block, from);

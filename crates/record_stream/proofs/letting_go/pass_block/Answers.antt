@@ -57,7 +57,7 @@ time-requires c =
     let s = c.args.settle.now in
     let some : 0 < c.args.block.now.len = omega (arith, c.if-len-eq0.false, c.len-len.ensures.count) in
     let count =
-    many c.args.block.now c.args.out.now c.push_front.new.block s (gathered c.push_all.new.block) c.stay_all.new.stay.items c.waiting.result.now c.split_at.result.0.now c.split_at.result.1.now c.clear.new.self.items c.stay_back.new.stay.items c.as_slice.result.now c.len-len.result c.held.result c.min.result
+    many c.args.block.now c.args.out.now c.push_front.new.self s (gathered c.push_all.new.block) c.stay_all.new.stay.items c.waiting.result.now c.split_at.result.0.now c.split_at.result.1.now c.clear.new.self.items c.stay_back.new.stay.items c.as_slice.result.now c.len-len.result c.held.result c.min.result
     c.requires.blank c.push_all.ensures.more c.push_front.ensures.more c.clear.ensures c.stay_all.ensures c.stay_back.ensures c.as_slice.ensures.value c.waiting.ensures.value c.split_at.ensures.by_index.0 c.split_at.ensures.front_len c.len-len.ensures.count c.held.ensures.value c.min.ensures in
     omega (arith, count, c.len-len.ensures.count, some)
 
@@ -67,12 +67,12 @@ pass-requires-clause-low c =
     let s = c.args.settle.now in
     let some : 0 < b.len = omega (arith, c.if-len-eq0.false, c.len-len.ensures.count) in
     let both =
-    joined c.args.block.now c.args.out.now c.push_front.new.block s (gathered c.push_all.new.block) c.stay_all.new.stay.items c.waiting.result.now c.split_at.result.0.now c.split_at.result.1.now c.clear.new.self.items c.stay_back.new.stay.items c.as_slice.result.now c.len-len.result c.held.result c.min.result
+    joined c.args.block.now c.args.out.now c.push_front.new.self s (gathered c.push_all.new.block) c.stay_all.new.stay.items c.waiting.result.now c.split_at.result.0.now c.split_at.result.1.now c.clear.new.self.items c.stay_back.new.stay.items c.as_slice.result.now c.len-len.result c.held.result c.min.result
     c.requires.blank c.push_all.ensures.more c.push_front.ensures.more c.clear.ensures c.stay_all.ensures c.stay_back.ensures c.as_slice.ensures.value c.waiting.ensures.value c.split_at.ensures.by_index.0 c.split_at.ensures.front_len c.len-len.ensures.count c.held.ensures.value c.min.ensures in
     let time =
-    last c.args.block.now c.args.out.now c.push_front.new.block s (gathered c.push_all.new.block) c.stay_all.new.stay.items c.waiting.result.now c.split_at.result.0.now c.split_at.result.1.now c.clear.new.self.items c.stay_back.new.stay.items c.as_slice.result.now c.len-len.result c.held.result c.min.result
+    last c.args.block.now c.args.out.now c.push_front.new.self s (gathered c.push_all.new.block) c.stay_all.new.stay.items c.waiting.result.now c.split_at.result.0.now c.split_at.result.1.now c.clear.new.self.items c.stay_back.new.stay.items c.as_slice.result.now c.len-len.result c.held.result c.min.result
     c.requires.blank c.push_all.ensures.more c.push_front.ensures.more c.clear.ensures c.stay_all.ensures c.stay_back.ensures c.as_slice.ensures.value c.waiting.ensures.value c.split_at.ensures.by_index.0 c.split_at.ensures.front_len c.len-len.ensures.count c.held.ensures.value c.min.ensures c.time.result some c.time.ensures in
-    rw time (stays-low c.args.walk.now s (gathered b) (gathered c.push_front.new.block) c.as_slice.result.now c.requires.settles c.requires.keeps c.requires.full c.requires.comes c.requires.ordered both)
+    rw time (stays-low c.args.walk.now s (gathered b) (gathered c.push_front.new.self) c.as_slice.result.now c.requires.settles c.requires.keeps c.requires.full c.requires.comes c.requires.ordered both)
 
 pub pass-requires-clause-rising : goal.pass-requires-clause-rising
 pass-requires-clause-rising c =
@@ -80,9 +80,9 @@ pass-requires-clause-rising c =
     let s = c.args.settle.now in
     let some : 0 < b.len = omega (arith, c.if-len-eq0.false, c.len-len.ensures.count) in
     let both =
-    joined c.args.block.now c.args.out.now c.push_front.new.block s (gathered c.push_all.new.block) c.stay_all.new.stay.items c.waiting.result.now c.split_at.result.0.now c.split_at.result.1.now c.clear.new.self.items c.stay_back.new.stay.items c.as_slice.result.now c.len-len.result c.held.result c.min.result
+    joined c.args.block.now c.args.out.now c.push_front.new.self s (gathered c.push_all.new.block) c.stay_all.new.stay.items c.waiting.result.now c.split_at.result.0.now c.split_at.result.1.now c.clear.new.self.items c.stay_back.new.stay.items c.as_slice.result.now c.len-len.result c.held.result c.min.result
     c.requires.blank c.push_all.ensures.more c.push_front.ensures.more c.clear.ensures c.stay_all.ensures c.stay_back.ensures c.as_slice.ensures.value c.waiting.ensures.value c.split_at.ensures.by_index.0 c.split_at.ensures.front_len c.len-len.ensures.count c.held.ensures.value c.min.ensures in
-    stays-rising c.args.walk.now s (gathered b) (gathered c.push_front.new.block) c.as_slice.result.now c.requires.settles c.requires.keeps c.requires.full c.requires.comes c.requires.ordered both
+    stays-rising c.args.walk.now s (gathered b) (gathered c.push_front.new.self) c.as_slice.result.now c.requires.settles c.requires.keeps c.requires.full c.requires.comes c.requires.ordered both
 
 pub returns-clause-lets_go : goal.returns-clause-lets_go
 returns-clause-lets_go c =
@@ -90,16 +90,16 @@ returns-clause-lets_go c =
     let s = c.args.settle.now in
     let some : 0 < b.len = omega (arith, c.if-len-eq0.false, c.len-len.ensures.count) in
     let both =
-    joined c.args.block.now c.args.out.now c.push_front.new.block s (gathered c.push_all.new.block) c.stay_all.new.stay.items c.waiting.result.now c.split_at.result.0.now c.split_at.result.1.now c.clear.new.self.items c.stay_back.new.stay.items c.as_slice.result.now c.len-len.result c.held.result c.min.result
+    joined c.args.block.now c.args.out.now c.push_front.new.self s (gathered c.push_all.new.block) c.stay_all.new.stay.items c.waiting.result.now c.split_at.result.0.now c.split_at.result.1.now c.clear.new.self.items c.stay_back.new.stay.items c.as_slice.result.now c.len-len.result c.held.result c.min.result
     c.requires.blank c.push_all.ensures.more c.push_front.ensures.more c.clear.ensures c.stay_all.ensures c.stay_back.ensures c.as_slice.ensures.value c.waiting.ensures.value c.split_at.ensures.by_index.0 c.split_at.ensures.front_len c.len-len.ensures.count c.held.ensures.value c.min.ensures in
     let as_many =
-    as_many c.args.block.now c.args.out.now c.push_front.new.block s (gathered c.push_all.new.block) c.stay_all.new.stay.items c.waiting.result.now c.split_at.result.0.now c.split_at.result.1.now c.clear.new.self.items c.stay_back.new.stay.items c.as_slice.result.now c.len-len.result c.held.result c.min.result
+    as_many c.args.block.now c.args.out.now c.push_front.new.self s (gathered c.push_all.new.block) c.stay_all.new.stay.items c.waiting.result.now c.split_at.result.0.now c.split_at.result.1.now c.clear.new.self.items c.stay_back.new.stay.items c.as_slice.result.now c.len-len.result c.held.result c.min.result
     c.requires.blank c.push_all.ensures.more c.push_front.ensures.more c.clear.ensures c.stay_all.ensures c.stay_back.ensures c.as_slice.ensures.value c.waiting.ensures.value c.split_at.ensures.by_index.0 c.split_at.ensures.front_len c.len-len.ensures.count c.held.ensures.value c.min.ensures in
     let time =
-    last c.args.block.now c.args.out.now c.push_front.new.block s (gathered c.push_all.new.block) c.stay_all.new.stay.items c.waiting.result.now c.split_at.result.0.now c.split_at.result.1.now c.clear.new.self.items c.stay_back.new.stay.items c.as_slice.result.now c.len-len.result c.held.result c.min.result
+    last c.args.block.now c.args.out.now c.push_front.new.self s (gathered c.push_all.new.block) c.stay_all.new.stay.items c.waiting.result.now c.split_at.result.0.now c.split_at.result.1.now c.clear.new.self.items c.stay_back.new.stay.items c.as_slice.result.now c.len-len.result c.held.result c.min.result
     c.requires.blank c.push_all.ensures.more c.push_front.ensures.more c.clear.ensures c.stay_all.ensures c.stay_back.ensures c.as_slice.ensures.value c.waiting.ensures.value c.split_at.ensures.by_index.0 c.split_at.ensures.front_len c.len-len.ensures.count c.held.ensures.value c.min.ensures c.time.result some c.time.ensures in
     let place = place_is b (placed_by (clock_in c.args.walk.now)) c.len-len.result c.event.result some c.len-len.ensures.count c.event.ensures in
-    lets_passed c.args.walk.now s (gathered b) (gathered c.push_front.new.block) c.as_slice.result.now c.requires.settles c.requires.keeps c.requires.full c.requires.comes c.requires.ordered both c.pass.new.self c.pass.ensures.waits as_many (c.pass.ensures.time ∙ time) (c.pass.ensures.place ∙ place) c.pass.ensures.same_reach c.pass.ensures.still_unpopped
+    lets_passed c.args.walk.now s (gathered b) (gathered c.push_front.new.self) c.as_slice.result.now c.requires.settles c.requires.keeps c.requires.full c.requires.comes c.requires.ordered both c.pass.new.self c.pass.ensures.waits as_many (c.pass.ensures.time ∙ time) (c.pass.ensures.place ∙ place) c.pass.ensures.same_reach c.pass.ensures.still_unpopped
 
 pub returns-clause-delivers : goal.returns-clause-delivers
 returns-clause-delivers c = λ words h.
@@ -108,12 +108,12 @@ returns-clause-delivers c = λ words h.
     let s = c.args.settle.now in
     let some : 0 < b.len = omega (arith, c.if-len-eq0.false, c.len-len.ensures.count) in
     let both =
-    joined c.args.block.now c.args.out.now c.push_front.new.block s (gathered c.push_all.new.block) c.stay_all.new.stay.items c.waiting.result.now c.split_at.result.0.now c.split_at.result.1.now c.clear.new.self.items c.stay_back.new.stay.items c.as_slice.result.now c.len-len.result c.held.result c.min.result
+    joined c.args.block.now c.args.out.now c.push_front.new.self s (gathered c.push_all.new.block) c.stay_all.new.stay.items c.waiting.result.now c.split_at.result.0.now c.split_at.result.1.now c.clear.new.self.items c.stay_back.new.stay.items c.as_slice.result.now c.len-len.result c.held.result c.min.result
     c.requires.blank c.push_all.ensures.more c.push_front.ensures.more c.clear.ensures c.stay_all.ensures c.stay_back.ensures c.as_slice.ensures.value c.waiting.ensures.value c.split_at.ensures.by_index.0 c.split_at.ensures.front_len c.len-len.ensures.count c.held.ensures.value c.min.ensures in
     let time =
-    last c.args.block.now c.args.out.now c.push_front.new.block s (gathered c.push_all.new.block) c.stay_all.new.stay.items c.waiting.result.now c.split_at.result.0.now c.split_at.result.1.now c.clear.new.self.items c.stay_back.new.stay.items c.as_slice.result.now c.len-len.result c.held.result c.min.result
+    last c.args.block.now c.args.out.now c.push_front.new.self s (gathered c.push_all.new.block) c.stay_all.new.stay.items c.waiting.result.now c.split_at.result.0.now c.split_at.result.1.now c.clear.new.self.items c.stay_back.new.stay.items c.as_slice.result.now c.len-len.result c.held.result c.min.result
     c.requires.blank c.push_all.ensures.more c.push_front.ensures.more c.clear.ensures c.stay_all.ensures c.stay_back.ensures c.as_slice.ensures.value c.waiting.ensures.value c.split_at.ensures.by_index.0 c.split_at.ensures.front_len c.len-len.ensures.count c.held.ensures.value c.min.ensures c.time.result some c.time.ensures in
     let place = place_is b (last_place s) c.len-len.result c.event.result some c.len-len.ensures.count c.event.ensures in
-    let comes = comes_behind c.args.walk.now s (gathered b) (gathered c.push_front.new.block) c.as_slice.result.now c.requires.settles c.requires.keeps c.requires.full c.requires.comes c.requires.ordered both c.time.result c.event.result.place time place in
-    let passed = c.pass.ensures.passed (ordered how.mode (events (map how.meaning words))) (not_marked (events_in how words)) (gathered b) (gathered c.push_front.new.block) h.come.settled comes in
-    delivers_passed how s c.pass.new.self words (gathered b) (gathered c.push_front.new.block) c.requires.settles c.requires.keeps.reach c.requires.ordered passed
+    let comes = comes_behind c.args.walk.now s (gathered b) (gathered c.push_front.new.self) c.as_slice.result.now c.requires.settles c.requires.keeps c.requires.full c.requires.comes c.requires.ordered both c.time.result c.event.result.place time place in
+    let passed = c.pass.ensures.passed (ordered how.mode (events (map how.meaning words))) (not_marked (events_in how words)) (gathered b) (gathered c.push_front.new.self) h.come.settled comes in
+    delivers_passed how s c.pass.new.self words (gathered b) (gathered c.push_front.new.self) c.requires.settles c.requires.keeps.reach c.requires.ordered passed
