@@ -1,20 +1,20 @@
 -- Bins that are laid close together.
-use Rattle.std.proofs.Common.{◌≡◌, ◌∙◌, ℕ, zero, suc, ◌+◌, ◌-◌, ◌*◌, ◌<◌, ◌≤◌, true, false, eqb, ltb, cond, min, List, [], ◌∷◌, ◌++◌, length, get_or, take, drop, refl, sym, ap, arith, append_assoc}
+use Rattle.std.proofs.Common.{◌≡◌, ◌∙◌, ℕ, zero, suc, ◌+◌, ◌-◌, ◌*◌, ◌<◌, ◌≤◌, true, false, eqb, ltb, cond, min, List, [], ◌∷◌, ◌++◌, length, get_or, take, drop, refl, sym, ap, subst, arith, append_assoc}
 use Rattle.std.specs.List.{sum_by, AllByRecursion}
 use Rattle.std.proofs.Math.Nat.{mul-le-mul, mul-le-mul_left}
 use Rattle.std.proofs.lemmas.Bool.Decides.{nat_tests}
-use Rattle.std.proofs.lemmas.List.{take-append-drop, length-drop, length-take-le}
+use Rattle.std.proofs.lemmas.List.{take-append-drop, length-drop, length-take-le, drop_more}
 use Rattle.std.proofs.lemmas.List.Sums.{sum_by-append, sum_by_push}
 use Rattle.lag_ring.specs.declared.ring.Entry.{Entry}
 use Rattle.lag_ring.specs.declared.window.Side.TheVariants.{First, Second}
 use Rattle.lag_ring.specs.Ring.{IsRising}
 use Rattle.lag_ring.specs.Window.{weight_at, product_at}
-use Rattle.lag_ring.proofs.Rising.{all_weaker, all_push, rising_front}
+use Rattle.lag_ring.proofs.Rising.{all_weaker, all_push, rising_front, rising_back}
 use Rattle.lag_ring.proofs.Sums.{sum_by-agree, sum_by-same, sum_by-zero}
 use Rattle.lag_ring.proofs.Windows.{window-before}
 use Rattle.tau_cascade.specs.Levels.{weight_before}
 use Rattle.tau_cascade.specs.Paired.{paired}
-use Rattle.tau_cascade.specs.Laid.{laid, laid_pairs, IsLight}
+use Rattle.tau_cascade.specs.Laid.{laid, laid_pairs, IsBehind, IsLight}
 use Rattle.tau_cascade.proofs.Nexts.{paired-append}
 use Rattle.tau_cascade.proofs.Together.{paired-all}
 
@@ -182,3 +182,38 @@ all_room lags start list place few inside short upto =
     let near : place ≤ (lags + 1) * length (take start list) = omega (arith, upto) in
     let under : place ≤ (lags + 1) * start = (rw front at near) in
     rw back (omega (arith, most, split, under))
+
+-- the first bins have room
+pub front_room : (lags start : ℕ) (list : List Entry) → lags ≤ 16 → start ≤ length list → length list ≤ 80 → 0 + (lags + 1) * length (take start list) + 32 < 1408
+front_room lags start list few inside short =
+    let front : length (take start list) ≡ start = length-take-le start list inside in
+    let reach : lags + 1 ≤ 17 = omega (arith, few) in
+    let under : start ≤ 80 = omega (arith, inside, short) in
+    let most : (lags + 1) * start ≤ 17 * 80 = mul-le-mul reach under in
+    rw front (omega (arith, most))
+
+from_zero : (es : List Entry) → AllByRecursion (λ e. 0 ≤ e.index) es
+from_zero [] = tt
+from_zero (e ∷ es) = (omega arith, from_zero es)
+
+-- the bins of a list, and those before one of them, are behind no index
+pub behind_none : (start : ℕ) (list : List Entry) → IsRising list → IsBehind 0 (take start list ++ drop start list)
+behind_none start list rising = (rw (take-append-drop start list) rising, from_zero (take start list ++ drop start list))
+
+pub behind_front : (start : ℕ) (list : List Entry) → IsRising list → IsBehind 0 (take start list)
+behind_front start list rising = (rising_front (take start list) (drop start list) (rw (take-append-drop start list) rising), from_zero (take start list))
+
+-- bins behind one are behind its index
+pub behind_next : (index : ℕ) (front : List Entry) (e : Entry) (rest : List Entry) → IsBehind index ((front ++ e ∷ []) ++ rest) → IsBehind e.index rest
+behind_next index front e rest behind =
+    let whole : IsRising (front ++ e ∷ rest) = subst IsRising (append_assoc front (e ∷ []) rest) behind.0 in
+    let back : IsRising (e ∷ rest) = rising_back front (e ∷ rest) whole in
+    (back.1, all_weaker (λ f. e.index < f.index) (λ f. e.index ≤ f.index) (λ f up. omega (arith, up)) rest back.0)
+
+-- a list in two parts
+pub behind_whole : (index i : ℕ) (list : List Entry) → IsBehind index list → IsBehind index (take i list ++ drop i list)
+behind_whole index i list behind = rw (take-append-drop i list) behind
+
+-- the first of bins behind an index
+pub behind_at : (index : ℕ) (list : List Entry) (i : ℕ) (none : Entry) → i < length list → IsBehind index (drop i list) → index ≤ (get_or list i none).index
+behind_at index list i none inside behind = (rw (drop_more list i none inside) at behind.1).0

@@ -3,12 +3,17 @@ use Rattle.std.specs.Prelude.{ℕ, ◌≡◌, ◌+◌, ◌-◌, ◌*◌, ◌^◌
 use Rattle.std.specs.List.{AllByRecursion}
 use Rattle.lag_ring.specs.declared.ring.Entry.{Entry}
 use Rattle.lag_ring.specs.declared.window.Side.TheVariants.{Second}
+use Rattle.lag_ring.specs.Ring.{IsRising}
 use Rattle.lag_ring.specs.Window.{product_at}
 
 -- bins behind one of this index that lies at this place, each as far from the one before it as it is, and no further than the reach
 abbrev pub laid : ℕ → ℕ → ℕ → List Entry → List Entry
 laid reach index place [] = []
 laid reach index place (e ∷ es) = record { index = place + min (e.index - index) reach; a = e.a; b = e.b } ∷ laid reach e.index (place + min (e.index - index) reach) es
+
+-- bins rise, and none is before this index
+abbrev pub IsBehind : ℕ → List Entry → Type 0
+IsBehind index es = IsRising es × AllByRecursion (λ e. index ≤ e.index) es
 
 -- no bin has more photons of a group
 abbrev pub IsLight : ℕ → List Entry → Type 0
@@ -19,9 +24,10 @@ abbrev pub laid_pairs : List ℕ → List Entry → ℕ → ℕ
 laid_pairs window es lag = sum_by (product_at Second window 0 (32 - lag)) es
 
 -- light bins that are laid behind this place, each with all lags, have places in a window of 1408 small weights
-pub record IsLaid (window : List ℕ) (reach place : ℕ) (es : List Entry) : Type 0 where
+pub record IsLaid (window : List ℕ) (reach index place : ℕ) (es : List Entry) : Type 0 where
   pub sized : length window ≡ 1408
   pub small : (p : ℕ) → p < 1408 → slice_index window p < 2 ^ 15
   pub light : IsLight 255 es
   pub few : length es ≤ 80
+  pub behind : IsBehind index es
   pub room : place + reach * length es + 32 < 1408

@@ -6,7 +6,7 @@ ghost use Rattle.lag_ring.specs.declared.window.Side.TheVariants.{First, Second}
 ghost use Rattle.lag_ring.specs.Window.{weight_at, product_at};
 ghost use Rattle.lag_ring.specs.Cells.{Spends};
 ghost use Rattle.tau_cascade.specs.Paired.{paired};
-ghost use Rattle.tau_cascade.specs.Laid.{laid, laid_pairs, IsLight, IsLaid};
+ghost use Rattle.tau_cascade.specs.Laid.{laid, laid_pairs, IsBehind, IsLight, IsLaid};
 
 use crate::dense::add_sums;
 use lag_ring::{Entry, FEW_LAGS, PairCells};
@@ -54,11 +54,12 @@ pub(crate) struct Laying {
 /// Lays a bin behind another one: as far behind it as it is, and no further than just out of reach.
 #[inline(always)]
 fn lay_behind(was: Laid, bin: &Entry, reach: u64) -> Laid
-    requires { was.place + reach < 2 ^ 64 }
+    requires fits { was.place + reach < 2 ^ 64 }
+    requires after { was.index ≤ bin.now.index }
     ensures index { result.index ≡ bin.now.index }
     ensures place { result.place ≡ was.place + min (bin.now.index - was.index) reach }
 {
-    let apart = bin.index.saturating_sub(was.index);
+    let apart = bin.index - was.index;
     Laid {
         index: bin.index,
         place: was.place + apart.min(reach),
@@ -68,7 +69,8 @@ fn lay_behind(was: Laid, bin: &Entry, reach: u64) -> Laid
 /// Lays a bin behind another one, and adds its weight in the first group to the window at its place.
 #[inline(always)]
 fn lay_one(window: &mut [u16], was: Laying, bin: &Entry, reach: u64) -> Laying
-    requires place { was.last.place + reach + TOP < length window.old }
+    requires place { (was.last.place + reach + TOP < length window.old)
+        × (was.last.index ≤ bin.now.index) }
     requires sized { length window.old ≡ PLACES }
     requires fits { (p : ℕ) → p < PLACES → slice_index window.old p + TOO_HEAVY ≤ 2 ^ 16 }
     ensures last { (result.last.index ≡ bin.now.index) × (result.last.place
@@ -90,22 +92,23 @@ fn lay_one(window: &mut [u16], was: Laying, bin: &Entry, reach: u64) -> Laying
 
 /// Lays bins one behind the other, and adds their weights in the first group to the window at their places.
 fn lay_all(window: &mut [u16], list: &[Entry], reach: u64, was: Laying) -> Laying
-    requires sized { length window.old ≡ PLACES }
-    requires reach { reach ≤ CLOSE_LAGS + 1 }
-    requires place { was.last.place + reach * length list.now + TOP < PLACES }
+    requires room { (length window.old ≡ PLACES) × (reach ≤ CLOSE_LAGS + 1)
+        × (was.last.place + reach * length list.now + TOP < PLACES)
+        × IsBehind was.last.index list.now }
     requires fits { (p : ℕ) → p < PLACES
         → slice_index window.old p + 255 * length list.now < 2 ^ 16 }
     ensures weights { result.heaviest < TOO_HEAVY → (p : ℕ) → p < PLACES → slice_index window.new p
         ≡ slice_index window.old p
         + weight_at First TOP 0 p (laid reach was.last.index was.last.place list.now) }
-    ensures light { (p : ℕ) → p < PLACES
-        → slice_index window.new p ≤ slice_index window.old p + 255 * length list.now }
+    ensures light { (length window.new ≡ length window.old) × ((p : ℕ) → p < PLACES
+        → slice_index window.new p ≤ slice_index window.old p + 255 * length list.now) }
     ensures next { (es : List Entry) → laid reach was.last.index was.last.place (list.now ++ es)
         ≡ laid reach was.last.index was.last.place list.now
         ++ laid reach result.last.index result.last.place es }
-    ensures heaviest { (was.heaviest ≤ result.heaviest) × IsLight result.heaviest list.now }
-    ensures place { result.last.place ≤ was.last.place + reach * length list.now }
-    ensures same { length window.new ≡ length window.old }
+    ensures last { (result.last.place ≤ was.last.place + reach * length list.now)
+        × (was.heaviest ≤ result.heaviest) × IsLight result.heaviest list.now }
+    ensures after { (es : List Entry) → IsBehind was.last.index (list.now ++ es)
+        → IsBehind result.last.index es }
 {
     let mut laying = was;
     for bin in list {
@@ -137,7 +140,8 @@ fn sum_laid(sums: &mut [u32], window: &[u16], list: &[Entry], reach: u64, was: L
     requires window { (length window.now ≡ PLACES)
         × ((p : ℕ) → p < PLACES → slice_index window.now p < 2 ^ 15) }
     requires light { (IsLight 255 list.now) × (length list.now ≤ CLOSE_BINS) }
-    requires place { was.place + reach * length list.now + from + length sums.old ≤ PLACES }
+    requires place { (was.place + reach * length list.now + from + length sums.old ≤ PLACES)
+        × IsBehind was.index list.now }
     ensures sums { (q : ℕ) → q < length sums.old → slice_index sums.new q ≡ sum_by
         (product_at Second window.now 0 (from + q)) (laid reach was.index was.place list.now) }
     ensures same { length sums.new ≡ length sums.old }
@@ -167,7 +171,7 @@ fn pair_sums<L: Ledger>(
     requires lags { (skipped ≤ lags) × (lags ≤ CLOSE_LAGS) × (lags - skipped ≤ length sums.old)
         × (length sums.old ≤ FEW_LAGS) × (length cells.old.cells ≡ lags - skipped) }
     requires zeros { (q : ℕ) → q < length sums.old → slice_index sums.old q ≡ 0 }
-    requires bins { IsLaid window.now (lags + 1) was.place list.now }
+    requires bins { IsLaid window.now (lags + 1) was.index was.place list.now }
     requires fits { (p : ℕ) → p < lags - skipped → slice_index cells.old.cells p
         + laid_pairs window.now (laid (lags + 1) was.index was.place list.now) (p + skipped + 1)
         ≤ 2 ^ 80 }
@@ -194,7 +198,7 @@ fn pair_laid<L: Ledger>(
 )
     requires lags { (skipped ≤ lags) × (lags ≤ CLOSE_LAGS)
         × (length cells.old.cells ≡ lags - skipped) }
-    requires bins { IsLaid window.now (lags + 1) was.place list.now }
+    requires bins { IsLaid window.now (lags + 1) was.index was.place list.now }
     requires fits { (p : ℕ) → p < lags - skipped → slice_index cells.old.cells p
         + laid_pairs window.now (laid (lags + 1) was.index was.place list.now) (p + skipped + 1)
         ≤ 2 ^ 80 }
@@ -233,8 +237,8 @@ fn pair_light<L: Ledger>(
 ) -> bool
     requires lags { (skipped ≤ lags) × (lags ≤ CLOSE_LAGS)
         × (length cells.old.cells ≡ lags - skipped) }
-    requires start { (start ≤ length list.now) × (length list.now ≤ CLOSE_BINS) }
-    requires rising { IsRising list.now }
+    requires list { (start ≤ length list.now) × (length list.now ≤ CLOSE_BINS)
+        × IsRising list.now }
     requires fits { (p : ℕ) → p < lags - skipped → slice_index cells.old.cells p
         + paired (p + skipped + 1) (take start list.now) (drop start list.now) ≤ 2 ^ 80 }
     requires room { cells.old.added + (lags - skipped) < 2 ^ 64 }
@@ -279,8 +283,7 @@ pub(crate) fn pair_close<L: Ledger>(
     steps: &mut Steps<L>,
 ) -> bool
     requires lags { (skipped ≤ lags) × (length cells.old.cells ≡ lags - skipped) }
-    requires start { start ≤ length list.now }
-    requires rising { IsRising list.now }
+    requires list { (start ≤ length list.now) × IsRising list.now }
     requires fits { (p : ℕ) → p < lags - skipped → slice_index cells.old.cells p
         + paired (p + skipped + 1) (take start list.now) (drop start list.now) ≤ 2 ^ 80 }
     requires count { cells.old.added + (lags - skipped) * (length list.now - start) < 2 ^ 64 }

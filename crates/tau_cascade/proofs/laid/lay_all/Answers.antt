@@ -1,10 +1,10 @@
-use Rattle.std.proofs.Common.{◌≡◌, ◌∙◌, ℕ, ◌+◌, ◌*◌, ◌%◌, ◌≤◌, List, [], ◌∷◌, ◌++◌, eqb, length, get_or, take, refl, arith}
+use Rattle.std.proofs.Common.{◌≡◌, ◌∙◌, ℕ, ◌+◌, ◌*◌, ◌%◌, ◌≤◌, List, [], ◌∷◌, ◌++◌, eqb, length, get_or, take, drop, refl, arith}
 use Rattle.std.proofs.Math.Nat.{mul-le-mul_left}
 use Rattle.std.proofs.lemmas.List.{take_more}
 use Rattle.lag_ring.specs.declared.ring.Entry.{Entry}
 use Rattle.lag_ring.proofs.Rising.{all_weaker, all_push}
 use Rattle.lag_ring.proofs.Windows.{part-le}
-use Rattle.tau_cascade.proofs.Close.{laid_next, weight_next}
+use Rattle.tau_cascade.proofs.Close.{laid_next, weight_next, behind_next, behind_at, behind_whole}
 use Rattle.tau_cascade.proofs.laid.lay_all.Goals as goal
 
 abbrev none : Entry
@@ -15,6 +15,7 @@ loop-bin-init c = record {
   weights = λ light p inside. omega arith;
   light = λ p inside. omega arith;
   next = λ es. refl;
+  after = λ es behind. behind;
   more = omega arith;
   heaviest = tt;
   place = omega arith;
@@ -23,10 +24,13 @@ loop-bin-init c = record {
 
 pub lay_one-laying-requires-clause-place : goal.lay_one-laying-requires-clause-place
 lay_one-laying-requires-clause-place c =
+    let list = c.args.list.now in
     let i : ℕ = c.loop-bin.bin-index in
-    let most : c.args.reach * (i + 1) ≤ c.args.reach * length c.args.list.now = mul-le-mul_left c.args.reach (omega (arith, c.loop-bin-test.true)) in
-    let ring : c.args.reach * (i + 1) ≡ c.args.reach * i + c.args.reach = grind arith in
-    omega (arith, most, ring, c.loop-bin.invariant.place, c.requires.place, c.requires.sized, c.loop-bin.invariant.same)
+    let most : c.args.reach * (i + 1) ≤ c.args.reach * length list = mul-le-mul_left c.args.reach (omega (arith, c.loop-bin-test.true)) in
+    let ring : c.args.reach * (i + 1) ≡ c.args.reach * i + c.args.reach = grind arith in (
+      omega (arith, most, ring, c.loop-bin.invariant.place, c.requires.room.2, c.requires.room.0, c.loop-bin.invariant.same),
+      behind_at c.loop-bin.laying.last.index list i none c.loop-bin-test.true (c.loop-bin.invariant.after (drop i list) (behind_whole c.args.was.last.index i list c.requires.room.3)),
+    )
 
 pub lay_one-laying-requires-clause-fits : goal.lay_one-laying-requires-clause-fits
 lay_one-laying-requires-clause-fits c = λ p inside. omega (arith, c.loop-bin-test.true, c.loop-bin.invariant.light p inside, c.requires.fits p inside)
@@ -52,6 +56,7 @@ loop-bin-preserved c =
           let part = part-le (eqb (c.lay_one-laying.result.last.place + 32) p) (e.a % 256) in
           omega (arith, one.weights p inside, inv.light p inside, part);
       next = λ rest. rw (one.last.0, one.last.1, cut) (laid_next c.args.reach was.index was.place at.index at.place (take i es) e inv.next rest);
+      after = λ rest behind. rw one.last.0 (behind_next was.index (take i es) e rest (rw cut at behind));
       more = omega (arith, inv.more, one.heaviest.0);
       heaviest = rw cut (all_push (λ f. (f.a ≤ c.lay_one-laying.result.heaviest) × (f.b ≤ c.lay_one-laying.result.heaviest)) (take i es) e
           (all_weaker (λ f. (f.a ≤ c.loop-bin.laying.heaviest) × (f.b ≤ c.loop-bin.laying.heaviest)) (λ f. (f.a ≤ c.lay_one-laying.result.heaviest) × (f.b ≤ c.lay_one-laying.result.heaviest)) (λ f light. (omega (arith, light.0, one.heaviest.0), omega (arith, light.1, one.heaviest.0))) (take i es) inv.heaviest)

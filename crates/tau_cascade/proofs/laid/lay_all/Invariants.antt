@@ -2,7 +2,7 @@ use Rattle.std.proofs.Common.{◌≡◌, ℕ, ◌+◌, ◌*◌, ◌<◌, ◌≤�
 use Rattle.lag_ring.specs.declared.ring.Entry.{Entry}
 use Rattle.lag_ring.specs.declared.window.Side.TheVariants.{First}
 use Rattle.lag_ring.specs.Window.{weight_at}
-use Rattle.tau_cascade.specs.Laid.{laid, IsLight}
+use Rattle.tau_cascade.specs.Laid.{laid, IsBehind, IsLight}
 use Rattle.tau_cascade.proofs.laid.lay_all.Given as goal
 
 abbrev pub invariant-loop-bin : goal.invariant-loop-bin
@@ -10,6 +10,7 @@ invariant-loop-bin l = record {
   weights : l.laying.heaviest < 256 → (p : ℕ) → p < 1408 → get_or l.window p 0 ≡ get_or l.fn.window p 0 + weight_at First 32 0 p (laid l.reach l.fn.was.last.index l.fn.was.last.place (take l.bin-index l.list));
   light : (p : ℕ) → p < 1408 → get_or l.window p 0 ≤ get_or l.fn.window p 0 + 255 * l.bin-index;
   next : (es : List Entry) → laid l.reach l.fn.was.last.index l.fn.was.last.place (take l.bin-index l.list ++ es) ≡ laid l.reach l.fn.was.last.index l.fn.was.last.place (take l.bin-index l.list) ++ laid l.reach l.laying.last.index l.laying.last.place es;
+  after : (es : List Entry) → IsBehind l.fn.was.last.index (take l.bin-index l.list ++ es) → IsBehind l.laying.last.index es;
   more : l.fn.was.heaviest ≤ l.laying.heaviest;
   heaviest : IsLight l.laying.heaviest (take l.bin-index l.list);
   place : l.laying.last.place ≤ l.fn.was.last.place + l.reach * l.bin-index;

@@ -1,32 +1,47 @@
-use Rattle.std.proofs.Common.{◌≡◌, ◌∙◌, ℕ, ◌+◌, ◌-◌, ◌<◌, ◌≤◌, length, get_or, take, drop, arith}
+use Rattle.std.proofs.Common.{◌≡◌, ◌∙◌, ℕ, ◌+◌, ◌-◌, ◌<◌, ◌≤◌, length, get_or, take, drop, refl, arith}
 use Rattle.std.proofs.lemmas.List.{get_or-replicate, take_rest, length-take-le, length-drop}
 use Rattle.lag_ring.specs.declared.window.Side.TheVariants.{First}
 use Rattle.lag_ring.specs.Window.{weight_at}
 use Rattle.lag_ring.proofs.Rising.{all_weaker}
 use Rattle.tau_cascade.specs.Laid.{laid}
-use Rattle.tau_cascade.proofs.Close.{laid-paired, all_room}
+use Rattle.tau_cascade.proofs.Close.{laid-paired, all_room, front_room, behind_none, behind_front}
 use Rattle.tau_cascade.proofs.laid.pair_light.Goals as goal
 
+pub lay_all-before-requires-clause-room : goal.lay_all-before-requires-clause-room
+lay_all-before-requires-clause-room g c =
+    rw c.from-reach.ensures (refl, omega (arith, c.requires.lags.1), front_room c.args.lags c.args.start c.args.list.now c.requires.lags.1 c.requires.list.0 c.requires.list.1, behind_front c.args.start c.args.list.now c.requires.list.2)
+
+pub lay_all-all-requires-clause-room : goal.lay_all-all-requires-clause-room
+lay_all-all-requires-clause-room g c =
+    let e = c.lay_all-before.ensures in
+    rw (take_rest c.args.list.now c.args.start, c.from-reach.ensures) (
+      e.light.0,
+      omega (arith, c.requires.lags.1),
+      all_room c.args.lags c.args.start c.args.list.now c.lay_all-before.result.last.place c.requires.lags.1 c.requires.list.0 c.requires.list.1 (rw c.from-reach.ensures at e.last.0),
+      e.after (drop c.args.start c.args.list.now) (behind_none c.args.start c.args.list.now c.requires.list.2),
+    )
+
 pub lay_all-before-requires-clause-fits : goal.lay_all-before-requires-clause-fits
-lay_all-before-requires-clause-fits g c = λ p inside. omega (arith, get_or-replicate {A = ℕ} 1408 p 0 0 inside, length-take-le c.args.start c.args.list.now c.requires.start.0, c.requires.start.1)
+lay_all-before-requires-clause-fits g c = λ p inside. omega (arith, get_or-replicate {A = ℕ} 1408 p 0 0 inside, length-take-le c.args.start c.args.list.now c.requires.list.0, c.requires.list.1)
 
 pub lay_all-all-requires-clause-fits : goal.lay_all-all-requires-clause-fits
 lay_all-all-requires-clause-fits g c = λ p inside.
     rw (take_rest c.args.list.now c.args.start)
-    (omega (arith, c.lay_all-before.ensures.light p inside, get_or-replicate {A = ℕ} 1408 p 0 0 inside, length-take-le c.args.start c.args.list.now c.requires.start.0, length-drop c.args.start c.args.list.now, c.requires.start.0, c.requires.start.1))
+    (omega (arith, c.lay_all-before.ensures.light.1 p inside, get_or-replicate {A = ℕ} 1408 p 0 0 inside, length-take-le c.args.start c.args.list.now c.requires.list.0, length-drop c.args.start c.args.list.now, c.requires.list.0, c.requires.list.1))
 
 pub pair_laid-requires-clause-bins : goal.pair_laid-requires-clause-bins
 pair_laid-requires-clause-bins g c =
-    let front : length (take c.args.start c.args.list.now) ≡ c.args.start = length-take-le c.args.start c.args.list.now c.requires.start.0 in
+    let front : length (take c.args.start c.args.list.now) ≡ c.args.start = length-take-le c.args.start c.args.list.now c.requires.list.0 in
     let back : length (drop c.args.start c.args.list.now) ≡ length c.args.list.now - c.args.start = length-drop c.args.start c.args.list.now in
     let heavy = c.is_close.ensures c.if-is_close.true in
     let e = c.lay_all-all.ensures in
     rw (take_rest c.args.list.now c.args.start) (record {
-      sized = e.same ∙ c.lay_all-before.ensures.same;
-      small = λ p inside. omega (arith, (rw (take_rest c.args.list.now c.args.start) at (e.light p inside)), c.lay_all-before.ensures.light p inside, get_or-replicate {A = ℕ} 1408 p 0 0 inside, front, back, c.requires.start.0, c.requires.start.1);
-      light = all_weaker (λ f. (f.a ≤ c.lay_all-all.result.heaviest) × (f.b ≤ c.lay_all-all.result.heaviest)) (λ f. (f.a ≤ 255) × (f.b ≤ 255)) (λ f light. (omega (arith, light.0, heavy), omega (arith, light.1, heavy))) (drop c.args.start c.args.list.now) (rw (take_rest c.args.list.now c.args.start) at e.heaviest.1);
-      few = omega (arith, back, c.requires.start.1);
-      room = all_room c.args.lags c.args.start c.args.list.now c.lay_all-before.result.last.place c.requires.lags.1 c.requires.start.0 c.requires.start.1 (rw c.from-reach.ensures at c.lay_all-before.ensures.place);
+      sized = e.light.0 ∙ c.lay_all-before.ensures.light.0;
+      small = λ p inside. omega (arith, (rw (take_rest c.args.list.now c.args.start) at (e.light.1 p inside)), c.lay_all-before.ensures.light.1 p inside, get_or-replicate {A = ℕ} 1408 p 0 0 inside, front, back, c.requires.list.0, c.requires.list.1);
+      light = all_weaker (λ f. (f.a ≤ c.lay_all-all.result.heaviest) × (f.b ≤ c.lay_all-all.result.heaviest)) (λ f. (f.a ≤ 255) × (f.b ≤ 255)) (λ f light. (omega (arith, light.0, heavy), omega (arith, light.1, heavy))) (drop c.args.start c.args.list.now) (rw (take_rest c.args.list.now c.args.start) at e.last.2);
+      few = omega (arith, back, c.requires.list.1);
+      behind = c.lay_all-before.ensures.after (drop c.args.start c.args.list.now) (behind_none c.args.start c.args.list.now c.requires.list.2);
+      room = all_room c.args.lags c.args.start c.args.list.now c.lay_all-before.result.last.place c.requires.lags.1 c.requires.list.0 c.requires.list.1 (rw c.from-reach.ensures at c.lay_all-before.ensures.last.0);
     })
 
 pub pair_laid-requires-clause-fits : goal.pair_laid-requires-clause-fits
@@ -39,10 +54,10 @@ pair_laid-requires-clause-fits g c = λ p inside.
     let last = c.lay_all-before.result.last in
     let has : (q : ℕ) → q < 1408 → get_or c.lay_all-all.new.window q 0 ≡ weight_at First 32 0 q (laid (c.args.lags + 1) 0 0 (take start list)) + weight_at First 32 0 q (laid (c.args.lags + 1) last.index last.place (drop start list)) = λ q within.
     (let two = (rw (take_rest list start, c.from-reach.ensures) at (all.weights heavy q within)) in
-    let one = (rw c.from-reach.ensures at (before.weights (omega (arith, heavy, all.heaviest.0)) q within)) in
+    let one = (rw c.from-reach.ensures at (before.weights (omega (arith, heavy, all.last.1)) q within)) in
     omega (arith, one, two, get_or-replicate {A = ℕ} 1408 q 0 0 within)) in
-    let room = all_room c.args.lags start list last.place c.requires.lags.1 c.requires.start.0 c.requires.start.1 (rw c.from-reach.ensures at before.place) in
-    rw (take_rest list start, laid-paired (c.args.lags + 1) last.index last.place start list c.requires.rising (rw c.from-reach.ensures at before.next) c.lay_all-all.new.window (omega arith) (all.same ∙ before.same) room has (p + c.args.skipped + 1) (omega arith) (omega (arith, inside)) (omega (arith, inside, c.requires.lags.1))) (c.requires.fits p inside)
+    let room = all_room c.args.lags start list last.place c.requires.lags.1 c.requires.list.0 c.requires.list.1 (rw c.from-reach.ensures at before.last.0) in
+    rw (take_rest list start, laid-paired (c.args.lags + 1) last.index last.place start list c.requires.list.2 (rw c.from-reach.ensures at before.next) c.lay_all-all.new.window (omega arith) (all.light.0 ∙ before.light.0) room has (p + c.args.skipped + 1) (omega arith) (omega (arith, inside)) (omega (arith, inside, c.requires.lags.1))) (c.requires.fits p inside)
 
 pub returns-then-is_close-clause-cells : goal.returns-then-is_close-clause-cells
 returns-then-is_close-clause-cells g c = λ is p inside.
@@ -54,7 +69,7 @@ returns-then-is_close-clause-cells g c = λ is p inside.
     let last = c.lay_all-before.result.last in
     let has : (q : ℕ) → q < 1408 → get_or c.lay_all-all.new.window q 0 ≡ weight_at First 32 0 q (laid (c.args.lags + 1) 0 0 (take start list)) + weight_at First 32 0 q (laid (c.args.lags + 1) last.index last.place (drop start list)) = λ q within.
     (let two = (rw (take_rest list start, c.from-reach.ensures) at (all.weights heavy q within)) in
-    let one = (rw c.from-reach.ensures at (before.weights (omega (arith, heavy, all.heaviest.0)) q within)) in
+    let one = (rw c.from-reach.ensures at (before.weights (omega (arith, heavy, all.last.1)) q within)) in
     omega (arith, one, two, get_or-replicate {A = ℕ} 1408 q 0 0 within)) in
-    let room = all_room c.args.lags start list last.place c.requires.lags.1 c.requires.start.0 c.requires.start.1 (rw c.from-reach.ensures at before.place) in
-    rw (take_rest list start, laid-paired (c.args.lags + 1) last.index last.place start list c.requires.rising (rw c.from-reach.ensures at before.next) c.lay_all-all.new.window (omega arith) (all.same ∙ before.same) room has (p + c.args.skipped + 1) (omega arith) (omega (arith, inside)) (omega (arith, inside, c.requires.lags.1))) at (c.pair_laid.ensures.cells p inside)
+    let room = all_room c.args.lags start list last.place c.requires.lags.1 c.requires.list.0 c.requires.list.1 (rw c.from-reach.ensures at before.last.0) in
+    rw (take_rest list start, laid-paired (c.args.lags + 1) last.index last.place start list c.requires.list.2 (rw c.from-reach.ensures at before.next) c.lay_all-all.new.window (omega arith) (all.light.0 ∙ before.light.0) room has (p + c.args.skipped + 1) (omega arith) (omega (arith, inside)) (omega (arith, inside, c.requires.lags.1))) at (c.pair_laid.ensures.cells p inside)
