@@ -1,19 +1,20 @@
 -- What proofs ask of each kind of table: its place in the order of the report, and that none of its tables keeps more
 -- than one of the greatest settings.
-use Rattle.std.proofs.Common.{◌≡◌, refl, ℕ, zero, suc, ◌+◌, ◌-◌, ◌*◌, ◌/◌, ◌^◌, ◌≤◌, Bool, true, false, cond, List, [], ◌∷◌, map, codes, Option, Some, None, arith, pos}
+use Rattle.std.proofs.Common.{◌≡◌, refl, ℕ, zero, suc, ◌+◌, ◌-◌, ◌*◌, ◌/◌, ◌^◌, ◌≤◌, Bool, true, false, cond, List, [], ◌∷◌, map, codes, ◌&&◌, nat_le, length, Option, Some, None, arith, pos}
 use Rattle.std.specs.List.{AllByRecursion}
 use Rattle.std.specs.Option.{option_and_then, option_map}
 use Rattle.std.proofs.lemmas.Nat.{mul-le}
 use Rattle.std.proofs.Math.Nat.{div-le_of_le-mul}
+use Rattle.std.proofs.Math.Pow.{pow_mono}
 use Rattle.std.proofs.lemmas.Bool.Decides.{nat_tests}
-use Rattle.toml.specs.Data.{Data, get, integer}
+use Rattle.toml.specs.Data.{Data, Items, as_array, get, integer}
 use Rattle.tally_base.specs.Settings.{PartSettings, ImageView, entries}
-use Rattle.tally_base.specs.Settings.PartSettings.{HistSettings, TraceSettings, StartStopSettings, CoincidenceSettings, ImageSettings, CorrelationSettings, CubeSettings}
+use Rattle.tally_base.specs.Settings.PartSettings.{HistSettings, TraceSettings, StartStopSettings, CoincidenceSettings, ImageSettings, CorrelationSettings, CubeSettings, FoldSettings}
 use Rattle.tally_base.specs.Limits.{wrap_limit}
-use Rattle.toml_rules.specs.Values.{integer_in, number_in}
+use Rattle.toml_rules.specs.Values.{list_of, integer_in, number_in}
 use Rattle.plan_text.specs.Kind.{Kind}
 use Rattle.plan_text.specs.Kinds.{kinds, lists}
-use Rattle.plan_text.specs.Groups.{group_number}
+use Rattle.plan_text.specs.Groups.{groups, group_number}
 use Rattle.plan_text.specs.Histograms.{histogram, hist_of}
 use Rattle.plan_text.specs.Traces.{trace, trace_of, origin}
 use Rattle.plan_text.specs.StartStops.{startstop, startstop_of}
@@ -21,8 +22,9 @@ use Rattle.plan_text.specs.Coincidences.{coincidence, coincidence_of}
 use Rattle.plan_text.specs.Images.{image, image_values, image_of, raster, raster_of, bits, serpentine}
 use Rattle.plan_text.specs.Correlations.{correlation, correlation_of, lags, if_even}
 use Rattle.plan_text.specs.Cubes.{cube, cube_of, bins, has_few_bins}
+use Rattle.plan_text.specs.Folds.{fold_settings, fold_of, numbers, numbers_in, numbers_among, numbers_from}
 use Rattle.plan_text.specs.Plan.{plan}
-use Rattle.tally_base.specs.Settings.{hist_view, trace_view, startstop_view, coincidence_view, image_view, correlation_view, cube_view}
+use Rattle.tally_base.specs.Settings.{hist_view, trace_view, startstop_view, coincidence_view, image_view, correlation_view, cube_view, fold_view}
 use Rattle.plan_text.specs.declared.plan.Plan.{Plan}
 use Rattle.plan_text.specs.Kinds.{part_lists}
 
@@ -37,6 +39,7 @@ kind_at (CoincidenceSettings set) = 3
 kind_at (ImageSettings set) = 4
 kind_at (CorrelationSettings set) = 5
 kind_at (CubeSettings set) = 6
+kind_at (FoldSettings set) = 7
 
 -- each part is of the kind at this place
 abbrev pub AreAt : ℕ → List PartSettings → Type 0
@@ -64,7 +67,10 @@ by_kinds plan = (
           of_kind (λ set. ImageSettings (image_view set)) 4 (λ set. refl) plan.images.items,
           (
             of_kind (λ set. CorrelationSettings (correlation_view set)) 5 (λ set. refl) plan.correlations.items,
-            (of_kind (λ set. CubeSettings (cube_view set)) 6 (λ set. refl) plan.cubes.items, tt),
+            (
+              of_kind (λ set. CubeSettings (cube_view set)) 6 (λ set. refl) plan.cubes.items,
+              (of_kind (λ set. FoldSettings (fold_view set)) 7 (λ set. refl) plan.folds.items, tt),
+            ),
           ),
         ),
       ),
@@ -226,6 +232,54 @@ cube_keeps : (d t : Data) (p : PartSettings) → cube d t ≡ Some p → entries
 unfolding cube
 cube_keeps d t p is = cube_of_keeps (image_values d t) (bins t) p is
 
+-- as many numbers as integers
+counted : (n : ℕ) (more : Option (List ℕ)) (count : ℕ) (ns : List ℕ) → ((ms : List ℕ) → more ≡ Some ms → length ms ≡ count) → option_map (λ numbers. n ∷ numbers) more ≡ Some ns → length ns ≡ suc count
+counted n None count ns few is = cc
+counted n (Some ms) count ns few is =
+    let same : ns ≡ n ∷ ms = cc in
+    let rest : length ms ≡ count = few ms refl in
+    rw same (omega (arith, rest))
+
+first_counted : (found : Option ℕ) (most : ℕ) (ds : List Data) (ns : List ℕ) → ((low : ℕ) (ms : List ℕ) → numbers_from most low ds ≡ Some ms → length ms ≡ length ds) → option_and_then (λ n. option_map (λ numbers. n ∷ numbers) (numbers_from most (n + 1) ds)) found ≡ Some ns → length ns ≡ suc (length ds)
+first_counted None most ds ns few is = cc
+first_counted (Some n) most ds ns few is = counted n (numbers_from most (n + 1) ds) (length ds) ns (few (n + 1)) is
+
+numbers_count : (most low : ℕ) (ds : List Data) (ns : List ℕ) → numbers_from most low ds ≡ Some ns → length ns ≡ length ds
+numbers_count most low [] ns is = let same : ns ≡ [] = cc in rw same refl
+numbers_count most low (d ∷ ds) ns is = first_counted (integer_in low most d) most ds ns (λ low ms. numbers_count most low ds ms) is
+
+some_and_few : (a b : Bool) → (a && b) ≡ true → b ≡ true
+some_and_few true b is = is
+some_and_few false b is = cc
+
+among_few : (most : ℕ) (ds : List Data) (ns : List ℕ) (few : Bool) → (nat_le 1 (length ds) && nat_le (length ds) 6) ≡ few → cond few (numbers_from most 1 ds) None ≡ Some ns → length ns ≤ 6
+among_few most ds ns true few is =
+    let most_six : nat_le (length ds) 6 ≡ true = some_and_few (nat_le 1 (length ds)) (nat_le (length ds) 6) few in
+    let le : length ds ≤ 6 = grind (arith, nat_tests, most_six) in
+    omega (arith, le, numbers_count most 1 ds ns is)
+among_few most ds ns false few is = cc
+
+in_few : (most : ℕ) (found : Option Items) (ns : List ℕ) → numbers_in most found ≡ Some ns → length ns ≤ 6
+in_few most None ns is = cc
+in_few most (Some items) ns is = among_few most (list_of items) ns (nat_le 1 (length (list_of items)) && nat_le (length (list_of items)) 6) refl is
+
+numbers_few : (d t : Data) (ns : List ℕ) → numbers d t ≡ Some ns → length ns ≤ 6
+unfolding numbers
+numbers_few d t ns is = in_few (length (groups d)) (option_and_then as_array (get (codes "groups") t)) ns is
+
+fold_of_keeps : (groups : Option (List ℕ)) (window : Option ℕ) (p : PartSettings) → ((ns : List ℕ) → groups ≡ Some ns → length ns ≤ 6) → IsAtMost (2 ^ 20) window → fold_of groups window ≡ Some p → entries p ≤ 1048642
+fold_of_keeps (Some groups) (Some window) p few near is =
+    let same : p ≡ FoldSettings (record { groups = groups; window = window }) = cc in
+    let sets : 2 ^ length groups ≤ 2 ^ 6 = pow_mono (few groups refl) in
+    rw same (omega (arith, near window refl, sets))
+fold_of_keeps (Some groups) None p few near is = cc
+fold_of_keeps None window p few near is = cc
+
+fold_keeps : (d t : Data) (p : PartSettings) → fold_settings d t ≡ Some p → entries p ≤ 1048642
+unfolding fold_settings
+fold_keeps d t p is =
+    fold_of_keeps (numbers d t) (number_in 1 (2 ^ 20) (get (codes "window") t)) p (numbers_few d t) (most_read 1 (2 ^ 20) (get (codes "window") t)) is
+
 -- ## All kinds
 
 -- No table of the kind keeps more than one of its greatest settings.
@@ -245,7 +299,7 @@ kinds_keep_few d = (
           image_keeps d,
           (
             correlation_keeps d,
-            (cube_keeps d, tt),
+            (cube_keeps d, (fold_keeps d, tt)),
           ),
         ),
       ),

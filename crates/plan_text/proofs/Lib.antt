@@ -1,6 +1,7 @@
 pub mod OnLiterals
 pub mod Inputs
 pub mod Gates
+pub mod Numbers
 pub mod EachShift
 pub mod Documents
 pub mod Rise

@@ -6,7 +6,7 @@ use Rattle.tally_base.specs.declared.part.PartKind.TheVariants.{Gate, Shift}
 use Rattle.tally_base.specs.declared.event.Order.TheVariants as orders
 use Rattle.tally_base.specs.declared.event.OnReserved.TheVariants as choices
 use Rattle.tally_base.specs.Settings.{ShiftView}
-use Rattle.tally_base.specs.Settings.PartSettings.{TraceSettings, StartStopSettings, CoincidenceSettings, ImageSettings, CorrelationSettings, CubeSettings}
+use Rattle.tally_base.specs.Settings.PartSettings.{TraceSettings, StartStopSettings, CoincidenceSettings, ImageSettings, CorrelationSettings, CubeSettings, FoldSettings}
 use Rattle.plan_text.specs.Plan.{PlanView}
 use Rattle.plan_text.specs.Fits.{fits}
 use Rattle.plan_text.specs.Reading.{plan_answer}
@@ -229,6 +229,18 @@ row_settle_first = refl
 pub row_cube : plan_answer (codes "version = 2\ngroup = [{ inputs = [0] }]\ncube = [{ group = 1, width = 2048, height = 2048, dwell = 10, line = 1, frame = 2, dwidth = 5, dbins = 16 }]\n") ≡ Ok (record { order = orders.Drop; reserved = choices.Skip; records = 2 ^ 40; settle = 0; period = 1; shifts = []; groups = record { inputs = 1; gates = [] } ∷ []; parts = CubeSettings (record { image = record { group = 1; width = 2048; height = 2048; dwell = 10; line = 1; frame = Some 2; stop = None; serpentine = false }; dwidth = 5; dbins = 16 }) ∷ [] })
 unfolding plan_on_literals
 row_cube = refl
+
+pub row_fold : plan_answer (codes "version = 2\ngroup = [{ inputs = [0] }, { inputs = [1] }, { inputs = [2] }]\nfold = [{ groups = [1, 3], window = 1048576 }]\n") ≡ Ok (record { order = orders.Drop; reserved = choices.Skip; records = 2 ^ 40; settle = 0; period = 1; shifts = []; groups = record { inputs = 1; gates = [] } ∷ record { inputs = 2; gates = [] } ∷ record { inputs = 4; gates = [] } ∷ []; parts = FoldSettings (record { groups = 1 ∷ 3 ∷ []; window = 2 ^ 20 }) ∷ [] })
+unfolding plan_on_literals
+row_fold = refl
+
+pub row_fold_first : plan_answer (codes "fold = []\n") ≡ Err (PlanRule 1 0)
+unfolding plan_on_literals
+row_fold_first = refl
+
+pub row_fold_twice : plan_answer (codes "version = 2\ngroup = [{ inputs = [0] }]\nfold = [{ groups = [1, 1], window = 1 }]\n") ≡ Err (PlanRule 31 1)
+unfolding plan_on_literals
+row_fold_twice = refl
 
 pub row_cube_first : plan_answer (codes "cube = []\n") ≡ Err (PlanRule 1 0)
 unfolding plan_on_literals

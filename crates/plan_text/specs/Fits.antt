@@ -6,9 +6,9 @@ use Rattle.tally_base.specs.declared.fault.Fault.TheVariants.{PlanMode}
 use Rattle.tally_base.specs.declared.header.Mode.{Mode}
 use Rattle.tally_base.specs.declared.header.Mode.TheVariants.{T2, T3}
 use Rattle.tally_base.specs.declared.part.PartKind.{PartKind}
-use Rattle.tally_base.specs.declared.part.PartKind.TheVariants.{Gate, Shift, Histogram, StartStop, Coincidence, Image, Cube}
+use Rattle.tally_base.specs.declared.part.PartKind.TheVariants.{Gate, Shift, Histogram, StartStop, Coincidence, Image, Cube, Fold}
 use Rattle.tally_base.specs.Settings.{GroupView, ShiftView, PartSettings}
-use Rattle.tally_base.specs.Settings.PartSettings.{HistSettings, StartStopSettings, CoincidenceSettings, ImageSettings, CubeSettings}
+use Rattle.tally_base.specs.Settings.PartSettings.{HistSettings, StartStopSettings, CoincidenceSettings, ImageSettings, CubeSettings, FoldSettings}
 use Rattle.plan_text.specs.Plan.{PlanView}
 use Rattle.toml_rules.specs.Rules.{or_next, held_from, BreaksFirst, BreaksAt}
 
@@ -29,6 +29,7 @@ misfit T2 (ImageSettings set) = Some Image
 misfit T2 (CubeSettings set) = Some Cube
 misfit T3 (StartStopSettings set) = Some StartStop
 misfit T3 (CoincidenceSettings set) = Some Coincidence
+misfit T3 (FoldSettings set) = Some Fold
 misfit _ _ = None
 
 -- what is answered of a table, the first of its kind, since of a kind that doesn't suit no table suits

@@ -1,7 +1,7 @@
 -- The kinds of tables that a plan may have, all lists of tables, and the tables of each kind.
 use Rattle.std.specs.Prelude.{ℕ, List, [], ◌∷◌, ◌++◌, map}
-use Rattle.tally_base.specs.Settings.{PartSettings, hist_view, trace_view, startstop_view, coincidence_view, image_view, correlation_view, cube_view}
-use Rattle.tally_base.specs.Settings.PartSettings.{HistSettings, TraceSettings, StartStopSettings, CoincidenceSettings, ImageSettings, CorrelationSettings, CubeSettings}
+use Rattle.tally_base.specs.Settings.{PartSettings, hist_view, trace_view, startstop_view, coincidence_view, image_view, correlation_view, cube_view, fold_view}
+use Rattle.tally_base.specs.Settings.PartSettings.{HistSettings, TraceSettings, StartStopSettings, CoincidenceSettings, ImageSettings, CorrelationSettings, CubeSettings, FoldSettings}
 use Rattle.plan_text.specs.Kind.{Kind, list_of_kind}
 use Rattle.plan_text.specs.TableList.{TableList}
 use Rattle.plan_text.specs.Groups.{group_list}
@@ -12,6 +12,7 @@ use Rattle.plan_text.specs.Coincidences.{coincidence_kind}
 use Rattle.plan_text.specs.Images.{image_kind}
 use Rattle.plan_text.specs.Correlations.{correlation_kind}
 use Rattle.plan_text.specs.Cubes.{cube_kind}
+use Rattle.plan_text.specs.Folds.{fold_kind}
 use Rattle.plan_text.specs.Shifts.{shift_list}
 use Rattle.plan_text.specs.declared.plan.Plan.{Plan}
 
@@ -21,7 +22,7 @@ first_kinds = histogram_kind ∷ trace_kind ∷ startstop_kind ∷ coincidence_k
 
 -- the kinds that version 2 adds
 abbrev pub second_kinds : List Kind
-second_kinds = cube_kind ∷ []
+second_kinds = cube_kind ∷ fold_kind ∷ []
 
 -- all kinds, in the order of the report
 abbrev pub kinds : List Kind
@@ -56,4 +57,5 @@ part_lists plan =
     ∷ map (λ set. ImageSettings (image_view set)) plan.images.items
     ∷ map (λ set. CorrelationSettings (correlation_view set)) plan.correlations.items
     ∷ map (λ set. CubeSettings (cube_view set)) plan.cubes.items
+    ∷ map (λ set. FoldSettings (fold_view set)) plan.folds.items
     ∷ []

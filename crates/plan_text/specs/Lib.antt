@@ -8,6 +8,7 @@ pub mod StartStops
 pub mod Coincidences
 pub mod Images
 pub mod Cubes
+pub mod Folds
 pub mod Correlations
 pub mod Settle
 pub mod Shifts

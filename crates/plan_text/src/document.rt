@@ -46,7 +46,7 @@ pub(crate) fn records(document: &Value) -> Option<u64>
     }
 }
 
-/// Whether the document has only keys of a plan of its version. The last four came with version 2.
+/// Whether the document has only keys of a plan of its version. The last five came with version 2.
 fn has_known_keys(document: &Value) -> bool
     ensures { result ≡ has_known_keys (view document.now) }
 {
@@ -66,11 +66,12 @@ fn has_known_keys(document: &Value) -> bool
         "settle",
         "shift",
         "cube",
+        "fold",
     ];
     if is_second(document) {
         has_keys(document, &[], &keys)
     } else {
-        has_keys(document, &[], &keys[..keys.len() - 4])
+        has_keys(document, &[], &keys[..keys.len() - 5])
     }
 }
 
@@ -134,6 +135,7 @@ fn lists() -> &'static [(&'static str, usize)]
         ("correlation", 16),
         ("shift", 65),
         ("cube", 2),
+        ("fold", 8),
     ]
 }
 

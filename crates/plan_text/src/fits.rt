@@ -9,10 +9,10 @@ use tally_base::{Fault, Group, Mode, PartKind, ShiftSet};
 
 impl Plan {
     /// Whether each part suits files of a mode. T2 has no dtimes and no sync periods, so it suits no
-    /// gate, no shift, no histogram, no image and no cube. T3 suits no start-stop and no coincidence. `PlanMode`
-    /// names the first part that does not suit: gates before shifts, these before histograms, these before
-    /// images and these before cubes, start-stops before coincidences, and of a kind the least number. For
-    /// a gate it is its group's. A period by itself suits either mode.
+    /// gate, no shift, no histogram, no image and no cube. T3 suits no start-stop, no coincidence and no fold.
+    /// `PlanMode` names the first part that does not suit: gates before shifts, these before histograms, these
+    /// before images and these before cubes, start-stops before coincidences and these before folds, and of a
+    /// kind the least number. For a gate it is its group's. A period by itself suits either mode.
     pub fn fits(&self, mode: Mode) -> Result<(), Fault>
         ensures answer { result ≡ fits mode (plan_view self.now) }
         ensures first { IfErr result (IsMisfit mode (plan_view self.now)) }

@@ -13,7 +13,7 @@ use toml::Value;
 use toml_rules::held;
 
 /// The settings of one kind of tables.
-pub(crate) trait PlanKind: Copy + Default {
+pub(crate) trait PlanKind: Default + Drop {
     /// What a plan says of the kind.
     ghost kind: { Kind };
 

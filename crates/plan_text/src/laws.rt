@@ -32,10 +32,10 @@ pub fn same_tables_of_each_kind()
     ensures { (one other : Plan) → HaveSameTables one other }
 {}
 
-/// A plan that bytes answer has a bound of at most 253,356,010 entries: 48 bytes that are carried, 64 events
+/// A plan that bytes answer has a bound of at most 261,745,146 entries: 48 bytes that are carried, 64 events
 /// that are kept back, and of each kind as many tables as may be, each of the greatest settings.
 pub fn bounded()
     ensures most { (bytes : List ℕ) (view : PlanView) → plan_answer bytes ≡ Ok view
         → bound view ≤ greatest_bound }
-    ensures number { greatest_bound ≡ 253356010 }
+    ensures number { greatest_bound ≡ 261745146 }
 {}

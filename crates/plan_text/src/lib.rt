@@ -6,6 +6,7 @@ mod correlations;
 mod cubes;
 mod document;
 mod fits;
+mod folds;
 mod groups;
 mod histograms;
 mod images;
@@ -24,6 +25,8 @@ pub use read::{TEXT_LIMIT, read_plan};
 
 #[cfg(test)]
 mod cube_tests;
+#[cfg(test)]
+mod fold_tests;
 #[cfg(test)]
 mod greatest_tests;
 #[cfg(test)]

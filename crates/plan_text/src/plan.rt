@@ -4,8 +4,8 @@ ghost use Rattle.std.specs.Prelude.{◌<◌, ◌≤◌};
 use crate::kind::suit_tables;
 use arrayvec::ArrayVec;
 use tally_base::{
-    CoincidenceSet, CorrelationSet, CubeSet, Fault, Group, HistSet, ImageSet, Mode, Policy,
-    ShiftSet, StartStopSet, TraceSet,
+    CoincidenceSet, CorrelationSet, CubeSet, Fault, FoldSet, Group, HistSet, ImageSet, Mode,
+    Policy, ShiftSet, StartStopSet, TraceSet,
 };
 
 /// What a run refuses, and what it counts.
@@ -34,6 +34,8 @@ pub struct Plan {
     pub correlations: ArrayVec<CorrelationSet, 16>,
     /// The images of a scan with a histogram of dtimes in each pixel. Each is of one of the groups.
     pub cubes: ArrayVec<CubeSet, 2>,
+    /// The folds: which of up to six groups have a photon in the window that begins at a photon.
+    pub folds: ArrayVec<FoldSet, 8>,
     pub ghost few_kept_back: { policy.settle ≤ 64 },
     pub ghost some_period: { (0 < period) × (period ≤ 32768) },
 }
@@ -56,6 +58,7 @@ impl Plan {
         suit_tables(self.images.as_slice(), mode)?;
         suit_tables(self.correlations.as_slice(), mode)?;
         suit_tables(self.cubes.as_slice(), mode)?;
+        suit_tables(self.folds.as_slice(), mode)?;
         Ok(())
     }
 }

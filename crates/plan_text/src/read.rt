@@ -22,8 +22,8 @@ use crate::shifts::{keeps_shift_rules, period_or_one, shifts_of};
 use arrayvec::ArrayVec;
 use std::alloc::Global;
 use tally_base::{
-    CoincidenceSet, CorrelationSet, CubeSet, Fault, Group, HistSet, ImageSet, OnReserved, Order,
-    Policy, RECORD_LIMIT, StartStopSet, TraceSet,
+    CoincidenceSet, CorrelationSet, CubeSet, Fault, FoldSet, Group, HistSet, ImageSet, OnReserved,
+    Order, Policy, RECORD_LIMIT, StartStopSet, TraceSet,
 };
 use toml::Value;
 use toml_rules::list_at;
@@ -116,6 +116,7 @@ fn keep_rules_of_lists(document: &Value) -> Result<(), Fault>
     keeps_kind_rules::<CorrelationSet>(document)?;
     keeps_shift_rules(document)?;
     keeps_kind_rules::<CubeSet>(document)?;
+    keeps_kind_rules::<FoldSet>(document)?;
     Ok(())
 }
 
@@ -138,6 +139,7 @@ fn plan_of(document: &Value) -> Plan
         images: list_of(document),
         correlations: list_of(document),
         cubes: list_of(document),
+        folds: list_of(document),
     }
 }
 

@@ -8,7 +8,7 @@ use Rattle.tally_base.specs.declared.header.Header.{Header}
 use Rattle.tally_base.specs.declared.header.RecordType.TheVariants.{HydraHarp2T3}
 use Rattle.tally_base.specs.Hexadecimal.{hexadecimal}
 use Rattle.tally_base.specs.Settings.{PartSettings}
-use Rattle.tally_base.specs.Settings.PartSettings.{HistSettings, TraceSettings, StartStopSettings, CoincidenceSettings, ImageSettings, CorrelationSettings, CubeSettings}
+use Rattle.tally_base.specs.Settings.PartSettings.{HistSettings, TraceSettings, StartStopSettings, CoincidenceSettings, ImageSettings, CorrelationSettings, CubeSettings, FoldSettings}
 use Rattle.tally_base.specs.Tally.{History}
 use Rattle.ptu_definitions.specs.declared.records.Summary.{Summary}
 use Rattle.table_out.specs.Report.{head_text, parts_text, report, with_events}
@@ -18,6 +18,7 @@ use Rattle.table_out.specs.StartStop.{startstop_printed}
 use Rattle.table_out.specs.Coincidence.{coincidence_printed}
 use Rattle.table_out.specs.Image.{image_printed}
 use Rattle.table_out.specs.Cube.{cube_printed}
+use Rattle.table_out.specs.Fold.{fold_printed}
 use Rattle.table_out.specs.Correlation.{correlation_printed}
 
 abbrev bench_header : Header
@@ -137,6 +138,12 @@ pub row-cube : parts_text ((CubeSettings (record { image = record { group = 1; w
     ≡ codes "cube 1 width 2 height 2 dwell 10 dwidth 5 dbins 2\n0 0 0 1\n0 0 1 1\noutside 1\nover 1\n"
 unfolding cube_printed digits
 row-cube = refl
+
+-- The photon at 0 has the first two groups in its window, that at 3 all three, and the two at 5 the first and the third.
+pub row-fold : parts_text ((FoldSettings (record { groups = 1 ∷ 2 ∷ 3 ∷ []; window = 3 }), timed 1 0 ∷ stopping 2 3 ∷ (record { place = 3; kind = Photon 3 0; time = 5 }, 4) ∷ timed 4 5 ∷ []) ∷ [])
+    ≡ codes "fold 1 window 3 sets 8\n3 1\n5 2\n7 1\n"
+unfolding fold_printed digits
+row-fold = refl
 
 -- Level 0 has the lags 1 and 2, and level 1 the lag 2 alone.
 pub row-correlation : parts_text ((CorrelationSettings (record { first = 1; second = 1; lags = 2; levels = 2 }), timed 1 0 ∷ timed 2 1 ∷ timed 3 3 ∷ timed 4 4 ∷ []) ∷ [])

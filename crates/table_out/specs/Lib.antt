@@ -10,5 +10,6 @@ pub mod Coincidence
 pub mod Image
 pub mod Correlation
 pub mod Cube
+pub mod Fold
 pub mod Report
 pub mod Puts

@@ -4,7 +4,7 @@ use Rattle.std.specs.Prelude.{ℕ, ◌≡◌, ◌+◌, Bool, List, [], ◌∷◌
 use Rattle.tally_base.specs.declared.header.Header.{Header}
 use Rattle.tally_base.specs.RecordTypes.{name_of}
 use Rattle.tally_base.specs.Settings.{PartSettings}
-use Rattle.tally_base.specs.Settings.PartSettings.{HistSettings, TraceSettings, StartStopSettings, CoincidenceSettings, ImageSettings, CorrelationSettings, CubeSettings}
+use Rattle.tally_base.specs.Settings.PartSettings.{HistSettings, TraceSettings, StartStopSettings, CoincidenceSettings, ImageSettings, CorrelationSettings, CubeSettings, FoldSettings}
 use Rattle.tally_base.specs.Tally.{History}
 use Rattle.ptu_definitions.specs.declared.records.Summary.{Summary}
 use Rattle.ptu_definitions.specs.Prefixes.{each}
@@ -19,6 +19,7 @@ use Rattle.table_out.specs.Coincidence.{coincidence_printed}
 use Rattle.table_out.specs.Image.{image_printed}
 use Rattle.table_out.specs.Correlation.{correlation_printed}
 use Rattle.table_out.specs.Cube.{cube_printed}
+use Rattle.table_out.specs.Fold.{fold_printed}
 
 -- what stands before the tables
 unfoldable pub head_text : Header → Summary → List ℕ
@@ -45,6 +46,7 @@ printed (CoincidenceSettings set) = coincidence_printed set
 printed (ImageSettings set) = image_printed set
 printed (CorrelationSettings set) = correlation_printed set
 printed (CubeSettings set) = cube_printed set
+printed (FoldSettings set) = fold_printed set
 
 -- two tables of one kind have one name
 abbrev pub same_kind : PartSettings → PartSettings → Bool

@@ -7,6 +7,7 @@ mod cells;
 mod correlation;
 mod cube;
 mod event;
+mod fold;
 mod head;
 mod histogram;
 mod image;

@@ -25,6 +25,7 @@ fn word(part: &Part) -> &'static str
         Part::Image(table) => table.word(),
         Part::Correlation(table) => table.word(),
         Part::Cube(table) => table.word(),
+        Part::Fold(table) => table.word(),
     }
 }
 
@@ -69,6 +70,7 @@ fn put_part<O: Sink>(number: u64, part: &Part, block: &mut Block, out: &mut O) -
         Part::Image(table) => put_table(number, table, block, out),
         Part::Correlation(table) => put_table(number, table, block, out),
         Part::Cube(table) => put_table(number, table, block, out),
+        Part::Fold(table) => put_table(number, table, block, out),
     }
 }
 

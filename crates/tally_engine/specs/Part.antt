@@ -15,10 +15,12 @@ use Rattle.scan_image.specs.Laws as image
 use Rattle.scan_image.specs.contracts.image.ImageTally.TheImpl.{ghosts as image_ghosts}
 use Rattle.flim_cube.specs.Laws as cube
 use Rattle.flim_cube.specs.contracts.cube.FlimCubeTally.TheImpl.{ghosts as cube_ghosts}
+use Rattle.fold_count.specs.Laws as fold_laws
+use Rattle.fold_count.specs.contracts.fold.FoldTally.TheImpl.{ghosts as fold_ghosts}
 use Rattle.tau_cascade.specs.Laws as cascade
 use Rattle.tau_cascade.specs.contracts.cascade.CascadeTally.TheImpl.{ghosts as cascade_ghosts}
 use Rattle.tally_engine.specs.declared.part.Part.{Part}
-use Rattle.tally_engine.specs.declared.part.Part.TheVariants.{Hist as InHist, Trace as InTrace, StartStop as InStartStop, Coincidence as InCoincidence, Image as InImage, Correlation as InCorrelation, Cube as InCube}
+use Rattle.tally_engine.specs.declared.part.Part.TheVariants.{Hist as InHist, Trace as InTrace, StartStop as InStartStop, Coincidence as InCoincidence, Image as InImage, Correlation as InCorrelation, Cube as InCube, Fold as InFold}
 
 -- what a table of any kind has
 abbrev pub by_kind {ℓ} : {X : Type ℓ} → ((T : Type 0) → Ghosts T → T → X) → Part → X
@@ -29,6 +31,7 @@ by_kind has (InCoincidence t) = has _ pairs_ghosts t
 by_kind has (InImage t) = has _ image_ghosts t
 by_kind has (InCorrelation t) = has _ cascade_ghosts t
 by_kind has (InCube t) = has _ cube_ghosts t
+by_kind has (InFold t) = has _ fold_ghosts t
 
 -- What holds of every table, of whatever kind.
 pub record Laws (p : Part) : Type 0 where
@@ -44,3 +47,4 @@ laws_of (InCoincidence t) = record { taken_is = pairs.taken_is t; floor_is = pai
 laws_of (InImage t) = record { taken_is = image.taken_is t; floor_is = image.floor_is t; within = image.within_bound t }
 laws_of (InCorrelation t) = record { taken_is = cascade.taken_is t; floor_is = cascade.floor_is t; within = cascade.within_bound t }
 laws_of (InCube t) = record { taken_is = cube.taken_is t; floor_is = cube.floor_is t; within = cube.within_bound t }
+laws_of (InFold t) = record { taken_is = fold_laws.taken_is t; floor_is = fold_laws.floor_is t; within = fold_laws.within_bound t }

@@ -123,11 +123,21 @@ pub(crate) fn flush<L: Ledger>(
         (taken_with reached.old (gathered block.old))
         (floor_with mode reached.old (gathered block.old)) }
 {
-    shift(gates, block);
-    sort(gates, block);
+    sort_events(gates, block);
     give_all(parts, block, steps);
     reached.pass_block(mode, block);
     block.clear();
+}
+
+/// Shifts the dtimes of the photons of a block, and finds the groups of its events.
+pub fn sort_events(gates: &Gates, block: &mut Block)
+    requires { sorted block.old ≡ 0 }
+    ensures shifted { gathered block.new ≡ map (shifted (sorting_of gates.now)) (gathered block.old) }
+    ensures sorted { events_in block.new ≡ with_groups (sorting_of gates.now) (gathered block.old) }
+    ensures ready { IsSorted block.new }
+{
+    shift(gates, block);
+    sort(gates, block);
 }
 
 /// Shifts the dtimes of the photons of a block, if an input has a shift.

@@ -11,6 +11,7 @@ mod part_taker;
 mod reached;
 
 pub use engine::{Engine, Results};
+pub use give::sort_events;
 pub use part::Part;
 
 #[cfg(test)]

@@ -3,6 +3,7 @@ use coincidence::{Coincidence, StartStop};
 use count_trace::Trace;
 use event_block::Block;
 use flim_cube::FlimCube;
+use fold_count::Fold;
 use scan_image::Image;
 use std::sync::ledger::Ledger;
 use tally_base::{Event, Steps, Tally};
@@ -26,6 +27,8 @@ pub enum Part {
     Correlation(Cascade),
     /// An image of a scan with a histogram of dtimes in each pixel.
     Cube(FlimCube),
+    /// The sets of groups that have a photon in a window.
+    Fold(Fold),
 }
 
 impl Tally for Part {
@@ -59,6 +62,7 @@ impl Tally for Part {
             Part::Image(t) => t.event(e, groups, steps),
             Part::Correlation(t) => t.event(e, groups, steps),
             Part::Cube(t) => t.event(e, groups, steps),
+            Part::Fold(t) => t.event(e, groups, steps),
         }
     }
 
@@ -71,6 +75,7 @@ impl Tally for Part {
             Part::Image(t) => t.close(steps),
             Part::Correlation(t) => t.close(steps),
             Part::Cube(t) => t.close(steps),
+            Part::Fold(t) => t.close(steps),
         }
     }
 }
@@ -95,6 +100,7 @@ impl Part {
             Part::Image(t) => t.events(block),
             Part::Correlation(t) => t.events(block, steps),
             Part::Cube(t) => t.events(block),
+            Part::Fold(t) => t.events(block),
         }
     }
 }

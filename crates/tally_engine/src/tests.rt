@@ -140,15 +140,17 @@ fn image_counts(alloc: Global, image: &Image) -> Result<Vec<u64>, AllocError> {
     Ok(counts)
 }
 
-/// The cells of a table, and then its rest counts. Tables of pairs, whose cells only a closed one shows,
-/// and cubes have none here: whole runs are tested with them.
+/// The cells of a table, and then its rest counts. Tables of pairs and folds, whose cells only a closed
+/// one shows, and cubes have none here: whole runs are tested with them.
 fn counts(alloc: Global, part: &Part) -> Result<Vec<u64>, AllocError> {
     match part {
         Part::Hist(hist) => hist_counts(alloc, hist),
         Part::Trace(trace) => trace_counts(alloc, trace),
         Part::StartStop(table) => startstop_counts(alloc, table),
         Part::Image(image) => image_counts(alloc, image),
-        Part::Coincidence(_) | Part::Correlation(_) | Part::Cube(_) => Ok(Vec::new(alloc)),
+        Part::Coincidence(_) | Part::Correlation(_) | Part::Cube(_) | Part::Fold(_) => {
+            Ok(Vec::new(alloc))
+        }
     }
 }
 

@@ -20,3 +20,6 @@ returns-in-Correlation g c = rw c.in-Correlation.is (record { all = c.put_table-
 
 pub returns-in-Cube : goal.returns-in-Cube
 returns-in-Cube g c = rw c.in-Cube.is (record { all = c.put_table-in-Cube.ensures.all; short = c.put_table-in-Cube.ensures.short; cause = c.put_table-in-Cube.ensures.cause })
+
+pub returns-in-Fold : goal.returns-in-Fold
+returns-in-Fold g c = rw c.in-Fold.is (record { all = c.put_table-in-Fold.ensures.all; short = c.put_table-in-Fold.ensures.short; cause = c.put_table-in-Fold.ensures.cause })

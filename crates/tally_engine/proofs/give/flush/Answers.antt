@@ -5,32 +5,32 @@ use Rattle.event_block.specs.Order.{floor_after}
 use Rattle.gate_plan.specs.Groups.{sorting_of}
 use Rattle.gate_plan.specs.Shifting.{shifted}
 use Rattle.record_stream.specs.Blocks.{orders_markers}
-use Rattle.tally_engine.specs.Histories.{grouped, with_groups}
+use Rattle.tally_engine.specs.Histories.{with_groups}
 use Rattle.tally_engine.specs.contracts.part.PartTally.TheImpl.{ghosts}
 use Rattle.tally_engine.proofs.Shifts.{can_take-shifted, took-shifted, floor-shifted}
 use Rattle.tally_engine.proofs.give.flush.Goals as goal
 
 pub give_all-requires : goal.give_all-requires
 give_all-requires g c = record {
-  sorted = c.sort.ensures.ready;
-  may = λ k d within. can_take-shifted ghosts (sorting_of c.args.gates.now) (gathered c.args.block.now) (gathered c.sort.new.block) _ (c.sort.ensures.same ∙ c.shift.ensures.shifted) (c.requires.may k d within);
+  sorted = c.sort_events.ensures.ready;
+  may = λ k d within. can_take-shifted ghosts (sorting_of c.args.gates.now) (gathered c.args.block.now) (gathered c.sort_events.new.block) _ c.sort_events.ensures.shifted (c.requires.may k d within);
 }
 
 pub pass_block-requires : goal.pass_block-requires
 pass_block-requires g c =
     let by = sorting_of c.args.gates.now in
     let same : length (map (shifted by) (gathered c.args.block.now)) ≡ length (gathered c.args.block.now) = simp length-map in
-    omega (arith, c.requires.room, same, ap length (c.sort.ensures.same ∙ c.shift.ensures.shifted))
+    omega (arith, c.requires.room, same, ap length c.sort_events.ensures.shifted)
 
 pub returns : goal.returns
 returns g c =
     let by = sorting_of c.args.gates.now in
     let es = gathered c.args.block.now in
-    let is : gathered c.sort.new.block ≡ map (shifted by) es = c.sort.ensures.same ∙ c.shift.ensures.shifted in
-    let more : events_in c.sort.new.block ≡ with_groups by es = c.sort.ensures.sorted ∙ ap (grouped by.groups) c.shift.ensures.shifted in
+    let is : gathered c.sort_events.new.block ≡ map (shifted by) es = c.sort_events.ensures.shifted in
+    let more : events_in c.sort_events.new.block ≡ with_groups by es = c.sort_events.ensures.sorted in
     let same : length (map (shifted by) es) ≡ length es = simp length-map in
     record {
-      took = λ k d within. took-shifted ghosts by es (gathered c.sort.new.block) (with_groups by es) _ _ is (rw more at (c.give_all.ensures.took k d within));
+      took = λ k d within. took-shifted ghosts by es (gathered c.sort_events.new.block) (with_groups by es) _ _ is (rw more at (c.give_all.ensures.took k d within));
       given = record {
         empty = c.clear.ensures.empty;
         taken = omega (arith, c.pass_block.ensures.taken, same, ap length is);

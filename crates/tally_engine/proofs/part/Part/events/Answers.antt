@@ -41,3 +41,9 @@ events-requires-in-Cube-clause-may g c = let can = rw c.in-Cube.is at c.requires
 
 pub returns-in-Cube : goal.returns-in-Cube
 returns-in-Cube g c = let took = c.events-in-Cube.ensures in rw c.in-Cube.is (record { follows = took.follows; still_open = took.still_open; count = took.count; moved = took.moved; same_settings = took.same_settings })
+
+pub events-requires-in-Fold-clause-may : goal.events-requires-in-Fold-clause-may
+events-requires-in-Fold-clause-may g c = let can = rw c.in-Fold.is at c.requires.may in record { open' = can.open'; room = can.room; in_order = can.in_order }
+
+pub returns-in-Fold : goal.returns-in-Fold
+returns-in-Fold g c = let took = c.events-in-Fold.ensures in rw c.in-Fold.is (record { follows = took.follows; still_open = took.still_open; count = took.count; moved = took.moved; same_settings = took.same_settings })

@@ -20,3 +20,6 @@ returns-in-Correlation-clause-keeps g c = λ h is. c.close-in-Correlation.ensure
 
 pub returns-in-Cube-clause-keeps : goal.returns-in-Cube-clause-keeps
 returns-in-Cube-clause-keeps g c = λ h is. c.close-in-Cube.ensures.keeps h (rw c.in-Cube.is at is)
+
+pub returns-in-Fold-clause-keeps : goal.returns-in-Fold-clause-keeps
+returns-in-Fold-clause-keeps g c = λ h is. c.close-in-Fold.ensures.keeps h (rw c.in-Fold.is at is)

@@ -20,3 +20,6 @@ returns-in-Correlation-clause-follows g c = λ h is. c.event-in-Correlation.ensu
 
 pub returns-in-Cube-clause-follows : goal.returns-in-Cube-clause-follows
 returns-in-Cube-clause-follows g c = λ h is. c.event-in-Cube.ensures.follows h (rw c.in-Cube.is at is)
+
+pub returns-in-Fold-clause-follows : goal.returns-in-Fold-clause-follows
+returns-in-Fold-clause-follows g c = λ h is. c.event-in-Fold.ensures.follows h (rw c.in-Fold.is at is)

@@ -1,0 +1,142 @@
+-- The bins before a tick are counted.
+use Rattle.std.proofs.Common.{◌≡◌, ◌∙◌, ℕ, ◌+◌, ◌^◌, ◌<◌, ◌≤◌, Bool, true, false, ◌&&◌, cond, ltb, leb, eqb, List, [], ◌∷◌, ◌++◌, length, get_or, refl, sym, arith, ⊎_elim}
+use Rattle.std.specs.Prelude.{slice_index}
+use Rattle.std.specs.List.{list_any, count_by, AllByRecursion}
+use Rattle.std.proofs.lemmas.Bool.{cases_lt}
+use Rattle.std.proofs.lemmas.Bool.Decides.{nat_tests}
+use Rattle.std.proofs.lemmas.List.Folds.{list_any_at}
+use Rattle.tally_base.specs.declared.event.Event.{Event}
+use Rattle.tally_base.specs.Events.{is_photon, is_in}
+use Rattle.tally_base.specs.Settings.{FoldView}
+use Rattle.tally_base.specs.Tally.{History}
+use Rattle.lag_ring.specs.declared.ring.Entry.{Entry}
+use Rattle.lag_ring.proofs.Rising.{all_weaker}
+use Rattle.fold_count.specs.FoldCounts.{is_of, is_of_any, is_seen, seen_set}
+use Rattle.fold_count.specs.Folded.{photons_where, set_by, is_from, Parted, AreCounts}
+use Rattle.fold_count.proofs.Numbers.{number_agree}
+use Rattle.fold_count.proofs.Lists.{any_agree, count_agree, count_parts}
+use Rattle.fold_count.proofs.Bins.{where_push}
+
+both_true : (a b : Bool) → (a && b) ≡ true → (a ≡ true) × (b ≡ true)
+both_true true true is = (refl, refl)
+both_true true false is = (refl, is)
+both_true false b is = (is, cc)
+
+-- a photon of a group is one of at least one of them
+pub of_any : (groups : List ℕ) (x : Event × ℕ) (k : ℕ) → k < length groups → is_of (get_or groups k 0) x ≡ true → is_of_any groups x ≡ true
+of_any groups x k inside is =
+    let parts = both_true (is_photon x.0) (is_in x.1 (get_or groups k 0)) is in
+    rw (parts.0, list_any_at (λ group. is_in x.1 group) groups k 0 inside parts.1) refl
+
+within : (of from to : Bool) → (of ≡ true → to ≡ true) → (of && (from && to)) ≡ (of && from)
+within false from to is = refl
+within true from to is = rw (is refl) (and_true from)
+  where
+    and_true : (b : Bool) → (b && true) ≡ b
+    and_true true = refl
+    and_true false = refl
+
+-- a photon that is seen by a time is one from there on, where no photon comes behind the window
+seen_from : (set : FoldView) (tick front t k : ℕ) (x : Event × ℕ) → tick ≤ front + set.window → front ≤ t → k < length set.groups → (is_of_any set.groups x ≡ true → x.0.time ≤ tick) → is_seen set.window t (get_or set.groups k 0) x ≡ is_from (get_or set.groups k 0) t x
+seen_from set tick front t k x near from inside upto =
+    within (is_of (get_or set.groups k 0) x) (leb t x.0.time) (leb x.0.time (t + set.window))
+    (λ of. let le : x.0.time ≤ tick = upto (of_any set.groups x k inside of) in grind (arith, nat_tests, near, from, le))
+
+-- where no photon is behind a window, its set is that of the groups with a photon from its first tick on
+pub known : (set : FoldView) (ends : List ℕ) (tick front : ℕ) (h : History) → length ends ≡ length set.groups → tick ≤ front + set.window
+    → AllByRecursion (λ x. is_of_any set.groups x ≡ true → x.0.time ≤ tick) h
+    → ((k t : ℕ) → k < length set.groups → ltb t (slice_index ends k) ≡ list_any (is_from (slice_index set.groups k) t) h)
+    → (t : ℕ) → front ≤ t → seen_set set h t ≡ set_by ends t
+known set ends tick front h ended near upto seen t from =
+    number_agree (λ group. list_any (is_seen set.window t group) h) (λ last. ltb t last) set.groups ends 0 0 (sym ended)
+    (λ k inside.
+    any_agree (λ x. is_of_any set.groups x ≡ true → x.0.time ≤ tick) (is_seen set.window t (get_or set.groups k 0)) (is_from (get_or set.groups k 0) t) h upto (λ x le. seen_from set tick front t k x near from inside le)
+    ∙ sym (seen k t inside))
+
+-- A photon is before the front, or between it and a later one, or neither.
+pieces : (any : Bool) (t front before pat digits s : ℕ) → front ≤ before → (any ≡ true → front ≤ t → pat ≡ digits)
+    → cond (any && (ltb t front && eqb pat s)) 1 0 + cond (any && (leb front t && (ltb t before && eqb digits s))) 1 0 ≡ cond (any && (ltb t before && eqb pat s)) 1 0
+pieces false t front before pat digits s le same = refl
+pieces true t front before pat digits s le same =
+    ⊎_elim
+    (λ (lt : t < front).
+    let e1 : ltb t front ≡ true = grind (arith, nat_tests, lt) in
+    let e2 : leb front t ≡ false = grind (arith, nat_tests, lt) in
+    let e3 : ltb t before ≡ true = grind (arith, nat_tests, lt, le) in
+    rw (e1, e2, e3) (omega arith))
+    (λ (from : front ≤ t).
+    let e1 : ltb t front ≡ false = grind (arith, nat_tests, from) in
+    let e2 : leb front t ≡ true = grind (arith, nat_tests, from) in
+    let e3 : pat ≡ digits = same refl from in
+    rw (e1, e2, e3) (omega arith))
+    (cases_lt t front)
+
+-- what is kept from a later front on
+later : (any : Bool) (t front before : ℕ) (test : Bool) → front ≤ before → (any && (leb front t && (leb before t && test))) ≡ (any && (leb before t && test))
+later false t front before test le = refl
+later true t front before test le =
+    ⊎_elim
+    (λ (lt : t < before). let e : leb before t ≡ false = grind (arith, nat_tests, lt) in rw e (and_false (leb front t)))
+    (λ (from : before ≤ t). let e : leb front t ≡ true = grind (arith, nat_tests, from, le) in rw e refl)
+    (cases_lt t before)
+  where
+    and_false : (b : Bool) → (b && false) ≡ false
+    and_false true = refl
+    and_false false = refl
+
+everywhere : (any : Bool) (t tick before : ℕ) (test : Bool) → tick < before → (any ≡ true → t ≤ tick) → (any && (ltb t before && test)) ≡ (any && test)
+everywhere false t tick before test lt upto = refl
+everywhere true t tick before test lt upto =
+    let le : t ≤ tick = upto refl in
+    let e : ltb t before ≡ true = grind (arith, nat_tests, lt, le) in
+    rw e refl
+
+module _ (set : FoldView) (cells ends : List ℕ) (bins : List Entry) (tick front : ℕ) (h : History) (is : Parted set cells ends bins tick front h) (ended : length ends ≡ length set.groups) (near : tick ≤ front + set.window) (before : ℕ) (le : front ≤ before) where
+  -- the cells once the bins before a tick are counted
+  counted_before : (s cell cell' : ℕ) → cell ≡ count_by (λ x. is_of_any set.groups x && (ltb x.0.time front && eqb (seen_set set h x.0.time) s)) h
+      → cell' ≡ cell + photons_where (λ t. ltb t before && eqb (set_by ends t) s) bins
+      → cell' ≡ count_by (λ x. is_of_any set.groups x && (ltb x.0.time before && eqb (seen_set set h x.0.time) s)) h
+  counted_before s cell cell' was now =
+      let more = is.kept (λ t. ltb t before && eqb (set_by ends t) s) in
+      let all = count_parts (λ x. is_of_any set.groups x ≡ true → x.0.time ≤ tick)
+      (λ x. is_of_any set.groups x && (ltb x.0.time front && eqb (seen_set set h x.0.time) s))
+      (λ x. is_of_any set.groups x && (leb front x.0.time && (ltb x.0.time before && eqb (set_by ends x.0.time) s)))
+      (λ x. is_of_any set.groups x && (ltb x.0.time before && eqb (seen_set set h x.0.time) s))
+      h is.upto (λ x upto. pieces (is_of_any set.groups x) x.0.time front before (seen_set set h x.0.time) (set_by ends x.0.time) s le (λ any from. known set ends tick front h ended near is.upto is.seen x.0.time from)) in
+      omega (arith, was, now, more, all)
+
+  -- and the bins that are kept then
+  kept_from : (test : ℕ → Bool) → photons_where (λ t. leb before t && test t) bins ≡ count_by (λ x. is_of_any set.groups x && (leb before x.0.time && test x.0.time)) h
+  kept_from test =
+      is.kept (λ t. leb before t && test t)
+      ∙ count_agree (λ x. is_of_any set.groups x ≡ true → x.0.time ≤ tick)
+      (λ x. is_of_any set.groups x && (leb front x.0.time && (leb before x.0.time && test x.0.time)))
+      (λ x. is_of_any set.groups x && (leb before x.0.time && test x.0.time))
+      h is.upto (λ x upto. later (is_of_any set.groups x) x.0.time front before (test x.0.time) le)
+
+  -- A bin without photons opens at a later tick.
+  pub parted_later : (cells' : List ℕ) (kept : List Entry) (bin : Entry) → tick ≤ bin.index → bin.a ≡ 0
+      → ((s : ℕ) → s < 2 ^ length set.groups → slice_index cells' s ≡ slice_index cells s + photons_where (λ t. ltb t before && eqb (set_by ends t) s) bins)
+      → ((test : ℕ → Bool) → photons_where test kept ≡ photons_where (λ t. leb before t && test t) bins)
+      → Parted set cells' ends (kept ++ bin ∷ []) bin.index before h
+  parted_later cells' kept bin after none now keeps = record {
+    counted = λ s inside. counted_before s (slice_index cells s) (slice_index cells' s) (is.counted s inside) (now s inside);
+    kept = λ test. omega (arith, where_push test kept bin, no_photons (test bin.index) bin.a none, keeps test, kept_from test);
+    seen = is.seen;
+    upto = all_weaker (λ x. is_of_any set.groups x ≡ true → x.0.time ≤ tick) (λ x. is_of_any set.groups x ≡ true → x.0.time ≤ bin.index) (λ x upto any. let below : x.0.time ≤ tick = upto any in omega (arith, below, after)) h is.upto;
+  }
+    where
+      no_photons : (b : Bool) (n : ℕ) → n ≡ 0 → cond b n 0 ≡ 0
+      no_photons true n is = is
+      no_photons false n is = refl
+
+  -- Where all bins are before the tick, the cells are the counts.
+  pub counts_all : (cells' : List ℕ) → tick < before
+      → ((s : ℕ) → s < 2 ^ length set.groups → slice_index cells' s ≡ slice_index cells s + photons_where (λ t. ltb t before && eqb (set_by ends t) s) bins)
+      → AreCounts set cells' h
+  counts_all cells' behind now = λ s inside.
+      counted_before s (slice_index cells s) (slice_index cells' s) (is.counted s inside) (now s inside)
+      ∙ count_agree (λ x. is_of_any set.groups x ≡ true → x.0.time ≤ tick)
+      (λ x. is_of_any set.groups x && (ltb x.0.time before && eqb (seen_set set h x.0.time) s))
+      (λ x. is_of_any set.groups x && eqb (seen_set set h x.0.time) s)
+      h is.upto (λ x upto. everywhere (is_of_any set.groups x) x.0.time tick before (eqb (seen_set set h x.0.time) s) behind upto)

@@ -1,0 +1,55 @@
+use Rattle.std.proofs.Common.{◌≡◌, ◌∙◌, ◌++◌, false, length, refl, sym, ap, rules, arith, length-append}
+use Rattle.tally_base.specs.Settings.{fold_view}
+use Rattle.tally_base.specs.Tally.{greatest_time}
+use Rattle.event_block.specs.Columns.{item, gathered, events_in}
+use Rattle.event_block.specs.Order.{floor_after, InOrder}
+use Rattle.event_block.proofs.Rows.{length-rows}
+use Rattle.event_block.proofs.Greatest.{greatest-rows}
+use Rattle.event_block.proofs.Lower.{order-lower, floor-lower}
+use Rattle.event_block.proofs.Slices.{whole_slice}
+use Rattle.fold_count.proofs.Pushed.{open_counts, counts_open}
+use Rattle.fold_count.proofs.fold.Fold.events.Goals as goal
+
+pub put_block-self-requires-clause-in_order : goal.put_block-self-requires-clause-in_order
+put_block-self-requires-clause-in_order c = let t = c.args.self.now in order-lower false t.bin.index t.floor (gathered c.args.block.now) t.begun c.requires.may.in_order
+
+pub invariant_of-self : goal.invariant_of-self
+invariant_of-self c =
+    let t = c.args.self.now in
+    let es = gathered c.args.block.now in
+    let e = rw (c.deref_mut.ensures.value, c.deref_mut-2.ensures.value) at c.put_block-self.ensures in
+    let count : length c.put_block-self.new.cells ≡ length t.cells.items = search rules in
+    let all : t.cells.len ≡ length t.cells.items = search rules in
+    let count_ends : length c.put_block-self.new.ends ≡ length t.ends.items = search rules in
+    let all_ends : t.ends.len ≡ length t.ends.items = search rules in
+    record {
+      sound = rw (whole_slice c.put_block-self.new.cells t.cells.items t.cells.len count all, whole_slice c.put_block-self.new.ends t.ends.items t.ends.len count_ends all_ends) e.sound;
+      few = omega (arith, c.requires.may.room, c.len.ensures.value);
+      small = rw (whole_slice c.put_block-self.new.cells t.cells.items t.cells.len count all) (omega (arith, e.few, t.small, c.len.ensures.value));
+      begun = rw c.floor_after-self.ensures (omega (arith, e.begun, floor-lower false t.bin.index t.floor es t.begun));
+    }
+
+pub returns : goal.returns
+returns c = record {
+  follows = λ h is.
+      let t = c.args.self.now in
+      let set = fold_view t.set in
+      let block = c.args.block.now in
+      let e = rw (c.deref_mut.ensures.value, c.deref_mut-2.ensures.value) at c.put_block-self.ensures in
+      let count : length c.put_block-self.new.cells ≡ length t.cells.items = search rules in
+      let all : t.cells.len ≡ length t.cells.items = search rules in
+      let count_ends : length c.put_block-self.new.ends ≡ length t.ends.items = search rules in
+      let all_ends : t.ends.len ≡ length t.ends.items = search rules in
+      let ordered : InOrder false (greatest_time false h) (gathered block) = rw (← is.floor) c.requires.may.in_order in
+      let now = e.follows h (open_counts t.closed set t.cells.items t.ends.items t.ring t.bin h c.requires.may.open' is.counts) in
+      record {
+        counts = rw (whole_slice c.put_block-self.new.cells t.cells.items t.cells.len count all, whole_slice c.put_block-self.new.ends t.ends.items t.ends.len count_ends all_ends)
+            (counts_open t.closed set c.put_block-self.new.cells c.put_block-self.new.ends c.put_block-self.new.ring c.put_block-self.result (h ++ events_in block) c.requires.may.open' now);
+        taken = omega (arith, is.taken, c.len.ensures.count, length-append h (events_in block), length-rows (item block) block.len);
+        floor = c.floor_after-self.ensures ∙ ap (λ n. floor_after false n (gathered block)) is.floor ∙ sym (greatest-rows false h (item block) block.len ordered);
+      };
+  still_open = c.requires.may.open';
+  count = search (rules, arith);
+  moved = c.floor_after-self.ensures;
+  same_settings = refl;
+}

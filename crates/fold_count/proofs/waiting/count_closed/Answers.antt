@@ -1,0 +1,16 @@
+use Rattle.std.proofs.Common.{ap, arith}
+use Rattle.std.specs.Prelude.{nat_lt}
+use Rattle.lag_ring.proofs.Rising.{rising_front, rising_back}
+use Rattle.fold_count.specs.Folded.{photons_in}
+use Rattle.fold_count.proofs.Bins.{where_at_most, photons_append}
+use Rattle.fold_count.proofs.waiting.count_closed.Goals as goal
+
+pub count_front-requires-clause-rising : goal.count_front-requires-clause-rising
+count_front-requires-clause-rising c = rising_front c.slices.result.0.now c.slices.result.1.now (rw c.slices.ensures.entries c.slices.ensures.rising)
+
+pub count_front-requires-2-clause-rising : goal.count_front-requires-2-clause-rising
+count_front-requires-2-clause-rising c = rising_back c.slices.result.0.now c.slices.result.1.now (rw c.slices.ensures.entries c.slices.ensures.rising)
+
+pub count_front-requires-2-clause-room : goal.count_front-requires-2-clause-room
+count_front-requires-2-clause-room c =
+    omega (arith, c.count_front.ensures.sum, where_at_most (λ tick. nat_lt tick c.args.before) c.slices.result.0.now, photons_append c.slices.result.0.now c.slices.result.1.now, ap photons_in c.slices.ensures.entries, c.requires.room)

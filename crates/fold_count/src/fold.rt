@@ -1,0 +1,166 @@
+// A fold: the sets of groups that have a photon in a window.
+ghost use Rattle.std.specs.Prelude.{◌≡◌, ◌+◌, ◌≤◌, false, sum};
+ghost use Rattle.tally_base.specs.Settings.{fold_view};
+ghost use Rattle.tally_base.specs.Tally.{History};
+ghost use Rattle.tally_base.specs.Limits.{record_limit};
+ghost use Rattle.fold_count.specs.Folded.{IsSound, IsSound-prop, waiting, photons_in};
+
+use crate::taking::{count_all, put_block, put_event};
+use event_block::Block;
+use lag_ring::{Entry, LagRing};
+use std::alloc::{AllocError, Global};
+use std::sync::ledger::Ledger;
+use tally_base::{Event, FoldSet, Steps, Tally, floor_behind};
+
+/// Counts the photons of up to six groups by which of these groups have a photon in the window that begins
+/// at the photon, itself and others of its tick among them.
+///
+/// A set of groups is a number: bit k - 1 is set for the k-th group of the fold. A window ends `window`
+/// ticks after the photon, that tick included.
+#[derive(Drop)]
+pub struct Fold {
+    set: FoldSet,
+    cells: Vec<u64>,
+    // For each group the first tick behind its last photon, or 0.
+    ends: Vec<u64>,
+    // The bins before the open one that the window of a photon at its tick may not have left.
+    ring: LagRing,
+    // The photons of the last tick that had one.
+    bin: Entry,
+    taken: u64,
+    floor: u64,
+    closed: bool,
+    ghost sound: { IsSound (fold_view set) cells.items ends.items ring bin } by { IsSound-prop (fold_view set) cells.items ends.items ring bin },
+    ghost few: { taken ≤ record_limit },
+    ghost small: { sum cells.items + photons_in (waiting ring bin) ≤ taken },
+    ghost begun: { bin.index ≤ floor },
+}
+
+impl Fold {
+    ghost use Rattle.std.specs.Prelude.{◌<◌, ◌++◌, ◌^◌, length, true, IfOk, []};
+    ghost use Rattle.event_block.specs.Columns.{gathered, events_in, IsSorted};
+    ghost use Rattle.event_block.specs.Tables.{MayTake, HasTaken};
+    ghost use Rattle.tally_base.specs.Settings.PartSettings.{FoldSettings};
+    ghost use Rattle.fold_count.specs.FoldCounts.{in_set};
+    ghost use Rattle.fold_count.specs.Fold.{Holds, set_of};
+
+    /// A fold of no events, with all the memory that it ever takes, or `AllocError` where it is wanting.
+    pub fn open(alloc: Global, set: FoldSet) -> Result<Fold, AllocError>
+        ensures set { IfOk result (λ t. fold_view (set_of t) ≡ fold_view set) }
+        ensures settings { IfOk result (λ t.
+            ⟦<Fold as Tally>⟧.settings t ≡ FoldSettings (fold_view set)) }
+        ensures empty { IfOk result (λ t. Holds t []) }
+        ensures opened { IfOk result (λ t. ⟦<Fold as Tally>⟧.closed t ≡ false) }
+    {
+        let cells = vec![in alloc; 0; 1 << set.groups.len()]?;
+        let ends = vec![in alloc; 0; set.groups.len()]?;
+        let ring = LagRing::open(alloc, set.window)?;
+        Ok(Fold {
+            set,
+            cells,
+            ends,
+            ring,
+            bin: Entry {
+                index: 0,
+                a: 0,
+                b: 0,
+            },
+            taken: 0,
+            floor: 0,
+            closed: false,
+        })
+    }
+
+    /// What it was opened with.
+    pub fn set(&self) -> &FoldSet
+        ensures { result.now ≡ set_of self.now }
+    {
+        &self.set
+    }
+
+    /// How many sets there are, 2^n where there are n groups: at most 64.
+    pub fn sets(&self) -> u32
+        ensures { result ≡ 2 ^ length (fold_view (set_of self.now)).groups }
+    {
+        1 << self.set.groups.len() as u32
+    }
+
+    /// How many photons have exactly the groups of `set` in their window, which is below 2^n where there are
+    /// n groups. Before the fold is closed, those are left out whose window a photon may still come into.
+    pub fn cell(&self, set: u32) -> u64
+        requires { set < 2 ^ length (fold_view (set_of self.now)).groups }
+        ensures { ⟦<Fold as Tally>⟧.closed self.now ≡ true → (h : History) → Holds self.now h
+            → result ≡ in_set (fold_view (set_of self.now)) set h }
+    {
+        self.cells[set as usize]
+    }
+
+    /// Takes the events of a block, as `event` does one by one.
+    pub fn events(&mut self, block: &Block)
+        requires sorted { IsSorted block.now }
+        requires may { MayTake ⟦<Fold as Tally>⟧ (gathered block.now) self.old }
+        ensures { HasTaken ⟦<Fold as Tally>⟧ (gathered block.now) (events_in block.now)
+            self.old self.new }
+    {
+        self.taken += block.len() as u64;
+        self.floor = block.floor_after(false, self.floor);
+        self.bin = put_block(
+            &mut self.cells,
+            &mut self.ends,
+            &mut self.ring,
+            self.bin,
+            &self.set,
+            block,
+        );
+    }
+}
+
+impl Tally for Fold {
+    ghost use Rattle.std.specs.Prelude.{length};
+    ghost use Rattle.fold_count.specs.Fold.{Holds, settings, held};
+    ghost use Rattle.fold_count.specs.Laws.{taken_is, floor_is, within_bound};
+
+    ghost holds = { Holds };
+
+    ghost taken = { λ t. t.taken };
+
+    ghost floor = { λ t. t.floor };
+
+    // The ends of the groups are no entries.
+    ghost held = { held };
+
+    ghost settings = { settings };
+
+    ghost closed = { λ t. t.closed };
+
+    ghost taken_is = { taken_is };
+
+    ghost floor_is = { floor_is };
+
+    ghost within = { within_bound };
+
+    fn event<L: Ledger>(&mut self, e: &Event, groups: u64, _steps: &mut Steps<L>) {
+        self.taken += 1;
+        self.floor = floor_behind(self.floor, e);
+        self.bin = put_event(
+            &mut self.cells,
+            &mut self.ends,
+            &mut self.ring,
+            self.bin,
+            &self.set,
+            e,
+            groups,
+        );
+    }
+
+    fn close<L: Ledger>(&mut self, _steps: &mut Steps<L>) {
+        self.closed = true;
+        self.bin = count_all(
+            &mut self.cells,
+            &self.ends,
+            &mut self.ring,
+            self.bin,
+            &self.set,
+        );
+    }
+}

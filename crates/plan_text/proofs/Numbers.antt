@@ -1,0 +1,43 @@
+-- Numbers of groups that rise, one at a time.
+use Rattle.std.proofs.Common.{◌≡◌, refl, ap, sym, ◌∙◌, ℕ, ◌+◌, ◌<◌, ◌≤◌, List, [], ◌∷◌, ◌++◌, map, drop, length, get_or, Option, None, Some, option_map, arith}
+use Rattle.toml.specs.Data.{Data}
+use Rattle.toml.specs.declared.value.Value.{Value}
+use Rattle.toml.specs.View.{view}
+use Rattle.tally_base.specs.Gates.{AreGroups}
+use Rattle.toml_rules.specs.Values.{integer_in}
+use Rattle.plan_text.specs.Folds.{numbers_from}
+use Rattle.plan_text.proofs.Inputs.{first_of}
+
+-- Numbers that rise, each above low, and are below last.
+abbrev pub NumbersTo : ℕ → ℕ → List ℕ → Type 0
+NumbersTo last low [] = low < last
+NumbersTo last low (n ∷ ns) = (low < n) × (n ≤ 64) × NumbersTo last n ns
+
+pub numbers_further : (last low : ℕ) (ns : List ℕ) (n : ℕ) → NumbersTo last low ns → last ≤ n → n ≤ 64 → NumbersTo (n + 1) low (ns ++ n ∷ [])
+numbers_further last low [] n rise from most = (omega (arith, rise, from), most, omega arith)
+numbers_further last low (first ∷ ns) n rise from most = (rise.0, rise.1, numbers_further last first ns n rise.2 from most)
+
+pub are_groups : (last low : ℕ) (ns : List ℕ) → NumbersTo last low ns → AreGroups low ns
+are_groups last low [] rise = tt
+are_groups last low (n ∷ ns) rise = (rise.0, rise.1, are_groups last n ns rise.2)
+
+put_last : (front : List ℕ) (n : ℕ) (more : List ℕ) → front ++ n ∷ more ≡ (front ++ n ∷ []) ++ more
+put_last [] n more = refl
+put_last (first ∷ front) n more = ap (λ l. first ∷ l) (put_last front n more)
+
+both_put : (front : List ℕ) (n : ℕ) (more : Option (List ℕ)) → option_map (λ l. front ++ l) (option_map (λ l. n ∷ l) more) ≡ option_map (λ l. (front ++ n ∷ []) ++ l) more
+both_put front n None = refl
+both_put front n (Some more) = ap (λ l. Some l) (put_last front n more)
+
+numbers_step : (front : List ℕ) (most low n : ℕ) (d : Data) (ds : List Data) → integer_in low most d ≡ Some n
+    → option_map (λ l. front ++ l) (numbers_from most low (d ∷ ds)) ≡ option_map (λ l. (front ++ n ∷ []) ++ l) (numbers_from most (n + 1) ds)
+numbers_step front most low n d ds is = rw is (both_put front n (numbers_from most (n + 1) ds))
+
+-- one more number is taken in
+pub numbers_kept : (front : List ℕ) (most low i n : ℕ) (vs : List Value) (v : Value) (all : Option (List ℕ)) → i < length vs → v ≡ get_or vs i v → Some n ≡ integer_in low most (view v)
+    → option_map (λ l. front ++ l) (numbers_from most low (map view (drop i vs))) ≡ all
+    → option_map (λ l. (front ++ n ∷ []) ++ l) (numbers_from most (n + 1) (map view (drop (i + 1) vs))) ≡ all
+numbers_kept front most low i n vs v all within at is rest =
+    let one = numbers_step front most low n (view v) (map view (drop (i + 1) vs)) (sym is) in
+    let so_far = rw (first_of vs i v within at) at rest in
+    sym one ∙ so_far
