@@ -5,6 +5,7 @@ mod bin;
 mod counting;
 mod trace;
 
+pub use bin::Bin;
 pub use trace::Trace;
 
 #[cfg(test)]

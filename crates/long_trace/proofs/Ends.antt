@@ -1,0 +1,122 @@
+-- What is behind the lines of the bins that are closed.
+use Rattle.std.proofs.Common.{◌≡◌, ◌∙◌, ℕ, ◌+◌, ◌-◌, ◌<◌, Bool, true, false, ◌&&◌, inl, inr, cond, List, ◌++◌, refl, sym, ap, subst, arith, append-nil, append_assoc}
+use Rattle.std.specs.Prelude.{nat_lt, ◌==◌, count_by, if◌then◌else◌}
+use Rattle.std.proofs.lemmas.Bool.{cases_eq}
+use Rattle.std.proofs.lemmas.Bool.Decides.{nat_tests}
+use Rattle.std.specs.declared.option.Option.{Option}
+use Rattle.bench_io.specs.Sinks.{AppendsShort, PassesOn}
+use Rattle.bench_io.proofs.Bytes.{PassesOn-trans, AppendsShort-passed, AppendsShort-more, AppendsShort-same}
+use Rattle.tally_base.specs.Settings.{TraceView}
+use Rattle.tally_base.specs.Tally.{History}
+use Rattle.count_trace.specs.TraceCounts.{in_trace_bin, count_before}
+use Rattle.long_trace.specs.Texts.{frequency_limit, span, bin_line, bin_lines, closed_lines, counts, frequency, frequency_line, frequency_lines, frequencies_text, summary_text, first_line, open_text, whole_text}
+use Rattle.long_trace.specs.Bins.{BinState, CountsBins}
+use Rattle.long_trace.proofs.Firsts.{lines-more, lines-front, count-more}
+use Rattle.long_trace.proofs.Steps.{closed-is}
+
+none_more : (n : ℕ) → n + 0 ≡ n
+none_more n = omega arith
+
+eq_nought : (n : ℕ) → n ≡ 0 → (n == 0) ≡ true
+eq_nought n e = grind (arith, nat_tests, e)
+
+not_nought : (n : ℕ) → 0 < n → (n == 0) ≡ false
+not_nought n lt = grind (arith, nat_tests, lt)
+
+module _ (set : TraceView) (state : BinState) (h : History) (is : CountsBins set state h) where
+  -- where there is no photon
+  span-none : state.count ≡ 0 → span set h ≡ 0
+  span-none none = is.last ∙ ap (λ (b : Bool). if b then 0 else state.bin + 1) (eq_nought state.count none)
+
+  span-some : 0 < state.count → span set h ≡ state.bin + 1
+  span-some some = is.last ∙ ap (λ (b : Bool). if b then 0 else state.bin + 1) (not_nought state.count some)
+
+  -- all lines are those that are closed, and that of the last bin
+  lines-none : state.count ≡ 0 → bin_lines set (span set h) h ≡ closed_lines set h ++ bin_line state.bin state.count
+  lines-none none =
+      ap (λ n. bin_lines set n h) (span-none none ∙ sym (is.none_yet none))
+      ∙ sym (closed-is set state h is)
+      ∙ sym (append-nil (closed_lines set h))
+      ∙ ap (λ n. closed_lines set h ++ bin_line state.bin n) (sym none)
+
+  lines-some : 0 < state.count → bin_lines set (span set h) h ≡ closed_lines set h ++ bin_line state.bin state.count
+  lines-some some =
+      ap (λ n. bin_lines set n h) (span-some some)
+      ∙ lines-more (λ b. bin_line b (in_trace_bin set b h)) state.bin (state.bin + 1) refl
+      ∙ ap (λ n. bin_lines set state.bin h ++ bin_line state.bin n) (sym is.counted)
+      ∙ ap (λ l. l ++ bin_line state.bin state.count) (sym (closed-is set state h is))
+
+  -- how many of all counts pass a test
+  pub counted-none : (p : ℕ → Bool) → state.count ≡ 0 → count_by p (counts set (span set h) h) ≡ count_by p (counts set state.bin h)
+  counted-none p none = ap (λ n. count_by p (counts set n h)) (span-none none ∙ sym (is.none_yet none))
+
+  pub counted-some : (p : ℕ → Bool) → 0 < state.count → count_by p (counts set (span set h) h) ≡ count_by p (counts set state.bin h) + cond (p state.count) 1 0
+  counted-some p some =
+      ap (λ n. count_by p (counts set n h)) (span-some some)
+      ∙ count-more p (λ b. in_trace_bin set b h) state.bin (state.bin + 1) refl
+      ∙ ap (λ n. count_by p (counts set state.bin h) + cond (p n) 1 0) (sym is.counted)
+
+  -- the whole text is what was printed, the line of the last bin and the summary
+  whole-is : bin_lines set (span set h) h ≡ closed_lines set h ++ bin_line state.bin state.count
+      → whole_text set h ≡ open_text set h ++ (bin_line state.bin state.count ++ summary_text (counts set (span set h) h) (count_before set h))
+  whole-is lines =
+      let first = first_line set in
+      let last = bin_line state.bin state.count in
+      let end = summary_text (counts set (span set h) h) (count_before set h) in
+      ap (λ l. first ++ l ++ end) lines
+      ∙ ap (λ l. l ++ end) (sym (append_assoc first (closed_lines set h) last))
+      ∙ append_assoc (first ++ closed_lines set h) last end
+
+  pub whole-none : state.count ≡ 0 → whole_text set h ≡ open_text set h ++ (bin_line state.bin state.count ++ summary_text (counts set (span set h) h) (count_before set h))
+  whole-none none = whole-is (lines-none none)
+
+  pub whole-some : 0 < state.count → whole_text set h ≡ open_text set h ++ (bin_line state.bin state.count ++ summary_text (counts set (span set h) h) (count_before set h))
+  whole-some some = whole-is (lines-some some)
+
+module _ (set : TraceView) (state : BinState) (h : History) (is : CountsBins set state h) where
+  -- With the newest bin, if it isn't empty, they are the counts of all bins.
+  pub all-counted : (p : ℕ → Bool) (n m : ℕ) → n ≡ count_by p (counts set state.bin h) → m ≡ n + (if nat_lt 0 state.count && p state.count then 1 else 0) → m ≡ count_by p (counts set (span set h) h)
+  all-counted p n m before is_sum = elim (cases_eq state.count 0) [
+    | inl none ↦
+        let no : nat_lt 0 state.count ≡ false = grind (arith, nat_tests, none) in
+        let same : m ≡ n = is_sum ∙ ap (λ (b : Bool). n + (if b && p state.count then 1 else 0)) no ∙ none_more n in
+        same ∙ before ∙ sym (counted-none set state h is p none)
+    | inr other ↦
+        let some : 0 < state.count = omega (arith, other) in
+        let yes : nat_lt 0 state.count ≡ true = grind (arith, nat_tests, some) in
+        is_sum ∙ ap (λ (b : Bool). n + (if b && p state.count then 1 else 0)) yes ∙ ap (λ k. k + (if p state.count then 1 else 0)) before ∙ sym (counted-some set state h is p some)
+  ]
+
+  pub whole-any : whole_text set h ≡ open_text set h ++ (bin_line state.bin state.count ++ summary_text (counts set (span set h) h) (count_before set h))
+  whole-any = elim (cases_eq state.count 0) [
+    | inl none ↦ whole-none set state h is none
+    | inr other ↦ whole-some set state h is (omega (arith, other))
+  ]
+
+-- ## The lines of the frequencies
+
+lines-next : (all : List ℕ) (n : ℕ) (line held : List ℕ) → line ≡ frequency_line n (frequency all n) → (held ++ frequency_lines all n) ++ line ≡ held ++ frequency_lines all (n + 1)
+lines-next all n line held is =
+    append_assoc held (frequency_lines all n) line ∙ ap (λ l. held ++ l) (ap (λ l. frequency_lines all n ++ l) is ∙ sym (lines-more (λ c. frequency_line c (frequency all c)) n (n + 1) refl))
+
+pub next-put : (all : List ℕ) (n : ℕ) (line : List ℕ) (a b c : Option (List ℕ)) (held mid now : List ℕ) → line ≡ frequency_line n (frequency all n) → PassesOn a b (held ++ frequency_lines all n) mid → PassesOn b c (mid ++ line) now → PassesOn a c (held ++ frequency_lines all (n + 1)) now
+next-put all n line a b c held mid now is so_far put = subst (λ t. PassesOn a c t now) (lines-next all n line held is) (PassesOn-trans a b c (held ++ frequency_lines all n) mid line now so_far put)
+
+pub next-cut : (all : List ℕ) (n : ℕ) (line : List ℕ) (a b c : Option (List ℕ)) (held mid : List ℕ) → n < frequency_limit → line ≡ frequency_line n (frequency all n) → PassesOn a b (held ++ frequency_lines all n) mid → AppendsShort b c (mid ++ line) → AppendsShort a c (held ++ frequencies_text all)
+unfolding frequencies_text
+next-cut all n line a b c held mid inside is so_far cut =
+    let rest = lines-front (λ c. frequency_line c (frequency all c)) (n + 1) (frequency_limit - (n + 1)) frequency_limit (omega (arith, inside)) in
+    AppendsShort-same a c _ _
+    (ap (λ l. l ++ rest.0) (lines-next all n line held is) ∙ append_assoc held (frequency_lines all (n + 1)) rest.0 ∙ ap (λ l. held ++ l) (sym rest.1))
+    (AppendsShort-more a c _ rest.0 (AppendsShort-passed a b c (held ++ frequency_lines all n) mid line so_far cut))
+
+pub all-put : (all : List ℕ) (n : ℕ) (a b : Option (List ℕ)) (held now : List ℕ) → n ≡ frequency_limit → PassesOn a b (held ++ frequency_lines all n) now → PassesOn a b (held ++ frequencies_text all) now
+unfolding frequencies_text
+all-put all n a b held now is put = rw is at put
+
+-- the lines at the end, in their order
+pub end-same : (last before frequencies many : List ℕ) → ((last ++ before) ++ frequencies) ++ many ≡ last ++ ((before ++ frequencies) ++ many)
+end-same last before frequencies many = ap (λ l. l ++ many) (append_assoc last before frequencies) ∙ append_assoc last (before ++ frequencies) many
+
+pub end-front : (last before frequencies many : List ℕ) → (last ++ before) ++ (frequencies ++ many) ≡ last ++ ((before ++ frequencies) ++ many)
+end-front last before frequencies many = append_assoc last before (frequencies ++ many) ∙ ap (λ l. last ++ l) (sym (append_assoc before frequencies many))

@@ -1,0 +1,65 @@
+-- A trace that is given events, and then more.
+use Rattle.std.proofs.Common.{◌≡◌, ◌∙◌, ◌+◌, ◌≤◌, Bool, true, false, List, [], ◌∷◌, ◌++◌, ℕ, max, length, refl, sym, ap, arith, append-nil, append_assoc, length-append}
+use Rattle.std.specs.Prelude.{IsTrue, nat_lt, if◌then◌else◌}
+use Rattle.tally_base.specs.declared.event.Event.{Event}
+use Rattle.tally_base.specs.Events.{is_photon}
+use Rattle.tally_base.specs.Tally.{History, greatest_time}
+use Rattle.event_block.proofs.Greatest.{greatest-push}
+use Rattle.count_trace.specs.TraceCounts.{count_before}
+use Rattle.count_trace.proofs.Blocks.{count-append}
+use Rattle.tally_base.specs.Settings.{trace_view}
+use Rattle.long_trace.specs.declared.trace.LongTrace.{LongTrace}
+use Rattle.long_trace.specs.LongTrace.{GivenMore, set_of}
+use Rattle.long_trace.specs.Texts.{first_line, closed_lines, open_text}
+use Rattle.long_trace.specs.Bins.{CountsOn}
+use Rattle.long_trace.specs.States.{state_of}
+
+pub GivenMore-nil : (t : LongTrace) → GivenMore t t [] []
+GivenMore-nil t = record {
+  same_set = refl;
+  follows = λ h is. rw (append-nil h) is;
+  closed = λ h is. rw (append-nil h) (sym (append-nil (open_text (trace_view (set_of t)) h)));
+}
+
+pub GivenMore-trans : (a b c : LongTrace) (m n : History) (lines lines' : List ℕ) → GivenMore a b m lines → GivenMore b c n lines' → GivenMore a c (m ++ n) (lines ++ lines')
+GivenMore-trans a b c m n lines lines' p q = record {
+  same_set = q.same_set ∙ p.same_set;
+  follows = λ h is. rw (← append_assoc h m n) (q.follows (h ++ m) (p.follows h is));
+  closed = λ h is.
+      ap (open_text (trace_view (set_of a))) (sym (append_assoc h m n))
+      ∙ rw p.same_set at (q.closed (h ++ m) (p.follows h is))
+      ∙ ap (λ l. l ++ lines') (p.closed h is)
+      ∙ append_assoc (open_text (trace_view (set_of a)) h) lines lines';
+}
+
+-- Its numbers were counted on, and those beside them.
+pub GivenMore-counts : (old new : LongTrace) (more : History) (lines lines' : List ℕ) → new.set ≡ old.set → CountsOn (trace_view old.set) (state_of old.newest old.closed) (state_of new.newest new.closed) more lines lines' → lines ≡ []
+    → new.before ≡ old.before + count_before (trace_view old.set) more → new.taken ≡ old.taken + length more → ((h : History) → old.floor ≡ greatest_time false h → new.floor ≡ greatest_time false (h ++ more)) → GivenMore old new more lines'
+GivenMore-counts old new more lines lines' same on none before taken floor =
+    let set = trace_view old.set in
+    let text : lines' ≡ on.text = on.put ∙ ap (λ l. l ++ on.text) none in
+    record {
+      same_set = same;
+      follows = λ h is. record {
+        bins = rw same (on.counted h is.bins);
+        before = rw same (omega (arith, before, is.before, count-append set (λ time. nat_lt time set.origin) h more));
+        taken = omega (arith, taken, is.taken, length-append h more);
+        floor = floor h is.floor;
+      };
+      closed = λ h is.
+          ap (λ l. first_line set ++ l) (on.closed h is.bins)
+          ∙ sym (append_assoc (first_line set) (closed_lines set h) on.text)
+          ∙ ap (λ l. open_text set h ++ l) (sym text);
+    }
+
+later : (b : Bool) (floor time : ℕ) → (IsTrue b → floor ≤ time) → (if b then time else floor) ≡ (if b then max floor time else floor)
+later true floor time order = let h : floor ≤ time = order refl in omega (arith, h)
+later false floor time order = refl
+
+-- the greatest time of one event more
+pub floor-one : (h : History) (e : Event) (groups floor now : ℕ) → (IsTrue (is_photon e) → floor ≤ e.time) → now ≡ (if is_photon e then e.time else floor) → floor ≡ greatest_time false h → now ≡ greatest_time false (h ++ (e, groups) ∷ [])
+floor-one h e groups floor now order moved is =
+    moved
+    ∙ later (is_photon e) floor e.time order
+    ∙ ap (λ t. if is_photon e then max t e.time else t) is
+    ∙ sym (greatest-push false h (e, groups))

@@ -1,0 +1,160 @@
+-- One event more.
+use Rattle.std.proofs.Common.{◌≡◌, ◌∙◌, ℕ, ◌+◌, ◌-◌, ◌/◌, ◌<◌, Bool, true, false, ◌&&◌, cond, List, [], ◌∷◌, ◌++◌, max, refl, sym, ap, arith, append-nil}
+use Rattle.std.specs.Prelude.{nat_le, ◌==◌, slice_index, count_by, if◌then◌else◌}
+use Rattle.std.proofs.lemmas.Bool.Decides.{nat_tests}
+use Rattle.std.proofs.lemmas.List.Sums.{sum_by_push, fold_push}
+use Rattle.tally_base.specs.declared.event.Event.{Event}
+use Rattle.tally_base.specs.Events.{is_photon, is_in}
+use Rattle.tally_base.specs.Settings.{TraceView}
+use Rattle.tally_base.specs.Tally.{History}
+use Rattle.count_trace.specs.TraceCounts.{count_times, in_trace_bin}
+use Rattle.long_trace.specs.Texts.{frequency_limit, is_binned, bin_at, span, bin_line, bin_lines, closed_lines, counts, frequency, above}
+use Rattle.long_trace.specs.Bins.{BinState, CountsBins}
+use Rattle.long_trace.proofs.Firsts.{first-same, lines-same, count-skip, lines-skip}
+
+-- it is a photon of the group
+abbrev pub of_group : TraceView → Event × ℕ → Bool
+of_group set x = is_photon x.0 && is_in x.1 set.group
+
+pub times-push : (set : TraceView) (test : ℕ → Bool) (h : History) (x : Event × ℕ) → count_times set test (h ++ x ∷ []) ≡ count_times set test h + cond (is_photon x.0 && (is_in x.1 set.group && test x.0.time)) 1 0
+times-push set test h x = sum_by_push (λ (x : Event × ℕ). cond (is_photon x.0 && (is_in x.1 set.group && test x.0.time)) 1 0) h x
+
+by_test : (p g t : Bool) → (p && (g && t)) ≡ ((p && g) && t)
+by_test true g t = refl
+by_test false g t = refl
+
+-- by its group
+pub times-group : (set : TraceView) (test : ℕ → Bool) (h : History) (x : Event × ℕ) (b : Bool) → of_group set x ≡ b → count_times set test (h ++ x ∷ []) ≡ count_times set test h + cond (b && test x.0.time) 1 0
+times-group set test h x b is = times-push set test h x ∙ ap (λ t. count_times set test h + cond t 1 0) (by_test (is_photon x.0) (is_in x.1 set.group) (test x.0.time) ∙ ap (λ t. t && test x.0.time) is)
+
+parted : (p g l t : Bool) → (p && (g && (l && t))) ≡ ((p && (g && l)) && t)
+parted true true l t = refl
+parted true false l t = refl
+parted false g l t = refl
+
+pub bin-push : (set : TraceView) (b : ℕ) (h : History) (x : Event × ℕ) (is : Bool) → is_binned set x ≡ is → in_trace_bin set b (h ++ x ∷ []) ≡ in_trace_bin set b h + cond (is && (bin_at set x.0.time == b)) 1 0
+bin-push set b h x is e =
+    times-push set (λ time. nat_le set.origin time && ((time - set.origin) / set.width == b)) h x
+    ∙ ap (λ t. in_trace_bin set b h + cond t 1 0) (parted (is_photon x.0) (is_in x.1 set.group) (nat_le set.origin x.0.time) (bin_at set x.0.time == b) ∙ ap (λ t. t && (bin_at set x.0.time == b)) e)
+
+pub bin-none : (set : TraceView) (b : ℕ) (h : History) (x : Event × ℕ) → is_binned set x ≡ false → in_trace_bin set b (h ++ x ∷ []) ≡ in_trace_bin set b h
+bin-none set b h x e = omega (arith, bin-push set b h x false e)
+
+eq_is : (n m : ℕ) → n ≡ m → (n == m) ≡ true
+eq_is n m e = grind (arith, nat_tests, e)
+
+eq_not : (n m : ℕ) → (n ≡ m → ⊥) → (n == m) ≡ false
+eq_not n m ne = grind (arith, nat_tests, ne)
+
+pub bin-here : (set : TraceView) (b : ℕ) (h : History) (x : Event × ℕ) → is_binned set x ≡ true → bin_at set x.0.time ≡ b → in_trace_bin set b (h ++ x ∷ []) ≡ in_trace_bin set b h + 1
+bin-here set b h x e at = bin-push set b h x true e ∙ ap (λ t. in_trace_bin set b h + cond t 1 0) (eq_is (bin_at set x.0.time) b at)
+
+pub bin-other : (set : TraceView) (b : ℕ) (h : History) (x : Event × ℕ) → is_binned set x ≡ true → (bin_at set x.0.time ≡ b → ⊥) → in_trace_bin set b (h ++ x ∷ []) ≡ in_trace_bin set b h
+bin-other set b h x e other = let more = bin-push set b h x true e ∙ ap (λ t. in_trace_bin set b h + cond t 1 0) (eq_not (bin_at set x.0.time) b other) in omega (arith, more)
+
+pub span-push : (set : TraceView) (h : History) (x : Event × ℕ) (is : Bool) → is_binned set x ≡ is → span set (h ++ x ∷ []) ≡ cond is (max (span set h) (bin_at set x.0.time + 1)) (span set h)
+span-push set h x is e =
+    fold_push (λ n (x : Event × ℕ). if is_binned set x then max n (bin_at set x.0.time + 1) else n) 0 h x
+    ∙ ap (λ t. cond t (max (span set h) (bin_at set x.0.time + 1)) (span set h)) e
+
+-- the bins before the newest are those before the last that isn't empty
+last_less : (count bin : ℕ) → (count ≡ 0 → bin ≡ 0) → (if count == 0 then 0 else bin + 1) - 1 ≡ bin
+last_less count bin none = grind (arith, nat_tests, none)
+
+pub closed-is : (set : TraceView) (state : BinState) (h : History) → CountsBins set state h → closed_lines set h ≡ bin_lines set state.bin h
+closed-is set state h is = ap (λ n. bin_lines set n h) (ap (λ n. n - 1) is.last ∙ last_less state.count state.bin is.none_yet)
+
+-- lines and counts of bins in which no photon came
+lines-still : (set : TraceView) (n : ℕ) (h h' : History) → ((b : ℕ) → b < n → in_trace_bin set b h' ≡ in_trace_bin set b h) → bin_lines set n h' ≡ bin_lines set n h
+lines-still set n h h' same = lines-same (λ b. bin_line b (in_trace_bin set b h')) (λ b. bin_line b (in_trace_bin set b h)) n (λ b lt. ap (bin_line b) (same b lt))
+
+counts-still : (set : TraceView) (n : ℕ) (h h' : History) → ((b : ℕ) → b < n → in_trace_bin set b h' ≡ in_trace_bin set b h) → counts set n h' ≡ counts set n h
+counts-still set n h h' same = first-same (λ b. in_trace_bin set b h') (λ b. in_trace_bin set b h) n same
+
+-- an event that is in no bin
+pub none-follows : (set : TraceView) (state : BinState) (h : History) (x : Event × ℕ) → is_binned set x ≡ false → CountsBins set state h → CountsBins set state (h ++ x ∷ [])
+none-follows set state h x e is =
+    let same = counts-still set state.bin h (h ++ x ∷ []) (λ b lt. bin-none set b h x e) in
+    record {
+      counted = is.counted ∙ sym (bin-none set state.bin h x e);
+      none_behind = λ b lt. bin-none set b h x e ∙ is.none_behind b lt;
+      none_yet = is.none_yet;
+      last = span-push set h x false e ∙ is.last;
+      each = λ c lt. is.each c lt ∙ ap (λ l. frequency l c) (sym same);
+      others = is.others ∙ ap above (sym same);
+    }
+
+pub none-closes : (set : TraceView) (state : BinState) (h : History) (x : Event × ℕ) → is_binned set x ≡ false → CountsBins set state h → closed_lines set (h ++ x ∷ []) ≡ closed_lines set h ++ []
+none-closes set state h x e is =
+    closed-is set state (h ++ x ∷ []) (none-follows set state h x e is)
+    ∙ lines-still set state.bin h (h ++ x ∷ []) (λ b lt. bin-none set b h x e)
+    ∙ sym (closed-is set state h is)
+    ∙ sym (append-nil (closed_lines set h))
+
+later_last : (count bin : ℕ) → max (if count == 0 then 0 else bin + 1) (bin + 1) ≡ (if count + 1 == 0 then 0 else bin + 1)
+later_last count bin = grind (arith, nat_tests)
+
+-- a photon in the newest bin
+pub same-follows : (set : TraceView) (state : BinState) (h : History) (x : Event × ℕ) → is_binned set x ≡ true → bin_at set x.0.time ≡ state.bin → CountsBins set state h → CountsBins set (record state { count = state.count + 1 }) (h ++ x ∷ [])
+same-follows set state h x e at is =
+    let still : (b : ℕ) → (b ≡ state.bin → ⊥) → in_trace_bin set b (h ++ x ∷ []) ≡ in_trace_bin set b h = λ b ne. bin-other set b h x e (λ (q : bin_at set x.0.time ≡ b). ne (sym q ∙ at)) in
+    let same = counts-still set state.bin h (h ++ x ∷ []) (λ b lt. still b (λ (q : b ≡ state.bin). omega (arith, lt, q))) in
+    let here = bin-here set state.bin h x e at in
+    record {
+      counted = omega (arith, is.counted, here);
+      none_behind = λ b lt. still b (λ (q : b ≡ state.bin). omega (arith, lt, q)) ∙ is.none_behind b lt;
+      none_yet = λ (none : state.count + 1 ≡ 0). absurd (omega (arith, none));
+      last = span-push set h x true e ∙ rw (is.last, at) (later_last state.count state.bin);
+      each = λ c lt. is.each c lt ∙ ap (λ l. frequency l c) (sym same);
+      others = is.others ∙ ap above (sym same);
+    }
+
+pub same-closes : (set : TraceView) (state : BinState) (h : History) (x : Event × ℕ) → is_binned set x ≡ true → bin_at set x.0.time ≡ state.bin → CountsBins set state h → closed_lines set (h ++ x ∷ []) ≡ closed_lines set h ++ []
+same-closes set state h x e at is =
+    closed-is set (record state { count = state.count + 1 }) (h ++ x ∷ []) (same-follows set state h x e at is)
+    ∙ lines-still set state.bin h (h ++ x ∷ []) (λ b lt. bin-other set b h x e (λ (q : bin_at set x.0.time ≡ b). omega (arith, lt, q, at)))
+    ∙ sym (closed-is set state h is)
+    ∙ sym (append-nil (closed_lines set h))
+
+new_last : (count bin next : ℕ) → bin < next → max (if count == 0 then 0 else bin + 1) (next + 1) ≡ (if 1 == 0 then 0 else next + 1)
+new_last count bin next lt = grind (arith, nat_tests, lt)
+
+module _ (set : TraceView) (state : BinState) (h : History) (x : Event × ℕ) (next : ℕ) (e : is_binned set x ≡ true) (at : bin_at set x.0.time ≡ next) (later : state.bin < next) (is : CountsBins set state h) where
+  still-below : (b : ℕ) → b < next → in_trace_bin set b (h ++ x ∷ []) ≡ in_trace_bin set b h
+  still-below b lt = bin-other set b h x e (λ (q : bin_at set x.0.time ≡ b). omega (arith, lt, q, at))
+
+  skipped : next ≡ (next - state.bin - 1) + state.bin + 1
+  skipped = omega (arith, later)
+
+  -- how many of the bins before it pass a test
+  pub counted-before : (p : ℕ → Bool) → count_by p (counts set next (h ++ x ∷ [])) ≡ count_by p (counts set state.bin h) + cond (p state.count) 1 0 + cond (p 0) (next - state.bin - 1) 0
+  counted-before p =
+      ap (count_by p) (counts-still set next h (h ++ x ∷ []) still-below)
+      ∙ count-skip p (λ b. in_trace_bin set b h) state.bin (next - state.bin - 1) next is.none_behind skipped
+      ∙ ap (λ n. count_by p (counts set state.bin h) + cond (p n) 1 0 + cond (p 0) (next - state.bin - 1) 0) (sym is.counted)
+
+  -- a photon in a later bin
+  pub next-follows : (frequencies : List ℕ) (many : ℕ)
+      → ((c : ℕ) → c < frequency_limit → slice_index frequencies c ≡ slice_index state.frequencies c + (if state.count == c then 1 else 0) + (if 0 == c then next - state.bin - 1 else 0))
+      → many ≡ state.many + (if nat_le frequency_limit state.count then 1 else 0)
+      → CountsBins set (record { bin = next; count = 1; frequencies = frequencies; many = many }) (h ++ x ∷ [])
+  next-follows frequencies many raised raised_many = record {
+    counted = let here = bin-here set next h x e at in let none = is.none_behind next later in omega (arith, here, none);
+    none_behind = λ b lt. bin-other set b h x e (λ (q : bin_at set x.0.time ≡ b). omega (arith, lt, q, at)) ∙ is.none_behind b (omega (arith, later, lt));
+    none_yet = λ (none : 1 ≡ 0). absurd (omega (arith, none));
+    last = span-push set h x true e ∙ rw (is.last, at) (new_last state.count state.bin next later);
+    each = λ c lt. omega (arith, raised c lt, is.each c lt, counted-before (λ n. n == c));
+    others = omega (arith, raised_many, is.others, counted-before (λ n. nat_le frequency_limit n));
+  }
+
+  no_line : (b : ℕ) → state.bin < b → bin_line b (in_trace_bin set b h) ≡ []
+  no_line b lt = ap (bin_line b) (is.none_behind b lt)
+
+  pub next-closes : (new : BinState) → new.bin ≡ next → CountsBins set new (h ++ x ∷ []) → closed_lines set (h ++ x ∷ []) ≡ closed_lines set h ++ bin_line state.bin state.count
+  next-closes new is_next now =
+      closed-is set new (h ++ x ∷ []) now
+      ∙ ap (λ n. bin_lines set n (h ++ x ∷ [])) is_next
+      ∙ lines-still set next h (h ++ x ∷ []) still-below
+      ∙ lines-skip (λ b. bin_line b (in_trace_bin set b h)) state.bin (next - state.bin - 1) next no_line skipped
+      ∙ ap (λ n. bin_lines set state.bin h ++ bin_line state.bin n) (sym is.counted)
+      ∙ ap (λ l. l ++ bin_line state.bin state.count) (sym (closed-is set state h is))

@@ -1,0 +1,37 @@
+use Rattle.std.proofs.Common.{◌++◌}
+use Rattle.std.specs.Prelude.{nat_le, ◌==◌}
+use Rattle.tally_base.specs.Settings.{trace_view}
+use Rattle.long_trace.specs.Texts.{frequency_limit, span, counts, bin_line, summary_text}
+use Rattle.long_trace.specs.States.{state_of}
+use Rattle.long_trace.proofs.Ends.{all-counted, whole-any}
+use Rattle.long_trace.proofs.trace.LongTrace.finish.Goals as goal
+
+pub returns-in-Ok-clause-text : goal.returns-in-Ok-clause-text
+returns-in-Ok-clause-text g c = λ h is.
+    let t = c.args.self in
+    let set = trace_view t.set in
+    let state = state_of t.newest t.closed in
+    let all = counts set (span set h) h in
+    record {
+      rest = bin_line t.newest.bin.index t.newest.count ++ summary_text all t.before;
+      whole = rw is.before (whole-any set state h is.bins);
+      appended =
+          c.in-Ok.ensures.all all
+          (λ count inside. all-counted set state h is.bins (λ n. n == count) _ _ (is.bins.each count inside) (c.closed_with-closed.ensures.frequencies count inside))
+          (all-counted set state h is.bins (λ n. nat_le frequency_limit n) _ _ is.bins.others c.closed_with-closed.ensures.many);
+    }
+
+pub returns-in-Err-clause-short : goal.returns-in-Err-clause-short
+returns-in-Err-clause-short g c = λ h is.
+    let t = c.args.self in
+    let set = trace_view t.set in
+    let state = state_of t.newest t.closed in
+    let all = counts set (span set h) h in
+    record {
+      rest = bin_line t.newest.bin.index t.newest.count ++ summary_text all t.before;
+      whole = rw is.before (whole-any set state h is.bins);
+      cut =
+          c.in-Err.ensures.short all
+          (λ count inside. all-counted set state h is.bins (λ n. n == count) _ _ (is.bins.each count inside) (c.closed_with-closed.ensures.frequencies count inside))
+          (all-counted set state h is.bins (λ n. nat_le frequency_limit n) _ _ is.bins.others c.closed_with-closed.ensures.many);
+    }

@@ -1,0 +1,18 @@
+use Rattle.std.proofs.Common.{◌∙◌, false, refl, sym, ap, arith}
+use Rattle.event_block.specs.Columns.{item, gathered, events_in}
+use Rattle.event_block.specs.Order.{floor_after, InOrder}
+use Rattle.event_block.proofs.Greatest.{greatest-rows}
+use Rattle.event_block.proofs.Rows.{length-rows}
+use Rattle.tally_base.specs.Tally.{greatest_time}
+use Rattle.long_trace.proofs.Given.{GivenMore-counts}
+use Rattle.long_trace.proofs.trace.LongTrace.take_block.Goals as goal
+
+pub returns-clause-given : goal.returns-clause-given
+returns-clause-given c =
+    let t = c.args.self.now in
+    let b = c.args.block.now in
+    let done = c.count_block-self.ensures in
+    GivenMore-counts t _ (events_in b) _ c.count_block-self.new.lines.items refl done.counts refl done.before (omega (arith, c.len.ensures.count, length-rows (item b) b.len))
+    (λ h is.
+    let order : InOrder false (greatest_time false h) (gathered b) = rw (← is) c.requires.in_order in
+    done.floor ∙ ap (λ n. floor_after false n (gathered b)) is ∙ sym (greatest-rows false h (item b) b.len order))

@@ -1,0 +1,5 @@
+pub mod Texts
+pub mod Bins
+pub mod States
+pub mod Written
+pub mod LongTrace

@@ -1,0 +1,38 @@
+-- What a trace without end stands for.
+use Rattle.std.specs.Prelude.{◌≡◌, ℕ, ◌+◌, List, ◌++◌, false, length}
+use Rattle.tally_base.specs.declared.settings.TraceSet.{TraceSet}
+use Rattle.tally_base.specs.Settings.{trace_view}
+use Rattle.tally_base.specs.Tally.{History, greatest_time}
+use Rattle.count_trace.specs.TraceCounts.{count_before}
+use Rattle.long_trace.specs.declared.trace.LongTrace.{LongTrace}
+use Rattle.long_trace.specs.Bins.{CountsBins}
+use Rattle.long_trace.specs.States.{state_of}
+use Rattle.long_trace.specs.Texts.{open_text}
+
+-- what it was made with
+abbrev pub set_of : LongTrace → TraceSet
+set_of t = t.set
+
+-- how many events it was given, and the greatest time of the photons among them
+abbrev pub taken_of : LongTrace → ℕ
+taken_of t = t.taken
+
+abbrev pub floor_of : LongTrace → ℕ
+floor_of t = t.floor
+
+-- How many entries it keeps: the frequencies and the number beside them, the number of the newest bin, where it begins and its count, how many photons came before the origin, and how many events came, with their greatest time.
+abbrev pub held : LongTrace → ℕ
+held t = length t.closed.frequencies + 7
+
+-- Its counts are those of the events.
+pub record Holds (t : LongTrace) (h : History) : Type 0 where
+  pub bins : CountsBins (trace_view t.set) (state_of t.newest t.closed) h
+  pub before : t.before ≡ count_before (trace_view t.set) h
+  pub taken : t.taken ≡ length h
+  pub floor : t.floor ≡ greatest_time false h
+
+-- It was given more events, of which the lines of the bins that they closed are these bytes.
+pub record GivenMore (old new : LongTrace) (more : History) (lines : List ℕ) : Type 0 where
+  pub same_set : new.set ≡ old.set
+  pub follows : (h : History) → Holds old h → Holds new (h ++ more)
+  pub closed : (h : History) → Holds old h → open_text (trace_view old.set) (h ++ more) ≡ open_text (trace_view old.set) h ++ lines

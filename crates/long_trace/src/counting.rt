@@ -1,0 +1,169 @@
+// The photons of a trace, counted by their times.
+ghost use Rattle.std.specs.Prelude.{◌≡◌, ℕ, ◌+◌, ◌*◌, ◌^◌, ◌<◌, ◌≤◌, ◌++◌, ◌∷◌, ◌&&◌, [], false, true, max, nat_lt, nat_le, ◌==◌, slice_index, sum, length, if◌then◌else◌};
+ghost use Rattle.arrayvec.specs.ArrayVec.{array_vec_len};
+ghost use Rattle.event_block.specs.Columns.{gathered, events_in, IsSorted};
+ghost use Rattle.event_block.specs.Order.{floor_after, InOrder};
+ghost use Rattle.tally_base.specs.declared.event.Event.{Event};
+ghost use Rattle.tally_base.specs.Events.{is_photon, is_in};
+ghost use Rattle.tally_base.specs.Limits.{record_limit};
+ghost use Rattle.tally_base.specs.Settings.{trace_view};
+ghost use Rattle.count_trace.specs.TraceCounts.{count_before};
+ghost use Rattle.long_trace.specs.Texts.{frequency_limit};
+ghost use Rattle.long_trace.specs.Bins.{CountsOn};
+ghost use Rattle.long_trace.specs.States.{state_of};
+
+use crate::closed::Closed;
+use crate::lines::{LINE_SIZE, LINES_SIZE, put_bin};
+use arrayvec::ArrayVec;
+use count_trace::Bin;
+use event_block::{BLOCK_SIZE, Block};
+use tally_base::TraceSet;
+
+/// The newest bin, of which more photons may come, and how many came so far.
+#[derive(Clone, Copy)]
+pub(crate) struct OpenBin {
+    pub bin: Bin,
+    pub count: u64,
+}
+
+/// Closes the newest bin, and opens the bin of a photon behind it.
+fn open_next<const N: usize>(
+    set: &TraceSet,
+    newest: OpenBin,
+    closed: &mut Closed,
+    time: u64,
+    lines: &mut ArrayVec<u8, N>,
+) -> OpenBin
+    requires edge { newest.bin.low ≡ set.now.origin + newest.bin.index * set.now.width }
+    requires later { newest.bin.low + set.now.width ≤ time }
+    requires all { sum closed.old.frequencies + closed.old.many ≡ newest.bin.index }
+    requires room { array_vec_len lines.old + LINE_SIZE ≤ N }
+    ensures edge { result.bin.low ≡ set.now.origin + result.bin.index * set.now.width }
+    ensures low { result.bin.low ≤ time }
+    ensures one { result.count ≡ 1 }
+    ensures all { sum closed.new.frequencies + closed.new.many ≡ result.bin.index }
+    ensures filled { result.count + result.bin.index + slice_index closed.old.frequencies 0
+        ≤ newest.count + newest.bin.index + 1 + slice_index closed.new.frequencies 0 }
+    ensures len { array_vec_len lines.new ≤ array_vec_len lines.old + LINE_SIZE }
+    ensures counts { (e : Event) (groups : ℕ) → e.time ≡ time
+        → is_photon e && is_in groups set.now.group ≡ true
+        → CountsOn (trace_view set.now) (state_of newest closed.old) (state_of result closed.new)
+        ((e, groups) ∷ []) lines.old.items lines.new.items }
+{
+    let bin = Bin::of(set, newest.bin, time);
+    put_bin(lines, newest.bin.index, newest.count);
+    closed.close(newest.count, bin.index - newest.bin.index - 1);
+    OpenBin { bin, count: 1 }
+}
+
+/// Counts a photon of the group at a time, where `more` is 1, or none.
+#[inline(always)]
+pub(crate) fn count_at<const N: usize>(
+    set: &TraceSet,
+    before: &mut u64,
+    newest: &mut OpenBin,
+    closed: &mut Closed,
+    time: u64,
+    more: u64,
+    lines: &mut ArrayVec<u8, N>,
+)
+    requires one { more ≤ 1 }
+    requires edge { newest.old.bin.low ≡ set.now.origin + newest.old.bin.index * set.now.width }
+    requires order { 0 < more → newest.old.bin.low ≤ max time set.now.origin }
+    requires all { sum closed.old.frequencies + closed.old.many ≡ newest.old.bin.index }
+    requires few { before.old + newest.old.count + more < 2 ^ 64 }
+    requires room { array_vec_len lines.old + LINE_SIZE ≤ N }
+    ensures edge { newest.new.bin.low ≡ set.now.origin + newest.new.bin.index * set.now.width }
+    ensures low { (0 < more → newest.new.bin.low ≤ max time set.now.origin)
+        × (more ≡ 0 → newest.new ≡ newest.old) }
+    ensures all { sum closed.new.frequencies + closed.new.many ≡ newest.new.bin.index }
+    ensures few { before.new + newest.new.count ≤ before.old + newest.old.count + more }
+    ensures filled { newest.new.count + newest.new.bin.index
+        + slice_index closed.old.frequencies 0
+        ≤ newest.old.count + newest.old.bin.index + more
+        + slice_index closed.new.frequencies 0 }
+    ensures len { array_vec_len lines.new ≤ array_vec_len lines.old + LINE_SIZE }
+    ensures before { before.new ≡ before.old + (if nat_lt time set.now.origin then more else 0) }
+    ensures counts { (e : Event) (groups : ℕ) → e.time ≡ time
+        → more ≡ (if is_photon e && is_in groups set.now.group then 1 else 0)
+        → CountsOn (trace_view set.now) (state_of newest.old closed.old)
+        (state_of newest.new closed.new) ((e, groups) ∷ []) lines.old.items lines.new.items }
+{
+    if time < set.origin {
+        *before += more;
+    } else if newest.bin.low <= time && time - newest.bin.low < set.width {
+        newest.count += more;
+    } else if more > 0 {
+        *newest = open_next(set, *newest, closed, time, lines);
+    }
+}
+
+/// Counts the photons of a block, and answers the greatest time of the photons so far.
+pub(crate) fn count_block(
+    set: &TraceSet,
+    before: &mut u64,
+    newest: &mut OpenBin,
+    closed: &mut Closed,
+    floor: u64,
+    block: &Block,
+    lines: &mut ArrayVec<u8, LINES_SIZE>,
+) -> u64
+    requires sorted { IsSorted block.now }
+    requires in_order { InOrder false floor (gathered block.now) }
+    requires edge { newest.old.bin.low ≡ set.now.origin + newest.old.bin.index * set.now.width }
+    requires low { newest.old.bin.low ≤ max floor set.now.origin }
+    requires all { sum closed.old.frequencies + closed.old.many ≡ newest.old.bin.index }
+    requires few { before.old + newest.old.count + length (gathered block.now) ≤ record_limit }
+    requires empty { lines.old.items ≡ [] }
+    ensures floor { result ≡ floor_after false floor (gathered block.now) }
+    ensures edge { newest.new.bin.low ≡ set.now.origin + newest.new.bin.index * set.now.width }
+    ensures low { newest.new.bin.low ≤ max result set.now.origin }
+    ensures all { sum closed.new.frequencies + closed.new.many ≡ newest.new.bin.index }
+    ensures few { before.new + newest.new.count
+        ≤ before.old + newest.old.count + length (gathered block.now) }
+    ensures filled { newest.new.count + newest.new.bin.index
+        + slice_index closed.old.frequencies 0
+        ≤ newest.old.count + newest.old.bin.index + length (gathered block.now)
+        + slice_index closed.new.frequencies 0 }
+    ensures before { before.new
+        ≡ before.old + count_before (trace_view set.now) (events_in block.now) }
+    ensures counts { CountsOn (trace_view set.now) (state_of newest.old closed.old)
+        (state_of newest.new closed.new) (events_in block.now) [] lines.new.items }
+{
+    // Copies, so that no field is read again for each photon.
+    let own = *set;
+    let mut bin = *newest;
+    let mut early = *before;
+    for at in 0..block.len().min(BLOCK_SIZE) {
+        let more = block.photons_in(at, own.group);
+        count_at(
+            &own,
+            &mut early,
+            &mut bin,
+            closed,
+            block.time(at),
+            more,
+            lines,
+        );
+    }
+    *newest = bin;
+    *before = early;
+    block.floor_after(false, floor)
+}
+
+/// How often each count came in the closed bins and the newest, if it isn't empty.
+pub(crate) fn closed_with(newest: &OpenBin, closed: Closed) -> Closed
+    requires filled { newest.now.count + sum closed.frequencies + closed.many
+        < 2 ^ 64 + slice_index closed.frequencies 0 }
+    ensures frequencies { (c : ℕ) → c < frequency_limit → slice_index result.frequencies c
+        ≡ slice_index closed.frequencies c
+        + (if nat_lt 0 newest.now.count && (newest.now.count == c) then 1 else 0) }
+    ensures many { result.many ≡ closed.many
+        + (if nat_lt 0 newest.now.count && nat_le frequency_limit newest.now.count then 1 else 0) }
+{
+    let mut all = closed;
+    if newest.count > 0 {
+        all.raise(newest.count);
+    }
+    all
+}

@@ -1,0 +1,80 @@
+// What a trace without end prints at the end.
+ghost use Rattle.std.specs.Prelude.{◌≡◌, ◌+◌, ◌<◌, ◌≤◌, ◌++◌, ℕ, List, length, slice_index, OnOk, OnErr};
+ghost use Rattle.std.specs.Io.KnownBytes.{Appends};
+ghost use Rattle.bench_io.specs.TriesOnce.{TriesOnce};
+ghost use Rattle.bench_io.specs.Sinks.{AppendsShort, PassesOn};
+ghost use Rattle.long_trace.specs.Texts.{frequency_limit, bin_line, frequency, frequencies_text, above, before_line, above_line, summary_text};
+
+use crate::closed::{Closed, FREQUENCIES};
+use crate::counting::OpenBin;
+use crate::lines::{frequency_line, put_bin};
+use arrayvec::ArrayVec;
+use bench_io::{Block, Sink};
+use tally_base::{Failed, put_decimal, put_text};
+
+/// The line of the last bin, unless it is empty, and that of what came before the origin.
+fn last_lines(newest: &OpenBin, before: u64) -> ArrayVec<u8, 96>
+    ensures { result.items ≡ bin_line newest.now.bin.index newest.now.count
+        ++ before_line before }
+{
+    let mut lines = ArrayVec::new();
+    put_bin(&mut lines, newest.bin.index, newest.count);
+    put_text(&mut lines, b"before ");
+    put_decimal(&mut lines, before);
+    put_text(&mut lines, b"\n");
+    lines
+}
+
+/// The line of how many bins have no frequency.
+fn above_line(many: u64) -> ArrayVec<u8, 32>
+    ensures { result.items ≡ above_line many }
+{
+    let mut line = ArrayVec::new();
+    put_text(&mut line, b"above ");
+    put_decimal(&mut line, many);
+    put_text(&mut line, b"\n");
+    line
+}
+
+/// Puts the lines of the frequencies.
+fn put_frequencies<O: Sink>(closed: &Closed, block: &mut Block, out: &mut O) -> Result<(), Failed>
+    ensures all { OnOk result ((all : List ℕ)
+        → ((c : ℕ) → c < frequency_limit → slice_index closed.now.frequencies c ≡ frequency all c)
+        → PassesOn (O.written out.old) (O.written out.new)
+        (block.old ++ frequencies_text all) block.new) }
+    ensures short { OnErr result ((all : List ℕ)
+        → ((c : ℕ) → c < frequency_limit → slice_index closed.now.frequencies c ≡ frequency all c)
+        → AppendsShort (O.written out.old) (O.written out.new)
+        (block.old ++ frequencies_text all)) }
+    ensures cause { TriesOnce (O.faults out.old) (O.faults out.new) result }
+{
+    for count in 0..FREQUENCIES {
+        let line = frequency_line(count as u64, closed.frequencies[count]);
+        block.put(out, line.as_slice())?;
+    }
+    Ok(())
+}
+
+/// Writes what is behind the lines of the bins before the last, by how often each count came.
+pub(crate) fn put_end<O: Sink>(
+    newest: &OpenBin,
+    before: u64,
+    closed: &Closed,
+    out: &mut O,
+) -> Result<(), Failed>
+    ensures all { OnOk result ((all : List ℕ)
+        → ((c : ℕ) → c < frequency_limit → slice_index closed.now.frequencies c ≡ frequency all c)
+        → closed.now.many ≡ above all → Appends (O.written out.old) (O.written out.new)
+        (bin_line newest.now.bin.index newest.now.count ++ summary_text all before)) }
+    ensures short { OnErr result ((all : List ℕ)
+        → ((c : ℕ) → c < frequency_limit → slice_index closed.now.frequencies c ≡ frequency all c)
+        → closed.now.many ≡ above all → AppendsShort (O.written out.old) (O.written out.new)
+        (bin_line newest.now.bin.index newest.now.count ++ summary_text all before)) }
+    ensures cause { TriesOnce (O.faults out.old) (O.faults out.new) result }
+{
+    let mut block = Block::new();
+    block.put(out, last_lines(newest, before).as_slice())?;
+    put_frequencies(closed, &mut block, out)?;
+    block.put(out, above_line(closed.many).as_slice())?;
+    block.flush(out)
+}

@@ -1,0 +1,216 @@
+// A trace without end.
+ghost use Rattle.std.specs.Prelude.{◌≡◌, ◌+◌, ◌*◌, ◌<◌, ◌≤◌, ◌&&◌, if◌then◌else◌, IfErr, OnOk, OnErr, max, slice_index, sum};
+ghost use Rattle.std.specs.Io.KnownBytes.{Appends};
+ghost use Rattle.bench_io.specs.TriesOnce.{TriesOnce};
+ghost use Rattle.bench_io.specs.Sinks.{AppendsShort};
+ghost use Rattle.tally_base.specs.Events.{is_photon, is_in};
+
+use crate::closed::Closed;
+use crate::counting::{OpenBin, closed_with, count_at, count_block};
+use crate::ending::put_end;
+use crate::lines::{LINE_SIZE, LINES_SIZE, first_line};
+use arrayvec::ArrayVec;
+use bench_io::{Sink, write_all};
+use count_trace::Bin;
+use event_block::Block;
+use tally_base::{Event, Failed, Fault, TraceSet, floor_behind, is_in};
+
+/// Counts the photons of a group by their times, in bins without end, in ticks in T2 and sync periods in T3.
+///
+/// Bin b counts the times from `origin + b * width` on and below `origin + (b + 1) * width`. A bin that isn't
+/// empty has a line once a photon comes in a later one, and the last such bin at the end. Then it is printed how
+/// many photons came before the origin, and for each count below 1,024 how many bins have it, of those up to
+/// the last that isn't empty; those of a greater count are counted in one number. How much it keeps doesn't
+/// depend on the file.
+#[derive(Drop)]
+pub struct LongTrace {
+    set: TraceSet,
+    before: u64,
+    newest: OpenBin,
+    closed: Closed,
+    taken: u64,
+    floor: u64,
+    ghost edge: { newest.bin.low ≡ set.origin + newest.bin.index * set.width },
+    ghost low: { newest.bin.low ≤ max floor set.origin },
+    ghost all: { sum closed.frequencies + closed.many ≡ newest.bin.index },
+    ghost few: { before + newest.count ≤ taken },
+    // A closed bin that isn't empty took an event.
+    ghost filled: { newest.count + newest.bin.index
+        ≤ taken + slice_index closed.frequencies 0 },
+}
+
+impl LongTrace {
+    ghost use Rattle.std.specs.Prelude.{◌++◌, ◌∷◌, [], IsTrue, false, length};
+    ghost use Rattle.event_block.specs.Columns.{gathered, events_in, IsSorted};
+    ghost use Rattle.event_block.specs.Order.{floor_after, InOrder};
+    ghost use Rattle.tally_base.specs.Limits.{record_limit};
+    ghost use Rattle.tally_base.specs.Settings.{trace_view};
+    ghost use Rattle.tally_base.specs.Tally.{History};
+    ghost use Rattle.long_trace.specs.Texts.{first_line, open_text, whole_text};
+    ghost use Rattle.long_trace.specs.Written.{AppendsRest, CutsRest};
+    ghost use Rattle.long_trace.specs.LongTrace.{Holds, GivenMore, set_of, taken_of, floor_of, held};
+
+    /// A trace of no events. It doesn't look at the number of bins.
+    pub fn new(set: &TraceSet) -> LongTrace
+        ensures set { set_of result ≡ set.now }
+        ensures empty { Holds result [] }
+        ensures none { (taken_of result ≡ 0) × (floor_of result ≡ 0) }
+        ensures held { held result ≤ 1032 }
+    {
+        LongTrace {
+            set: *set,
+            before: 0,
+            newest: OpenBin {
+                bin: Bin {
+                    index: 0,
+                    low: set.origin,
+                },
+                count: 0,
+            },
+            closed: Closed::new(),
+            taken: 0,
+            floor: 0,
+        }
+    }
+
+    /// Writes the first line. Refuses with `WriteFault` where a write fails: then a beginning of the line that
+    /// isn't all of it was written.
+    pub fn start<O: Sink>(&mut self, out: &mut O) -> Result<(), Fault>
+        ensures text { OnOk result (Appends (O.written out.old) (O.written out.new)
+            (first_line (trace_view (set_of self.old)))) }
+        ensures short { OnErr result (AppendsShort (O.written out.old) (O.written out.new)
+            (first_line (trace_view (set_of self.old)))) }
+        ensures fault { IfErr result (λ fault. fault ≡ Fault.WriteFault) }
+        ensures cause { TriesOnce (O.faults out.old) (O.faults out.new) result }
+        ensures same { self.new ≡ self.old }
+        ensures held { held self.new ≤ 1032 }
+    {
+        write_or_refuse(out, first_line(&self.set).as_slice())
+    }
+
+    /// Takes an event, and answers the line of the bin that it closes, if any. Bit g - 1 of `groups` says that
+    /// it is in group g. Fewer than 2^40 events came before it, and a photon doesn't come at a smaller time than one
+    /// before it.
+    #[inline(always)]
+    pub fn take(&mut self, e: &Event, groups: u64) -> ArrayVec<u8, LINE_SIZE>
+        requires room { taken_of self.old < record_limit }
+        requires in_order { IsTrue (is_photon e.now) → floor_of self.old ≤ e.now.time }
+        ensures given { GivenMore self.old self.new ((e.now, groups) ∷ []) result.items }
+        ensures one_more { taken_of self.new ≡ taken_of self.old + 1 }
+        ensures moved { floor_of self.new
+            ≡ (if is_photon e.now then e.now.time else floor_of self.old) }
+        ensures held { held self.new ≤ 1032 }
+    {
+        let mut line = ArrayVec::new();
+        let more = photons_in(e, groups, self.set.group);
+        count_at(
+            &self.set,
+            &mut self.before,
+            &mut self.newest,
+            &mut self.closed,
+            e.time,
+            more,
+            &mut line,
+        );
+        self.taken += 1;
+        self.floor = floor_behind(self.floor, e);
+        line
+    }
+
+    /// Takes the events of a block, as `take` does one by one, and puts the lines of the bins that they close
+    /// into a buffer that holds none.
+    pub fn take_block(&mut self, block: &Block, lines: &mut ArrayVec<u8, LINES_SIZE>)
+        requires sorted { IsSorted block.now }
+        requires room { taken_of self.old + length (gathered block.now) ≤ record_limit }
+        requires in_order { InOrder false (floor_of self.old) (gathered block.now) }
+        requires empty { lines.old.items ≡ [] }
+        ensures given { GivenMore self.old self.new (events_in block.now) lines.new.items }
+        ensures more { taken_of self.new ≡ taken_of self.old + length (gathered block.now) }
+        ensures moved { floor_of self.new
+            ≡ floor_after false (floor_of self.old) (gathered block.now) }
+        ensures held { held self.new ≤ 1032 }
+    {
+        self.taken += block.len() as u64;
+        self.floor = count_block(
+            &self.set,
+            &mut self.before,
+            &mut self.newest,
+            &mut self.closed,
+            self.floor,
+            block,
+            lines,
+        );
+    }
+
+    /// Takes an event as `take` does, and writes the line of the bin that it closes. Behind `start` and such
+    /// calls the first line and the lines of all bins are written but for the last that isn't empty.
+    ///
+    /// Refuses with `WriteFault` where a write fails: then a beginning of the line that isn't all of it was
+    /// written.
+    pub fn event<O: Sink>(&mut self, e: &Event, groups: u64, out: &mut O) -> Result<(), Fault>
+        requires room { taken_of self.old < record_limit }
+        requires in_order { IsTrue (is_photon e.now) → floor_of self.old ≤ e.now.time }
+        ensures text { (h : History) → Holds self.old h → OnOk result (AppendsRest
+            (O.written out.old) (O.written out.new) (open_text (trace_view (set_of self.old)) h)
+            (open_text (trace_view (set_of self.old)) (h ++ (e.now, groups) ∷ []))) }
+        ensures short { (h : History) → Holds self.old h → OnErr result (CutsRest
+            (O.written out.old) (O.written out.new) (open_text (trace_view (set_of self.old)) h)
+            (open_text (trace_view (set_of self.old)) (h ++ (e.now, groups) ∷ []))) }
+        ensures fault { IfErr result (λ fault. fault ≡ Fault.WriteFault) }
+        ensures cause { TriesOnce (O.faults out.old) (O.faults out.new) result }
+        ensures set { set_of self.new ≡ set_of self.old }
+        ensures follows { (h : History) → Holds self.old h
+            → Holds self.new (h ++ (e.now, groups) ∷ []) }
+        ensures one_more { taken_of self.new ≡ taken_of self.old + 1 }
+        ensures moved { floor_of self.new
+            ≡ (if is_photon e.now then e.now.time else floor_of self.old) }
+        ensures held { held self.new ≤ 1032 }
+    {
+        let line = self.take(e, groups);
+        write_or_refuse(out, line.as_slice())
+    }
+
+    /// Writes what is behind the lines of the bins that are closed: that of the last bin, how many photons came
+    /// before the origin, and how often each count came.
+    ///
+    /// Refuses with `WriteFault` where a write fails: then a beginning of this that isn't all of it was
+    /// written.
+    pub fn finish<O: Sink>(self, out: &mut O) -> Result<(), Fault>
+        ensures text { (h : History) → Holds self h → OnOk result (AppendsRest
+            (O.written out.old) (O.written out.new) (open_text (trace_view (set_of self)) h)
+            (whole_text (trace_view (set_of self)) h)) }
+        ensures short { (h : History) → Holds self h → OnErr result (CutsRest
+            (O.written out.old) (O.written out.new) (open_text (trace_view (set_of self)) h)
+            (whole_text (trace_view (set_of self)) h)) }
+        ensures fault { IfErr result (λ fault. fault ≡ Fault.WriteFault) }
+        ensures cause { TriesOnce (O.faults out.old) (O.faults out.new) result }
+    {
+        let closed = closed_with(&self.newest, self.closed);
+        match put_end(&self.newest, self.before, &closed, out) {
+            Ok(()) => Ok(()),
+            Err(Failed) => Err(Fault::WriteFault),
+        }
+    }
+}
+
+/// 1 where the event is a photon of the group, 1 to 64, else 0.
+#[inline(always)]
+fn photons_in(e: &Event, groups: u64, group: u8) -> u64
+    requires { (0 < group) × (group ≤ 64) }
+    ensures { result ≡ (if is_photon e.now && is_in groups group then 1 else 0) }
+{
+    u64::from(e.is_photon() && is_in(groups, group))
+}
+
+/// Writes all the bytes.
+fn write_or_refuse<O: Sink>(out: &mut O, bytes: &[u8]) -> Result<(), Fault>
+    ensures text { OnOk result (Appends (O.written out.old) (O.written out.new) bytes.now) }
+    ensures short { OnErr result (AppendsShort (O.written out.old) (O.written out.new) bytes.now) }
+    ensures fault { IfErr result (λ fault. fault ≡ Fault.WriteFault) }
+    ensures cause { TriesOnce (O.faults out.old) (O.faults out.new) result }
+{
+    match write_all(out, bytes) {
+        Ok(()) => Ok(()),
+        Err(Failed) => Err(Fault::WriteFault),
+    }
+}
