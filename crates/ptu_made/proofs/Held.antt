@@ -1,12 +1,10 @@
 -- Bytes that are held in a part of an array.
-use Rattle.std.proofs.Common.{◌≡◌, ◌+◌, ◌-◌, ◌≤◌, ℕ, List, [], ◌∷◌, ◌++◌, length, take, drop, refl, sym, ap, ◌∙◌, arith, append_assoc}
+use Rattle.std.proofs.Common.{◌≡◌, ◌+◌, ◌-◌, ◌≤◌, ℕ, List, [], ◌++◌, length, take, drop, refl, sym, ap, ◌∙◌, arith, append_assoc}
 use Rattle.std.specs.Prelude.{slice_range}
-use Rattle.std.specs.Int.{to_le_bytes, w32}
 use Rattle.std.proofs.lemmas.List.{length-take, take-take, drop-append-le, drop-drop}
 use Rattle.std.proofs.lemmas.Slice.{take-put_mid, between_is}
 use Rattle.std.proofs.Math.Seq.{take-add, take-append-add}
 use borrow.Rule.Slice.PartMut.{put_mid}
-use Rattle.ptu_made.specs.ShortFile.{bytes_in}
 
 pub held-more : (next end k : ℕ) (held bytes : List ℕ) → next ≤ end → end ≤ length held → length bytes ≡ 4 → slice_range (put_mid end k held bytes) next (end + 4) ≡ slice_range held next end ++ bytes
 held-more next end k held bytes low fits four =
@@ -23,10 +21,6 @@ held-split next end count held fits =
 
 pub held-none : (at end : ℕ) (held : List ℕ) → at ≡ end → slice_range held at end ≡ []
 held-none at end held same = let none : end - at ≡ 0 = omega arith in rw none refl
-
-pub bytes_in-append : (words more : List ℕ) → bytes_in (words ++ more) ≡ bytes_in words ++ bytes_in more
-bytes_in-append [] more = refl
-bytes_in-append (word ∷ words) more = ap (λ l. to_le_bytes w32 word ++ l) (bytes_in-append words more) ∙ sym (append_assoc (to_le_bytes w32 word) (bytes_in words) (bytes_in more))
 
 -- the first bytes with those that were read behind them
 read_behind : (filled k count : ℕ) (into new : List ℕ) → filled ≤ length into → count ≤ length new → take (filled + count) (put_mid filled k into new) ≡ take filled into ++ take count new

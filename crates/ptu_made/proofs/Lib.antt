@@ -2,6 +2,5 @@ pub mod Rows
 pub mod Behind
 pub mod Held
 pub mod Meanings
-pub mod MadeHeaders
 pub mod Unrefused
 pub mod MadeEvents

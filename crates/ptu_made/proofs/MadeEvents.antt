@@ -10,7 +10,8 @@ use Rattle.ptu_definitions.specs.Layouts.{hydra_t2}
 use Rattle.ptu_definitions.specs.Prefixes.{each_after}
 use Rattle.ptu_definitions.specs.Times.{amount, base, event_after, events}
 use Rattle.ptu_made.specs.Generator.{next_state, states, gap, channel, last_time, unit, photon_word, words_behind, made_words}
-use Rattle.ptu_made.specs.Records.{Timed, timed, made_photons}
+use Rattle.short_file.specs.TimedEvents.{Timed, timed}
+use Rattle.ptu_made.specs.Records.{made_photons}
 use Rattle.ptu_made.proofs.Behind.{Giving, all_given, all_given-cons, words_behind-cons}
 use Rattle.ptu_made.proofs.Meanings.{photon-meaning, wrap-meaning}
 

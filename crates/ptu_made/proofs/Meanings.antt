@@ -4,9 +4,10 @@ use Rattle.std.specs.Prelude.{nat_lt, if◌then◌else◌}
 use Rattle.std.specs.List.{AllByRecursion}
 use Rattle.ptu_definitions.specs.declared.records.Raw.TheVariants.{Photon, Wrap}
 use Rattle.ptu_definitions.specs.Layouts.{hydra_t2, bits}
-use Rattle.ptu_definitions.specs.Words.{word_of, words_of, rest_of}
+use Rattle.ptu_definitions.specs.Words.{words_of, rest_of}
 use Rattle.ptu_made.specs.Generator.{states, gap, channel, unit, photon_word, words_behind, made_words}
-use Rattle.ptu_made.specs.ShortFile.{bytes_in}
+use Rattle.short_file.specs.ShortFiles.{bytes_in}
+use Rattle.short_file.proofs.WordBytes.{IsWord, words_of-bytes_in, rest_of-bytes_in}
 use Rattle.ptu_made.specs.Records.{IsPhotonOrWrap}
 use Rattle.ptu_made.proofs.Behind.{words_behind-cons}
 
@@ -54,15 +55,10 @@ all_means [] h k d within = absurd (omega arith)
 all_means (word ∷ words) h zero d within = h.0
 all_means (word ∷ words) h (suc k) d within = all_means words h.1 k d (omega arith)
 
+small : (words : List ℕ) → AllByRecursion IsMade words → AllByRecursion IsWord words
+small [] h = tt
+small (word ∷ words) h = (h.0.small, small words h.1)
+
 -- the words of their bytes
 pub words-bytes : (words : List ℕ) → AllByRecursion IsMade words → (words_of (bytes_in words) ≡ words) × (rest_of (bytes_in words) ≡ [])
-words-bytes [] h = (refl, refl)
-words-bytes (word ∷ words) h =
-    let rest = words-bytes words h.1 in
-    let small = h.0.small in
-    let same : word_of (word % 256) (word / 256 % 256) (word / 65536 % 256) (word / 16777216 % 256) ≡ word = omega (arith, small) in
-    (rw (same, rest.0) refl, rest.1)
-
-pub length-bytes_in : (words : List ℕ) → length (bytes_in words) ≡ 4 * length words
-length-bytes_in [] = refl
-length-bytes_in (word ∷ words) = omega (arith, length-bytes_in words)
+words-bytes words h = (words_of-bytes_in words (small words h), rest_of-bytes_in words)

@@ -1,10 +1,11 @@
 -- The definitions at known seeds.
-use Rattle.std.proofs.Common.{◌≡◌, [], ◌∷◌, ◌++◌, length, replicate, refl}
+use Rattle.std.proofs.Common.{◌≡◌, [], ◌∷◌, ◌++◌, replicate, refl}
 use Rattle.std.specs.Prelude.{codes}
 use Rattle.ptu_made.specs.Generator.{next_state, states, gap, channel, drawn, photon_words, made_words}
 use Rattle.tally_base.specs.declared.event.EventKind.TheVariants.{Photon}
 use Rattle.ptu_made.specs.Records.{made_photons}
-use Rattle.ptu_made.specs.ShortFile.{short_header, made_file}
+use Rattle.short_file.specs.ShortFiles.{short_header, short_file}
+use Rattle.ptu_made.specs.MadeFile.{made_file}
 
 pub row-state : next_state 0 ≡ 0x14057B7EF767814F
 row-state = refl
@@ -22,10 +23,6 @@ pub row-first : made_words 0 1 ≡ 0x000001BF ∷ []
 unfolding made_words states
 row-first = refl
 
-pub row-header : length short_header ≡ 112
-unfolding short_header
-row-header = refl
-
 pub row-words : made_words 1 4 ≡ 0x020001D6 ∷ 0x0200032F ∷ 0x000003FB ∷ 0x020004E1 ∷ []
 unfolding made_words states
 row-words = refl
@@ -41,7 +38,7 @@ pub row-file : made_file 0 1
     ≡ codes "PQTTTR" ++ 0 ∷ 0 ∷ (codes "1.0.00" ++ 0 ∷ 0 ∷ (codes "TTResultFormat_TTTRRecType"
     ++ 0 ∷ 0 ∷ 0 ∷ 0 ∷ 0 ∷ 0 ∷ 255 ∷ 255 ∷ 255 ∷ 255 ∷ 8 ∷ 0 ∷ 0 ∷ 16 ∷ 4 ∷ 2 ∷ 1 ∷ 1 ∷ 0 ∷ 0 ∷ 0 ∷ 0 ∷ (codes "Header_End"
     ++ replicate 22 0 ++ (255 ∷ 255 ∷ 255 ∷ 255 ∷ 8 ∷ 0 ∷ 255 ∷ 255 ∷ 0 ∷ 0 ∷ 0 ∷ 0 ∷ 0 ∷ 0 ∷ 0 ∷ 0 ∷ 0xBF ∷ 1 ∷ 0 ∷ 0 ∷ []))))
-unfolding made_file short_header made_words states
+unfolding made_file short_file short_header made_words states
 row-file = refl
 
 pub row-photons : made_photons 1 2 ≡ record { kind = Photon 2 0; time = 470 } ∷ record { kind = Photon 2 0; time = 815 } ∷ []

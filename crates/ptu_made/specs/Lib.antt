@@ -1,5 +1,5 @@
 pub mod Generator
-pub mod ShortFile
+pub mod MadeFile
 pub mod Photon
 pub mod Left
 pub mod Unread

@@ -6,7 +6,7 @@ use Rattle.tally_base.specs.declared.slot.Slot.TheVariants.{Plan, Data}
 use Rattle.bench_io.specs.Inputs.{InputState}
 use Rattle.ptu_made.specs.declared.made.Made.{Made}
 use Rattle.ptu_made.specs.declared.unread.Unread.{Unread}
-use Rattle.ptu_made.specs.ShortFile.{made_file}
+use Rattle.ptu_made.specs.MadeFile.{made_file}
 use Rattle.ptu_made.specs.Unread.{rest_in}
 
 -- one slot of the two

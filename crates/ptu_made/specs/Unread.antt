@@ -2,7 +2,7 @@
 use Rattle.std.specs.Prelude.{ℕ, List, [], ◌++◌, None, Some, slice_range}
 use Rattle.std.specs.declared.option.Option.{Option}
 use Rattle.ptu_made.specs.declared.unread.Unread.{Unread}
-use Rattle.ptu_made.specs.ShortFile.{bytes_in}
+use Rattle.short_file.specs.ShortFiles.{bytes_in}
 use Rattle.ptu_made.specs.Left.{words_left}
 
 -- the bytes that are held

@@ -10,8 +10,10 @@ ghost use Rattle.ptu_definitions.specs.Streams.{reading, record_refusal};
 ghost use Rattle.ptu_definitions.specs.Times.{base, events};
 ghost use Rattle.ptu_definitions.specs.Words.{words_of, rest_of};
 ghost use Rattle.ptu_made.specs.Generator.{photon_limit, made_words};
-ghost use Rattle.ptu_made.specs.Records.{IsPhotonOrWrap, made_header, made_photons, timed};
-ghost use Rattle.ptu_made.specs.ShortFile.{bytes_in, made_file};
+ghost use Rattle.short_file.specs.ShortFiles.{bytes_in};
+ghost use Rattle.short_file.specs.TimedEvents.{timed};
+ghost use Rattle.ptu_made.specs.Records.{IsPhotonOrWrap, made_header, made_photons};
+ghost use Rattle.ptu_made.specs.MadeFile.{made_file};
 
 /// The file has a header of the record type HydraHarp2T2 and 112 bytes, and behind it its words,
 /// four bytes each and no byte more. There are at least as many words as photons, and at most twice as

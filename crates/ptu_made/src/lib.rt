@@ -1,7 +1,6 @@
 //! A large valid file of photons, made from a seed while it is read.
 #![tactic(auto)]
 
-mod header;
 pub mod laws;
 mod made;
 mod photon_words;

@@ -5,7 +5,7 @@ ghost use Rattle.std.specs.Io.KnownBytes.{ReadConsumes};
 ghost use Rattle.bench_io.specs.TriesOnce.{TriesOnce};
 ghost use Rattle.bench_io.specs.Inputs.{IsOpened, Keeps, KeepsOther, OpensNone};
 ghost use Rattle.bench_io.specs.Memory.{left_of};
-ghost use Rattle.ptu_made.specs.ShortFile.{made_file};
+ghost use Rattle.ptu_made.specs.MadeFile.{made_file};
 ghost use Rattle.ptu_made.specs.Generator.{photon_limit};
 
 use crate::slot::read_in;

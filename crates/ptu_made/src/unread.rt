@@ -2,12 +2,14 @@
 ghost use Rattle.std.specs.Prelude.{◌≡◌, ◌+◌, ◌<◌, ◌≤◌, ◌++◌, [], length, take, min, true, false};
 ghost use Rattle.std.specs.Int.{to_le_bytes, w32};
 ghost use Rattle.ptu_made.specs.Photon.{words_of_photon};
-ghost use Rattle.ptu_made.specs.ShortFile.{bytes_in, made_file};
+ghost use Rattle.short_file.specs.ShortFiles.{bytes_in};
+ghost use Rattle.ptu_made.specs.MadeFile.{made_file};
 ghost use Rattle.ptu_made.specs.Generator.{photon_limit};
 
-use crate::header::{HEADER_SIZE, header_bytes};
 use crate::photon_words::PhotonWords;
 use crate::photons::{Photons, WRAP};
+use short_file::{HEADER_SIZE, short_header};
+use tally_base::Mode;
 
 /// The bytes of a made file that are still to come: some that are held, and those of the photons.
 #[derive(Clone, Copy, Debug)]
@@ -29,7 +31,7 @@ impl Unread {
     {
         Unread {
             photons: Photons::new(seed, count),
-            held: header_bytes(),
+            held: short_header(Mode::T2),
             next: 0,
             end: HEADER_SIZE,
         }

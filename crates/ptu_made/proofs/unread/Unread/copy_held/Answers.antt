@@ -2,7 +2,7 @@ use Rattle.std.proofs.Common.{◌≡◌, ◌+◌, ◌++◌, ◌≤◌, length, d
 use Rattle.std.specs.Prelude.{slice_range}
 use Rattle.std.proofs.lemmas.List.{take_at, length-take}
 use Rattle.ptu_made.proofs.Held.{held-split}
-use Rattle.ptu_made.specs.ShortFile.{bytes_in}
+use Rattle.short_file.specs.ShortFiles.{bytes_in}
 use Rattle.ptu_made.specs.Left.{words_left}
 use Rattle.ptu_made.proofs.unread.Unread.copy_held.Goals as goal
 

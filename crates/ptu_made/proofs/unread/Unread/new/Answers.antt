@@ -1,7 +1,8 @@
 use Rattle.std.proofs.Common.{refl}
-use Rattle.ptu_made.specs.ShortFile.{short_header, made_file}
+use Rattle.short_file.specs.ShortFiles.{short_header, short_file}
+use Rattle.ptu_made.specs.MadeFile.{made_file}
 use Rattle.ptu_made.proofs.unread.Unread.new.Goals as goal
 
 pub returns : goal.returns
-unfolding made_file short_header
-returns c = rw (c.header_bytes.ensures, c.new.ensures) (refl)
+unfolding made_file short_file short_header
+returns c = rw (c.short_header.ensures, c.new.ensures) (refl)

@@ -1,0 +1,152 @@
+-- What a piece writes of the photons of a group.
+use Rattle.std.proofs.Common.{◌≡◌, ◌∙◌, ℕ, List, [], ◌++◌, Bool, None, Some, Ok, Err, refl, ap, inl, inr, ⊎_elim, arith}
+use Rattle.std.specs.Prelude.{Result, OnOk}
+use Rattle.std.specs.List.{filter}
+use Rattle.std.specs.declared.option.Option.{Option}
+use Rattle.std.specs.Io.KnownBytes.{Appends}
+use Rattle.tally_base.specs.declared.event.Event.{Event}
+use Rattle.tally_base.specs.declared.fault.Fault.{Fault}
+use Rattle.tally_base.specs.declared.fault.Fault.TheVariants.{WriteFault}
+use Rattle.tally_base.specs.FaultCounts.{Rose}
+use Rattle.bench_io.specs.Sinks.{AppendsShort}
+use Rattle.bench_io.proofs.Bytes.{Appends-flushed, AppendsShort-flushed, AppendsShort-more, AppendsShort-kept, Keeps-from_none}
+use Rattle.ptu_definitions.specs.Kept.{Marked}
+use Rattle.ptu_definitions.specs.Settled.{not_marked}
+use Rattle.ptu_definitions.specs.Streams.{Reading, record_refusal, given}
+use Rattle.record_stream.specs.declared.taker.EventTaker.{Ghosts}
+use Rattle.record_stream.specs.Feeding.{GaveOn, BrokeOn, Fed}
+use Rattle.photon_pick.specs.Taking.{Stand, Took, Refused, RefusedLate, RefusedCut}
+use Rattle.photon_pick.specs.Texts.{photons_in, text_in, refusal_in, answer_by, WroteText, CutText, WritesText, HasPickedIn}
+use Rattle.photon_pick.proofs.Parts.{AppendsShort-none, chosen-more, took-clear, took-bytes, took-put, took-picked, late-first, late-bytes, late-put, cut-bytes, cut-short}
+
+photons-more : (chooses : Event → Bool) (how : Reading) (words now : List ℕ) (more : Marked) → given how now ≡ given how words ++ more → photons_in chooses how now ≡ photons_in chooses how words ++ filter chooses (not_marked more)
+photons-more chooses how words now more adds = ap (λ l. filter chooses (not_marked l)) adds ∙ chosen-more chooses (given how words) more
+
+module _ {T : Type 0} (g : Ghosts T) (a b : T) (at : T → Stand) (chooses : Event → Bool) (how : Reading) (same_choice : (at a).chooses ≡ chooses) (same_mode : (at a).mode ≡ how.mode) (empty : (at a).held ≡ []) (c : Option (List ℕ)) (faults : ℕ)
+    (none : g.got a a []) (gets : (l : Marked) → g.got a b l → Took (at a) (at b) l) (breaks : (l : Marked) → g.broke a b l → Refused (at a) (at b) l) (words now : List ℕ) (has : HasPickedIn chooses how (at a).picker words) where
+  abbrev s : Stand
+  s = at a
+
+  abbrev t : Stand
+  t = at b
+
+  abbrev text : List ℕ → List ℕ
+  text = text_in chooses how
+
+  abbrev refuses : List ℕ → Option Fault
+  refuses = refusal_in chooses how
+
+  abbrev before : List Event
+  before = photons_in chooses how words
+
+  abbrev total : List Event
+  total = photons_in chooses how now
+
+  -- what was given
+  gave : (h : GaveOn g how a b words now) → Took s t h.more
+  gave h = gets h.more (h.follows a [] none)
+
+  gave-are : (h : GaveOn g how a b words now) → total ≡ before ++ filter chooses (not_marked h.more)
+  gave-are h = photons-more chooses how words now h.more h.adds
+
+  gave-wrote : (h : GaveOn g how a b words now) → Appends t.written c t.held → faults ≡ t.sink → WroteText text s.written c s.sink faults words now
+  gave-wrote h flushed still = record {
+    more = _;
+    adds = took-bytes s t chooses how.mode same_choice same_mode empty before total has.in_time has.picked h.more (gave h) (gave-are h);
+    written = Appends-flushed s.written t.written c _ t.held (took-put s t chooses how.mode same_choice same_mode empty before total has.in_time has.picked h.more (gave h) (gave-are h)) flushed;
+    kept = still ∙ (gave h).kept_sink;
+  }
+
+  gave-clear : (h : GaveOn g how a b words now) (answer : Option Fault) → record_refusal how now ≡ answer → refuses now ≡ answer
+  gave-clear h answer is = rw (took-clear s t chooses how.mode same_choice same_mode empty before total has.in_time has.picked h.more (gave h) (gave-are h)) is
+
+  gave-stands : GaveOn g how a b words now → HasPickedIn chooses how t.picker now
+  gave-stands h = record {
+    picked = took-picked s t chooses how.mode same_choice same_mode empty before total has.in_time has.picked h.more (gave h) (gave-are h);
+    in_time = took-clear s t chooses how.mode same_choice same_mode empty before total has.in_time has.picked h.more (gave h) (gave-are h);
+  }
+
+  gave-cut : (h : GaveOn g how a b words now) → AppendsShort t.written c t.held → Rose t.sink faults → CutText text s.written c s.sink faults words now
+  gave-cut h short rose =
+      let still = (gave h).kept_sink in
+      record {
+        more = _;
+        adds = took-bytes s t chooses how.mode same_choice same_mode empty before total has.in_time has.picked h.more (gave h) (gave-are h);
+        cut = AppendsShort-flushed s.written t.written c _ t.held (took-put s t chooses how.mode same_choice same_mode empty before total has.in_time has.picked h.more (gave h) (gave-are h)) short;
+        rose = rw still at rose;
+      }
+
+  -- a photon of the group was refused
+  broke : (h : BrokeOn g how a b words now) → Refused s t h.front
+  broke h = breaks h.front (h.broken a [] none)
+
+  broke-are : (h : BrokeOn g how a b words now) → total ≡ before ++ filter chooses (not_marked (h.front ++ h.back))
+  broke-are h = photons-more chooses how words now (h.front ++ h.back) h.adds
+
+  -- What a piece wrote, where the block was flushed.
+  pub feeds-on : (r : Result (Unit {0}) Fault) → s.fault ≡ None → Appends t.written c t.held → faults ≡ t.sink → Fed g how a b words now r
+      → WritesText text refuses s.written c s.sink faults words now (answer_by t.fault r) × OnOk (answer_by t.fault r) (HasPickedIn chooses how t.picker now)
+  feeds-on (Ok done) free flushed still fed = ((gave-clear fed.1 None fed.0, gave-wrote fed.1 flushed still), gave-stands fed.1)
+  feeds-on (Err fault) free flushed still fed =
+      ⊎_elim
+      (λ (r : (record_refusal how now ≡ Some fault) × GaveOn g how a b words now).
+      let kept : t.fault ≡ None = (gave r.1).same_fault ∙ free in
+      rw kept (inl (gave-clear r.1 (Some fault) r.0, gave-wrote r.1 flushed still), tt))
+      (λ (r : (fault ≡ WriteFault) × BrokeOn g how a b words now).
+      ⊎_elim
+      (λ (late : RefusedLate s t (broke r.1).front (broke r.1).e).
+      rw (late.fault) (
+        inl (
+          rw (late-first s t chooses how.mode same_choice same_mode empty before total has.in_time has.picked r.1.front r.1.back (broke r.1) (broke-are r.1) late) refl,
+          record {
+            more = _;
+            adds = late-bytes s t chooses how.mode same_choice same_mode empty before total has.in_time has.picked r.1.front r.1.back (broke r.1) (broke-are r.1) late;
+            written = Appends-flushed s.written t.written c _ t.held (late-put s t chooses how.mode same_choice same_mode empty before total has.in_time has.picked r.1.front r.1.back (broke r.1) (broke-are r.1) late) flushed;
+            kept = still ∙ late.kept;
+          },
+        ),
+        tt,
+      ))
+      (λ (cut : RefusedCut s t (broke r.1).front (broke r.1).e).
+      let it = cut-bytes s t chooses how.mode same_choice same_mode empty before total has.in_time has.picked r.1.front r.1.back (broke r.1) (broke-are r.1) cut in
+      let short = cut-short s t chooses how.mode same_choice same_mode empty before total has.in_time has.picked r.1.front r.1.back (broke r.1) (broke-are r.1) cut in
+      let rose = cut.rose in
+      rw (cut.fault) (
+        inr (
+          refl,
+          record {
+            more = _;
+            adds = it.1;
+            cut = AppendsShort-more s.written c _ it.0 (AppendsShort-kept s.written t.written c _ short.0 (Keeps-from_none t.written c (rw short.1 at flushed)));
+            rose = omega (arith, rose, still);
+          },
+        ),
+        tt,
+      ))
+      (broke r.1).why)
+      fed
+
+  -- What it wrote where the flush failed.
+  pub feeds-cut : (r : Result (Unit {0}) Fault) → AppendsShort t.written c t.held → Rose t.sink faults → Fed g how a b words now r → WritesText {X = Unit {0}} text refuses s.written c s.sink faults words now (Err WriteFault)
+  feeds-cut (Ok done) short rose fed = inr (refl, gave-cut fed.1 short rose)
+  feeds-cut (Err fault) short rose fed =
+      ⊎_elim
+      (λ (r : (record_refusal how now ≡ Some fault) × GaveOn g how a b words now). inr (refl, gave-cut r.1 short rose))
+      (λ (r : (fault ≡ WriteFault) × BrokeOn g how a b words now).
+      ⊎_elim
+      (λ (late : RefusedLate s t (broke r.1).front (broke r.1).e).
+      let still = late.kept in
+      inr (
+        refl,
+        record {
+          more = _;
+          adds = late-bytes s t chooses how.mode same_choice same_mode empty before total has.in_time has.picked r.1.front r.1.back (broke r.1) (broke-are r.1) late;
+          cut = AppendsShort-flushed s.written t.written c _ t.held (late-put s t chooses how.mode same_choice same_mode empty before total has.in_time has.picked r.1.front r.1.back (broke r.1) (broke-are r.1) late) short;
+          rose = rw still at rose;
+        },
+      ))
+      (λ (cut : RefusedCut s t (broke r.1).front (broke r.1).e).
+      let gone = cut-short s t chooses how.mode same_choice same_mode empty before total has.in_time has.picked r.1.front r.1.back (broke r.1) (broke-are r.1) cut in
+      absurd (AppendsShort-none t.written c (rw (gone.1) at short)))
+      (broke r.1).why)
+      fed

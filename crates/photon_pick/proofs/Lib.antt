@@ -1,0 +1,6 @@
+pub mod Rows
+pub mod Steps
+pub mod Wanted
+pub mod Parts
+pub mod Feeds
+pub mod Ends

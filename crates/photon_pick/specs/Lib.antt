@@ -1,0 +1,6 @@
+pub mod Chosen
+pub mod Late
+pub mod Taking
+pub mod Texts
+pub mod Pieces
+pub mod Ends

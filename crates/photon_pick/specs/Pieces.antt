@@ -1,0 +1,23 @@
+-- What feeding a piece writes of the photons that are chosen.
+use Rattle.std.specs.Prelude.{ℕ, ◌≡◌, ◌≤◌, Bool, List, ◌++◌, OnOk, None, Result}
+use Rattle.tally_base.specs.declared.event.Event.{Event}
+use Rattle.tally_base.specs.declared.fault.Fault.{Fault}
+use Rattle.bench_io.specs.declared.sink.Sink.{Ghosts}
+use Rattle.ptu_definitions.specs.Words.{words_of}
+use Rattle.record_stream.specs.declared.stream.RecordStream.{RecordStream}
+use Rattle.record_stream.specs.Standing.{how_of, greatest_of, refused_with, HasStreamed}
+use Rattle.record_write.specs.declared.picker.Picker.{Picker}
+use Rattle.record_write.specs.Picker.{mode_of, last_by}
+use Rattle.photon_pick.specs.Texts.{text_in, refusal_in, WritesText, HasPickedIn}
+
+-- The picker writes in the mode of the stream, and is no further on than it.
+pub record IsNoFurther (stream : RecordStream) (picker : Picker) : Type 0 where
+  pub same_mode : mode_of picker ≡ (how_of stream).mode
+  pub before : last_by picker ≤ greatest_of stream
+
+-- What a piece wrote, where the stream has refused nothing and the picker has picked the photons before it, by the answer.
+abbrev pub PicksPiece : {O : Type 0} → Ghosts O → (Event → Bool) → RecordStream → List ℕ → Picker → Picker → O → O → Result (Unit {0}) Fault → Type 0
+PicksPiece o chooses stream piece picker now old new result =
+    refused_with stream ≡ None → (bytes : List ℕ) → HasStreamed stream bytes → HasPickedIn chooses (how_of stream) picker (words_of bytes)
+    → WritesText (text_in chooses (how_of stream)) (refusal_in chooses (how_of stream)) (o.written old) (o.written new) (o.faults old) (o.faults new) (words_of bytes) (words_of (bytes ++ piece)) result
+    × OnOk result (HasPickedIn chooses (how_of stream) now (words_of (bytes ++ piece)))

@@ -1,0 +1,89 @@
+// What the end of a file writes of the photons of a group.
+ghost use Rattle.std.specs.Prelude.{◌≡◌, ◌<◌, ◌≤◌, List, ℕ, [], None};
+ghost use Rattle.ptu_definitions.specs.Words.{words_of};
+ghost use Rattle.gate_plan.specs.Groups.{sorting_of};
+ghost use Rattle.record_stream.specs.Standing.{how_of, given_by, greatest_of, refused_with, HasStreamed};
+ghost use Rattle.photon_pick.specs.Chosen.{is_chosen};
+ghost use Rattle.photon_pick.specs.Texts.{answer_by, HasPickedIn};
+ghost use Rattle.photon_pick.specs.Pieces.{IsNoFurther};
+ghost use Rattle.photon_pick.specs.Ends.{WritesEnd};
+
+use crate::taker::Picks;
+use bench_io::{Block, Sink};
+use gate_plan::Gates;
+use record_stream::{RecordStream, Summary};
+use record_write::Picker;
+use tally_base::{Failed, Fault};
+
+/// The answer of a stream at its end, with the fault that its taker met in place of its own.
+fn answer_at_end(kept: Option<Fault>, finished: Result<Summary, Fault>) -> Result<(), Fault>
+    ensures { result ≡ answer_by kept finished }
+{
+    match (finished, kept) {
+        (Ok(_), _) => Ok(()),
+        (Err(_), Some(fault)) => Err(fault),
+        (Err(fault), None) => Err(fault),
+    }
+}
+
+/// Ends a stream, and writes the words that the block holds.
+fn end_picks<'g, 'p, 'o, O: Sink>(
+    stream: RecordStream,
+    picks: &mut Picks<'g, 'p, 'o, O>,
+) -> Result<(), Fault>
+    requires mode { picks.old.mode ≡ (how_of stream).mode }
+    requires stands { (picks.old.taken ≡ given_by stream) × (picks.old.floor ≡ greatest_of stream) }
+    requires empty { picks.old.block ≡ [] }
+    requires unrefused { picks.old.fault ≡ None }
+    requires going { refused_with stream ≡ None }
+    ensures writes { (bytes : List ℕ) → HasStreamed stream bytes
+        → HasPickedIn (is_chosen (sorting_of picks.old.gates.now) picks.old.group) (how_of stream)
+        picks.old.picker.now (words_of bytes)
+        → WritesEnd (is_chosen (sorting_of picks.old.gates.now) picks.old.group) (how_of stream)
+        (O.written picks.old.out.now) (O.written picks.new.out.now)
+        (O.faults picks.old.out.now) (O.faults picks.new.out.now) bytes result }
+    ensures same { (picks.new.out.ghost_name ≡ picks.old.out.ghost_name)
+        × (picks.new.picker.ghost_name ≡ picks.old.picker.ghost_name) }
+{
+    let finished = stream.finish(picks);
+    match picks.block.flush(picks.out) {
+        Ok(()) => answer_at_end(picks.fault, finished),
+        Err(Failed) => Err(Fault::WriteFault),
+    }
+}
+
+/// Ends a stream that has refused nothing, and writes the photons of a group, 1 to 64, among the events that it kept
+/// back. The picker has picked those before.
+///
+/// Refuses bytes that end within a record, and then writes nothing, and with `PickTime` the first of these photons that is too late to be
+/// written; then those before it were written. Where a write fails it answers `WriteFault`.
+pub fn pick_end<O: Sink>(
+    stream: RecordStream,
+    gates: &Gates,
+    group: u8,
+    mut picker: Picker,
+    out: &mut O,
+) -> Result<(), Fault>
+    requires group { (0 < group) × (group ≤ 64) }
+    requires behind { IsNoFurther stream picker }
+    requires going { refused_with stream ≡ None }
+    ensures writes { (bytes : List ℕ) → HasStreamed stream bytes
+        → HasPickedIn (is_chosen (sorting_of gates.now) group) (how_of stream) picker (words_of bytes)
+        → WritesEnd (is_chosen (sorting_of gates.now) group) (how_of stream) (O.written out.old)
+        (O.written out.new) (O.faults out.old) (O.faults out.new) bytes result }
+{
+    let mode = picker.mode();
+    let mut picks = Picks {
+        gates,
+        group,
+        picker: &mut picker,
+        out,
+        block: Block::new(),
+        fault: None,
+        refusals: 0,
+        mode,
+        taken: stream.given(),
+        floor: stream.greatest(),
+    };
+    end_picks(stream, &mut picks)
+}

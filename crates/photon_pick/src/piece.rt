@@ -1,0 +1,97 @@
+// What a piece of a file writes of the photons of a group.
+ghost use Rattle.std.specs.Prelude.{◌≡◌, ◌+◌, ◌*◌, ◌<◌, ◌≤◌, ◌++◌, List, ℕ, [], None, length, OnOk};
+ghost use Rattle.ptu_definitions.specs.Counted.{record_limit};
+ghost use Rattle.gate_plan.specs.Groups.{sorting_of};
+ghost use Rattle.record_stream.specs.Standing.{how_of, given_by, greatest_of, refused_with, bytes_in, HasStreamed};
+ghost use Rattle.photon_pick.specs.Chosen.{is_chosen};
+ghost use Rattle.photon_pick.specs.Texts.{answer_by};
+ghost use Rattle.photon_pick.specs.Pieces.{PicksPiece, IsNoFurther};
+
+use crate::taker::Picks;
+use bench_io::{Block, Sink};
+use gate_plan::Gates;
+use record_stream::RecordStream;
+use record_write::Picker;
+use tally_base::{Failed, Fault};
+
+/// The answer of a stream, with the fault that its taker met in place of its own.
+fn answer(kept: Option<Fault>, fed: Result<(), Fault>) -> Result<(), Fault>
+    ensures { result ≡ answer_by kept fed }
+{
+    match (fed, kept) {
+        (Ok(()), _) => Ok(()),
+        (Err(_), Some(fault)) => Err(fault),
+        (Err(fault), None) => Err(fault),
+    }
+}
+
+/// Feeds a piece, and writes the words that the block holds.
+fn feed_picks<'g, 'p, 'o, O: Sink>(
+    stream: &mut RecordStream,
+    piece: &[u8],
+    picks: &mut Picks<'g, 'p, 'o, O>,
+) -> Result<(), Fault>
+    requires mode { picks.old.mode ≡ (how_of stream.old).mode }
+    requires stands { (picks.old.taken ≡ given_by stream.old) × (picks.old.floor ≡ greatest_of stream.old) }
+    requires empty { picks.old.block ≡ [] }
+    requires unrefused { picks.old.fault ≡ None }
+    ensures taken { (bytes : List ℕ) → HasStreamed stream.old bytes
+        → HasStreamed stream.new (bytes ++ piece.now) }
+    ensures same_how { how_of stream.new ≡ how_of stream.old }
+    ensures limit { bytes_in stream.new ≤ 4 * record_limit + 3 }
+    ensures writes { PicksPiece O.Sink
+        (is_chosen (sorting_of picks.old.gates.now) picks.old.group) stream.old piece.now
+        picks.old.picker.now picks.new.picker.now picks.old.out.now picks.new.out.now result }
+    ensures going { OnOk result ((refused_with stream.new ≡ None)
+        × (bytes_in stream.new ≡ bytes_in stream.old + length piece.now)) }
+    ensures behind { OnOk result (IsNoFurther stream.new picks.new.picker.now) }
+    ensures same { (picks.new.out.ghost_name ≡ picks.old.out.ghost_name)
+        × (picks.new.picker.ghost_name ≡ picks.old.picker.ghost_name) }
+{
+    let fed = stream.feed(piece, picks);
+    match picks.block.flush(picks.out) {
+        Ok(()) => answer(picks.fault, fed),
+        Err(Failed) => Err(Fault::WriteFault),
+    }
+}
+
+/// Gives a piece to a stream, and writes the photons of a group, 1 to 64, that the stream gives and that aren't late.
+/// The picker has picked those before.
+///
+/// Refuses what the stream refuses, and with `PickTime` the first of these photons that is too late to be written; then those before
+/// it were written. Where a write fails it answers `WriteFault`.
+pub fn pick_piece<O: Sink>(
+    stream: &mut RecordStream,
+    gates: &Gates,
+    group: u8,
+    picker: &mut Picker,
+    piece: &[u8],
+    out: &mut O,
+) -> Result<(), Fault>
+    requires group { (0 < group) × (group ≤ 64) }
+    requires behind { IsNoFurther stream.old picker.old }
+    ensures taken { (bytes : List ℕ) → HasStreamed stream.old bytes
+        → HasStreamed stream.new (bytes ++ piece.now) }
+    ensures same_how { how_of stream.new ≡ how_of stream.old }
+    ensures limit { bytes_in stream.new ≤ 4 * record_limit + 3 }
+    ensures writes { PicksPiece O.Sink (is_chosen (sorting_of gates.now) group) stream.old piece.now
+        picker.old picker.new out.old out.new result }
+    ensures going { OnOk result ((refused_with stream.new ≡ None)
+        × (bytes_in stream.new ≡ bytes_in stream.old + length piece.now)) }
+    ensures behind { OnOk result (IsNoFurther stream.new picker.new) }
+{
+    let mode = picker.mode();
+    let mut picks = Picks {
+        gates,
+        group,
+        picker,
+        out,
+        block: Block::new(),
+        fault: None,
+        refusals: 0,
+        mode,
+        taken: stream.given(),
+        floor: stream.greatest(),
+    };
+    feed_picks(stream, piece, &mut picks)
+}

@@ -1,0 +1,96 @@
+// What gives the photons of a group to a picker.
+ghost use Rattle.std.specs.Prelude.{◌≡◌, ◌+◌, ◌<◌, ◌≤◌, ◌&&◌, not};
+ghost use Rattle.tally_base.specs.declared.event.Event.{Event};
+ghost use Rattle.gate_plan.specs.Groups.{sorting_of};
+ghost use Rattle.record_write.specs.Picker.{mode_of, last_by};
+ghost use Rattle.photon_pick.specs.Chosen.{is_chosen};
+
+use bench_io::{Block, Sink};
+use gate_plan::Gates;
+use record_stream::{EventTaker, moved_floor};
+use record_write::Picker;
+use tally_base::{Event, Failed, Fault, Mode, is_in};
+
+/// Whether an event is a photon of a group, by its shifted dtime, that isn't late.
+#[inline(always)]
+fn is_wanted(gates: &Gates, group: u8, e: &Event, late: bool) -> bool
+    requires { (0 < group) × (group ≤ 64) }
+    ensures { result ≡ (not late && is_chosen (sorting_of gates.now) group e.now) }
+{
+    !late && e.is_photon() && is_in(gates.groups(e), group)
+}
+
+/// Writes each photon of a group that isn't late, with the dtime that the file has, through a block. It lives for
+/// one piece, or for the end.
+#[derive(Drop)]
+pub(crate) struct Picks<'g, 'p, 'o, O: Sink> {
+    pub(crate) gates: &'g Gates,
+    pub(crate) group: u8,
+    pub(crate) picker: &'p mut Picker,
+    pub(crate) out: &'o mut O,
+    pub(crate) block: Block,
+    // Why the last photon was refused.
+    pub(crate) fault: Option<Fault>,
+    pub(crate) refusals: u64,
+    pub(crate) mode: Mode,
+    pub(crate) taken: u64,
+    pub(crate) floor: u64,
+    ghost some_group: { (0 < group) × (group ≤ 64) },
+    ghost of_mode: { mode_of picker.now ≡ mode },
+    ghost before: { last_by picker.now ≤ floor },
+}
+
+impl<'g, 'p, 'o, O: Sink> EventTaker for Picks<'g, 'p, 'o, O> {
+    ghost use Rattle.std.specs.Prelude.{refl};
+    ghost use Rattle.std.proofs.Common.{◌∙◌};
+    ghost use Rattle.photon_pick.specs.Taking.{Took, Refused, took_none, stand};
+
+    ghost got = { λ s t l. Took (stand (is_chosen (sorting_of s.gates.now) s.group) s.picker.now s.mode s.taken s.floor
+        (O.faults s.out.now + s.refusals) (O.faults s.out.now) (O.written s.out.now) s.block s.fault)
+        (stand (is_chosen (sorting_of t.gates.now) t.group) t.picker.now t.mode t.taken t.floor
+        (O.faults t.out.now + t.refusals) (O.faults t.out.now) (O.written t.out.now) t.block t.fault) l };
+
+    ghost broke = { λ s t l. Refused (stand (is_chosen (sorting_of s.gates.now) s.group) s.picker.now s.mode s.taken s.floor
+        (O.faults s.out.now + s.refusals) (O.faults s.out.now) (O.written s.out.now) s.block s.fault)
+        (stand (is_chosen (sorting_of t.gates.now) t.group) t.picker.now t.mode t.taken t.floor
+        (O.faults t.out.now + t.refusals) (O.faults t.out.now) (O.written t.out.now) t.block t.fault) l };
+
+    ghost same = { λ s t. (t.out.ghost_name ≡ s.out.ghost_name)
+        × (t.picker.ghost_name ≡ s.picker.ghost_name) };
+
+    ghost same_none = { λ t. (refl, refl) };
+
+    ghost same_more = { λ t u v p q. (q.0 ∙ p.0, q.1 ∙ p.1) };
+
+    ghost mode = { λ t. t.mode };
+
+    ghost taken = { λ t. t.taken };
+
+    ghost floor = { λ t. t.floor };
+
+    ghost faults = { λ t. O.faults t.out.now + t.refusals };
+
+    ghost got_none = { λ t. took_none _ };
+
+    ghost taken_is = { λ s t l is. is.counted };
+
+    ghost floor_is = { λ s t l is. is.moved };
+
+    #[inline(always)]
+    fn take(&mut self, event: &Event, late: bool) -> Result<(), Failed> {
+        self.taken += 1;
+        self.floor = moved_floor(self.mode, self.floor, event, late);
+        let wanted = is_wanted(self.gates, self.group, event, late);
+        if !wanted {
+            return Ok(());
+        }
+        match self.picker.put(event, &mut self.block, self.out) {
+            Ok(()) => Ok(()),
+            Err(fault) => {
+                self.fault = Some(fault);
+                self.refusals = self.refusals.saturating_add(1);
+                Err(Failed)
+            }
+        }
+    }
+}

@@ -1,0 +1,5 @@
+pub mod Rows
+pub mod Puts
+pub mod Meanings
+pub mod Walks
+pub mod ReadBack

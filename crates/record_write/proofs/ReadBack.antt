@@ -1,0 +1,189 @@
+-- Photons are read back from their words.
+use Rattle.std.proofs.Common.{◌≡◌, ◌∙◌, ◌+◌, ◌*◌, ◌/◌, ◌%◌, ◌^◌, ◌<◌, ◌≤◌, ℕ, Bool, true, false, None, Some, List, [], ◌∷◌, ◌++◌, length, map, refl, ap, arith}
+use Rattle.std.specs.Prelude.{nat_lt, nat_le, ◌&&◌, ◌||◌, not, if◌then◌else◌}
+use Rattle.std.specs.declared.option.Option.{Option}
+use Rattle.std.specs.List.{AllByRecursion, filter}
+use Rattle.std.proofs.lemmas.List.{length-map, length_push, map_push}
+use Rattle.std.proofs.lemmas.List.Elements.{recursion_from_All}
+use Rattle.std.proofs.lemmas.Bool.Decides.{nat_tests}
+use Rattle.tally_base.specs.declared.event.Event.{Event}
+use Rattle.tally_base.specs.declared.event.EventKind.TheVariants.{Photon as PhotonEvent}
+use Rattle.tally_base.specs.declared.event.Policy.{Policy}
+use Rattle.tally_base.specs.declared.fault.Fault.{Fault}
+use Rattle.tally_base.specs.declared.fault.Fault.TheVariants.{ReservedRecord, TimeLimit}
+use Rattle.tally_base.specs.declared.header.Mode.{Mode}
+use Rattle.tally_base.specs.declared.header.Mode.TheVariants.{T2, T3}
+use Rattle.tally_base.specs.Events.{is_ordered, stops_late}
+use Rattle.tally_base.specs.Limits.{wrap_limit}
+use Rattle.ptu_definitions.specs.declared.records.Raw.TheVariants.{Photon}
+use Rattle.ptu_definitions.specs.Kinds.{is_photon, is_wrap}
+use Rattle.ptu_definitions.specs.Kept.{mark, marked, kept, is_late, greatest, ordered_time}
+use Rattle.ptu_definitions.specs.Prefixes.{each_after, listed}
+use Rattle.ptu_definitions.specs.Settled.{Rises, delivered}
+use Rattle.ptu_definitions.specs.Streams.{Reading, late_refusal, refusal, refusals, record_refusal, given}
+use Rattle.ptu_definitions.specs.Times.{base, event_after, events}
+use Rattle.ptu_definitions.proofs.DeliveredLaws.{is_late_by-0}
+use Rattle.ptu_definitions.proofs.Firsts.{given-all}
+use Rattle.ptu_definitions.proofs.SettledLemmas.{Rises-IsNonDecreasingBy}
+use Rattle.ptu_definitions.proofs.StreamLemmas.{later, greatest-push}
+use Rattle.short_file.specs.TimedEvents.{Timed, timed}
+use Rattle.short_file.proofs.WordBytes.{IsWord}
+use Rattle.record_write.specs.Picked.{unit_of, wrap_word, photon_word, picked_words, picked_events, is_too_late, meaning_in, IsPhotonOf, CanBePicked}
+use Rattle.record_write.proofs.Meanings.{wrap-meaning, photon-meaning, wrap-small, photon-small}
+use Rattle.record_write.proofs.Walks.{Walks, IsAt, records_of, walk}
+
+pub rising : (mode : Mode) (photons : List Event) → CanBePicked mode photons → Rises 0 photons
+rising mode photons can = Rises-IsNonDecreasingBy 0 photons can.in_order (λ d some. omega arith)
+
+start : (mode : Mode) → IsAt mode [] (0 / unit_of mode * unit_of mode) 0
+unfolding events
+start T2 = record { base = refl; greatest = omega arith }
+start T3 = record { base = refl; greatest = omega arith }
+
+over : (mode : Mode) (C : List ℕ → List ℕ → List Event → Type 0) → Walks mode C → (photons : List Event) → CanBePicked mode photons → C [] (picked_words mode photons) photons
+unfolding picked_words
+over mode C walks photons can =
+    walk mode C walks [] 0 [] photons refl (start mode) (rising mode photons can) (recursion_from_All (IsPhotonOf mode) photons can.fits) (recursion_from_All (λ e. is_too_late mode e.time ≡ false) photons can.in_time)
+
+-- Each word has 32 bits.
+pub small-words : (mode : Mode) (photons : List Event) → CanBePicked mode photons → AllByRecursion IsWord (picked_words mode photons)
+small-words mode = over mode (λ before words photons. AllByRecursion IsWord words) (record {
+  none = λ before. tt;
+  wrap = λ before units words photons some few room rest. (wrap-small mode units few, rest);
+  photon = λ before e input dtime words photons same fits here late rest. (photon-small mode input dtime e.time fits, rest);
+})
+
+-- Each is a photon or a wrap.
+abbrev pub IsPhotonOrWrap : Mode → ℕ → Type 0
+IsPhotonOrWrap mode word = (is_photon (meaning_in mode word) || is_wrap (meaning_in mode word)) ≡ true
+
+pub photons-and-wraps : (mode : Mode) (photons : List Event) → CanBePicked mode photons → AllByRecursion (IsPhotonOrWrap mode) (picked_words mode photons)
+photons-and-wraps mode = over mode (λ before words photons. AllByRecursion (IsPhotonOrWrap mode) words) (record {
+  none = λ before. tt;
+  wrap = λ before units words photons some few room rest. (rw (wrap-meaning mode units some few) refl, rest);
+  photon = λ before e input dtime words photons same fits here late rest. (rw (photon-meaning mode input dtime e.time fits) refl, rest);
+})
+
+-- The events are the photons.
+abbrev AreEvents : Mode → List ℕ → List ℕ → List Event → Type 0
+AreEvents mode before words photons = map timed (each_after event_after (records_of mode before) (records_of mode words)) ≡ map timed photons
+
+wrap-events : (mode : Mode) (before : List ℕ) (units : ℕ) (words : List ℕ) (photons : List Event) → 0 < units → units < unit_of mode → AreEvents mode (before ++ wrap_word units ∷ []) words photons → AreEvents mode before (wrap_word units ∷ words) photons
+wrap-events mode before units words photons some few rest =
+    let raw = wrap-meaning mode units some few in
+    let now = rw (map_push (meaning_in mode) before (wrap_word units), raw) at rest in
+    rw raw now
+
+photon-events : (mode : Mode) (before : List ℕ) (e : Event) (input dtime : ℕ) (words : List ℕ) (photons : List Event) → e.kind ≡ PhotonEvent input dtime → meaning_in mode (photon_word mode input dtime e.time) ≡ Photon input (e.time % unit_of mode) dtime
+    → base (records_of mode before) + e.time % unit_of mode ≡ e.time → AreEvents mode (before ++ photon_word mode input dtime e.time ∷ []) words photons → AreEvents mode before (photon_word mode input dtime e.time ∷ words) (e ∷ photons)
+photon-events mode before e input dtime words photons same raw here rest =
+    let now = rw (map_push (meaning_in mode) before (photon_word mode input dtime e.time), raw) at rest in
+    rw (raw, here, now, same) refl
+
+pub events-photons : (mode : Mode) (photons : List Event) → CanBePicked mode photons → map timed (picked_events mode photons) ≡ map timed photons
+unfolding events
+events-photons mode = over mode (AreEvents mode) (record {
+  none = λ before. refl;
+  wrap = λ before units words photons some few room rest. wrap-events mode before units words photons some few rest;
+  photon = λ before e input dtime words photons same fits here late rest. photon-events mode before e input dtime words photons same (photon-meaning mode input dtime e.time fits) here rest;
+})
+
+-- No record is refused.
+abbrev how_in : Mode → Policy → Reading
+how_in mode policy = record { mode = mode; meaning = meaning_in mode; policy = policy }
+
+abbrev AreUnrefused : Mode → Policy → List ℕ → List ℕ → List Event → Type 0
+AreUnrefused mode policy before words photons = length before + length words ≤ policy.records → each_after (λ before word. listed (refusal (how_in mode policy) before word)) before words ≡ []
+
+no-cause : (full reserved passing stops : Bool) (limit gap pass late : Option Fault) → full ≡ false → reserved ≡ false → passing ≡ false → late ≡ None
+    → (if full then limit else if reserved then gap else if passing then pass else if stops then late else None) ≡ None
+no-cause full reserved passing true limit gap pass late f r p l = rw (f, r, p, l) refl
+no-cause full reserved passing false limit gap pass late f r p l = rw (f, r, p) refl
+
+is-room : (most : ℕ) (mode : Mode) (before : List ℕ) → length before < most → nat_le most (length (records_of mode before)) ≡ false
+is-room most mode before few = let size : length (records_of mode before) ≡ length before = length-map before (meaning_in mode) in grind (arith, nat_tests)
+
+refusal-wrap : (mode : Mode) (policy : Policy) (before : List ℕ) (units : ℕ) → 0 < units → units < unit_of mode → length before < policy.records → base (records_of mode before) + unit_of mode * units ≤ 2 ^ 62 → refusal (how_in mode policy) before (wrap_word units) ≡ None
+unfolding refusal
+refusal-wrap mode policy before units some few room low =
+    let raw = wrap-meaning mode units some few in
+    let passing : nat_lt wrap_limit (base (records_of mode before) + unit_of mode * units) ≡ false = grind (arith, nat_tests) in
+    rw raw (no-cause _ _ _ (stops_late policy.order) _ (Some (ReservedRecord (length (records_of mode before) + 1) (wrap_word units))) (Some (TimeLimit (length (records_of mode before) + 1))) _ (is-room policy.records mode before room) refl passing refl)
+
+not-late : (mode : Mode) (before : List Event) (e : Event) → greatest mode before ≤ e.time → is_late mode before e ≡ false
+not-late mode before e low =
+    let none : nat_lt e.time (greatest mode before) ≡ false = grind (arith, nat_tests) in
+    rw (later mode before e.time, none) (and-false (is_ordered mode e))
+  where
+    and-false : (b : Bool) → (b && false) ≡ false
+    and-false true = refl
+    and-false false = refl
+
+none-late : (mode : Mode) (k : ℕ) (before : List Event) (e : Event) → k ≡ 0 → greatest mode before ≤ e.time → late_refusal k mode before (e ∷ []) ≡ None
+none-late mode k before e first low = rw (first, is_late_by-0 mode before e, not-late mode before e low) refl
+
+refusal-photon : (mode : Mode) (policy : Policy) (before : List ℕ) (e : Event) (input dtime : ℕ) → meaning_in mode (photon_word mode input dtime e.time) ≡ Photon input (e.time % unit_of mode) dtime → policy.settle ≡ 0 → length before < policy.records
+    → base (records_of mode before) + e.time % unit_of mode ≡ e.time → greatest mode (events (records_of mode before)) ≤ e.time → refusal (how_in mode policy) before (photon_word mode input dtime e.time) ≡ None
+unfolding refusal
+refusal-photon mode policy before e input dtime raw first room here low =
+    rw raw (no-cause _ _ _ (stops_late policy.order) _ (Some (ReservedRecord (length (records_of mode before) + 1) (photon_word mode input dtime e.time))) (Some (TimeLimit (length (records_of mode before) + 1))) _ (is-room policy.records mode before room) refl refl (none-late mode policy.settle _ _ first (rw here low)))
+
+pub unrefused : (mode : Mode) (policy : Policy) (photons : List Event) → CanBePicked mode photons → policy.settle ≡ 0 → length (picked_words mode photons) ≤ policy.records → record_refusal (how_in mode policy) (picked_words mode photons) ≡ None
+unfolding refusals
+unrefused mode policy photons can first room =
+    let clear = over mode (AreUnrefused mode policy) (record {
+      none = λ before room. refl;
+      wrap = λ before units words photons some few low rest room.
+          rw (refusal-wrap mode policy before units some few (omega (arith, room)) low) (rest (omega (arith, room, length_push before (wrap_word units))));
+      photon = λ before e input dtime words photons same fits here late rest room.
+          rw (refusal-photon mode policy before e input dtime (photon-meaning mode input dtime e.time fits) first (omega (arith, room)) here late) (rest (omega (arith, room, length_push before (photon_word mode input dtime e.time))));
+    }) photons can in
+    rw (clear (omega (arith, room))) refl
+
+-- None is late.
+rises-timed : (low : ℕ) (es photons : List Event) → map timed es ≡ map timed photons → Rises low photons → Rises low es
+rises-timed low [] photons same up = tt
+rises-timed low (e ∷ es) [] same up = cc
+rises-timed low (e ∷ es) (p ∷ photons) same up =
+    let time : e.time ≡ p.time = ap (λ (t : Timed). t.time) (same_heads same) in
+    (omega (arith, up.0, time), rw time (rises-timed p.time es photons (same_tails same) up.1))
+  where
+    same_heads : {A : Type 0} {x y : A} {xs ys : List A} → x ∷ xs ≡ y ∷ ys → x ≡ y
+    same_heads p = cc
+
+    same_tails : {A : Type 0} {x y : A} {xs ys : List A} → x ∷ xs ≡ y ∷ ys → xs ≡ ys
+    same_tails p = cc
+
+ordered-le : (mode : Mode) (e : Event) → ordered_time mode e ≤ e.time
+ordered-le mode e = pick (is_ordered mode e)
+  where
+    pick : (b : Bool) → (if b then e.time else 0) ≤ e.time
+    pick true = omega arith
+    pick false = omega arith
+
+kept-rising : (mode : Mode) (low : ℕ) (before es : List Event) → greatest mode before ≤ low → Rises low es → map (λ x. x.0) (filter (λ x. not x.1) (each_after (mark mode) before es)) ≡ es
+kept-rising mode low before [] below up = refl
+kept-rising mode low before (e ∷ es) below up =
+    let late : is_late mode before e ≡ false = not-late mode before e (omega (arith, below, up.0)) in
+    let next : greatest mode (before ++ e ∷ []) ≤ e.time = omega (arith, greatest-push mode before e, ordered-le mode e, below, up.0) in
+    rw late (ap (λ l. e ∷ l) (kept-rising mode e.time (before ++ e ∷ []) es next up.1))
+
+pub kept-events : (mode : Mode) (photons : List Event) → CanBePicked mode photons → kept mode (picked_events mode photons) ≡ picked_events mode photons
+unfolding kept marked
+kept-events mode photons can =
+    kept-rising mode 0 [] (picked_events mode photons) (omega arith) (rises-timed 0 (picked_events mode photons) photons (events-photons mode photons can) (rising mode photons can))
+
+-- A stream of the words gives these events.
+marked-rising : (mode : Mode) (low : ℕ) (before es : List Event) → greatest mode before ≤ low → Rises low es → each_after (mark mode) before es ≡ map (λ e. (e, false)) es
+marked-rising mode low before [] below up = refl
+marked-rising mode low before (e ∷ es) below up =
+    let late : is_late mode before e ≡ false = not-late mode before e (omega (arith, below, up.0)) in
+    let next : greatest mode (before ++ e ∷ []) ≤ e.time = omega (arith, greatest-push mode before e, ordered-le mode e, below, up.0) in
+    rw (late, marked-rising mode e.time (before ++ e ∷ []) es next up.1) refl
+
+pub given-events : (mode : Mode) (policy : Policy) (photons : List Event) → CanBePicked mode photons → policy.settle ≡ 0 → length (picked_words mode photons) ≤ policy.records
+    → given (how_in mode policy) (picked_words mode photons) ≡ map (λ e. (e, false)) (picked_events mode photons)
+unfolding delivered marked
+given-events mode policy photons can first room =
+    given-all (how_in mode policy) (picked_words mode photons) (unrefused mode policy photons can first room)
+    ∙ rw first (marked-rising mode 0 [] (picked_events mode photons) (omega arith) (rises-timed 0 (picked_events mode photons) photons (events-photons mode photons can) (rising mode photons can)))

@@ -1,0 +1,44 @@
+use Rattle.std.proofs.Common.{◌≡◌, ◌≤◌, List, false, length, map, None}
+use Rattle.std.proofs.lemmas.List.Elements.{All-from_recursion}
+use Rattle.tally_base.specs.declared.event.Event.{Event}
+use Rattle.tally_base.specs.declared.event.Policy.{Policy}
+use Rattle.tally_base.specs.declared.header.Mode.{Mode}
+use Rattle.tally_base.specs.declared.header.Mode.TheVariants.{T2, T3}
+use Rattle.ptu_definitions.specs.Streams.{reading, record_refusal, given}
+use Rattle.short_file.specs.ShortFiles.{short_file, short_type, bytes_in}
+use Rattle.short_file.proofs.ShortHeaders.{short-answer}
+use Rattle.short_file.proofs.WordBytes.{words_of-bytes_in}
+use Rattle.record_write.specs.Picked.{picked_words, picked_events, CanBePicked}
+use Rattle.record_write.proofs.ReadBack.{IsPhotonOrWrap, small-words, photons-and-wraps, events-photons, kept-events, unrefused, given-events}
+use Rattle.record_write.proofs.laws.picked_photons_are_read.Goals as goal
+
+pub returns-clause-header : goal.returns-clause-header
+unfolding short_file
+returns-clause-header c = λ mode photons. short-answer mode (bytes_in (picked_words mode photons))
+
+pub returns-clause-words : goal.returns-clause-words
+returns-clause-words c = λ mode photons can. words_of-bytes_in (picked_words mode photons) (small-words mode photons can)
+
+pub returns-clause-records : goal.returns-clause-records
+returns-clause-records c = λ mode photons can. All-from_recursion (IsPhotonOrWrap mode) (picked_words mode photons) (photons-and-wraps mode photons can)
+
+pub returns-clause-photons : goal.returns-clause-photons
+returns-clause-photons c = events-photons
+
+pub returns-clause-in_time : goal.returns-clause-in_time
+returns-clause-in_time c = kept-events
+
+by_mode : (mode : Mode) (photons : List Event) (policy : Policy) → CanBePicked mode photons → policy.settle ≡ 0 → length (picked_words mode photons) ≤ policy.records → record_refusal (reading (short_type mode) policy) (picked_words mode photons) ≡ None
+by_mode T2 photons policy can first room = unrefused T2 policy photons can first room
+by_mode T3 photons policy can first room = unrefused T3 policy photons can first room
+
+pub returns-clause-unrefused : goal.returns-clause-unrefused
+returns-clause-unrefused c = by_mode
+
+given_by_mode : (mode : Mode) (photons : List Event) (policy : Policy) → CanBePicked mode photons → policy.settle ≡ 0 → length (picked_words mode photons) ≤ policy.records
+    → given (reading (short_type mode) policy) (picked_words mode photons) ≡ map (λ e. (e, false)) (picked_events mode photons)
+given_by_mode T2 photons policy can first room = given-events T2 policy photons can first room
+given_by_mode T3 photons policy can first room = given-events T3 policy photons can first room
+
+pub returns-clause-given : goal.returns-clause-given
+returns-clause-given c = given_by_mode

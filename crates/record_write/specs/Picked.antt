@@ -1,0 +1,89 @@
+-- The words of a file of photons.
+use Rattle.std.specs.Prelude.{ℕ, ◌+◌, ◌-◌, ◌*◌, ◌/◌, ◌%◌, ◌^◌, ◌==◌, ◌≡◌, nat_lt, Bool, true, false, List, [], ◌∷◌, ◌++◌, None, Some, map, replicate, if◌then◌else◌}
+use Rattle.std.specs.List.{All}
+use Rattle.std.specs.List.Sorted.{IsNonDecreasingBy}
+use Rattle.std.specs.declared.option.Option.{Option}
+use Rattle.tally_base.specs.declared.event.Event.{Event}
+use Rattle.tally_base.specs.declared.event.EventKind.{EventKind}
+use Rattle.tally_base.specs.declared.event.EventKind.TheVariants.{Photon, Marker}
+use Rattle.tally_base.specs.declared.header.Mode.{Mode}
+use Rattle.tally_base.specs.declared.header.Mode.TheVariants.{T2, T3}
+use Rattle.tally_base.specs.Events.{is_photon}
+use Rattle.tally_base.specs.Limits.{wrap_limit}
+use Rattle.ptu_definitions.specs.declared.records.Raw.{Raw}
+use Rattle.ptu_definitions.specs.Fitting.{KindFits}
+use Rattle.ptu_definitions.specs.Layouts.{meaning_of}
+use Rattle.ptu_definitions.specs.Prefixes.{each, last}
+use Rattle.ptu_definitions.specs.Times.{events}
+use Rattle.short_file.specs.ShortFiles.{short_file, short_type}
+
+-- how many ticks one unit of a wrap has
+abbrev pub unit_of : Mode → ℕ
+unit_of T2 = 2 ^ 25
+unit_of T3 = 2 ^ 10
+
+-- a wrap of so many units
+abbrev pub wrap_word : ℕ → ℕ
+wrap_word units = 0xFE000000 + units
+
+-- The wraps of so many units: those of the greatest number of units, as many as there are, and one of the units that are left.
+abbrev pub wraps : ℕ → ℕ → List ℕ
+wraps most units = replicate (units / most) (wrap_word most) ++ (if units % most == 0 then [] else wrap_word (units % most) ∷ [])
+
+-- the word of a photon: the input, the dtime and how far its time is in its unit
+abbrev pub photon_word : Mode → ℕ → ℕ → ℕ → ℕ
+photon_word T2 input dtime time = (if input == 0 then 2 ^ 31 else (input - 1) * 2 ^ 25) + time % 2 ^ 25
+photon_word T3 input dtime time = input * 2 ^ 25 + dtime * 2 ^ 10 + time % 2 ^ 10
+
+-- the word of a photon, and none of a marker
+abbrev pub own_word : Mode → EventKind → ℕ → List ℕ
+own_word mode (Photon input dtime) time = photon_word mode input dtime time ∷ []
+own_word mode (Marker bits) time = []
+
+-- The words of an event behind a time: the wraps of the units that have begun since, each of fewer units than a unit has ticks, and
+-- its own word.
+abbrev pub words_behind : Mode → ℕ → EventKind → ℕ → List ℕ
+words_behind mode before kind time = wraps (unit_of mode - 1) (time / unit_of mode - before / unit_of mode) ++ own_word mode kind time
+
+abbrev pub time_or_none : Option Event → ℕ
+time_or_none None = 0
+time_or_none (Some e) = e.time
+
+-- the time of the last of these photons, or 0 where there is none
+abbrev pub last_time : List Event → ℕ
+last_time photons = time_or_none (last photons)
+
+-- the words of a photon behind these photons
+abbrev pub photon_words : Mode → List Event → Event → List ℕ
+photon_words mode before e = words_behind mode (last_time before) e.kind e.time
+
+-- The words of photons in order of time.
+unfoldable pub picked_words : Mode → List Event → List ℕ
+picked_words mode photons = each (photon_words mode) photons
+
+-- The file of these photons.
+abbrev pub picked_file : Mode → List Event → List ℕ
+picked_file mode photons = short_file mode (picked_words mode photons)
+
+-- The wraps before a photon of this time add up to more than 2^62 (`wrap_limit`).
+abbrev pub is_too_late : Mode → ℕ → Bool
+is_too_late mode time = nat_lt wrap_limit (time - time % unit_of mode)
+
+-- a photon that a file of this mode can have
+pub record IsPhotonOf (mode : Mode) (e : Event) : Type 0 where
+  pub photon : is_photon e ≡ true
+  pub fits : KindFits mode e.kind
+
+-- Photons that can be written: their times never fall, and none is too late.
+pub record CanBePicked (mode : Mode) (photons : List Event) : Type 0 where
+  pub fits : All (IsPhotonOf mode) photons
+  pub in_order : IsNonDecreasingBy (λ e. e.time) photons
+  pub in_time : All (λ e. is_too_late mode e.time ≡ false) photons
+
+-- what a word of the file means
+abbrev pub meaning_in : Mode → ℕ → Raw
+meaning_in mode = meaning_of (short_type mode)
+
+-- The events that are read from the words of photons.
+abbrev pub picked_events : Mode → List Event → List Event
+picked_events mode photons = events (map (meaning_in mode) (picked_words mode photons))

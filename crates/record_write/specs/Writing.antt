@@ -1,0 +1,25 @@
+-- What a call says of the words that it puts into a block or writes.
+use Rattle.std.specs.Prelude.{ℕ, ◌≡◌, ◌≤◌, ◌⊎◌, List, [], ◌++◌, OnOk, IfErr}
+use Rattle.std.specs.declared.option.Option.{Option}
+use Rattle.std.specs.declared.result.Result.{Result}
+use Rattle.tally_base.specs.declared.fault.Fault.{Fault}
+use Rattle.tally_base.specs.declared.fault.Fault.TheVariants.{PickTime, WriteFault}
+use Rattle.tally_base.specs.FaultCounts.{Rose}
+use Rattle.bench_io.specs.Sinks.{AppendsShort, PassesOn}
+use Rattle.short_file.specs.ShortFiles.{bytes_in}
+
+-- The bytes of the words come behind those that a block held, and what it passed on and what it holds are all of these.
+abbrev pub PutsWords : Option (List ℕ) → Option (List ℕ) → List ℕ → List ℕ → List ℕ → Type 0
+PutsWords old new held now words = PassesOn old new (held ++ bytes_in words) now
+
+-- A front of these bytes was written that is not the whole, and the block holds none.
+pub record CutsWords (old new : Option (List ℕ)) (held now words : List ℕ) : Type 0 where
+  pub short : AppendsShort old new (held ++ bytes_in words)
+  pub empty : now ≡ []
+
+-- A photon is refused since its time is too late to be written, and the sink's count of faults stays, or since a write failed and the
+-- count rose.
+pub record PickCause {T : Type 0} (place before now : ℕ) (result : Result T Fault) : Type 0 where
+  pub later : before ≤ now
+  pub failed : IfErr result (λ fault. ((fault ≡ PickTime place) × (now ≡ before)) ⊎ ((fault ≡ WriteFault) × Rose before now))
+  pub kept : OnOk result (now ≡ before)

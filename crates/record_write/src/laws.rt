@@ -1,0 +1,42 @@
+// The law of written photons, as the contract of a function that does nothing.
+ghost use Rattle.std.specs.Prelude.{◌≡◌, ◌≤◌, ◌||◌, List, None, Ok, length, map, true, false};
+ghost use Rattle.std.specs.List.{All};
+ghost use Rattle.tally_base.specs.declared.event.Event.{Event};
+ghost use Rattle.tally_base.specs.declared.event.Policy.{Policy};
+ghost use Rattle.tally_base.specs.declared.header.Mode.{Mode};
+ghost use Rattle.ptu_definitions.specs.Headers.{header_answer};
+ghost use Rattle.ptu_definitions.specs.Kinds.{is_photon, is_wrap};
+ghost use Rattle.ptu_definitions.specs.Kept.{kept};
+ghost use Rattle.ptu_definitions.specs.Streams.{reading, record_refusal, given};
+ghost use Rattle.ptu_definitions.specs.Words.{words_of};
+ghost use Rattle.short_file.specs.ShortFiles.{bytes_in, short_fields, short_type};
+ghost use Rattle.short_file.specs.TimedEvents.{timed};
+ghost use Rattle.record_write.specs.Picked.{picked_words, picked_file, picked_events, meaning_in, CanBePicked};
+
+/// Photons that can be written are read back: from their file come their words, each word is one of
+/// these photons or a wrap, and the events are these photons, at their times. None of them is late, and
+/// no record is refused, whatever becomes of late events and of reserved records: so a stream gives these
+/// events and no more.
+pub fn picked_photons_are_read()
+    ensures header { (mode : Mode) (photons : List Event)
+        → header_answer (picked_file mode photons)
+        ≡ Ok (short_fields mode, bytes_in (picked_words mode photons)) }
+    ensures words { (mode : Mode) (photons : List Event) → CanBePicked mode photons
+        → words_of (bytes_in (picked_words mode photons)) ≡ picked_words mode photons }
+    ensures records { (mode : Mode) (photons : List Event) → CanBePicked mode photons
+        → All (λ word. (is_photon (meaning_in mode word) || is_wrap (meaning_in mode word)) ≡ true)
+        (picked_words mode photons) }
+    ensures photons { (mode : Mode) (photons : List Event) → CanBePicked mode photons
+        → map timed (picked_events mode photons) ≡ map timed photons }
+    ensures in_time { (mode : Mode) (photons : List Event) → CanBePicked mode photons
+        → kept mode (picked_events mode photons) ≡ picked_events mode photons }
+    ensures unrefused { (mode : Mode) (photons : List Event) (policy : Policy)
+        → CanBePicked mode photons → policy.settle ≡ 0
+        → length (picked_words mode photons) ≤ policy.records
+        → record_refusal (reading (short_type mode) policy) (picked_words mode photons) ≡ None }
+    ensures given { (mode : Mode) (photons : List Event) (policy : Policy)
+        → CanBePicked mode photons → policy.settle ≡ 0
+        → length (picked_words mode photons) ≤ policy.records
+        → given (reading (short_type mode) policy) (picked_words mode photons)
+        ≡ map (λ e. (e, false)) (picked_events mode photons) }
+{}

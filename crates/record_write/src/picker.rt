@@ -1,0 +1,164 @@
+// Writes photons one after another.
+ghost use Rattle.std.specs.Prelude.{◌≡◌, ◌≤◌, ◌↔◌, ◌++◌, ◌∷◌, [], List, Err, true, OnOk, OnErr, IfErr};
+ghost use Rattle.std.specs.Io.KnownBytes.{Appends};
+ghost use Rattle.tally_base.specs.declared.event.Event.{Event};
+ghost use Rattle.tally_base.specs.declared.fault.Fault.TheVariants.{PickTime, WriteFault};
+ghost use Rattle.tally_base.specs.Events.{is_photon};
+ghost use Rattle.bench_io.specs.TriesOnce.{TriesOnce};
+ghost use Rattle.bench_io.specs.Sinks.{AppendsShort};
+ghost use Rattle.ptu_definitions.specs.Fitting.{KindFits};
+ghost use Rattle.short_file.specs.ShortFiles.{bytes_in, short_header};
+ghost use Rattle.record_write.specs.Picked.{is_too_late, photon_words};
+ghost use Rattle.record_write.specs.Writing.{PutsWords, CutsWords, PickCause};
+
+use crate::words::{is_too_late, put_photon};
+use bench_io::{Block, Sink, write_all};
+use short_file::short_header;
+use tally_base::{Event, EventKind, Failed, Fault, Mode};
+
+/// Writes a file of photons: first its header, and then the photons in order of time. A T2 file has the
+/// record type HydraHarp2T2 and a T3 file HydraHarp2T3. Before a photon come the wraps that lead to its
+/// time. It takes no memory.
+#[derive(Clone, Copy, Debug)]
+pub struct Picker {
+    mode: Mode,
+    /// The time of the last photon, or 0 where there is none.
+    last: u64,
+}
+
+impl Picker {
+    ghost use Rattle.record_write.specs.Picker.{mode_of, last_by, HasPicked};
+
+    /// A picker for a file of this mode, which has picked no photon.
+    pub fn new(mode: Mode) -> Picker
+        ensures mode { mode_of result ≡ mode }
+        ensures none { HasPicked result [] }
+    {
+        Picker { mode, last: 0 }
+    }
+
+    /// The mode of its file.
+    pub fn mode(&self) -> Mode
+        ensures { result ≡ mode_of self.now }
+    {
+        self.mode
+    }
+
+    /// Writes the header of the file, 112 bytes, which come before all photons.
+    pub fn start<O: Sink>(&self, out: &mut O) -> Result<(), Fault>
+        ensures all { OnOk result (Appends (O.written out.old) (O.written out.new)
+            (short_header (mode_of self.now))) }
+        ensures short { OnErr result (AppendsShort (O.written out.old) (O.written out.new)
+            (short_header (mode_of self.now))) }
+        ensures fault { IfErr result (λ fault. fault ≡ WriteFault) }
+        ensures cause { TriesOnce (O.faults out.old) (O.faults out.new) result }
+    {
+        match write_all(out, &short_header(self.mode)) {
+            Ok(()) => Ok(()),
+            Err(Failed) => Err(Fault::WriteFault),
+        }
+    }
+
+    /// Puts the words of a photon into a block.
+    #[inline(always)]
+    fn put_words<O: Sink>(&self, e: &Event, block: &mut Block, out: &mut O) -> Result<(), Fault>
+        requires photon { is_photon e.now ≡ true }
+        requires fits { KindFits (mode_of self.now) e.now.kind }
+        requires in_order { last_by self.now ≤ e.now.time }
+        ensures words { (photons : List Event) → HasPicked self.now photons → OnOk result
+            (PutsWords (O.written out.old) (O.written out.new) block.old block.new
+            (photon_words (mode_of self.now) photons e.now)) }
+        ensures late { (result ≡ Err (PickTime e.now.place))
+            ↔ (is_too_late (mode_of self.now) e.now.time ≡ true) }
+        ensures untouched { result ≡ Err (PickTime e.now.place)
+            → (out.new ≡ out.old) × (block.new ≡ block.old) }
+        ensures cut { (photons : List Event) → HasPicked self.now photons
+            → result ≡ Err WriteFault
+            → CutsWords (O.written out.old) (O.written out.new) block.old block.new
+            (photon_words (mode_of self.now) photons e.now) }
+        ensures cause { PickCause e.now.place (O.faults out.old) (O.faults out.new) result }
+    {
+        if is_too_late(self.mode, e.time) {
+            return Err(Fault::PickTime { place: e.place });
+        }
+        match e.kind {
+            EventKind::Photon { input, dtime } => {
+                match put_photon(self.mode, self.last, input, dtime, e.time, block, out) {
+                    Ok(()) => Ok(()),
+                    Err(Failed) => Err(Fault::WriteFault),
+                }
+            }
+            EventKind::Marker { .. } => unreachable!(),
+        }
+    }
+
+    /// Puts a photon behind those before it into a block, which passes it on to the sink.
+    ///
+    /// Its input must be at most 64 in T2 and 63 in T3, its dtime 0 in T2 and at most 32,767 in T3, and its
+    /// time no less than that of the photon before it. Refuses with `PickTime` one whose wraps would add up to
+    /// more than 2^62, and then puts nothing. Where a write fails, a front of the bytes that are held and of
+    /// this photon's words was written, and the block holds none.
+    pub fn put<O: Sink>(&mut self, e: &Event, block: &mut Block, out: &mut O) -> Result<(), Fault>
+        requires photon { is_photon e.now ≡ true }
+        requires fits { KindFits (mode_of self.old) e.now.kind }
+        requires in_order { last_by self.old ≤ e.now.time }
+        ensures picked { (photons : List Event) → HasPicked self.old photons
+            → OnOk result (HasPicked self.new (photons ++ e.now ∷ [])) }
+        ensures words { (photons : List Event) → HasPicked self.old photons → OnOk result
+            (PutsWords (O.written out.old) (O.written out.new) block.old block.new
+            (photon_words (mode_of self.old) photons e.now)) }
+        ensures late { (result ≡ Err (PickTime e.now.place))
+            ↔ (is_too_late (mode_of self.old) e.now.time ≡ true) }
+        ensures untouched { result ≡ Err (PickTime e.now.place)
+            → (out.new ≡ out.old) × (block.new ≡ block.old) }
+        ensures cut { (photons : List Event) → HasPicked self.old photons
+            → result ≡ Err WriteFault
+            → CutsWords (O.written out.old) (O.written out.new) block.old block.new
+            (photon_words (mode_of self.old) photons e.now) }
+        ensures cause { PickCause e.now.place (O.faults out.old) (O.faults out.new) result }
+        ensures kept { OnErr result (self.new ≡ self.old) }
+
+        // What the next photon must keep to.
+        ensures last { OnOk result (last_by self.new ≡ e.now.time) }
+        ensures same_mode { mode_of self.new ≡ mode_of self.old }
+    {
+        self.put_words(e, block, out)?;
+        self.last = e.time;
+        Ok(())
+    }
+
+    /// Writes a photon behind those before it, as `put` does, but at once.
+    pub fn photon<O: Sink>(&mut self, e: &Event, out: &mut O) -> Result<(), Fault>
+        requires photon { is_photon e.now ≡ true }
+        requires fits { KindFits (mode_of self.old) e.now.kind }
+        requires in_order { last_by self.old ≤ e.now.time }
+        ensures picked { (photons : List Event) → HasPicked self.old photons
+            → OnOk result (HasPicked self.new (photons ++ e.now ∷ [])) }
+        ensures words { (photons : List Event) → HasPicked self.old photons → OnOk result
+            (Appends (O.written out.old) (O.written out.new)
+            (bytes_in (photon_words (mode_of self.old) photons e.now))) }
+        ensures late { (result ≡ Err (PickTime e.now.place))
+            ↔ (is_too_late (mode_of self.old) e.now.time ≡ true) }
+        ensures untouched { result ≡ Err (PickTime e.now.place) → out.new ≡ out.old }
+        ensures short { (photons : List Event) → HasPicked self.old photons
+            → result ≡ Err WriteFault
+            → AppendsShort (O.written out.old) (O.written out.new)
+            (bytes_in (photon_words (mode_of self.old) photons e.now)) }
+        ensures cause { PickCause e.now.place (O.faults out.old) (O.faults out.new) result }
+        ensures kept { OnErr result (self.new ≡ self.old) }
+
+        // What the next photon must keep to.
+        ensures last { OnOk result (last_by self.new ≡ e.now.time) }
+        ensures same_mode { mode_of self.new ≡ mode_of self.old }
+    {
+        let mut block = Block::new();
+        self.put_words(e, &mut block, out)?;
+        match block.flush(out) {
+            Ok(()) => {
+                self.last = e.time;
+                Ok(())
+            }
+            Err(Failed) => Err(Fault::WriteFault),
+        }
+    }
+}

@@ -1,0 +1,2 @@
+pub mod ShortFiles
+pub mod TimedEvents
