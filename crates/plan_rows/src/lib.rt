@@ -8,6 +8,10 @@ mod correlations;
 #[cfg(test)]
 mod cubes;
 #[cfg(test)]
+mod endless;
+#[cfg(test)]
+mod folds;
+#[cfg(test)]
 mod images;
 #[cfg(test)]
 mod refusals;

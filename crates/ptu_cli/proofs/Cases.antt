@@ -9,7 +9,7 @@ use Rattle.tally_base.specs.declared.fault.Fault.TheVariants.{RecordLimit, Trunc
 use Rattle.tally_base.specs.declared.header.Header.{Header}
 use Rattle.tally_base.specs.Faults.{fault_in}
 use Rattle.tally_base.specs.RecordTypes.{mode_of}
-use Rattle.tally_base.specs.Settings.{PartSettings, StartStopView}
+use Rattle.tally_base.specs.Settings.{PartSettings, StartStopView, TraceView}
 use Rattle.tally_base.specs.Settings.PartSettings.{StartStopSettings}
 use Rattle.tally_base.specs.Tally.{History}
 use Rattle.bench_io.specs.Inputs.{File}
@@ -23,6 +23,7 @@ use Rattle.ptu_definitions.specs.Layouts.{meaning_of}
 use Rattle.ptu_definitions.specs.Kinds.{counts_of}
 use Rattle.ptu_definitions.specs.Counted.{record_limit, records_of, counted}
 use Rattle.ptu_definitions.specs.Prefixes.{each_after}
+use Rattle.ptu_definitions.specs.Firsts.{IsFirst}
 use Rattle.ptu_definitions.specs.Times.{events}
 use Rattle.ptu_definitions.specs.Streams.{Reading, record_refusal, or_refusal, summary, summary_of, streamed}
 use Rattle.ptu_definitions.proofs.Sound.{one_answer}
@@ -38,7 +39,7 @@ use Rattle.plan_text.proofs.Called.{called, valid, answers, plans}
 use Rattle.plan_text.proofs.Misfits.{misfit_named, is_first}
 use Rattle.coincidence.proofs.Places.{intervals-are-pairs}
 use Rattle.gate_plan.specs.Shifting.{sorting}
-use Rattle.tally_engine.specs.Histories.{history}
+use Rattle.tally_engine.specs.Histories.{history, settled_history}
 use Rattle.tally_engine.specs.Plans.{reading_by}
 use Rattle.table_out.specs.HeaderText.{preamble_part, item_text, shown_text, header_text}
 use Rattle.table_out.specs.EventText.{events_text}
@@ -50,12 +51,15 @@ use Rattle.ptu_made.specs.Generator.{made_words}
 use Rattle.ptu_made.specs.Records.{made_header}
 use Rattle.ptu_cli.specs.Demo.{demo_plan, demo_report}
 use Rattle.ptu_cli.specs.CountText.{counts_text}
-use Rattle.ptu_cli.specs.Commands.{Request, Count, Header as HeaderOf, Events, Run, Demo}
+use Rattle.ptu_cli.specs.Commands.{Request, Count, Header as HeaderOf, Events, Run, Trace, Demo}
 use Rattle.ptu_cli.specs.Reports.{report_of, if_fits, report_behind}
 use Rattle.ptu_cli.specs.Outcomes.{Outcome, refused, written, with_counts, counts_behind, count_outcome, header_outcome, listing, listed, events_behind, report_outcome}
-use Rattle.ptu_cli.specs.Behaviours.{Work, counting, printing, listing_all, reporting, any_plan, behaviour}
-use Rattle.ptu_cli.specs.Endings.{on_file, by_plan, outcome}
-use Rattle.ptu_cli.specs.Cases.{FileCase, HeaderCase, WholeCase, CountCase, Prints, PrintCase, LeftOver, ListCase, startstop_by_places, by_places, placed_text, report_by_places, words_report, StreamCase, ReportCase, PlanCase, IsOutcome}
+use Rattle.ptu_cli.specs.Behaviours.{Work, counting, printing, listing_all, reporting, tracing, any_plan, behaviour}
+use Rattle.ptu_cli.specs.Endings.{on_file, unless, by_plan, outcome}
+use Rattle.ptu_cli.specs.Cases.{FileCase, HeaderCase, WholeCase, CountCase, Prints, PrintCase, LeftOver, ListCase, startstop_by_places, by_places, placed_text, report_by_places, words_report, StreamCase, ReportCase, PlanCase, WholeTrace, RecordsCase, TraceCase, PlannedTrace, TracePlanCase, IsOutcome}
+use Rattle.long_trace.specs.Texts.{open_text}
+use Rattle.ptu_cli.specs.TraceOutcomes.{no_trace, unless_traced, trace_of, traced, records_traced, traced_if_fits, traced_behind}
+use Rattle.ptu_cli.proofs.TraceTexts.{settled-first, settled-whole}
 
 abbrev end_with : List ℕ → Option Fault → Outcome
 end_with text fault = record { text = text; fault = fault }
@@ -375,6 +379,103 @@ plan-only text data_file end (inl h) = ap (plan_end data_file) (answers text h.0
 plan-only text data_file end (inr h) =
     ap (plan_end data_file) (plans text h.0 h.1 h.2) ∙ file-only (reporting (plan (table h.0))) (HeaderCase (ReportCase (plan (table h.0)))) (run-only (plan (table h.0))) data_file end h.3
 
+-- ## trace
+
+module _ (set : TraceView) (view : PlanView) (header : Header) (behind : List ℕ) where
+  abbrev trace_end : Result Summary Fault → Outcome
+  trace_end = traced (Some set) (sorting view) (reading_by view header) behind
+
+  abbrev whole_trace : Bool → Outcome
+  whole_trace whole = trace_end (whole_answer (reading_by view header) behind whole)
+
+  left-trace : record_refusal (reading_by view header) (words_of behind) ≡ None → (whole : Bool) → (length (rest_of behind) == 0) ≡ whole → WholeTrace set view header behind (whole_trace whole)
+  left-trace none true h = inr (empty-true (rest_of behind) h, refl)
+  left-trace none false h = inl (empty-false (rest_of behind) h, same-end _ _ _ _ (ap (open_text set) (settled-whole (sorting view) (reading_by view header) (words_of behind) none)) refl)
+
+  left-end : record_refusal (reading_by view header) (words_of behind) ≡ None → (end : Outcome) → WholeTrace set view header behind end → whole_trace (length (rest_of behind) == 0) ≡ end
+  left-end none end (inl h) = ap whole_trace (false-empty (rest_of behind) h.0) ∙ same-end _ _ _ _ (ap (open_text set) (settled-whole (sorting view) (reading_by view header) (words_of behind) none)) refl ∙ sym h.1
+  left-end none end (inr h) = ap whole_trace (true-empty (rest_of behind) h.0) ∙ sym h.1
+
+  refused-trace : (fault : Fault) → record_refusal (reading_by view header) (words_of behind) ≡ Some fault → (least : IsFirst (reading_by view header) fault [] (words_of behind))
+      → trace_end (streamed (reading_by view header) behind) ≡ end_with (open_text set (settled_history (sorting view) (reading_by view header) least.front)) (Some fault)
+  refused-trace fault e least =
+      ap trace_end (sym (streamed-refused (reading_by view header) behind fault e))
+      ∙ same-end _ _ _ _ (ap (open_text set) (settled-first (sorting view) (reading_by view header) (words_of behind) fault least)) refl
+
+  records-hold : RecordsCase set view header behind (trace_end (streamed (reading_by view header) behind))
+  records-hold = by (record_refusal (reading_by view header) (words_of behind)) refl
+    where
+      by : (o : Option Fault) → record_refusal (reading_by view header) (words_of behind) ≡ o → RecordsCase set view header behind (trace_end (streamed (reading_by view header) behind))
+      by (Some fault) e =
+          let least = first-refusal (reading_by view header) (words_of behind) fault e in
+          inl (record { fault = fault; least = least; end_is = refused-trace fault e least })
+      by None e = inr (
+        (none-refused (reading_by view header) (words_of behind)).0 e,
+        subst (λ r. WholeTrace set view header behind (trace_end r)) (sym (streamed-clear (reading_by view header) behind e)) (left-trace e _ refl),
+      )
+
+  records-only : (end : Outcome) → RecordsCase set view header behind end → trace_end (streamed (reading_by view header) behind) ≡ end
+  records-only end (inl h) = refused-trace h.fault (refused-first (reading_by view header) (words_of behind) h.fault h.least) h.least ∙ sym h.end_is
+  records-only end (inr h) =
+      let none = (none-refused (reading_by view header) (words_of behind)).1 h.0 in
+      ap trace_end (streamed-clear (reading_by view header) behind none) ∙ left-end none end h.1
+
+module _ (set : TraceView) (view : PlanView) (is : trace_of view ≡ Some set) where
+  same-trace : (header : Header) (behind : List ℕ) → records_traced (trace_of view) (sorting view) (reading_by view header) behind ≡ records_traced (Some set) (sorting view) (reading_by view header) behind
+  same-trace header behind = ap (λ o. records_traced o (sorting view) (reading_by view header) behind) is
+
+  trace-holds : (header : Header) (behind : List ℕ) → TraceCase set view header behind (traced_if_fits view header behind (fits (mode_of header.record_type) view))
+  trace-holds header behind = by (fits (mode_of header.record_type) view) refl
+    where
+      by : (r : Result (Unit {0}) Fault) → fits (mode_of header.record_type) view ≡ r → TraceCase set view header behind (traced_if_fits view header behind r)
+      by (Err fault) e = inl (fault, misfit_named (mode_of header.record_type) view fault e, refl)
+      by (Ok done) e = inr (λ fault misfit. not_fit fault (sym e ∙ is_first (mode_of header.record_type) view fault misfit), subst (RecordsCase set view header behind) (sym (same-trace header behind)) (records-hold set view header behind))
+
+  trace-only : (header : Header) (behind : List ℕ) (end : Outcome) → TraceCase set view header behind end → traced_if_fits view header behind (fits (mode_of header.record_type) view) ≡ end
+  trace-only header behind end (inl h) = ap (traced_if_fits view header behind) (is_first (mode_of header.record_type) view h.0 h.1) ∙ sym h.2
+  trace-only header behind end (inr h) = by (fits (mode_of header.record_type) view) refl
+    where
+      by : (r : Result (Unit {0}) Fault) → fits (mode_of header.record_type) view ≡ r → traced_if_fits view header behind r ≡ end
+      by (Err fault) e = absurd (h.0 fault (misfit_named (mode_of header.record_type) view fault e))
+      by (Ok done) e = same-trace header behind ∙ records-only set view header behind end h.1
+
+  file-trace : (data_file : File) → FileCase (HeaderCase (TraceCase set view)) data_file (on_file (tracing view) data_file)
+  file-trace data_file = file-holds (tracing view) (HeaderCase (TraceCase set view)) (header-holds (traced_behind view) (TraceCase set view) (λ fault. refl) trace-holds) data_file
+
+  file-traced : (data_file : File) (end : Outcome) → FileCase (HeaderCase (TraceCase set view)) data_file end → on_file (tracing view) data_file ≡ end
+  file-traced data_file end h = file-only (tracing view) (HeaderCase (TraceCase set view)) (header-only (traced_behind view) (TraceCase set view) (λ fault. refl) trace-only) data_file end h
+
+abbrev traced_end : PlanView → File → Option TraceView → Outcome
+traced_end view data_file set = unless (unless_traced set) (on_file (tracing view) data_file)
+
+planned-holds : (view : PlanView) (data_file : File) → PlannedTrace view data_file (traced_end view data_file (trace_of view))
+planned-holds view data_file = by (trace_of view) refl
+  where
+    by : (set : Option TraceView) → trace_of view ≡ set → PlannedTrace view data_file (traced_end view data_file set)
+    by None e = inl (e, refl)
+    by (Some set) e = inr (set, e, file-trace set view e data_file)
+
+planned-only : (view : PlanView) (data_file : File) (end : Outcome) → PlannedTrace view data_file end → traced_end view data_file (trace_of view) ≡ end
+planned-only view data_file end (inl h) = ap (traced_end view data_file) h.0 ∙ sym h.1
+planned-only view data_file end (inr h) = ap (traced_end view data_file) h.1 ∙ file-traced h.0 view h.1 data_file end h.2
+
+abbrev trace_plan_end : File → Result PlanView Fault → Outcome
+trace_plan_end data_file r = by_plan no_trace tracing r data_file
+
+trace_plan-holds : (text : List ℕ) (data_file : File) → TracePlanCase (Some text) data_file (trace_plan_end data_file (plan_answer text))
+trace_plan-holds text data_file = by (plan_answer text) refl
+  where
+    by : (r : Result PlanView Fault) → plan_answer text ≡ r → TracePlanCase (Some text) data_file (trace_plan_end data_file (plan_answer text))
+    by (Err fault) e = let calls = called text fault e in inl (fault, calls.0, calls.1, ap (trace_plan_end data_file) e)
+    by (Ok view) e =
+        let good = valid text view e in
+        let same = plans text good.1 good good.2 in
+        inr (good.1, good, good.2, subst (λ r. PlannedTrace (plan (table good.1)) data_file (trace_plan_end data_file r)) (sym same) (planned-holds (plan (table good.1)) data_file))
+
+trace_plan-only : (text : List ℕ) (data_file : File) (end : Outcome) → TracePlanCase (Some text) data_file end → trace_plan_end data_file (plan_answer text) ≡ end
+trace_plan-only text data_file end (inl h) = ap (trace_plan_end data_file) (answers text h.0 (h.1, h.2)) ∙ sym h.3
+trace_plan-only text data_file end (inr h) = ap (trace_plan_end data_file) (plans text h.0 h.1 h.2) ∙ planned-only (plan (table h.0)) data_file end h.3
+
 -- ## All commands
 
 demo-same : (seed count : ℕ) → demo_report seed count ≡ words_report demo_plan made_header (made_words seed count)
@@ -389,6 +490,8 @@ outcome-holds (Some (HeaderOf file)) plan_file data_file = file-holds printing P
 outcome-holds (Some (Events file)) plan_file data_file = file-holds listing_all (HeaderCase ListCase) (header-holds events_behind ListCase (λ fault. refl) list-holds) data_file
 outcome-holds (Some (Run plan_name file)) None data_file = refl
 outcome-holds (Some (Run plan_name file)) (Some text) data_file = plan-holds text data_file
+outcome-holds (Some (Trace plan_name file)) None data_file = refl
+outcome-holds (Some (Trace plan_name file)) (Some text) data_file = trace_plan-holds text data_file
 outcome-holds (Some (Demo seed count)) plan_file data_file = ap (λ text. written text) (demo-same seed count)
 
 outcome-only : (request : Option Request) (plan_file data_file : File) (end : Outcome) → IsOutcome request plan_file data_file end → outcome (behaviour request) plan_file data_file ≡ end
@@ -399,6 +502,8 @@ outcome-only (Some (HeaderOf file)) plan_file data_file end h = file-only printi
 outcome-only (Some (Events file)) plan_file data_file end h = file-only listing_all (HeaderCase ListCase) (header-only events_behind ListCase (λ fault. refl) list-only) data_file end h
 outcome-only (Some (Run plan_name file)) None data_file end h = sym h
 outcome-only (Some (Run plan_name file)) (Some text) data_file end h = plan-only text data_file end h
+outcome-only (Some (Trace plan_name file)) None data_file end h = sym h
+outcome-only (Some (Trace plan_name file)) (Some text) data_file end h = trace_plan-only text data_file end h
 outcome-only (Some (Demo seed count)) plan_file data_file end h = ap (λ text. written text) (demo-same seed count) ∙ sym h
 
 pub one-outcome : (request : Option Request) (plan_file data_file : File) (end : Outcome) → IsOutcome request plan_file data_file end ↔ (outcome (behaviour request) plan_file data_file ≡ end)

@@ -6,7 +6,7 @@ use Rattle.tally_base.specs.declared.slot.Slot.{Slot}
 use Rattle.tally_base.specs.declared.slot.Slot.TheVariants.{Plan, Data}
 use Rattle.tally_base.specs.declared.event.Event.{Event}
 use Rattle.tally_base.specs.declared.fault.Fault.{Fault}
-use Rattle.tally_base.specs.declared.fault.Fault.TheVariants.{Usage, OpenFault, OutOfMemory, PlanTooLong, PlanSyntax, PlanRule, HeaderLimit, TruncatedHeader, RecordLimit, TruncatedRecord, ReservedRecord, TimeLimit, BackwardTime}
+use Rattle.tally_base.specs.declared.fault.Fault.TheVariants.{Usage, OpenFault, OutOfMemory, PlanTooLong, PlanSyntax, PlanRule, HeaderLimit, TruncatedHeader, RecordLimit, TruncatedRecord, ReservedRecord, TimeLimit, BackwardTime, NoTrace}
 use Rattle.tally_base.specs.declared.header.Header.{Header}
 use Rattle.tally_base.specs.declared.header.Mode.{Mode}
 use Rattle.tally_base.specs.declared.header.RecordType.{RecordType}
@@ -27,18 +27,24 @@ use Rattle.ptu_definitions.specs.Settled.{is_late_by}
 use Rattle.ptu_definitions.specs.Streams.{Reading, late_refusal, refusal, events_in}
 use Rattle.ptu_definitions.specs.Firsts.{IsFirst}
 use Rattle.ptu_definitions.proofs.Sound.{one_answer}
-use Rattle.plan_text.specs.Plan.{PlanView}
+use Rattle.toml.specs.Data.{table}
+use Rattle.plan_text.specs.Plan.{PlanView, plan}
 use Rattle.plan_text.specs.Reading.{IsCalledFor}
 use Rattle.plan_text.specs.Fits.{IsMisfit}
 use Rattle.plan_text.proofs.Misfits.{names_part}
 use Rattle.tally_engine.specs.Plans.{reading_by}
 use Rattle.table_out.specs.EventText.{events_text}
-use Rattle.ptu_cli.specs.Commands.{Request, Count, Header as HeaderOf, Events, Run, Demo}
+use Rattle.ptu_cli.specs.Commands.{Request, Count, Header as HeaderOf, Events, Run, Trace, Demo}
 use Rattle.ptu_cli.specs.Outcomes.{Outcome, refused, written, listing}
 use Rattle.ptu_cli.specs.Behaviours.{behaviour}
 use Rattle.ptu_cli.specs.Endings.{outcome}
-use Rattle.ptu_cli.specs.Cases.{FileCase, HeaderCase, WholeCase, NoneRefused, CountCase, PrintCase, ListCase, words_report, StreamCase, ReportCase, PlanCase, IsOutcome}
-use Rattle.ptu_cli.specs.Causes.{IsValidPlan, Headed, Unheaded, Suits, CutBehind, RefusedIn, Absent, NoPlan, Misfits, NoHeader, Cut, Refused, EndsWithFault, StatusIn}
+use Rattle.ptu_cli.specs.Cases.{FileCase, HeaderCase, WholeCase, NoneRefused, CountCase, PrintCase, ListCase, words_report, StreamCase, ReportCase, PlanCase, WholeTrace, RecordsCase, TraceCase, PlannedTrace, TracePlanCase, IsOutcome}
+use Rattle.ptu_cli.specs.Causes.{IsValidPlan, Headed, Unheaded, Suits, CutBehind, RefusedIn, Absent, NoPlan, Misfits, NoHeader, Cut, Refused, IsTraced, Untraced, EndsWithFault, StatusIn}
+use Rattle.tally_base.specs.Settings.{TraceView}
+use Rattle.long_trace.specs.Texts.{open_text}
+use Rattle.gate_plan.specs.Shifting.{sorting}
+use Rattle.tally_engine.specs.Histories.{settled_history}
+use Rattle.ptu_cli.specs.TraceOutcomes.{unless_traced, trace_of, no_trace}
 use Rattle.ptu_cli.proofs.Cases.{one-outcome}
 
 -- ## The fault of an outcome
@@ -171,18 +177,79 @@ run-causes plan_name file (Some text) data_file end fault ends (inl h) =
 run-causes plan_name file (Some text) data_file end fault ends (inr h) =
     report-causes (Some text) data_file end fault ends plan_name file _ (record { text = text; ms = h.0; present = refl; is_valid = h.1; document_is = h.2; view_is = refl }) h.3
 
-causes : (request : Option Request) (plan_file data_file : File) (end : Outcome) (fault : Fault) → end.fault ≡ Some fault → IsOutcome request plan_file data_file end → Cause request plan_file data_file fault
-causes None plan_file data_file end fault e h = inl (refl, of-refused end _ fault h e)
-causes (Some (Count file)) plan_file data_file end fault e h = count-causes plan_file data_file end fault e file h
-causes (Some (HeaderOf file)) plan_file data_file end fault e h = print-causes plan_file data_file end fault e file h
-causes (Some (Events file)) plan_file data_file end fault e h = list-causes plan_file data_file end fault e file h
-causes (Some (Run plan_name file)) plan_file data_file end fault e h = run-causes plan_name file plan_file data_file end fault e h
+-- a trace
+of-end : (end : Outcome) (text : List ℕ) (own fault : Fault) → end ≡ record { text = text; fault = Some own } → end.fault ≡ Some fault → fault ≡ own
+of-end end text own fault e h = some-same fault own (sym h ∙ ap (λ (o : Outcome). o.fault) e)
+
+records-cause : (set : TraceView) (view : PlanView) (header : Header) (behind : List ℕ) (end : Outcome) (fault : Fault) → RecordsCase set view header behind end → end.fault ≡ Some fault
+    → CutBehind behind (NoneRefused (reading_by view header) (words_of behind)) fault ⊎ RefusedIn (reading_by view header) behind fault
+records-cause set view header behind end fault (inl h) e = inr (subst (λ (f : Fault). IsFirst (reading_by view header) f [] (words_of behind)) (sym (of-end end _ h.fault fault h.end_is e)) h.least)
+records-cause set view header behind end fault (inr h) e = by h.1
+  where
+    by : WholeTrace set view header behind end → CutBehind behind (NoneRefused (reading_by view header) (words_of behind)) fault ⊎ RefusedIn (reading_by view header) behind fault
+    by (inl left) = inl (h.0, left.0, of-end end _ _ fault left.1 e)
+    by (inr whole) = absurd (of-written end _ fault whole.1 e)
+
+trace-causes : (plan_name file : List ℕ) (plan_file data_file : File) (set : TraceView) (view : PlanView) (end : Outcome) (fault : Fault) → end.fault ≡ Some fault → IsValidPlan plan_file view → trace_of view ≡ Some set → FileCase (HeaderCase (TraceCase set view)) data_file end
+    → Cause (Some (Trace plan_name file)) plan_file data_file fault
+trace-causes plan_name file plan_file data_file set view end fault ends is has h = at (file-cause (HeaderCase (TraceCase set view)) data_file end fault h ends)
+  where
+    traces : IsTraced plan_file
+    traces = (view, is, ap unless_traced has)
+
+    deep : (header : Header) (behind : List ℕ) → Headed data_file header behind → Suits view header
+        → CutBehind behind (NoneRefused (reading_by view header) (words_of behind)) fault ⊎ RefusedIn (reading_by view header) behind fault → Cause (Some (Trace plan_name file)) plan_file data_file fault
+    deep header behind headed suits (inl cut) = inr (inr (inr (inr (inr (inl (view, header, behind, is, headed, (traces.2, suits, cut)))))))
+    deep header behind headed suits (inr least) = inr (inr (inr (inr (inr (inr (view, header, behind, is, headed, (traces.2, suits, least)))))))
+
+    last : (header : Header) (behind : List ℕ) → Headed data_file header behind → TraceCase set view header behind end → Cause (Some (Trace plan_name file)) plan_file data_file fault
+    last header behind headed (inl misfit) =
+        inr (inr (inr (inl (view, header, behind, is, headed, (traces.2, subst (IsMisfit (mode_of header.record_type) view) (sym (of-refused end misfit.0 fault misfit.2 ends)) misfit.1)))))
+    last header behind headed (inr fits) = deep header behind headed fits.0 (records-cause set view header behind end fault fits.1 ends)
+
+    next : Unheaded data_file fault ⊎ ((header : Header) × (behind : List ℕ) × Headed data_file header behind × TraceCase set view header behind end) → Cause (Some (Trace plan_name file)) plan_file data_file fault
+    next (inl refusal) = inr (inr (inr (inr (inl (traces, refusal)))))
+    next (inr it) = last it.0 it.1 it.2 it.3
+
+    at : ((data_file ≡ None) × (fault ≡ OpenFault Data)) ⊎ ((bytes : List ℕ) × (data_file ≡ Some bytes) × HeaderCase (TraceCase set view) bytes end) → Cause (Some (Trace plan_name file)) plan_file data_file fault
+    at (inl absent) = inr (inl (inr (traces, absent.0, absent.1)))
+    at (inr there) = next (header-cause (TraceCase set view) data_file there.0 end fault there.1 there.2 ends)
+
+printed-causes : (plan_name file : List ℕ) (plan_file data_file : File) (view : PlanView) (end : Outcome) (fault : Fault) → end.fault ≡ Some fault → IsValidPlan plan_file view → PlannedTrace view data_file end
+    → Cause (Some (Trace plan_name file)) plan_file data_file fault ⊎ Untraced (Some (Trace plan_name file)) plan_file fault
+printed-causes plan_name file plan_file data_file view end fault ends is (inl none) = inr (view, is, ap unless_traced none.0, of-refused end NoTrace fault none.1 ends)
+printed-causes plan_name file plan_file data_file view end fault ends is (inr some) = inl (trace-causes plan_name file plan_file data_file some.0 view end fault ends is some.1 some.2)
+
+planned-causes : (plan_name file : List ℕ) (plan_file data_file : File) (end : Outcome) (fault : Fault) → end.fault ≡ Some fault → TracePlanCase plan_file data_file end
+    → Cause (Some (Trace plan_name file)) plan_file data_file fault ⊎ Untraced (Some (Trace plan_name file)) plan_file fault
+planned-causes plan_name file None data_file end fault ends h = inl (inr (inl (inl (refl, of-refused end _ fault h ends))))
+planned-causes plan_name file (Some text) data_file end fault ends (inl h) =
+    let same = of-refused end h.0 fault h.3 ends in
+    inl (inr (inr (inl (text, refl, subst (IsCalledFor text) (sym same) h.1, λ e. h.2 (sym same ∙ e)))))
+planned-causes plan_name file (Some text) data_file end fault ends (inr h) =
+    printed-causes plan_name file (Some text) data_file (plan (table h.0)) end fault ends (record { text = text; ms = h.0; present = refl; is_valid = h.1; document_is = h.2; view_is = refl }) h.3
+
+causes : (request : Option Request) (plan_file data_file : File) (end : Outcome) (fault : Fault) → end.fault ≡ Some fault → IsOutcome request plan_file data_file end → Cause request plan_file data_file fault ⊎ Untraced request plan_file fault
+causes None plan_file data_file end fault e h = inl (inl (refl, of-refused end _ fault h e))
+causes (Some (Count file)) plan_file data_file end fault e h = inl (count-causes plan_file data_file end fault e file h)
+causes (Some (HeaderOf file)) plan_file data_file end fault e h = inl (print-causes plan_file data_file end fault e file h)
+causes (Some (Events file)) plan_file data_file end fault e h = inl (list-causes plan_file data_file end fault e file h)
+causes (Some (Run plan_name file)) plan_file data_file end fault e h = inl (run-causes plan_name file plan_file data_file end fault e h)
+causes (Some (Trace plan_name file)) plan_file data_file end fault e h = planned-causes plan_name file plan_file data_file end fault e h
 causes (Some (Demo seed count)) plan_file data_file end fault e h = absurd (of-written end _ fault h e)
 
-pub fault-cause : (request : Option Request) (plan_file data_file : File) (fault : Fault) → EndsWithFault request plan_file data_file fault → Cause request plan_file data_file fault
-fault-cause request plan_file data_file fault e =
+any-cause : (request : Option Request) (plan_file data_file : File) (fault : Fault) → EndsWithFault request plan_file data_file fault → Cause request plan_file data_file fault ⊎ Untraced request plan_file fault
+any-cause request plan_file data_file fault e =
     let end = outcome (behaviour request) plan_file data_file in
     causes request plan_file data_file end fault e ((one-outcome request plan_file data_file end).1 refl)
+
+-- but that the plan has no trace
+pub fault-cause : (request : Option Request) (plan_file data_file : File) (fault : Fault) → (Untraced request plan_file fault → ⊥) → EndsWithFault request plan_file data_file fault → Cause request plan_file data_file fault
+fault-cause request plan_file data_file fault never e = by (any-cause request plan_file data_file fault e)
+  where
+    by : Cause request plan_file data_file fault ⊎ Untraced request plan_file fault → Cause request plan_file data_file fault
+    by (inl cause) = cause
+    by (inr none) = absurd (never none)
 
 -- ## From a cause to its fault
 
@@ -205,6 +272,30 @@ plan-there : (plan_file data_file : File) (view : PlanView) (end : Outcome) → 
 plan-there plan_file data_file view end is h =
     subst (λ (f : File). PlanCase f data_file end) (sym is.present) (inr (is.ms, is.is_valid, is.document_is, subst (λ (v : PlanView). FileCase (HeaderCase (ReportCase v)) data_file end) is.view_is h))
 
+traced-there : (plan_file data_file : File) (traces : IsTraced plan_file) (end : Outcome) → ((set : TraceView) → trace_of traces.0 ≡ Some set → FileCase (HeaderCase (TraceCase set traces.0)) data_file end) → TracePlanCase plan_file data_file end
+traced-there plan_file data_file traces end h =
+    subst (λ (f : File). TracePlanCase f data_file end) (sym traces.1.present) (inr (traces.1.ms, traces.1.is_valid, traces.1.document_is, subst (λ (v : PlanView). PlannedTrace v data_file end) traces.1.view_is (by (trace_of traces.0) refl traces.2)))
+  where
+    by : (o : Option TraceView) → trace_of traces.0 ≡ o → unless_traced o ≡ None → PlannedTrace traces.0 data_file end
+    by None e none = cc
+    by (Some set) e none = inr (set, e, h set e)
+
+-- the trace of a plan that has one
+set_of_plan : (view : PlanView) → no_trace view ≡ None → (set : TraceView) × (trace_of view ≡ Some set)
+set_of_plan view none = by (trace_of view) refl none
+  where
+    by : (o : Option TraceView) → trace_of view ≡ o → unless_traced o ≡ None → (set : TraceView) × (trace_of view ≡ Some set)
+    by None e none = cc
+    by (Some set) e none = (set, e)
+
+none_of : (o : Option TraceView) → unless_traced o ≡ Some NoTrace → o ≡ None
+none_of None e = refl
+none_of (Some set) e = cc
+
+traced-at : (plan_file data_file : File) (view : PlanView) → IsValidPlan plan_file view → (set : TraceView) → trace_of view ≡ Some set → (end : Outcome) → FileCase (HeaderCase (TraceCase set view)) data_file end → TracePlanCase plan_file data_file end
+traced-at plan_file data_file view is set has end h =
+    subst (λ (f : File). TracePlanCase f data_file end) (sym is.present) (inr (is.ms, is.is_valid, is.document_is, subst (λ (v : PlanView). PlannedTrace v data_file end) is.view_is (inr (set, has, h))))
+
 pub absent-ends : (request : Option Request) (plan_file data_file : File) (fault : Fault) → Absent request plan_file data_file fault → EndsWithFault request plan_file data_file fault
 absent-ends None plan_file data_file fault h = absurd h
 absent-ends (Some (Count file)) plan_file data_file fault h = ends-by (Some (Count file)) plan_file data_file _ fault (file-absent (HeaderCase CountCase) data_file h.0) (ap Some (sym h.1))
@@ -214,16 +305,24 @@ absent-ends (Some (Run plan_name file)) plan_file data_file fault (inl h) =
     ends-by (Some (Run plan_name file)) plan_file data_file (refused (OpenFault Plan)) fault (subst (λ (f : File). PlanCase f data_file (refused (OpenFault Plan))) (sym h.0) refl) (ap Some (sym h.1))
 absent-ends (Some (Run plan_name file)) plan_file data_file fault (inr h) =
     ends-by (Some (Run plan_name file)) plan_file data_file (refused (OpenFault Data)) fault (plan-there plan_file data_file h.0 _ h.1 (file-absent (HeaderCase (ReportCase h.0)) data_file h.2)) (ap Some (sym h.3))
+absent-ends (Some (Trace plan_name file)) plan_file data_file fault (inl h) =
+    ends-by (Some (Trace plan_name file)) plan_file data_file (refused (OpenFault Plan)) fault (subst (λ (f : File). TracePlanCase f data_file (refused (OpenFault Plan))) (sym h.0) refl) (ap Some (sym h.1))
+absent-ends (Some (Trace plan_name file)) plan_file data_file fault (inr h) =
+    ends-by (Some (Trace plan_name file)) plan_file data_file (refused (OpenFault Data)) fault (traced-there plan_file data_file h.0 _ (λ set is. file-absent (HeaderCase (TraceCase set h.0.0)) data_file h.1)) (ap Some (sym h.2))
 absent-ends (Some (Demo seed count)) plan_file data_file fault h = absurd h
 
 pub no_plan-ends : (request : Option Request) (plan_file data_file : File) (fault : Fault) → NoPlan request plan_file fault → EndsWithFault request plan_file data_file fault
 no_plan-ends (Some (Run plan_name file)) plan_file data_file fault h =
     ends-by (Some (Run plan_name file)) plan_file data_file (refused fault) fault (subst (λ (f : File). PlanCase f data_file (refused fault)) (sym h.1) (inl (fault, h.2, h.3, refl))) refl
+no_plan-ends (Some (Trace plan_name file)) plan_file data_file fault h =
+    ends-by (Some (Trace plan_name file)) plan_file data_file (refused fault) fault (subst (λ (f : File). TracePlanCase f data_file (refused fault)) (sym h.1) (inl (fault, h.2, h.3, refl))) refl
 no_plan-ends _ plan_file data_file fault h = absurd h
 
 pub misfits-ends : (request : Option Request) (plan_file data_file : File) (fault : Fault) → Misfits request plan_file data_file fault → EndsWithFault request plan_file data_file fault
 misfits-ends (Some (Run plan_name file)) plan_file data_file fault h =
     ends-by (Some (Run plan_name file)) plan_file data_file (refused fault) fault (plan-there plan_file data_file h.0 _ h.3 (headed-there (ReportCase h.0) data_file h.1 h.2 _ h.4 (inl (fault, h.5, refl)))) refl
+misfits-ends (Some (Trace plan_name file)) plan_file data_file fault h =
+    ends-by (Some (Trace plan_name file)) plan_file data_file (refused fault) fault (traced-there plan_file data_file (h.0, h.3, h.5.0) _ (λ set is. headed-there (TraceCase set h.0) data_file h.1 h.2 _ h.4 (inl (fault, h.5.1, refl)))) refl
 misfits-ends _ plan_file data_file fault h = absurd h
 
 print-ends : (file : List ℕ) (plan_file data_file : File) (fault : Fault) → Unheaded data_file fault → EndsWithFault (Some (HeaderOf file)) plan_file data_file fault
@@ -238,6 +337,8 @@ no_header-ends (Some (HeaderOf file)) plan_file data_file fault h = print-ends f
 no_header-ends (Some (Events file)) plan_file data_file fault h = ends-by (Some (Events file)) plan_file data_file (refused fault) fault (unheaded-there ListCase data_file fault h) refl
 no_header-ends (Some (Run plan_name file)) plan_file data_file fault h =
     ends-by (Some (Run plan_name file)) plan_file data_file (refused fault) fault (plan-there plan_file data_file h.0 _ h.1 (unheaded-there (ReportCase h.0) data_file fault h.2)) refl
+no_header-ends (Some (Trace plan_name file)) plan_file data_file fault h =
+    ends-by (Some (Trace plan_name file)) plan_file data_file (refused fault) fault (traced-there plan_file data_file h.0 _ (λ set is. unheaded-there (TraceCase set h.0.0) data_file fault h.1)) refl
 no_header-ends (Some (Demo seed count)) plan_file data_file fault h = absurd h
 
 abbrev end_with : List ℕ → Fault → Outcome
@@ -252,6 +353,11 @@ cut-ends (Some (Events file)) plan_file data_file fault h =
 cut-ends (Some (Run plan_name file)) plan_file data_file fault h =
     ends-by (Some (Run plan_name file)) plan_file data_file (refused fault) fault
     (plan-there plan_file data_file h.0 _ h.3 (headed-there (ReportCase h.0) data_file h.1 h.2 _ h.4 (inr (h.5.0, inr (h.5.1.0, inl (h.5.1.1, ap refused h.5.1.2)))))) refl
+cut-ends (Some (Trace plan_name file)) plan_file data_file fault h =
+    let view = h.0 in
+    let set = set_of_plan view h.5.0 in
+    ends-by (Some (Trace plan_name file)) plan_file data_file (end_with (open_text set.0 (settled_history (sorting view) (reading_by view h.1) (words_of h.2))) fault) fault
+    (traced-at plan_file data_file view h.3 set.0 set.1 _ (headed-there (TraceCase set.0 view) data_file h.1 h.2 _ h.4 (inr (h.5.1, inr (h.5.2.0, inl (h.5.2.1, ap (end_with (open_text set.0 (settled_history (sorting view) (reading_by view h.1) (words_of h.2)))) h.5.2.2)))))) refl
 cut-ends _ plan_file data_file fault h = absurd h
 
 pub refused-ends : (request : Option Request) (plan_file data_file : File) (fault : Fault) → Refused request plan_file data_file fault → EndsWithFault request plan_file data_file fault
@@ -263,7 +369,19 @@ refused-ends (Some (Events file)) plan_file data_file fault h =
 refused-ends (Some (Run plan_name file)) plan_file data_file fault h =
     ends-by (Some (Run plan_name file)) plan_file data_file (refused fault) fault
     (plan-there plan_file data_file h.0 _ h.3 (headed-there (ReportCase h.0) data_file h.1 h.2 _ h.4 (inr (h.5.0, inl (fault, h.5.1, refl))))) refl
+refused-ends (Some (Trace plan_name file)) plan_file data_file fault h =
+    let view = h.0 in
+    let set = set_of_plan view h.5.0 in
+    ends-by (Some (Trace plan_name file)) plan_file data_file (end_with (open_text set.0 (settled_history (sorting view) (reading_by view h.1) h.5.2.front)) fault) fault
+    (traced-at plan_file data_file view h.3 set.0 set.1 _ (headed-there (TraceCase set.0 view) data_file h.1 h.2 _ h.4 (inr (h.5.1, inl (record { fault = fault; least = h.5.2; end_is = refl }))))) refl
 refused-ends _ plan_file data_file fault h = absurd h
+
+pub untraced-ends : (request : Option Request) (plan_file data_file : File) (fault : Fault) → Untraced request plan_file fault → EndsWithFault request plan_file data_file fault
+untraced-ends (Some (Trace plan_name file)) plan_file data_file fault h =
+    ends-by (Some (Trace plan_name file)) plan_file data_file (refused NoTrace) fault
+    (subst (λ (f : File). TracePlanCase f data_file (refused NoTrace)) (sym h.1.present) (inr (h.1.ms, h.1.is_valid, h.1.document_is, subst (λ (v : PlanView). PlannedTrace v data_file (refused NoTrace)) h.1.view_is (inl (none_of (trace_of h.0) h.2, refl)))))
+    (ap Some (sym h.3))
+untraced-ends _ plan_file data_file fault h = absurd h
 
 -- ## The status of each cause
 
@@ -283,6 +401,8 @@ absent-status (Some (HeaderOf file)) plan_file data_file fault h = open-status f
 absent-status (Some (Events file)) plan_file data_file fault h = open-status fault Data h.1
 absent-status (Some (Run plan_name file)) plan_file data_file fault (inl h) = open-status fault Plan h.1
 absent-status (Some (Run plan_name file)) plan_file data_file fault (inr h) = open-status fault Data h.3
+absent-status (Some (Trace plan_name file)) plan_file data_file fault (inl h) = open-status fault Plan h.1
+absent-status (Some (Trace plan_name file)) plan_file data_file fault (inr h) = open-status fault Data h.2
 absent-status (Some (Demo seed count)) plan_file data_file fault h = absurd h
 
 called-status : (text : List ℕ) (fault : Fault) → IsCalledFor text fault → fault ≢ OutOfMemory → StatusIn 6 8 fault
@@ -294,6 +414,7 @@ called-status text _ h other = absurd h
 
 pub no_plan-status : (request : Option Request) (plan_file : File) (fault : Fault) → NoPlan request plan_file fault → StatusIn 6 8 fault
 no_plan-status (Some (Run plan_name file)) plan_file fault h = called-status h.0 fault h.2 h.3
+no_plan-status (Some (Trace plan_name file)) plan_file fault h = called-status h.0 fault h.2 h.3
 no_plan-status _ plan_file fault h = absurd h
 
 misfit-status : (mode : Mode) (view : PlanView) (fault : Fault) → IsMisfit mode view fault → StatusIn 9 9 fault
@@ -301,6 +422,7 @@ misfit-status mode view fault misfit = range-as 9 9 fault _ (names_part mode vie
 
 pub misfits-status : (request : Option Request) (plan_file data_file : File) (fault : Fault) → Misfits request plan_file data_file fault → StatusIn 9 9 fault
 misfits-status (Some (Run plan_name file)) plan_file data_file fault h = misfit-status (mode_of h.1.record_type) h.0 fault h.5
+misfits-status (Some (Trace plan_name file)) plan_file data_file fault h = misfit-status (mode_of h.1.record_type) h.0 fault h.5.1
 misfits-status _ plan_file data_file fault h = absurd h
 
 -- what an answer of a header says of its fault
@@ -344,6 +466,7 @@ no_header-status (Some (Count file)) plan_file data_file fault h = unheaded-stat
 no_header-status (Some (HeaderOf file)) plan_file data_file fault h = unheaded-status data_file fault h
 no_header-status (Some (Events file)) plan_file data_file fault h = unheaded-status data_file fault h
 no_header-status (Some (Run plan_name file)) plan_file data_file fault h = unheaded-status data_file fault h.2
+no_header-status (Some (Trace plan_name file)) plan_file data_file fault h = unheaded-status data_file fault h.1
 no_header-status (Some (Demo seed count)) plan_file data_file fault h = absurd h
 
 cut_behind-status : (behind : List ℕ) (fault : Fault) → fault ≡ TruncatedRecord (length (rest_of behind)) → StatusIn 17 17 fault
@@ -353,6 +476,7 @@ pub cut-status : (request : Option Request) (plan_file data_file : File) (fault 
 cut-status (Some (Count file)) plan_file data_file fault h = cut_behind-status h.1 fault h.3.2
 cut-status (Some (Events file)) plan_file data_file fault h = cut_behind-status h.1 fault h.3.2
 cut-status (Some (Run plan_name file)) plan_file data_file fault h = cut_behind-status h.2 fault h.5.1.2
+cut-status (Some (Trace plan_name file)) plan_file data_file fault h = cut_behind-status h.2 fault h.5.2.2
 cut-status _ plan_file data_file fault h = absurd h
 
 -- what a refusal of a record says of its fault
@@ -391,13 +515,21 @@ pub refused-status : (request : Option Request) (plan_file data_file : File) (fa
 refused-status (Some (Count file)) plan_file data_file fault h = range-as 18 21 fault _ h.3.1 (omega arith, omega arith)
 refused-status (Some (Events file)) plan_file data_file fault h = least-status (listing h.0) h.1 fault h.3
 refused-status (Some (Run plan_name file)) plan_file data_file fault h = least-status (reading_by h.0 h.1) h.2 fault h.5.1
+refused-status (Some (Trace plan_name file)) plan_file data_file fault h = least-status (reading_by h.0 h.1) h.2 fault h.5.2
 refused-status _ plan_file data_file fault h = absurd h
+
+pub untraced-status : (request : Option Request) (plan_file : File) (fault : Fault) → Untraced request plan_file fault → StatusIn 22 22 fault
+untraced-status (Some (Trace plan_name file)) plan_file fault h = range-as 22 22 fault NoTrace h.3 (omega arith, omega arith)
+untraced-status _ plan_file fault h = absurd h
 
 -- ## Exactly where
 
 apart : (a b c d : ℕ) (fault : Fault) → StatusIn a b fault → StatusIn c d fault → (b < c) ⊎ (d < a) → ⊥
 apart a b c d fault p q (inl h) = omega (arith, p.0, p.1, q.0, q.1, h)
 apart a b c d fault p q (inr h) = omega (arith, p.0, p.1, q.0, q.1, h)
+
+not-untraced : (request : Option Request) (plan_file : File) (fault : Fault) (low high : ℕ) → high < 22 → StatusIn low high fault → Untraced request plan_file fault → ⊥
+not-untraced request plan_file fault low high below s h = apart 22 22 low high fault (untraced-status request plan_file fault h) s (inr below)
 
 module _ (request : Option Request) (plan_file data_file : File) (fault : Fault) where
   pub where-absent : StatusIn 2 2 fault → Cause request plan_file data_file fault → Absent request plan_file data_file fault
@@ -455,7 +587,7 @@ module _ (request : Option Request) (plan_file data_file : File) (fault : Fault)
   where-refused s (inr (inr (inr (inr (inr (inr h)))))) = h
 
 pub exactly-words : (request : Option Request) (plan_file data_file : File) → EndsWithFault request plan_file data_file Usage ↔ (request ≡ None)
-exactly-words request plan_file data_file = (λ e. where-words (fault-cause request plan_file data_file Usage e), λ e. by request e)
+exactly-words request plan_file data_file = (λ e. where-words (fault-cause request plan_file data_file Usage (not-untraced request plan_file Usage 1 1 (omega arith) one) e), λ e. by request e)
   where
     one : StatusIn 1 1 Usage
     one = (omega arith, omega arith)
@@ -475,22 +607,35 @@ exactly-words request plan_file data_file = (λ e. where-words (fault-cause requ
 
 module _ (request : Option Request) (plan_file data_file : File) (fault : Fault) where
   pub exactly-absent : StatusIn 2 2 fault → EndsWithFault request plan_file data_file fault ↔ Absent request plan_file data_file fault
-  exactly-absent s = (λ e. where-absent request plan_file data_file fault s (fault-cause request plan_file data_file fault e), absent-ends request plan_file data_file fault)
+  exactly-absent s = (λ e. where-absent request plan_file data_file fault s (fault-cause request plan_file data_file fault (not-untraced request plan_file fault 2 2 (omega arith) s) e), absent-ends request plan_file data_file fault)
 
   pub exactly-no_plan : StatusIn 6 8 fault → EndsWithFault request plan_file data_file fault ↔ NoPlan request plan_file fault
-  exactly-no_plan s = (λ e. where-no_plan request plan_file data_file fault s (fault-cause request plan_file data_file fault e), no_plan-ends request plan_file data_file fault)
+  exactly-no_plan s = (λ e. where-no_plan request plan_file data_file fault s (fault-cause request plan_file data_file fault (not-untraced request plan_file fault 6 8 (omega arith) s) e), no_plan-ends request plan_file data_file fault)
 
   pub exactly-misfits : StatusIn 9 9 fault → EndsWithFault request plan_file data_file fault ↔ Misfits request plan_file data_file fault
-  exactly-misfits s = (λ e. where-misfits request plan_file data_file fault s (fault-cause request plan_file data_file fault e), misfits-ends request plan_file data_file fault)
+  exactly-misfits s = (λ e. where-misfits request plan_file data_file fault s (fault-cause request plan_file data_file fault (not-untraced request plan_file fault 9 9 (omega arith) s) e), misfits-ends request plan_file data_file fault)
 
   pub exactly-no_header : StatusIn 10 16 fault → EndsWithFault request plan_file data_file fault ↔ NoHeader request plan_file data_file fault
-  exactly-no_header s = (λ e. where-no_header request plan_file data_file fault s (fault-cause request plan_file data_file fault e), no_header-ends request plan_file data_file fault)
+  exactly-no_header s = (λ e. where-no_header request plan_file data_file fault s (fault-cause request plan_file data_file fault (not-untraced request plan_file fault 10 16 (omega arith) s) e), no_header-ends request plan_file data_file fault)
 
   pub exactly-cut : StatusIn 17 17 fault → EndsWithFault request plan_file data_file fault ↔ Cut request plan_file data_file fault
-  exactly-cut s = (λ e. where-cut request plan_file data_file fault s (fault-cause request plan_file data_file fault e), cut-ends request plan_file data_file fault)
+  exactly-cut s = (λ e. where-cut request plan_file data_file fault s (fault-cause request plan_file data_file fault (not-untraced request plan_file fault 17 17 (omega arith) s) e), cut-ends request plan_file data_file fault)
 
   pub exactly-refused : StatusIn 18 21 fault → EndsWithFault request plan_file data_file fault ↔ Refused request plan_file data_file fault
-  exactly-refused s = (λ e. where-refused request plan_file data_file fault s (fault-cause request plan_file data_file fault e), refused-ends request plan_file data_file fault)
+  exactly-refused s = (λ e. where-refused request plan_file data_file fault s (fault-cause request plan_file data_file fault (not-untraced request plan_file fault 18 21 (omega arith) s) e), refused-ends request plan_file data_file fault)
+
+  pub exactly-untraced : StatusIn 22 22 fault → EndsWithFault request plan_file data_file fault ↔ Untraced request plan_file fault
+  exactly-untraced s = (λ e. where-untraced s (any-cause request plan_file data_file fault e), untraced-ends request plan_file data_file fault)
+    where
+      where-untraced : StatusIn 22 22 fault → Cause request plan_file data_file fault ⊎ Untraced request plan_file fault → Untraced request plan_file fault
+      where-untraced s (inl (inl h)) = absurd (apart 1 1 22 22 fault (usage-status fault h.1) s (inl (omega arith)))
+      where-untraced s (inl (inr (inl h))) = absurd (apart 2 2 22 22 fault (absent-status request plan_file data_file fault h) s (inl (omega arith)))
+      where-untraced s (inl (inr (inr (inl h)))) = absurd (apart 6 8 22 22 fault (no_plan-status request plan_file fault h) s (inl (omega arith)))
+      where-untraced s (inl (inr (inr (inr (inl h))))) = absurd (apart 9 9 22 22 fault (misfits-status request plan_file data_file fault h) s (inl (omega arith)))
+      where-untraced s (inl (inr (inr (inr (inr (inl h)))))) = absurd (apart 10 16 22 22 fault (no_header-status request plan_file data_file fault h) s (inl (omega arith)))
+      where-untraced s (inl (inr (inr (inr (inr (inr (inl h))))))) = absurd (apart 17 17 22 22 fault (cut-status request plan_file data_file fault h) s (inl (omega arith)))
+      where-untraced s (inl (inr (inr (inr (inr (inr (inr h))))))) = absurd (apart 18 21 22 22 fault (refused-status request plan_file data_file fault h) s (inl (omega arith)))
+      where-untraced s (inr h) = h
 
 -- ## The statuses of each command
 
@@ -522,7 +667,7 @@ listed-status : (header : Header) (behind : List ℕ) (fault : Fault) → Refuse
 listed-status header behind fault h = subst InLimits h.refused (listing-in header _ h.word)
 
 pub count-statuses : (file : List ℕ) (plan_file data_file : File) (fault : Fault) → EndsWithFault (Some (Count file)) plan_file data_file fault → StatusIn 2 2 fault ⊎ (StatusIn 10 17 fault ⊎ StatusIn 20 20 fault)
-count-statuses file plan_file data_file fault e = by (fault-cause (Some (Count file)) plan_file data_file fault e)
+count-statuses file plan_file data_file fault e = by (fault-cause (Some (Count file)) plan_file data_file fault (λ no. no) e)
   where
     by : Cause (Some (Count file)) plan_file data_file fault → StatusIn 2 2 fault ⊎ (StatusIn 10 17 fault ⊎ StatusIn 20 20 fault)
     by (inl h) = cc
@@ -534,7 +679,7 @@ count-statuses file plan_file data_file fault e = by (fault-cause (Some (Count f
     by (inr (inr (inr (inr (inr (inr h)))))) = inr (inr (range-as 20 20 fault _ h.3.1 (omega arith, omega arith)))
 
 pub header-statuses : (file : List ℕ) (plan_file data_file : File) (fault : Fault) → EndsWithFault (Some (HeaderOf file)) plan_file data_file fault → StatusIn 2 2 fault ⊎ StatusIn 10 16 fault
-header-statuses file plan_file data_file fault e = by (fault-cause (Some (HeaderOf file)) plan_file data_file fault e)
+header-statuses file plan_file data_file fault e = by (fault-cause (Some (HeaderOf file)) plan_file data_file fault (λ no. no) e)
   where
     by : Cause (Some (HeaderOf file)) plan_file data_file fault → StatusIn 2 2 fault ⊎ StatusIn 10 16 fault
     by (inl h) = cc
@@ -546,7 +691,7 @@ header-statuses file plan_file data_file fault e = by (fault-cause (Some (Header
     by (inr (inr (inr (inr (inr (inr h)))))) = absurd h
 
 pub events-statuses : (file : List ℕ) (plan_file data_file : File) (fault : Fault) → EndsWithFault (Some (Events file)) plan_file data_file fault → StatusIn 2 2 fault ⊎ (StatusIn 10 17 fault ⊎ StatusIn 20 21 fault)
-events-statuses file plan_file data_file fault e = by (fault-cause (Some (Events file)) plan_file data_file fault e)
+events-statuses file plan_file data_file fault e = by (fault-cause (Some (Events file)) plan_file data_file fault (λ no. no) e)
   where
     by : Cause (Some (Events file)) plan_file data_file fault → StatusIn 2 2 fault ⊎ (StatusIn 10 17 fault ⊎ StatusIn 20 21 fault)
     by (inl h) = cc
@@ -558,7 +703,7 @@ events-statuses file plan_file data_file fault e = by (fault-cause (Some (Events
     by (inr (inr (inr (inr (inr (inr h)))))) = inr (inr (listed-status h.0 h.1 fault h.3))
 
 pub run-statuses : (plan_name file : List ℕ) (plan_file data_file : File) (fault : Fault) → EndsWithFault (Some (Run plan_name file)) plan_file data_file fault → StatusIn 2 2 fault ⊎ StatusIn 6 21 fault
-run-statuses plan_name file plan_file data_file fault e = by (fault-cause (Some (Run plan_name file)) plan_file data_file fault e)
+run-statuses plan_name file plan_file data_file fault e = by (fault-cause (Some (Run plan_name file)) plan_file data_file fault (λ no. no) e)
   where
     by : Cause (Some (Run plan_name file)) plan_file data_file fault → StatusIn 2 2 fault ⊎ StatusIn 6 21 fault
     by (inl h) = cc
@@ -568,6 +713,19 @@ run-statuses plan_name file plan_file data_file fault e = by (fault-cause (Some 
     by (inr (inr (inr (inr (inl h))))) = inr (wider 10 16 6 21 fault (no_header-status (Some (Run plan_name file)) plan_file data_file fault h) (omega arith) (omega arith))
     by (inr (inr (inr (inr (inr (inl h)))))) = inr (wider 17 17 6 21 fault (cut-status (Some (Run plan_name file)) plan_file data_file fault h) (omega arith) (omega arith))
     by (inr (inr (inr (inr (inr (inr h)))))) = inr (wider 18 21 6 21 fault (refused-status (Some (Run plan_name file)) plan_file data_file fault h) (omega arith) (omega arith))
+
+pub trace-statuses : (plan_name file : List ℕ) (plan_file data_file : File) (fault : Fault) → EndsWithFault (Some (Trace plan_name file)) plan_file data_file fault → StatusIn 2 2 fault ⊎ StatusIn 6 22 fault
+trace-statuses plan_name file plan_file data_file fault e = by (any-cause (Some (Trace plan_name file)) plan_file data_file fault e)
+  where
+    by : Cause (Some (Trace plan_name file)) plan_file data_file fault ⊎ Untraced (Some (Trace plan_name file)) plan_file fault → StatusIn 2 2 fault ⊎ StatusIn 6 22 fault
+    by (inl (inl h)) = cc
+    by (inl (inr (inl h))) = inl (absent-status (Some (Trace plan_name file)) plan_file data_file fault h)
+    by (inl (inr (inr (inl h)))) = inr (wider 6 8 6 22 fault (no_plan-status (Some (Trace plan_name file)) plan_file fault h) (omega arith) (omega arith))
+    by (inl (inr (inr (inr (inl h))))) = inr (wider 9 9 6 22 fault (misfits-status (Some (Trace plan_name file)) plan_file data_file fault h) (omega arith) (omega arith))
+    by (inl (inr (inr (inr (inr (inl h)))))) = inr (wider 10 16 6 22 fault (no_header-status (Some (Trace plan_name file)) plan_file data_file fault h) (omega arith) (omega arith))
+    by (inl (inr (inr (inr (inr (inr (inl h))))))) = inr (wider 17 17 6 22 fault (cut-status (Some (Trace plan_name file)) plan_file data_file fault h) (omega arith) (omega arith))
+    by (inl (inr (inr (inr (inr (inr (inr h))))))) = inr (wider 18 21 6 22 fault (refused-status (Some (Trace plan_name file)) plan_file data_file fault h) (omega arith) (omega arith))
+    by (inr h) = inr (wider 22 22 6 22 fault (untraced-status (Some (Trace plan_name file)) plan_file fault h) (omega arith) (omega arith))
 
 pub demo-statuses : (seed count : ℕ) (plan_file data_file : File) (fault : Fault) → EndsWithFault (Some (Demo seed count)) plan_file data_file fault → ⊥
 unfolding outcome

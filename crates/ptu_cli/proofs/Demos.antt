@@ -5,6 +5,7 @@ use Rattle.std.specs.declared.option.Option.{Option}
 use Rattle.std.specs.Io.KnownBytes.{Appends, Consumes}
 use Rattle.tally_base.specs.declared.fault.Fault.{Fault}
 use Rattle.tally_base.specs.declared.fault.Fault.TheVariants.{OutOfMemory, WriteFault}
+use Rattle.tally_base.specs.declared.header.Mode.TheVariants.{T2}
 use Rattle.tally_base.specs.declared.header.RecordType.TheVariants.{HydraHarp2T2}
 use Rattle.tally_base.specs.FaultCounts.{Rose}
 use Rattle.tally_base.specs.Faults.{is_outside, fault_in}
@@ -25,12 +26,13 @@ use Rattle.tally_engine.specs.declared.engine.Results.{Results}
 use Rattle.tally_engine.specs.Plans.{policy_of}
 use Rattle.table_out.specs.Report.{Table, report, EachHolds}
 use Rattle.ptu_made.specs.Generator.{made_words}
-use Rattle.ptu_made.specs.ShortFile.{short_header, bytes_in, made_file}
+use Rattle.short_file.specs.ShortFiles.{short_header, short_file, bytes_in}
+use Rattle.ptu_made.specs.MadeFile.{made_file}
 use Rattle.ptu_made.specs.Records.{made_header}
 use Rattle.ptu_made.specs.declared.made.Made.{Made}
 use Rattle.ptu_made.specs.Made.{made_state}
 use Rattle.ptu_made.proofs.Meanings.{all-made, words-bytes}
-use Rattle.ptu_made.proofs.MadeHeaders.{short-answer}
+use Rattle.short_file.proofs.ShortHeaders.{short-answer}
 use Rattle.ptu_made.proofs.MadeEvents.{few-words}
 use Rattle.ptu_made.proofs.Unrefused.{unrefused}
 use Rattle.ptu_made.specs.Generator.{photon_limit}
@@ -75,9 +77,9 @@ made-streamed seed count few =
 
 -- the report is that of a run over these files
 pub made-report : (seed count : ℕ) → count ≤ photon_limit → file_report demo_plan (made_file seed count) ≡ Ok (demo_report seed count)
-unfolding made_file demo_report
+unfolding made_file short_file demo_report
 made-report seed count few =
-    let answer : header_answer (short_header ++ bytes_in (made_words seed count)) ≡ Ok (made_header, bytes_in (made_words seed count)) = short-answer (bytes_in (made_words seed count)) in
+    let answer : header_answer (short_header T2 ++ bytes_in (made_words seed count)) ≡ Ok (made_header, bytes_in (made_words seed count)) = short-answer T2 (bytes_in (made_words seed count)) in
     let whole : words_of (bytes_in (made_words seed count)) ≡ made_words seed count = (words-bytes (made_words seed count) (all-made seed count)).0 in
     rw (answer, suits, made-streamed seed count few, whole) refl
 

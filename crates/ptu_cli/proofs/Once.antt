@@ -1,5 +1,5 @@
 -- Counts that stay over several calls, and move by one that failed.
-use Rattle.std.proofs.Common.{ℕ, ◌≡◌, List, [], Bool, true, false, None, Some, Ok, Err, refl, sym, ap, subst, ◌∙◌, ⊎_elim}
+use Rattle.std.proofs.Common.{ℕ, ◌≡◌, List, [], Bool, true, false, None, Some, Ok, Err, refl, sym, ap, subst, ⊎_elim}
 use Rattle.std.specs.Prelude.{Result, IfErr}
 use Rattle.std.specs.declared.option.Option.{Option}
 use Rattle.tally_base.specs.declared.slot.Slot.{Slot}

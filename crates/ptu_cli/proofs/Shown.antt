@@ -29,7 +29,10 @@ use Rattle.table_out.specs.HeaderText.{header_text}
 use Rattle.table_out.specs.EventText.{events_text, lines_of}
 use Rattle.ptu_cli.specs.Reports.{report_of, if_fits, report_behind}
 use Rattle.ptu_cli.specs.Outcomes.{Outcome, refused, MayChange, ends_early, with_counts, counts_behind, count_outcome, listing, listed, events_behind, report_outcome}
-use Rattle.ptu_cli.specs.Behaviours.{counting, printing, listing_all, reporting, GoesOnOrShows}
+use Rattle.ptu_cli.specs.Behaviours.{counting, printing, listing_all, reporting, tracing, GoesOnOrShows}
+use Rattle.gate_plan.specs.Shifting.{sorting}
+use Rattle.ptu_cli.specs.TraceOutcomes.{trace_of, traced, traced_if_fits, traced_behind}
+use Rattle.ptu_cli.proofs.TraceTexts.{refused-ends}
 use Rattle.ptu_cli.proofs.HeaderEnds.{outcome-done, outcome-refused}
 use Rattle.ptu_cli.proofs.EventReasons.{streamed-open}
 
@@ -179,3 +182,28 @@ report-shows view bytes = by (headed (λ r. report_outcome (report_behind view r
         → GoesOnOrShows (reporting view) bytes
     by (inl may) = inl (subst MayChange (report-fault (report_behind view (header_answer bytes))) may)
     by (inr stays) = inr stays
+
+-- ## trace
+
+trace-may : (view : PlanView) (header : Header) (behind : List ℕ) (r : Result Summary Fault) → MayChange (fault_in r) → MayChange (traced (trace_of view) (sorting view) (reading_by view header) behind r).fault
+trace-may view header behind (Ok summary) may = tt
+trace-may view header behind (Err fault) may = may
+
+trace-goes : (view : PlanView) (header : Header) (behind : List ℕ)
+    → MayChange (traced_if_fits view header behind (fits (mode_of header.record_type) view)).fault
+    ⊎ ((more : List ℕ) → traced_if_fits view header (behind ++ more) (fits (mode_of header.record_type) view) ≡ traced_if_fits view header behind (fits (mode_of header.record_type) view))
+trace-goes view header behind = by (fits (mode_of header.record_type) view)
+  where
+    fed : (o : Option Fault) → record_refusal (reading_by view header) (words_of behind) ≡ o
+        → MayChange (traced_if_fits view header behind (Ok tt)).fault ⊎ ((more : List ℕ) → traced_if_fits view header (behind ++ more) (Ok tt) ≡ traced_if_fits view header behind (Ok tt))
+    fed (Some fault) e = inr (λ more.
+        refused-ends (sorting view) (reading_by view header) (trace_of view) behind more fault e
+        ∙ ap (traced (trace_of view) (sorting view) (reading_by view header) behind) (streamed-refused (reading_by view header) behind fault e))
+    fed None e = inl (trace-may view header behind (streamed (reading_by view header) behind) (streamed-open (reading_by view header) behind e))
+
+    by : (r : Result (Unit {0}) Fault) → MayChange (traced_if_fits view header behind r).fault ⊎ ((more : List ℕ) → traced_if_fits view header (behind ++ more) r ≡ traced_if_fits view header behind r)
+    by (Err fault) = inr (λ more. refl)
+    by (Ok done) = fed (record_refusal (reading_by view header) (words_of behind)) refl
+
+pub trace-shows : (view : PlanView) (bytes : List ℕ) → GoesOnOrShows (tracing view) bytes
+trace-shows view bytes = headed (traced_behind view) (λ fault. refl) (trace-goes view) bytes

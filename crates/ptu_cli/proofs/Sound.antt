@@ -1,5 +1,5 @@
 -- What is shown of each command's work: good files end it well, and no end of it is that of a bad command line.
-use Rattle.std.proofs.Common.{◌≡◌, ℕ, List, length, false, None, Some, Ok, refl, ap, arith}
+use Rattle.std.proofs.Common.{◌≡◌, ℕ, List, length, false, None, Some, Ok, refl, sym, ap, ◌∙◌, arith}
 use Rattle.std.specs.Prelude.{◌≢◌, nat_lt}
 use Rattle.std.proofs.lemmas.Bool.Decides.{nat_tests}
 use Rattle.tally_base.specs.declared.header.RecordType.{RecordType}
@@ -11,11 +11,13 @@ use Rattle.ptu_definitions.specs.Counted.{counted, records_of, record_limit}
 use Rattle.ptu_definitions.specs.Streams.{Reading, summary, streamed}
 use Rattle.plan_text.specs.Plan.{PlanView}
 use Rattle.tally_engine.specs.Plans.{reading_by}
-use Rattle.ptu_cli.specs.Commands.{Request, Count, Header, Events, Run, Demo}
+use Rattle.ptu_cli.specs.Commands.{Request, Count, Header, Events, Run, Trace, Demo}
 use Rattle.ptu_cli.specs.Outcomes.{status, file_counts, listing}
-use Rattle.ptu_cli.specs.Behaviours.{Work, Behaviour, NoCommand, Alone, OnFile, ByPlan, AreWhole, AreRead, counting, printing, listing_all, reporting, behaviour}
+use Rattle.ptu_cli.specs.Behaviours.{Work, Behaviour, NoCommand, Alone, OnFile, ByPlan, AreWhole, AreRead, counting, printing, listing_all, reporting, tracing, behaviour}
 use Rattle.ptu_cli.proofs.ByteFaults.{header_answer-bytes, counts_behind-bytes, count_outcome-bytes, fault_in-bytes, events_behind-bytes}
 use Rattle.ptu_cli.proofs.RunFaults.{report-bytes}
+use Rattle.ptu_cli.specs.TraceOutcomes.{trace_of}
+use Rattle.ptu_cli.proofs.TraceFaults.{trace-fault, untraced-status}
 
 pub record WorkIsSound (work : Work) : Type 0 where
   pub well : (bytes : List ℕ) → work.good bytes → (work.outcome bytes).fault ≡ None
@@ -62,9 +64,16 @@ reporting-sound view = record {
   no_usage = λ bytes. report-bytes view bytes;
 }
 
+tracing-sound : (view : PlanView) → WorkIsSound (tracing view)
+tracing-sound view = record {
+  well = λ bytes h. rw (h.2, h.3.0, streamed-read (reading_by view h.0) h.1 h.3.1) refl;
+  no_usage = λ bytes e. report-bytes view bytes (ap status (sym (trace-fault view bytes)) ∙ e);
+}
+
 pub sound : (request : Request) → IsSound (behaviour (Some request))
 sound (Count file) = counting-sound
 sound (Header file) = printing-sound
 sound (Events file) = listing-sound
 sound (Run plan file) = λ view. (reporting-sound view, λ e. omega arith)
+sound (Trace plan file) = λ view. (tracing-sound view, untraced-status (trace_of view))
 sound (Demo seed count) = λ e. omega arith

@@ -6,13 +6,13 @@ use Rattle.std.proofs.lemmas.Bool.{cases_lt, cases_eq}
 use Rattle.tally_base.specs.declared.fault.Fault.{Fault}
 use Rattle.tally_base.specs.Faults.{status_of}
 use Rattle.bench_io.specs.Inputs.{File}
-use Rattle.ptu_cli.specs.Commands.{Request, Count, Header as HeaderOf, Events, Run, Demo}
+use Rattle.ptu_cli.specs.Commands.{Request, Count, Header as HeaderOf, Events, Run, Trace, Demo}
 use Rattle.ptu_cli.specs.Outcomes.{status}
 use Rattle.ptu_cli.specs.Behaviours.{behaviour}
 use Rattle.ptu_cli.specs.Endings.{outcome}
 use Rattle.ptu_cli.specs.Runs.{Around, Runs}
 use Rattle.ptu_cli.specs.Causes.{EndsWithFault, IsIn, StatusIn}
-use Rattle.ptu_cli.proofs.Causes.{count-statuses, header-statuses, events-statuses, run-statuses, demo-statuses}
+use Rattle.ptu_cli.proofs.Causes.{count-statuses, header-statuses, events-statuses, run-statuses, trace-statuses, demo-statuses}
 
 abbrev OfFiles : Option Request → ℕ → Type 0
 OfFiles request result = (plan_file : File) × (data_file : File) × (result ≡ status (outcome (behaviour request) plan_file data_file).fault)
@@ -105,6 +105,20 @@ run-runs plan_name file run result h = by (ends-in (Some (Run plan_name file)) r
     by : IsIn 2 5 result ⊎ OfFiles (Some (Run plan_name file)) result → RunEnds result
     by (inl few) = inr (few.0, omega (arith, few.1))
     by (inr it) = of-status (Some (Run plan_name file)) it.0 it.1 result RunEnds it.2 (inl refl) (λ fault e. from fault (run-statuses plan_name file it.0 it.1 fault e))
+
+abbrev pub TraceEnds : ℕ → Type 0
+TraceEnds n = (n ≡ 0) ⊎ IsIn 2 22 n
+
+pub trace-runs : (plan_name file : List ℕ) (run : Around) (result : ℕ) → Runs (Some (Trace plan_name file)) run result → TraceEnds result
+trace-runs plan_name file run result h = by (ends-in (Some (Trace plan_name file)) run result h)
+  where
+    from : (fault : Fault) → StatusIn 2 2 fault ⊎ StatusIn 6 22 fault → TraceEnds (status_of fault)
+    from fault (inl s) = inr (s.0, omega (arith, s.1))
+    from fault (inr s) = inr (omega (arith, s.0), s.1)
+
+    by : IsIn 2 5 result ⊎ OfFiles (Some (Trace plan_name file)) result → TraceEnds result
+    by (inl few) = inr (few.0, omega (arith, few.1))
+    by (inr it) = of-status (Some (Trace plan_name file)) it.0 it.1 result TraceEnds it.2 (inl refl) (λ fault e. from fault (trace-statuses plan_name file it.0 it.1 fault e))
 
 abbrev pub DemoEnds : ℕ → Type 0
 DemoEnds n = (n ≡ 0) ⊎ IsIn 4 5 n

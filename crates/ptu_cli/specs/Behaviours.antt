@@ -14,10 +14,11 @@ use Rattle.plan_text.specs.Plan.{PlanView}
 use Rattle.plan_text.specs.Fits.{fits}
 use Rattle.tally_engine.specs.Plans.{reading_by}
 use Rattle.table_out.specs.HeaderText.{header_text}
-use Rattle.ptu_cli.specs.Commands.{Request, Count, Header as HeaderOf, Events, Run, Demo}
+use Rattle.ptu_cli.specs.Commands.{Request, Count, Header as HeaderOf, Events, Run, Trace, Demo}
 use Rattle.ptu_cli.specs.Demo.{demo_report}
 use Rattle.ptu_cli.specs.Reports.{file_report}
 use Rattle.ptu_cli.specs.Outcomes.{Outcome, written, MayChange, IsCut, count_outcome, file_counts, header_outcome, events_outcome, listing, report_outcome}
+use Rattle.ptu_cli.specs.TraceOutcomes.{no_trace, trace_outcome, trace_so_far}
 
 -- the bytes that one read of FILE takes at most
 abbrev pub piece_limit : ℕ
@@ -119,10 +120,18 @@ reporting plan = record {
   good = IsHeaded (λ header behind. (fits (mode_of header.record_type) plan ≡ Ok (tt {0})) × AreRead (reading_by plan header) behind);
 }
 
+abbrev pub tracing : PlanView → Work
+tracing plan = record {
+  outcome = trace_outcome plan;
+  goes_on = λ bytes. MayChange (trace_outcome plan bytes).fault;
+  good = (reporting plan).good;
+}
+
 abbrev pub behaviour : Option Request → Behaviour
 behaviour None = NoCommand
 behaviour (Some (Count file)) = OnFile file AtEnd counting
 behaviour (Some (HeaderOf file)) = OnFile file (AsItReads header_text) printing
 behaviour (Some (Events file)) = OnFile file (AsItReads events_so_far) listing_all
 behaviour (Some (Run plan file)) = ByPlan plan file AtEnd ForTables any_plan reporting
+behaviour (Some (Trace plan file)) = ByPlan plan file (AsItReads trace_so_far) ForPlan no_trace tracing
 behaviour (Some (Demo seed count)) = Alone (written (demo_report seed count))

@@ -4,11 +4,11 @@ use Rattle.std.specs.declared.option.Option.{Option}
 use Rattle.toml.specs.Data.{Members, table}
 use Rattle.tally_base.specs.declared.slot.Slot.TheVariants.{Plan, Data}
 use Rattle.tally_base.specs.declared.fault.Fault.{Fault}
-use Rattle.tally_base.specs.declared.fault.Fault.TheVariants.{Usage, OpenFault, OutOfMemory, RecordLimit, TruncatedRecord}
+use Rattle.tally_base.specs.declared.fault.Fault.TheVariants.{Usage, OpenFault, OutOfMemory, RecordLimit, TruncatedRecord, NoTrace}
 use Rattle.tally_base.specs.declared.header.Header.{Header}
 use Rattle.tally_base.specs.Faults.{fault_in}
 use Rattle.tally_base.specs.RecordTypes.{mode_of}
-use Rattle.tally_base.specs.Settings.{PartSettings, StartStopView}
+use Rattle.tally_base.specs.Settings.{PartSettings, StartStopView, TraceView}
 use Rattle.tally_base.specs.Settings.PartSettings.{StartStopSettings}
 use Rattle.bench_io.specs.Inputs.{File}
 use Rattle.ptu_definitions.specs.declared.records.Summary.{Summary}
@@ -28,7 +28,7 @@ use Rattle.plan_text.specs.Reading.{document, IsValid, IsCalledFor}
 use Rattle.plan_text.specs.Fits.{IsMisfit}
 use Rattle.coincidence.specs.Places.{count_pairs}
 use Rattle.gate_plan.specs.Shifting.{sorting}
-use Rattle.tally_engine.specs.Histories.{history}
+use Rattle.tally_engine.specs.Histories.{history, settled_history}
 use Rattle.tally_engine.specs.Plans.{reading_by}
 use Rattle.table_out.specs.HeaderText.{preamble_text, item_text}
 use Rattle.table_out.specs.EventText.{events_text}
@@ -39,9 +39,11 @@ use Rattle.table_out.specs.Report.{head_text, printed, same_kind, Table, with_ev
 use Rattle.ptu_made.specs.Generator.{made_words}
 use Rattle.ptu_made.specs.Records.{made_header}
 use Rattle.ptu_cli.specs.CountText.{counts_text}
-use Rattle.ptu_cli.specs.Commands.{Request, Count, Header as HeaderOf, Events, Run, Demo}
+use Rattle.ptu_cli.specs.Commands.{Request, Count, Header as HeaderOf, Events, Run, Trace, Demo}
 use Rattle.ptu_cli.specs.Demo.{demo_plan}
+use Rattle.long_trace.specs.Texts.{open_text, whole_text}
 use Rattle.ptu_cli.specs.Outcomes.{Outcome, refused, written, listing}
+use Rattle.ptu_cli.specs.TraceOutcomes.{trace_of}
 
 -- ## Files, headers and records
 
@@ -173,6 +175,43 @@ PlanCase (Some text) data_file end =
     ((fault : Fault) × IsCalledFor text fault × (fault ≢ OutOfMemory) × (end ≡ refused fault))
     ⊎ ((ms : Members) × IsValid text × (document text ≡ Some ms) × FileCase (HeaderCase (ReportCase (plan (table ms)))) data_file end)
 
+-- ## trace
+
+-- The trace ends at the least record that is refused, with what the records before it have settled.
+pub record RefusedTrace (set : TraceView) (view : PlanView) (header : Header) (words : List ℕ) (end : Outcome) : Type 0 where
+  pub fault : Fault
+  pub least : IsFirst (reading_by view header) fault [] words
+  pub end_is : end ≡ record { text = open_text set (settled_history (sorting view) (reading_by view header) least.front); fault = Some fault }
+
+-- The same of bytes of a record that is cut. Where there are none the whole trace is written.
+abbrev pub WholeTrace : TraceView → PlanView → Header → List ℕ → Outcome → Type 0
+WholeTrace set view header behind end =
+    ((rest_of behind ≢ []) × (end ≡ record { text = open_text set (settled_history (sorting view) (reading_by view header) (words_of behind)); fault = Some (TruncatedRecord (length (rest_of behind))) }))
+    ⊎ ((rest_of behind ≡ []) × (end ≡ written (whole_text set (history (sorting view) (reading_by view header) (words_of behind)))))
+
+abbrev pub RecordsCase : TraceView → PlanView → Header → List ℕ → Outcome → Type 0
+RecordsCase set view header behind end =
+    RefusedTrace set view header (words_of behind) end
+    ⊎ (NoneRefused (reading_by view header) (words_of behind) × WholeTrace set view header behind end)
+
+-- The first part that does not suit the file's mode ends the run.
+abbrev pub TraceCase : TraceView → PlanView → Header → List ℕ → Outcome → Type 0
+TraceCase set view header behind end =
+    ((fault : Fault) × IsMisfit (mode_of header.record_type) view fault × (end ≡ refused fault))
+    ⊎ (((fault : Fault) → IsMisfit (mode_of header.record_type) view fault → ⊥) × RecordsCase set view header behind end)
+
+-- A plan that has no trace is refused. Else its first trace is printed.
+abbrev pub PlannedTrace : PlanView → File → Outcome → Type 0
+PlannedTrace view data_file end =
+    ((trace_of view ≡ None) × (end ≡ refused NoTrace))
+    ⊎ ((set : TraceView) × (trace_of view ≡ Some set) × FileCase (HeaderCase (TraceCase set view)) data_file end)
+
+abbrev pub TracePlanCase : File → File → Outcome → Type 0
+TracePlanCase None data_file end = end ≡ refused (OpenFault Plan)
+TracePlanCase (Some text) data_file end =
+    ((fault : Fault) × IsCalledFor text fault × (fault ≢ OutOfMemory) × (end ≡ refused fault))
+    ⊎ ((ms : Members) × IsValid text × (document text ≡ Some ms) × PlannedTrace (plan (table ms)) data_file end)
+
 -- ## All commands
 
 -- The request ends so over these files of its words PLAN and FILE.
@@ -182,4 +221,5 @@ IsOutcome (Some (Count file)) plan_file data_file end = FileCase (HeaderCase Cou
 IsOutcome (Some (HeaderOf file)) plan_file data_file end = FileCase PrintCase data_file end
 IsOutcome (Some (Events file)) plan_file data_file end = FileCase (HeaderCase ListCase) data_file end
 IsOutcome (Some (Run plan_name file)) plan_file data_file end = PlanCase plan_file data_file end
+IsOutcome (Some (Trace plan_name file)) plan_file data_file end = TracePlanCase plan_file data_file end
 IsOutcome (Some (Demo seed count)) plan_file data_file end = end ≡ written (words_report demo_plan made_header (made_words seed count))

@@ -11,6 +11,7 @@ pub data Request : Type 0 where
   Header : (file : List ℕ) → Request
   Events : (file : List ℕ) → Request
   Run : (plan file : List ℕ) → Request
+  Trace : (plan file : List ℕ) → Request
   Demo : (seed count : ℕ) → Request
 
 -- one to twenty digits
@@ -35,6 +36,7 @@ request_of (word ∷ file ∷ []) =
     else None
 request_of (word ∷ first ∷ second ∷ []) =
     if bytes_eq word (codes "run") then Some (Run first second)
+    else if bytes_eq word (codes "trace") then Some (Trace first second)
     else if bytes_eq word (codes "demo") then demo_of (number_in (2 ^ 64 - 1) first) (number_in photon_limit second)
     else None
 request_of other = None

@@ -7,6 +7,7 @@ pub mod EventPieces
 pub mod Reports
 pub mod Demo
 pub mod Outcomes
+pub mod TraceOutcomes
 pub mod Behaviours
 pub mod Works
 pub mod Pieces
@@ -23,3 +24,6 @@ pub mod Edge
 pub mod EventRuns
 pub mod PlanPieces
 pub mod RunPieces
+pub mod TraceLines
+pub mod TracePieces
+pub mod TraceRuns

@@ -1,5 +1,5 @@
 // A command by a plan.
-ghost use Rattle.std.specs.Prelude.{◌≡◌, ◌≤◌, ◌<◌, List, ℕ, true, false, IfErr, IfSome};
+ghost use Rattle.std.specs.Prelude.{◌≡◌, ◌≤◌, ◌<◌, List, ℕ, true, false, None, IfErr, IfSome};
 ghost use Rattle.std.specs.declared.option.Option.{Option};
 ghost use Rattle.tally_base.specs.declared.slot.Slot.{Slot};
 ghost use Rattle.tally_base.specs.declared.slot.Slot.TheVariants.{Plan as PlanSlot, Data};
@@ -45,6 +45,7 @@ pub(crate) trait PlanWork {
         requires opened { (I.state inputs.old).opened Data ≡ true }
         requires records { (0 < plan.now.policy.records)
             × (plan.now.policy.records ≤ record_limit) }
+        requires whole { lacking self.now (plan_view plan.now) ≡ None }
         ensures reads { OnlyReads Data (I.state inputs.old) (I.state inputs.new) }
         ensures answer { AnswersWork (work self.now (plan_view plan.now))
             ((I.state inputs.old).rest Data) ((I.state inputs.new).rest Data)

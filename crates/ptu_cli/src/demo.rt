@@ -3,7 +3,7 @@ ghost use Rattle.std.specs.Prelude.{◌≡◌, ◌≤◌, true, Some, IfErr};
 ghost use Rattle.std.specs.declared.option.Option.{Option};
 ghost use Rattle.bench_io.specs.Inputs.{InputState};
 ghost use Rattle.tally_base.specs.declared.slot.Slot.TheVariants.{Data};
-ghost use Rattle.ptu_made.specs.ShortFile.{made_file};
+ghost use Rattle.ptu_made.specs.MadeFile.{made_file};
 ghost use Rattle.ptu_made.specs.Made.{made_state};
 ghost use Rattle.ptu_made.specs.Generator.{photon_limit};
 ghost use Rattle.ptu_cli.specs.Commands.{Demo};

@@ -1,19 +1,24 @@
 // Laws of the outcomes, each as the contract of a function that does nothing.
-ghost use Rattle.std.specs.Prelude.{◌≡◌, ◌≤◌, ◌↔◌, ◌⊎◌, ℕ, List, None, Some};
+ghost use Rattle.std.specs.Prelude.{◌≡◌, ◌≤◌, ◌↔◌, ◌⊎◌, ℕ, List, None, Some, false, length, map};
 ghost use Rattle.std.specs.declared.option.Option.{Option};
 ghost use Rattle.bench_io.specs.Inputs.{File};
-ghost use Rattle.ptu_made.specs.ShortFile.{made_file};
+ghost use Rattle.ptu_definitions.specs.Counted.{record_limit};
+ghost use Rattle.record_write.specs.Picked.{CanBePicked, picked_words, picked_file, picked_events};
+ghost use Rattle.table_out.specs.EventText.{events_text};
+ghost use Rattle.ptu_made.specs.MadeFile.{made_file};
 ghost use Rattle.ptu_made.specs.Generator.{photon_limit};
+ghost use Rattle.tally_base.specs.declared.event.Event.{Event};
+ghost use Rattle.tally_base.specs.declared.header.Mode.{Mode};
 ghost use Rattle.tally_base.specs.declared.fault.Fault.{Fault};
 ghost use Rattle.tally_base.specs.declared.fault.Fault.TheVariants.{Usage};
-ghost use Rattle.ptu_cli.specs.Commands.{Request, Count, Header, Events, Run, Demo};
-ghost use Rattle.ptu_cli.specs.Outcomes.{Outcome};
+ghost use Rattle.ptu_cli.specs.Commands.{Request, Count, Header, Events, Run, Trace, Demo};
+ghost use Rattle.ptu_cli.specs.Outcomes.{Outcome, written};
 ghost use Rattle.ptu_cli.specs.Cases.{IsOutcome};
 ghost use Rattle.ptu_cli.specs.Runs.{Around, Runs};
-ghost use Rattle.ptu_cli.specs.Causes.{EndsWithFault, IsIn, StatusIn, Absent, NoPlan, Misfits, NoHeader, Cut, Refused};
+ghost use Rattle.ptu_cli.specs.Causes.{EndsWithFault, IsIn, StatusIn, Absent, NoPlan, Misfits, NoHeader, Cut, Refused, Untraced};
 ghost use Rattle.ptu_cli.specs.Demo.{demo_text};
 ghost use Rattle.plan_text.specs.Plan.{PlanView};
-ghost use Rattle.ptu_cli.specs.Behaviours.{GoesOnOrShows, behaviour, counting, printing, listing_all, reporting};
+ghost use Rattle.ptu_cli.specs.Behaviours.{GoesOnOrShows, behaviour, counting, printing, listing_all, reporting, tracing};
 ghost use Rattle.ptu_cli.specs.Endings.{outcome};
 
 /// A `demo` ends as `run` does on the text of its plan and the made file.
@@ -22,6 +27,15 @@ pub fn demo_is_a_run()
         → outcome (behaviour (Some (Run plan_name name))) (Some demo_text)
         (Some (made_file seed count))
         ≡ outcome (behaviour (Some (Demo seed count))) None None }
+{}
+
+/// `events` lists the file of photons that can be written as these photons, at their places in this file, and
+/// none of them as late.
+pub fn picked_photons_are_listed()
+    ensures { (name : List ℕ) (mode : Mode) (photons : List Event) → CanBePicked mode photons
+        → length (picked_words mode photons) ≤ record_limit
+        → outcome (behaviour (Some (Events name))) None (Some (picked_file mode photons))
+        ≡ written (events_text (map (λ e. (e, false)) (picked_events mode photons))) }
 {}
 
 /// The outcome of a command over its files is the one that the table of cases calls for, and no other.
@@ -33,7 +47,8 @@ pub fn one_outcome()
 
 /// A command ends with a fault exactly where its cause is: with status 1 where the words are no command,
 /// with 2 where a file is not there, 6 to 8 where PLAN is no plan, 9 where a part of it doesn't suit, 10 to
-/// 16 where FILE is refused as a header, 17 where it ends within a record, 18 to 21 where a record is refused.
+/// 16 where FILE is refused as a header, 17 where it ends within a record, 18 to 21 where a record is refused, and 22 where
+/// the plan has no trace.
 pub fn exactly_where()
     ensures words { (request : Option Request) (plan_file data_file : File)
         → EndsWithFault request plan_file data_file Usage ↔ (request ≡ None) }
@@ -55,6 +70,9 @@ pub fn exactly_where()
     ensures refused { (request : Option Request) (plan_file data_file : File) (fault : Fault)
         → StatusIn 18 21 fault → EndsWithFault request plan_file data_file fault
         ↔ Refused request plan_file data_file fault }
+    ensures untraced { (request : Option Request) (plan_file data_file : File) (fault : Fault)
+        → StatusIn 22 22 fault → EndsWithFault request plan_file data_file fault
+        ↔ Untraced request plan_file fault }
 {}
 
 /// The faults that the words and files of each command may call for, by their statuses. Beside these a run
@@ -74,6 +92,9 @@ pub fn statuses_of_commands()
     ensures run { (plan_name file : List ℕ) (plan_file data_file : File) (fault : Fault)
         → EndsWithFault (Some (Run plan_name file)) plan_file data_file fault
         → StatusIn 2 2 fault ⊎ StatusIn 6 21 fault }
+    ensures trace { (plan_name file : List ℕ) (plan_file data_file : File) (fault : Fault)
+        → EndsWithFault (Some (Trace plan_name file)) plan_file data_file fault
+        → StatusIn 2 2 fault ⊎ StatusIn 6 22 fault }
     ensures demo { (seed count : ℕ) (plan_file data_file : File) (fault : Fault)
         → EndsWithFault (Some (Demo seed count)) plan_file data_file fault → ⊥ }
 {}
@@ -85,6 +106,7 @@ pub fn an_end_that_is_shown_stays()
     ensures header { (bytes : List ℕ) → GoesOnOrShows printing bytes }
     ensures events { (bytes : List ℕ) → GoesOnOrShows listing_all bytes }
     ensures run { (plan : PlanView) (bytes : List ℕ) → GoesOnOrShows (reporting plan) bytes }
+    ensures trace { (plan : PlanView) (bytes : List ℕ) → GoesOnOrShows (tracing plan) bytes }
 {}
 
 /// The statuses that a run of each command may end with, whatever fails.
@@ -101,6 +123,8 @@ pub fn statuses_of_runs()
         → (result ≡ 0) ⊎ (IsIn 2 4 result ⊎ (IsIn 10 17 result ⊎ IsIn 20 21 result)) }
     ensures run { (plan_name file : List ℕ) (run : Around) (result : ℕ)
         → Runs (Some (Run plan_name file)) run result → (result ≡ 0) ⊎ IsIn 2 21 result }
+    ensures trace { (plan_name file : List ℕ) (run : Around) (result : ℕ)
+        → Runs (Some (Trace plan_name file)) run result → (result ≡ 0) ⊎ IsIn 2 22 result }
     ensures demo { (seed count : ℕ) (run : Around) (result : ℕ)
         → Runs (Some (Demo seed count)) run result → (result ≡ 0) ⊎ IsIn 4 5 result }
 {}

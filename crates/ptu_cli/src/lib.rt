@@ -15,6 +15,7 @@ mod plan;
 mod print;
 mod run;
 mod top;
+mod tracing;
 mod whole;
 mod words;
 

@@ -18,6 +18,8 @@ pub enum Command<'a> {
     Events { file: &'a str },
     /// Counts what a plan asks for in a file, and prints the report.
     Run { plan: &'a str, file: &'a str },
+    /// Prints a plan's first trace over a file without end, while the file is read.
+    Trace { plan: &'a str, file: &'a str },
     /// Counts the photons that a seed gives, and prints the report of a fixed plan. `read_words`
     /// gives at most 10,000,000 of them.
     Demo { seed: u64, count: u64 },
@@ -61,7 +63,7 @@ fn demo_words(seed: &str, count: &str) -> Option<Command<'static>>
 }
 
 /// The command of the words behind the program's name: `count FILE`, `header FILE`, `events FILE`,
-/// `run PLAN FILE` or `demo SEED COUNT`. SEED and COUNT are one to twenty digits, SEED at most
+/// `run PLAN FILE`, `trace PLAN FILE` or `demo SEED COUNT`. SEED and COUNT are one to twenty digits, SEED at most
 /// 2^64 - 1 and COUNT at most 10,000,000. None exactly where the words are none of these.
 pub fn read_words(words: &[String]) -> Option<Command<'_>>
     ensures request { asked_for result ≡ request_of (map (λ word. string_bytes word) words.now) }
@@ -83,6 +85,11 @@ pub fn read_words(words: &[String]) -> Option<Command<'_>>
         [word, first, second] => {
             if word.as_str() == "run" {
                 Some(Command::Run {
+                    plan: first.as_str(),
+                    file: second.as_str(),
+                })
+            } else if word.as_str() == "trace" {
+                Some(Command::Trace {
                     plan: first.as_str(),
                     file: second.as_str(),
                 })

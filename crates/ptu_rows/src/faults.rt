@@ -8,7 +8,7 @@ use whole_runs::bench::{BENCH_EVENTS, BENCH_PLAN, BENCH_REPORT, BENCH_TEXT};
 use whole_runs::files::{bench, short};
 use whole_runs::run::{Run, Wrong, words_of};
 
-const NO_COMMANDS: [&[&str]; 11] = [
+const NO_COMMANDS: [&[&str]; 13] = [
     &[],
     &["count"],
     &["events"],
@@ -20,6 +20,8 @@ const NO_COMMANDS: [&[&str]; 11] = [
     &["run", "f"],
     &["Run", "f", "f"],
     &["run", "f", "f", "f"],
+    &["trace"],
+    &["trace", "f"],
 ];
 
 #[test]
@@ -203,11 +205,12 @@ fn a_report_that_cannot_be_written(rt: HostRuntime) -> Result<(), Wrong> {
 fn a_failed_write_is_not_tried_again(rt: HostRuntime) -> Result<(), Wrong> {
     let alloc = rt.alloc();
     let file = bench(alloc)?;
-    let commands: [&[&str]; 5] = [
+    let commands: [&[&str]; 6] = [
         &["count", "f"],
         &["header", "f"],
         &["events", "f"],
         &["run", "p", "f"],
+        &["trace", "p", "f"],
         &["demo", "0", "1"],
     ];
     for words in commands {

@@ -95,3 +95,6 @@ returns-in-Ok g c =
         out = c.read.ensures.once.out;
       };
     }
+
+pub read-requires-clause-whole : goal.read-requires-clause-whole
+read-requires-clause-whole g c = none-lacking _ c.lacks.result c.lacks.ensures.answer c.in_default.not-Some

@@ -1,4 +1,4 @@
-use Rattle.ptu_cli.proofs.Shown.{count-shows, print-shows, list-shows, report-shows}
+use Rattle.ptu_cli.proofs.Shown.{count-shows, print-shows, list-shows, report-shows, trace-shows}
 use Rattle.ptu_cli.proofs.laws.an_end_that_is_shown_stays.Goals as goal
 
 pub returns-clause-count : goal.returns-clause-count
@@ -12,3 +12,6 @@ returns-clause-events c = list-shows
 
 pub returns-clause-run : goal.returns-clause-run
 returns-clause-run c = report-shows
+
+pub returns-clause-trace : goal.returns-clause-trace
+returns-clause-trace c = trace-shows

@@ -1,4 +1,4 @@
-use Rattle.ptu_cli.proofs.Causes.{exactly-words, exactly-absent, exactly-no_plan, exactly-misfits, exactly-no_header, exactly-cut, exactly-refused}
+use Rattle.ptu_cli.proofs.Causes.{exactly-words, exactly-absent, exactly-no_plan, exactly-misfits, exactly-no_header, exactly-cut, exactly-refused, exactly-untraced}
 use Rattle.ptu_cli.proofs.laws.exactly_where.Goals as goal
 
 pub returns-clause-words : goal.returns-clause-words
@@ -21,3 +21,6 @@ returns-clause-cut c = exactly-cut
 
 pub returns-clause-refused : goal.returns-clause-refused
 returns-clause-refused c = exactly-refused
+
+pub returns-clause-untraced : goal.returns-clause-untraced
+returns-clause-untraced c = exactly-untraced

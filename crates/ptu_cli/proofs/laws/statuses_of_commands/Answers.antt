@@ -1,4 +1,4 @@
-use Rattle.ptu_cli.proofs.Causes.{no_words-statuses, count-statuses, header-statuses, events-statuses, run-statuses, demo-statuses}
+use Rattle.ptu_cli.proofs.Causes.{no_words-statuses, count-statuses, header-statuses, events-statuses, run-statuses, trace-statuses, demo-statuses}
 use Rattle.ptu_cli.proofs.laws.statuses_of_commands.Goals as goal
 
 pub returns-clause-none : goal.returns-clause-none
@@ -18,3 +18,6 @@ returns-clause-run c = run-statuses
 
 pub returns-clause-demo : goal.returns-clause-demo
 returns-clause-demo c = demo-statuses
+
+pub returns-clause-trace : goal.returns-clause-trace
+returns-clause-trace c = trace-statuses

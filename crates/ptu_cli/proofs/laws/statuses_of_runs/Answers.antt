@@ -1,5 +1,5 @@
 use Rattle.std.proofs.Common.{refl}
-use Rattle.ptu_cli.proofs.Statuses.{count-runs, header-runs, events-runs, run-runs, demo-runs}
+use Rattle.ptu_cli.proofs.Statuses.{count-runs, header-runs, events-runs, run-runs, trace-runs, demo-runs}
 use Rattle.ptu_cli.proofs.laws.statuses_of_runs.Goals as goal
 
 pub returns-clause-none : goal.returns-clause-none
@@ -19,3 +19,6 @@ returns-clause-run c = run-runs
 
 pub returns-clause-demo : goal.returns-clause-demo
 returns-clause-demo c = demo-runs
+
+pub returns-clause-trace : goal.returns-clause-trace
+returns-clause-trace c = trace-runs
