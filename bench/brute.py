@@ -1,9 +1,10 @@
 #!/usr/bin/env python3
-"""All commands of ptu by brute force: brute.py count FILE, header FILE, events FILE, run PLAN FILE, demo SEED COUNT
+"""All commands of ptu by brute force: brute.py count FILE, header FILE, events FILE, run PLAN FILE, trace PLAN FILE,
+demo SEED COUNT
 
 It says what ptu says, on standard output and standard error, and ends with its status. It should be given a few
 thousand records at most: whatever can be counted by looking at everything is counted so. All pairs of photons are
-looked at for coincidences and correlations, and all markers before each photon of an image. It shares no code with
+looked at for coincidences, correlations and folds, and all markers before each photon of an image. It shares no code with
 anything. Its reader of TOML is that of python 3.11, which reads TOML 1.0, where ptu reads TOML 1.1.
 
 bench/fuzz.py calls what stands here. PTU_PLAN_VERSION=1 in the environment is for a program that reads only plans of
@@ -343,6 +344,11 @@ def are_inputs(value):
     return good and all(a < b for a, b in zip(value, value[1:]))
 
 
+def are_numbers(value, groups):
+    good = type(value) is list and 1 <= len(value) <= 6 and all(is_within(n, 1, groups) for n in value)
+    return good and all(a < b for a, b in zip(value, value[1:]))
+
+
 def are_gates(value):
     good = type(value) is list and 1 <= len(value) <= 8 and all(is_gate(gate) for gate in value)
     return good and all(a[1] <= b[0] for a, b in zip(value, value[1:]))
@@ -355,7 +361,7 @@ def are_shifts(tables, at, period):
 
 
 MOST = {"group": 64, "histogram": 32, "trace": 32, "startstop": 16, "coincidence": 16, "image": 8, "correlation": 16}
-NEW_MOST = {"shift": 65, "cube": 2}
+NEW_MOST = {"shift": 65, "cube": 2, "fold": 8}
 
 
 def broken_rules(document):
@@ -426,6 +432,11 @@ def broken_rules(document):
             yield 28, at, good and type(cube.get("serpentine", False)) is bool
         for at, cube in enumerate(cubes, 1):
             yield 29, at, cube["width"] * cube["height"] * cube["dbins"] <= 2**26
+        folds = document.get("fold", [])
+        for at, fold in enumerate(folds, 1):
+            yield 30, at, has_keys(fold, ("groups", "window"))
+        for at, fold in enumerate(folds, 1):
+            yield 31, at, are_numbers(fold["groups"], len(groups)) and is_within(fold["window"], 1, 2**20)
 
 
 def read_plan(text):
@@ -445,7 +456,7 @@ def fits(plan, mode):
     only = {"gate": gated, "shift": plan.get("shift", []), "histogram": plan.get("histogram", [])}
     only |= {kind: plan.get(kind, []) for kind in ("image", "cube")}
     if mode == 3:
-        only = {"startstop": plan.get("startstop", []), "coincidence": plan.get("coincidence", [])}
+        only = {kind: plan.get(kind, []) for kind in ("startstop", "coincidence", "fold")}
     for kind, parts in only.items():
         if parts:
             raise Refused(9, f"{kind} {parts[0] if kind == 'gate' else 1} does not suit T{mode}")
@@ -582,6 +593,16 @@ def cube(number, table, events, groups):
     return lines + f"outside {outside}\nover {over}\n"
 
 
+def fold(number, table, events, groups):
+    members = [groups[n - 1] for n in table["groups"]]
+    photons = [event for event in events if any(takes(group, event) for group in members)]
+    cells = Counter()
+    for first in photons:
+        window = [other for other in photons if first.time <= other.time <= first.time + table["window"]]
+        cells[sum(2**k for k, group in enumerate(members) if any(takes(group, other) for other in window))] += 1
+    return f"fold {number} window {table['window']} sets {2 ** len(members)}\n" + cell_lines(cells)
+
+
 KINDS = {
     "histogram": histogram,
     "trace": trace,
@@ -590,6 +611,7 @@ KINDS = {
     "image": image,
     "correlation": correlation,
     "cube": cube,
+    "fold": fold,
 }
 
 
@@ -615,21 +637,30 @@ def shifted(event, plan):
     return event._replace(dtime=(event.dtime + shifts[0]) % plan["period"])
 
 
+def policy_of(plan):
+    policy = {key: plan.get(key, NO_POLICY[key]) for key in ("order", "reserved", "settle")}
+    return policy | {"records": plan.get("limits", {}).get("records", 2**40)}
+
+
+def kept_list(plan, taken, mode):
+    """The events that aren't late, each photon with its shifted dtime."""
+    on_time = [event for event, is_late in taken if not is_late]
+    if plan.get("settle", 0):
+        # Events that were overtaken are put in their places, and those without an order are left out.
+        on_time = sorted((event for event in on_time if event.is_photon or mode == 3), key=lambda event: event.time)
+    return [shifted(event, plan) for event in on_time]
+
+
 def report(plan, data, out):
     tags, start = read_header(data, [])
     record_type = type_of(tags)
     fits(plan, record_type[2])
-    policy = {key: plan.get(key, NO_POLICY[key]) for key in ("order", "reserved", "settle")}
-    policy["records"] = plan.get("limits", {}).get("records", 2**40)
+    policy = policy_of(plan)
     taken = []
     kinds = read_records(record_type, words_of(data, start), policy, lambda event, is_late: taken.append((event, is_late)))
     left_over(data, start)
-    on_time = [event for event, is_late in taken if not is_late]
-    late = len(taken) - len(on_time)
-    if policy["settle"]:
-        # Events that were overtaken are put in their places, and those without an order are left out.
-        on_time = sorted((event for event in on_time if event.is_photon or record_type[2] == 3), key=lambda event: event.time)
-    kept = [shifted(event, plan) for event in on_time]
+    late = sum(is_late for _, is_late in taken)
+    kept = kept_list(plan, taken, record_type[2])
     out.append(f"type {record_type[0]}\nannounced {announced(tags)}\n")
     out.append(f"global {float_bits(tags, b'MeasDesc_GlobalResolution')}\nresolution {float_bits(tags, b'MeasDesc_Resolution')}\n")
     out.append(count_of(kinds))
@@ -637,6 +668,38 @@ def report(plan, data, out):
     for kind, text in KINDS.items():
         for number, table in enumerate(plan.get(kind, []), 1):
             out.append(text(number, table, kept, plan["group"]))
+
+
+def bins_met(plan, table, kept):
+    """The counts of the bins that aren't empty by their numbers, and the number before the origin."""
+    group, origin, width = plan["group"][table["group"] - 1], table.get("origin", 0), table["width"]
+    times = [event.time for event in kept if takes(group, event)]
+    return Counter((time - origin) // width for time in times if time >= origin), sum(time < origin for time in times)
+
+
+def endless(plan, data, out):
+    """The first trace of a plan without end."""
+    tags, start = read_header(data, [])
+    record_type = type_of(tags)
+    fits(plan, record_type[2])
+    table = plan["trace"][0]
+    out.append(f"trace 1 origin {table.get('origin', 0)} width {table['width']}\n")
+    taken = []
+    try:
+        read_records(record_type, words_of(data, start), policy_of(plan), lambda event, is_late: taken.append((event, is_late)))
+        left_over(data, start)
+    except Refused:
+        kept = kept_list(plan, taken, record_type[2])
+        cells, _ = bins_met(plan, table, kept[: max(0, len(kept) - plan.get("settle", 0))])
+        out.extend(f"{cell} {cells[cell]}\n" for cell in sorted(cells)[:-1])
+        raise
+    cells, before = bins_met(plan, table, kept_list(plan, taken, record_type[2]))
+    out.extend(f"{cell} {cells[cell]}\n" for cell in sorted(cells))
+    frequencies = Counter(cells.values())
+    frequencies[0] = max(cells, default=-1) + 1 - len(cells)
+    out.append(f"before {before}\n")
+    out.extend(f"frequency {often} {frequencies[often]}\n" for often in range(1024) if frequencies[often])
+    out.append(f"above {sum(bins for often, bins in frequencies.items() if often >= 1024)}\n")
 
 
 def short_file(code, words, more=b""):
@@ -686,6 +749,11 @@ def answer_words(words, out):
     elif len(words) == 3 and what == b"run":
         plan = read_plan(contents(words[1], "plan"))
         report(plan, contents(words[2], "data"), out)
+    elif len(words) == 3 and what == b"trace":
+        plan = read_plan(contents(words[1], "plan"))
+        if not plan.get("trace"):
+            raise Refused(22, "plan has no trace")
+        endless(plan, contents(words[2], "data"), out)
     elif len(words) == 3 and what == b"demo" and is_number(words[1], 2**64 - 1) and is_number(words[2], 10_000_000):
         demo(int(words[1]), int(words[2]), out)
     else:
@@ -706,7 +774,7 @@ def answer(words):
     try:
         answer_words(words, out)
     except Refused as refused:
-        text = "".join(out) if words[:1] in ([b"header"], [b"events"]) else ""
+        text = "".join(out) if words[:1] in ([b"header"], [b"events"], [b"trace"]) else ""
         return refused.status, text.encode("latin-1"), f"ptu: {refused.line}\n".encode()
     return 0, "".join(out).encode("latin-1"), b""
 

@@ -254,6 +254,9 @@ def a_part(rng, kind, groups, version):
         return {"first": one(), "second": one(), "lags": 2 * number_to(rng, 64, 6), "levels": number_to(rng, 40, 8)}
     if kind == "cube":
         return a_cube(rng, groups)
+    if kind == "fold":
+        numbers = sorted(rng.sample(range(1, groups + 1), rng.randrange(1, min(groups, 6) + 1)))
+        return {"groups": numbers, "window": number_to(rng, 2**20 if rng.randrange(40) == 0 else 3000, 60)}
     side = 2048 if rng.randrange(100) == 0 else 60
     part = {"group": one(), "width": number_to(rng, side, 9), "height": number_to(rng, side, 9), "dwell": number_to(rng, 2**62, 60), "line": rng.randrange(1, 5)}
     part |= {key: rng.randrange(1, 5) for key in ("frame", "stop") if rng.randrange(2)}
@@ -284,8 +287,8 @@ def a_plan(rng, mode):
     if groups or rng.randrange(4) == 0:
         plan["group"] = [a_group(rng, mode, version) for _ in range(groups)]
     suits = ["histogram", "trace", "image", "correlation"] if mode == 3 else ["trace", "startstop", "coincidence", "correlation"]
-    if version == 2 and mode == 3:
-        suits.append("cube")
+    if version == 2:
+        suits.append("cube" if mode == 3 else "fold")
     most = brute.MOST | (brute.NEW_MOST if version == 2 else {})
     for kind in suits if rng.randrange(12) else [kind for kind in brute.KINDS if kind in most]:
         parts = rng.choice([0, 0, 1, 1, 2, rng.randrange(12) if rng.randrange(10) == 0 else 1]) if groups else 0
@@ -310,7 +313,7 @@ def change_table(rng, table):
     keys = list(table)
     kind = rng.randrange(6)
     if not keys or kind == 0:
-        table[rng.choice(["gate", "gates", "origin", "frame", "stop", "serpentine", "settle", "dwidth", "dbins", "records", "a", "", "width", "Group"])] = an_odd_value(rng)
+        table[rng.choice(["gate", "gates", "origin", "frame", "stop", "serpentine", "settle", "dwidth", "dbins", "groups", "window", "records", "a", "", "width", "Group"])] = an_odd_value(rng)
         return
     key = rng.choice(keys)
     if kind == 1:
@@ -541,10 +544,10 @@ def pieces_of(rng, data):
 def word_case(rng):
     number = lambda: rng.choice([b"0", b"1", b"18446744073709551615", b"18446744073709551616", b"10000000", b"10000001", b"-5", b"+1", b"1 ",
                                  b"00000000000000000007", b"000000000000000000007", b"", b"0x1", "\u0661".encode(), b"9" * 20])
-    word = lambda: rng.choice([b"count", b"header", b"events", b"run", b"demo", b"Count", b"", b"--help", b"/none", b"\xff", b"-", "\u00e9".encode(), number()])
+    word = lambda: rng.choice([b"count", b"header", b"events", b"run", b"trace", b"demo", b"Count", b"", b"--help", b"/none", b"\xff", b"-", "\u00e9".encode(), number()])
     words = [word() for _ in range(rng.randrange(5))]
     if rng.randrange(2):
-        words = [b"demo", number(), number()] if rng.randrange(2) else [rng.choice([b"count", b"run", b"events"]), *words[:2]]
+        words = [b"demo", number(), number()] if rng.randrange(2) else [rng.choice([b"count", b"run", b"trace", b"events"]), *words[:2]]
     if words[:1] == [b"demo"] and len(words) == 3 and words[2] == b"10000000":
         words[2] = b"10000001"
     return Case(words)
@@ -553,7 +556,7 @@ def word_case(rng):
 def name_case(rng):
     """Names that can't be opened, or not read."""
     name = lambda: rng.choice([b"/none", b"", b"/dev", b"/", b"/dev/null", b"FILE", b"/dev/null/a", b"n" * 300])
-    case = Case([b"run", name().replace(b"FILE", b"PLAN"), name()] if rng.randrange(2) else [rng.choice([b"count", b"header", b"events"]), name()])
+    case = Case([rng.choice([b"run", b"trace"]), name().replace(b"FILE", b"PLAN"), name()] if rng.randrange(2) else [rng.choice([b"count", b"header", b"events"]), name()])
     case.plan, case.data = b"version = 1\n", brute.short_file(0x01010304, [1, 2])
     return case
 
@@ -586,7 +589,7 @@ def case_of(rng):
     what = rng.choice([b"count", b"header", b"header", b"events", b"events", b"run", b"run", b"run", b"run", b"run", b"run"])
     if what == b"run":
         data = a_file(rng, code) if rng.randrange(30) else a_hostile_file(rng)
-        return Case([b"run", b"PLAN", b"FILE"], a_plan_text(rng, mode), data)
+        return Case([rng.choice([b"run", b"run", b"run", b"trace"]), b"PLAN", b"FILE"], a_plan_text(rng, mode), data)
     return Case([what, b"FILE"], data=a_hostile_file(rng) if rng.randrange(2) else a_file(rng, code))
 
 
@@ -702,7 +705,7 @@ def work(program, seed, numbers, folder, told):
         came[got[0]] += 1
         if want is None:
             skipped += 1
-            want = (got[0] if 0 <= got[0] <= 21 else "a status", got[1], got[2])
+            want = (got[0] if 0 <= got[0] <= 22 else "a status", got[1], got[2])
         if got != want:
             differ += 1
             keep(folder, seed, number, case, want, got)
@@ -756,7 +759,7 @@ def main():
     came, run = totals["came"], sum(totals["came"].values())
     print(f"seed {seed}, from case {first} on: {run} run, {totals['differ']} differ, {totals['skipped']} not compared, {time.time() - began:.0f} s")
     print("by status: " + ", ".join(f"{status}: {came[status]}" for status in sorted(came)))
-    missing = [status for status in range(22) if came[status] == 0]
+    missing = [status for status in range(23) if came[status] == 0]
     if missing:
         print(f"never came: {missing}")
     sys.exit(1 if totals["differ"] or run < cases or (missing and cases >= 100_000) else 0)
