@@ -12,7 +12,7 @@ import sys
 
 COUNTS = {"announced", "records", "photons", "markers", "wraps", "reserved", "late"}
 OF_ONE_FILE = {"first", "last"}
-KINDS = {"histogram", "trace", "startstop", "coincidence", "image", "correlation", "cube"}
+KINDS = {"histogram", "trace", "startstop", "coincidence", "image", "correlation", "cube", "fold"}
 
 
 def parts(path):

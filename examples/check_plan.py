@@ -14,7 +14,7 @@ import sys
 import tomllib
 
 ROOT = os.path.dirname(os.path.dirname(os.path.abspath(__file__)))
-KINDS = ["group", "histogram", "trace", "startstop", "coincidence", "image", "correlation", "shift", "cube"]
+KINDS = ["group", "histogram", "trace", "startstop", "coincidence", "image", "correlation", "shift", "cube", "fold"]
 
 
 def sections():

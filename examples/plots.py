@@ -1,11 +1,12 @@
 #!/usr/bin/env python3
-"""Draws six worked plots: plots.py FOLDER [PROGRAM]
+"""Draws seven worked plots: plots.py FOLDER [PROGRAM]
 
-It makes the sample of two detectors, runs ptu over it and over the sample of a scan, and puts decay.png, trace.png,
-image.png, startstop.png, coincidence.png and correlation.png into FOLDER. Each plot is a function of a few lines, to
+It makes the samples of two detectors and of single molecules, runs ptu over them and over the sample of a scan, and
+puts decay.png, trace.png, image.png, startstop.png, coincidence.png, correlation.png and bursts.png into FOLDER. Each plot is a function of a few lines, to
 be copied. PROGRAM is the ptu that counts, by default ./ptu of this folder's tree. It needs NumPy and Matplotlib.
 """
 
+import math
 import os
 import subprocess
 import sys
@@ -17,10 +18,11 @@ matplotlib.use("Agg")
 import matplotlib.pyplot as plt  # noqa: E402
 import numpy as np  # noqa: E402
 
+import make_bursts  # noqa: E402
 from make_pairs import photons  # noqa: E402
 from make_pairs import TICK  # noqa: E402
 from made_file import t2_words, write  # noqa: E402
-from ptu_report import read_report  # noqa: E402
+from ptu_report import load_trace, read_report  # noqa: E402
 
 HERE = os.path.dirname(os.path.abspath(__file__))
 
@@ -66,6 +68,30 @@ def correlation(report, axes):
     axes.set(xlabel="lag (s)", ylabel="G", ylim=(0, 3))
 
 
+def bursts(folder, program):
+    """Two seconds of single molecules by milliseconds, and how many bins have how many photons, beside what the
+    background alone would give."""
+    with tempfile.NamedTemporaryFile(suffix=".ptu") as data, tempfile.NamedTemporaryFile() as lines:
+        write(data.name, "HydraHarp2T2", t2_words(make_bursts.photons()), make_bursts.TICK)
+        subprocess.run([program, "trace", os.path.join(HERE, "bursts.toml"), data.name], check=True, stdout=lines)
+        table = load_trace(lines.name)
+    figure, (left, right) = plt.subplots(1, 2, figsize=(10, 3.2), layout="constrained")
+    counts = np.zeros(2000)
+    seen = table.bins < len(counts)
+    counts[table.bins[seen]] = table.counts[seen]
+    left.plot(np.arange(len(counts)) / 1000, counts, linewidth=0.6)
+    left.set(xlabel="time (s)", ylabel="photons in a millisecond")
+    often = np.trim_zeros(table.frequencies, "b")
+    right.semilogy(often, ".", label="counted")
+    mean = make_bursts.BACKGROUND / 1000
+    few = np.arange(12)
+    even = often.sum() * np.exp(-mean) * mean**few / np.array([float(math.factorial(n)) for n in few])
+    right.semilogy(few[even > 0.5], even[even > 0.5], color="0.7", label="background alone")
+    right.set(xlabel="photons in a millisecond", ylabel="milliseconds")
+    right.legend()
+    figure.savefig(os.path.join(folder, "bursts.png"), dpi=90, metadata={"Software": None})
+
+
 def report_of(program, plan, data):
     run = subprocess.run([program, "run", os.path.join(HERE, plan), data], check=True, capture_output=True, text=True)
     return read_report(run.stdout)
@@ -85,6 +111,7 @@ def main():
     with tempfile.NamedTemporaryFile(suffix=".ptu") as data:
         write(data.name, "HydraHarp2T2", t2_words(*photons()), TICK)
         draw(folder, report_of(program, "pairs.toml", data.name), (startstop, coincidence, correlation))
+    bursts(folder, program)
 
 
 if __name__ == "__main__":

@@ -10,9 +10,11 @@
     decay.rest["over"]                          # what is in no cell
     report.table("correlation", 1).normalised(n1, n2)   # a curve that is 1 without correlation
     report.table("cube", 1).mean_delays()       # of each pixel, in ticks of the dtime
+    report.table("fold", 1).patterns()          # the groups of each cell
 
     report = read_report("report.txt", "plan.toml")     # with its plan, which says what the groups are
     report.table("correlation", 1).normalised()         # so the photons of the groups are known
+    report.table("fold", 1).patterns()                  # and the numbers of a fold's groups
 
 From the command line it makes other files of a report, which it reads from a path or, for -, from standard input:
 
@@ -22,7 +24,7 @@ From the command line it makes other files of a report, which it reads from a pa
     ptu_report.py REPORT --plan PLAN ..         # the same with normalised correlations
 
 It needs NumPy, and with a plan Python 3.11. Photons and markers as 'ptu events' prints them are read by
-load_events(path).
+load_events(path), and what 'ptu trace' prints by load_trace(path).
 """
 
 import argparse
@@ -36,7 +38,7 @@ from dataclasses import dataclass, field
 
 import numpy as np
 
-KINDS = ("histogram", "trace", "startstop", "coincidence", "image", "correlation", "cube")
+KINDS = ("histogram", "trace", "startstop", "coincidence", "image", "correlation", "cube", "fold")
 SECONDS = ("global", "resolution")  # lines of the head that are floating-point numbers, bit for bit
 
 
@@ -48,12 +50,13 @@ class Table:
     number: int
     settings: dict  # by the words of its first line, as width and bins
     counts: np.ndarray  # one dimension, but (rows, columns) of an image and (rows, columns, bins) of a cube
-    ticks: np.ndarray  # where a cell begins, of a cube a bin; of a coincidence the middle of its differences, of a correlation its delay
+    ticks: np.ndarray  # where a cell begins, of a cube a bin; of a coincidence the middle of its differences, of a correlation its delay, of a fold its set
     seconds: np.ndarray | None  # the same in seconds, where the file tells how long a tick is
     rest: dict = field(default_factory=dict)  # what is in no cell, as over
     levels: np.ndarray | None = None  # of a correlation, the level of each cell
     length: int | None = None  # of the measurement, from the first event to the last
     photons: tuple | None = None  # of a correlation, the photons of its two groups, where a plan told them
+    groups: tuple | None = None  # of a fold, the numbers of its groups, where a plan told them
 
     def expected(self, first_photons=None, second_photons=None):
         """How many pairs each cell of a correlation would have without correlation, by the photons of its two groups.
@@ -84,6 +87,14 @@ class Table:
         middles = self.ticks + (self.settings["dwidth"] - 1) / 2
         return np.where(photons > 0, self.counts @ middles / np.where(photons > 0, photons, 1), np.nan)
 
+    def patterns(self):
+        """Of each cell of a fold the groups that have a photon in the window: their numbers, where a plan told them,
+        and else their places in the fold, from 1."""
+        if self.kind != "fold":
+            raise ValueError(f"a {self.kind} has no sets of groups")
+        groups = self.groups or range(1, len(self.counts).bit_length())
+        return [tuple(group for k, group in enumerate(groups) if s >> k & 1) for s in range(len(self.counts))]
+
 
 @dataclass
 class Report:
@@ -100,7 +111,8 @@ class Report:
 
 def read_report(source, plan=None):
     """The report in a file, or in a text of more than one line. With the path of its plan the photons of the groups
-    of a correlation are known, where the plan also has a histogram, a trace, an image or a cube of each of them."""
+    of a correlation are known, where the plan also has a histogram, a trace, an image or a cube of each of them, and
+    the numbers of the groups of a fold."""
     if "\n" not in source:
         with open(source, encoding="ascii") as file:
             source = file.read()
@@ -116,12 +128,13 @@ def read_report(source, plan=None):
             blocks[-1][1].append(words)
     report = Report(head, [read_table(head, first, rest) for first, rest in blocks])
     if plan is not None:
-        tell_photons(report, plan)
+        tell_groups(report, plan)
     return report
 
 
-def tell_photons(report, path):
-    """Gives each correlation the photons of its two groups. All cells and what is in none add up to those of a group."""
+def tell_groups(report, path):
+    """Gives each correlation the photons of its two groups, and each fold its groups. All cells of a table of one
+    group and what is in none add up to the group's photons."""
     import tomllib
 
     with open(path, "rb") as file:
@@ -135,6 +148,8 @@ def tell_photons(report, path):
         table, groups = report.table("correlation", number), (settings["first"], settings["second"])
         if table.length is not None and all(group in photons for group in groups):
             table.photons = tuple(photons[group] for group in groups)
+    for number, settings in enumerate(plan.get("fold", []), 1):
+        report.table("fold", number).groups = tuple(settings["groups"])
 
 
 def head_value(word, value):
@@ -154,7 +169,7 @@ def read_table(head, first, lines):
     cells = [[int(word) for word in words] for words in lines if not words[0].isalpha()]
     tick = head["resolution"] if kind in ("histogram", "cube") else head["global"]
     table = Table(kind, number, settings, *AXES[kind](settings), None, rest)
-    table.seconds = None if tick is None else table.ticks * tick
+    table.seconds = None if tick is None or kind == "fold" else table.ticks * tick
     if kind == "correlation":
         table.levels = np.array([level for level, _ in lags_of(settings)])
         table.length = None if head["first"] is None else head["last"] - head["first"]
@@ -208,6 +223,10 @@ def pixels_by_bins(settings):
     return np.zeros(shape, dtype=np.int64), settings["dwidth"] * np.arange(settings["dbins"])
 
 
+def sets_of_groups(settings):
+    return np.zeros(settings["sets"], dtype=np.int64), np.arange(settings["sets"])
+
+
 def delays(settings):
     ticks = [lag << level for level, lag in lags_of(settings)]
     return whole_numbers(len(ticks)), np.array(ticks, dtype=np.int64)
@@ -221,6 +240,7 @@ AXES = {
     "image": pixels,
     "correlation": delays,
     "cube": pixels_by_bins,
+    "fold": sets_of_groups,
 }
 
 
@@ -242,6 +262,41 @@ def event(words):
     return int(record), kind, int(number), int(time), int(dtime[0]) if dtime else -1, late
 
 
+@dataclass
+class LongTrace:
+    """What 'ptu trace' prints."""
+
+    origin: int
+    width: int
+    bins: np.ndarray  # the numbers of the bins that aren't empty
+    counts: np.ndarray  # how many photons they have
+    before: int | None = None  # the photons before the origin; None where the text ends before the end of the file
+    frequencies: np.ndarray | None = None  # how many bins have 0, 1, .. 1023 photons
+    above: int | None = None  # and how many have more
+
+    @property
+    def ticks(self):
+        """Where each of the bins begins."""
+        return self.origin + self.bins * self.width
+
+
+def load_trace(path):
+    """What 'ptu trace' prints, also where it was cut behind a line."""
+    with open(path, encoding="ascii") as file:
+        _, _, _, origin, _, width = next(file).split()
+        lines = [line.split() for line in file]
+    bins = [(int(number), int(count)) for number, count, *rest in lines if number.isdigit()]
+    trace = LongTrace(int(origin), int(width), *np.array(bins, dtype=np.int64).reshape(-1, 2).T)
+    told = {words[0]: int(words[-1]) for words in lines}
+    if "above" in told:
+        trace.before, trace.above = told["before"], told["above"]
+        trace.frequencies = np.zeros(1024, dtype=np.int64)
+        for word, *numbers in lines:
+            if word == "frequency":
+                trace.frequencies[int(numbers[0])] = int(numbers[1])
+    return trace
+
+
 # ## Files for other programs
 
 
@@ -257,6 +312,11 @@ def rows(table):
         yield ["row", "column", "ticks", *unit, "count"]
         for (y, x, b), count in np.ndenumerate(table.counts):
             yield [y, x, int(table.ticks[b]), *([] if table.seconds is None else [float(table.seconds[b])]), count]
+        return
+    if table.kind == "fold":
+        yield ["set", "groups", "count"]
+        for number, groups in enumerate(table.patterns()):
+            yield [number, " ".join(map(str, groups)), int(table.counts[number])]
         return
     curve = None if table.photons is None else table.normalised()
     level = [] if table.levels is None else ["level"]
@@ -397,6 +457,9 @@ def drawn(table):
         return picture(table.counts)
     if table.kind == "cube":
         return "<p>the mean dtime of each pixel</p>" + picture(np.nan_to_num(table.mean_delays()))
+    if table.kind == "fold":
+        said = [f"<tr><td>{' '.join(map(str, groups)) or '-'}<td>{count}" for groups, count in zip(table.patterns(), table.counts)]
+        return f"<table><tr><td>groups<td>photons{''.join(said)}</table>"
     if table.kind == "correlation":
         return drawn_correlation(table)
     if len(table.counts) == 1:

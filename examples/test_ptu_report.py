@@ -8,7 +8,7 @@ import numpy as np
 import pytest
 
 from made_file import t2_words, write
-from ptu_report import load_events, read_report, rows, write_page
+from ptu_report import load_events, load_trace, read_report, rows, write_page
 
 ROOT = os.path.dirname(os.path.dirname(os.path.abspath(__file__)))
 PTU = os.environ.get("PTU", os.path.join(ROOT, "ptu"))
@@ -97,6 +97,18 @@ def test_a_cube_of_a_scan():
         image.mean_delays()
 
 
+def test_a_fold_by_its_groups(tmp_path):
+    plan = "version = 2\ngroup = [{ inputs = [2] }, { inputs = [1] }, { inputs = [2] }]\nfold = [{ groups = [2, 3], window = 4 }]\n"
+    fold = report_of(tmp_path, plan, [0], [4, 9]).table("fold")
+    assert fold.counts.tolist() == [0, 0, 2, 1]
+    assert fold.patterns() == [(), (1,), (2,), (1, 2)]
+    assert fold.seconds is None
+    said = run("run", str(tmp_path / "plan.toml"), str(tmp_path / "data.ptu"))
+    fold = read_report(said, str(tmp_path / "plan.toml")).table("fold")
+    assert fold.patterns() == [(), (2,), (3,), (2, 3)]
+    assert list(rows(fold)) == [["set", "groups", "count"], [0, "", 0], [1, "2", 0], [2, "3", 2], [3, "2 3", 1]]
+
+
 def test_light_without_correlation_is_1_at_every_lag(tmp_path):
     draws = np.random.default_rng(24)
     ticks = 2_000_000
@@ -125,6 +137,19 @@ def test_events(tmp_path):
 def load_events_of(path, folder):
     (folder / "events.txt").write_text(run("events", path))
     return load_events(folder / "events.txt")
+
+
+def test_trace(tmp_path):
+    path = tmp_path / "trace.txt"
+    lines = ["trace 1 origin 10 width 5", "0 2", "1 1", "198 1", "before 1", "frequency 0 196", "frequency 1 2", "frequency 2 1", "above 0"]
+    path.write_text("\n".join([*lines, ""]))
+    trace = load_trace(path)
+    assert trace.ticks.tolist() == [10, 15, 1000] and trace.counts.tolist() == [2, 1, 1]
+    assert trace.frequencies[:4].tolist() == [196, 2, 1, 0] and trace.frequencies.sum() + trace.above == trace.bins[-1] + 1
+    path.write_text("\n".join([*lines[:3], ""]))
+    assert load_trace(path).bins.tolist() == [0, 1] and load_trace(path).frequencies is None
+    path.write_text("\n".join([lines[0], ""]))
+    assert load_trace(path).counts.tolist() == []
 
 
 def test_rows_of_a_table(tmp_path):
