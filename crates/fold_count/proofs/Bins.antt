@@ -1,15 +1,15 @@
 -- The photons of bins.
-use Rattle.std.proofs.Common.{◌≡◌, ◌∙◌, ℕ, zero, suc, ◌+◌, ◌<◌, ◌≤◌, Bool, true, false, ◌&&◌, cond, ltb, leb, List, [], ◌∷◌, ◌++◌, length, get_or, take, drop, filter, refl, ap, arith}
+use Rattle.std.proofs.Common.{◌≡◌, ◌∙◌, ℕ, zero, suc, ◌+◌, ◌<◌, ◌≤◌, Bool, true, false, ◌&&◌, cond, ltb, leb, eqb, List, [], ◌∷◌, ◌++◌, length, get_or, take, drop, filter, refl, ap, arith}
 use Rattle.std.specs.List.{sum_by, AllByRecursion}
 use Rattle.std.proofs.lemmas.Bool.Decides.{nat_tests}
 use Rattle.std.proofs.lemmas.List.Sums.{sum_by-cons, sum_by-append, sum_by_push, sum_by_more, sum_by-take-drop, sum_by-take-le, length-filter, count_by-le-length}
 use Rattle.lag_ring.specs.declared.ring.Entry.{Entry}
 use Rattle.lag_ring.specs.Ring.{IsRising}
 use Rattle.lag_ring.proofs.Rising.{all_weaker}
-use Rattle.lag_ring.proofs.Lists.{all_both, all_filter, all_passed}
+use Rattle.lag_ring.proofs.Lists.{all_filter, all_passed}
 use Rattle.lag_ring.proofs.Between.{few_kept}
-use Rattle.lag_ring.proofs.Sums.{sum_by-zero, sum_by-filter, sum_by-same}
-use Rattle.fold_count.specs.Folded.{photons_in, photons_where}
+use Rattle.lag_ring.proofs.Sums.{sum_by-zero, sum_by-filter, sum_by-same, sum_by-agree}
+use Rattle.fold_count.specs.Folded.{photons_in, photons_of, photons_where}
 
 some_or_none : (b : Bool) (n : ℕ) → cond b n 0 ≤ n
 some_or_none true n = omega arith
@@ -19,12 +19,22 @@ pub where_at_most : (test : ℕ → Bool) (bins : List Entry) → photons_where 
 where_at_most test [] = omega arith
 where_at_most test (e ∷ bins) = omega (arith, sum_by-cons (λ e. cond (test e.index) e.a 0) e bins, sum_by-cons (λ e. e.a) e bins, where_at_most test bins, some_or_none (test e.index) e.a)
 
--- one bin more
-pub where_more : (test : ℕ → Bool) (bins : List Entry) (i : ℕ) (d : Entry) → i < length bins → photons_where test (take (i + 1) bins) ≡ photons_where test (take i bins) + cond (test (get_or bins i d).index) (get_or bins i d).a 0
-where_more test bins i d inside = sum_by_more (λ e. cond (test e.index) e.a 0) bins i d inside
+not_before : (tick before : ℕ) (b : Bool) (n : ℕ) → before ≤ tick → cond (ltb tick before && b) n 0 ≡ 0
+not_before tick before b n late = let e : ltb tick before ≡ false = grind (arith, nat_tests, late) in rw e refl
 
-pub where_append : (test : ℕ → Bool) (xs ys : List Entry) → photons_where test (xs ++ ys) ≡ photons_where test xs + photons_where test ys
-where_append test xs ys = sum_by-append (λ e. cond (test e.index) e.a 0) xs ys
+-- one that is before the tick counts, and another doesn't
+pub of_push : (before s : ℕ) (xs : List Entry) (e : Entry) → e.index < before → photons_of before s (xs ++ e ∷ []) ≡ photons_of before s xs + cond (eqb e.b s) e.a 0
+of_push before s xs e lt =
+    let is : ltb e.index before ≡ true = grind (arith, nat_tests, lt) in
+    sum_by_push (λ e. cond (ltb e.index before && eqb e.b s) e.a 0) xs e ∙ ap (λ b. photons_of before s xs + cond (b && eqb e.b s) e.a 0) is
+
+pub of_late : (before s : ℕ) (xs : List Entry) (e : Entry) → before ≤ e.index → photons_of before s (xs ++ e ∷ []) ≡ photons_of before s xs
+of_late before s xs e late = omega (arith, sum_by_push (λ e. cond (ltb e.index before && eqb e.b s) e.a 0) xs e, not_before e.index before (eqb e.b s) e.a late)
+
+-- where each bin's set is known by its tick
+pub of_known : (set : ℕ → ℕ) (before s : ℕ) (bins : List Entry) → AllByRecursion (λ e. e.b ≡ set e.index) bins → photons_of before s bins ≡ photons_where (λ t. ltb t before && eqb (set t) s) bins
+of_known set before s bins known =
+    sum_by-agree (λ e. e.b ≡ set e.index) (λ e. cond (ltb e.index before && eqb e.b s) e.a 0) (λ e. cond (ltb e.index before && eqb (set e.index) s) e.a 0) bins known (λ e is. ap (λ b. cond (ltb e.index before && eqb b s) e.a 0) is)
 
 pub where_push : (test : ℕ → Bool) (xs : List Entry) (e : Entry) → photons_where test (xs ++ e ∷ []) ≡ photons_where test xs + cond (test e.index) e.a 0
 where_push test xs e = sum_by_push (λ e. cond (test e.index) e.a 0) xs e
@@ -45,14 +55,11 @@ late_from [] i before d rising inside late = absurd (omega (arith, inside))
 late_from (e ∷ bins) zero before d rising inside late = (late, all_weaker (λ f. e.index < f.index) (λ f. before ≤ f.index) (λ f above. omega (arith, late, above)) bins rising.0)
 late_from (e ∷ bins) (suc i) before d rising inside late = late_from bins i before d rising.1 (omega (arith, inside)) late
 
-not_before : (tick before : ℕ) (b : Bool) (n : ℕ) → before ≤ tick → cond (ltb tick before && b) n 0 ≡ 0
-not_before tick before b n late = let e : ltb tick before ≡ false = grind (arith, nat_tests, late) in rw e refl
-
 -- the bins before one that isn't before a tick have all the photons that are
-pub all_before : (test : ℕ → Bool) (before : ℕ) (bins : List Entry) (i : ℕ) (d : Entry) → IsRising bins → i < length bins → before ≤ (get_or bins i d).index → photons_where (λ t. ltb t before && test t) (take i bins) ≡ photons_where (λ t. ltb t before && test t) bins
+pub all_before : (test : Entry → Bool) (before : ℕ) (bins : List Entry) (i : ℕ) (d : Entry) → IsRising bins → i < length bins → before ≤ (get_or bins i d).index → sum_by (λ e. cond (ltb e.index before && test e) e.a 0) (take i bins) ≡ sum_by (λ e. cond (ltb e.index before && test e) e.a 0) bins
 all_before test before bins i d rising inside late =
-    let f : Entry → ℕ = λ e. cond (ltb e.index before && test e.index) e.a 0 in
-    let none : sum_by f (drop i bins) ≡ 0 = sum_by-zero (λ e. before ≤ e.index) f (drop i bins) (late_from bins i before d rising inside late) (λ e from. not_before e.index before (test e.index) e.a from) in
+    let f : Entry → ℕ = λ e. cond (ltb e.index before && test e) e.a 0 in
+    let none : sum_by f (drop i bins) ≡ 0 = sum_by-zero (λ e. before ≤ e.index) f (drop i bins) (late_from bins i before d rising inside late) (λ e from. not_before e.index before (test e) e.a from) in
     omega (arith, none, sum_by-take-drop f bins i)
 
 and_true : (b : Bool) → (b && true) ≡ b
@@ -87,24 +94,19 @@ photons_kept before bins =
 
 -- ## What is kept from a tick on, of bins and an open one behind them
 
-none_kept : (before tick n : ℕ) (b : Bool) → tick < before → cond (leb before tick && b) n 0 ≡ 0
-none_kept before tick n b lt = let e : leb before tick ≡ false = grind (arith, nat_tests, lt) in rw e refl
+-- the open one goes with those that are before the tick
+pub kept_short : (before : ℕ) (bins : List Entry) (bin : Entry) → bin.index < before → filter (λ e. leb before e.index) bins ≡ filter (λ e. leb before e.index) (bins ++ bin ∷ [])
+kept_short before [] bin lt = let e : leb before bin.index ≡ false = grind (arith, nat_tests, lt) in rw e refl
+kept_short before (e ∷ bins) bin lt = ap (λ xs. cond (leb before e.index) (e ∷ xs) xs) (kept_short before bins bin lt)
 
-pub kept_short : (test : ℕ → Bool) (before : ℕ) (bins : List Entry) (bin : Entry) → bin.index < before → photons_where test (filter (λ e. leb before e.index) bins) ≡ photons_where (λ t. leb before t && test t) (bins ++ bin ∷ [])
-kept_short test before bins bin lt = omega (arith, where_kept test before bins, where_push (λ t. leb before t && test t) bins bin, none_kept before bin.index bin.a (test bin.index) lt)
+-- or stays with the others
+one_more : (b : Bool) (e bin : Entry) (xs ys : List Entry) → xs ++ bin ∷ [] ≡ ys → cond b (e ∷ xs) xs ++ bin ∷ [] ≡ cond b (e ∷ ys) ys
+one_more true e bin xs ys is = ap (λ zs. e ∷ zs) is
+one_more false e bin xs ys is = is
 
-all_kept : (before tick n : ℕ) (b : Bool) → before ≤ tick → cond (leb before tick && b) n 0 ≡ cond b n 0
-all_kept before tick n b le = let e : leb before tick ≡ true = grind (arith, nat_tests, le) in rw e refl
-
-pub kept_long : (test : ℕ → Bool) (before : ℕ) (bins : List Entry) (bin e : Entry) → before ≤ bin.index → e.index ≡ bin.index → e.a ≡ bin.a → photons_where test (filter (λ e. leb before e.index) bins ++ e ∷ []) ≡ photons_where (λ t. leb before t && test t) (bins ++ bin ∷ [])
-kept_long test before bins bin e le here same =
-    let one : cond (test e.index) e.a 0 ≡ cond (test bin.index) bin.a 0 = rw (here, same) refl in
-    omega (arith, where_push test (filter (λ e. leb before e.index) bins) e, where_kept test before bins, where_push (λ t. leb before t && test t) bins bin, all_kept before bin.index bin.a (test bin.index) le, one)
-
-pub between_kept : (before index : ℕ) (bins : List Entry) → AllByRecursion (λ e. e.index < index) bins → AllByRecursion (λ e. (before ≤ e.index) × (e.index ≤ index)) (filter (λ e. leb before e.index) bins)
-between_kept before index bins above =
-    all_both (λ e. leb before e.index ≡ true) (λ e. e.index < index) (λ e. (before ≤ e.index) × (e.index ≤ index)) (λ e from below. (grind (arith, nat_tests, from), omega (arith, below)))
-    (filter (λ e. leb before e.index) bins) (all_passed (λ e. leb before e.index) bins) (all_filter (λ e. e.index < index) (λ e. leb before e.index) bins above)
+pub kept_long : (before : ℕ) (bins : List Entry) (bin : Entry) → before ≤ bin.index → filter (λ e. leb before e.index) bins ++ bin ∷ [] ≡ filter (λ e. leb before e.index) (bins ++ bin ∷ [])
+kept_long before [] bin le = let e : leb before bin.index ≡ true = grind (arith, nat_tests, le) in rw e refl
+kept_long before (e ∷ bins) bin le = one_more (leb before e.index) e bin (filter (λ e. leb before e.index) bins) (filter (λ e. leb before e.index) (bins ++ bin ∷ [])) (kept_long before bins bin le)
 
 pub below_kept : (before index : ℕ) (bins : List Entry) → AllByRecursion (λ e. e.index < index) bins → AllByRecursion (λ e. e.index < index) (filter (λ e. leb before e.index) bins)
 below_kept before index bins above = all_filter (λ e. e.index < index) (λ e. leb before e.index) bins above

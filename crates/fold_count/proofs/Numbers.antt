@@ -1,6 +1,6 @@
 -- Sets as numbers.
-use Rattle.std.proofs.Common.{◌≡◌, ◌∙◌, ℕ, zero, suc, ◌+◌, ◌*◌, ◌^◌, ◌<◌, ◌≤◌, Bool, true, false, cond, List, [], ◌∷◌, length, get_or, take, refl, ap, arith}
-use Rattle.std.proofs.Math.Pow.{pow_mono}
+use Rattle.std.proofs.Common.{◌≡◌, ◌∙◌, ℕ, zero, suc, ◌+◌, ◌*◌, ◌^◌, ◌<◌, Bool, true, false, ◌||◌, cond, List, [], ◌∷◌, length, get_or, take, refl, ap, arith}
+use Rattle.std.specs.List.{list_any}
 use Rattle.std.proofs.lemmas.Grind.{pow_more}
 use Rattle.tally_base.specs.Gates.{AreGroups}
 use Rattle.fold_count.specs.FoldCounts.{number_of}
@@ -46,32 +46,43 @@ number_agree p q (x ∷ xs) (y ∷ ys) c d same agree =
     let rest : number_of p xs ≡ number_of q ys = number_agree p q xs ys c d (omega (arith, same)) (λ k inside. agree (suc k) (omega (arith, inside))) in
     rw (here, rest) refl
 
--- where no digit is set
-pub number_none : {X : Type 0} (p : X → Bool) (xs : List X) → ((k : ℕ) (d : X) → k < length xs → p (get_or xs k d) ≡ false) → number_of p xs ≡ 0
-number_none p [] none = refl
-number_none p (x ∷ xs) none =
-    let here : p x ≡ false = none 0 x (omega arith) in
-    let rest : number_of p xs ≡ 0 = number_none p xs (λ k d inside. none (suc k) d (omega (arith, inside))) in
+-- tests that agree everywhere give one number
+pub number_same : {X : Type 0} (p q : X → Bool) (xs : List X) → ((x : X) → p x ≡ q x) → number_of p xs ≡ number_of q xs
+number_same p q [] same = refl
+number_same p q (x ∷ xs) same =
+    let here : p x ≡ q x = same x in
+    let rest : number_of p xs ≡ number_of q xs = number_same p q xs same in
     rw (here, rest) refl
 
--- where one is
-positive : (b : Bool) (n : ℕ) → 0 < n → 0 < cond b 1 0 + 2 * n
-positive true n some = omega (arith, some)
-positive false n some = omega (arith, some)
+-- where no digit is set
+pub number_none : {X : Type 0} (p : X → Bool) (xs : List X) (d : X) → ((k : ℕ) → k < length xs → p (get_or xs k d) ≡ false) → number_of p xs ≡ 0
+number_none p [] d none = refl
+number_none p (x ∷ xs) d none =
+    let here : p x ≡ false = none 0 (omega arith) in
+    let rest : number_of p xs ≡ 0 = number_none p xs d (λ k inside. none (suc k) (omega (arith, inside))) in
+    rw (here, rest) refl
 
-pub number_some : {X : Type 0} (p : X → Bool) (xs : List X) (k : ℕ) (d : X) → k < length xs → p (get_or xs k d) ≡ true → 0 < number_of p xs
-number_some p [] k d inside is = absurd (omega (arith, inside))
-number_some p (x ∷ xs) zero d inside is = rw is (omega arith)
-number_some p (x ∷ xs) (suc k) d inside is = positive (p x) (number_of p xs) (number_some p xs k d (omega (arith, inside)) is)
+-- whether one is
+pub none_in : {X : Type 0} (p : X → Bool) (xs : List X) → number_of p xs ≡ 0 → list_any p xs ≡ false
+none_in p [] is = refl
+none_in p (x ∷ xs) is = by_case (p x) (number_of p xs) (list_any p xs) is (none_in p xs)
+  where
+    by_case : (b : Bool) (n : ℕ) (any : Bool) → cond b 1 0 + 2 * n ≡ 0 → (n ≡ 0 → any ≡ false) → (b || any) ≡ false
+    by_case true n any is rest = absurd (omega (arith, is))
+    by_case false n any is rest = rest (omega (arith, is))
+
+pub some_in : {X : Type 0} (p : X → Bool) (xs : List X) → 0 < number_of p xs → list_any p xs ≡ true
+some_in p [] some = absurd (omega (arith, some))
+some_in p (x ∷ xs) some = by_case (p x) (number_of p xs) (list_any p xs) some (some_in p xs)
+  where
+    by_case : (b : Bool) (n : ℕ) (any : Bool) → 0 < cond b 1 0 + 2 * n → (0 < n → any ≡ true) → (b || any) ≡ true
+    by_case true n any some rest = refl
+    by_case false n any some rest = rest (omega (arith, some))
 
 pub are_numbers : (low : ℕ) (groups : List ℕ) → AreGroups low groups → AreNumbers groups
 are_numbers low [] are k inside = absurd (omega (arith, inside))
 are_numbers low (g ∷ groups) are zero inside = (omega (arith, are.0), are.1)
 are_numbers low (g ∷ groups) are (suc k) inside = are_numbers g groups are.2 k (omega (arith, inside))
-
-some_bit : (b : Bool) (set bit : ℕ) → set < bit → set + cond b bit 0 < bit * 2
-some_bit true set bit few = omega (arith, few)
-some_bit false set bit few = omega (arith, few)
 
 pub bit_few : (b : Bool) (set bit k : ℕ) → bit ≡ 2 ^ k → set < 2 ^ k → set + cond b bit 0 < 2 ^ (k + 1)
 bit_few b set bit k is few = rw (pow_more 2 k) (rw is (grown b set (2 ^ k) few))
@@ -79,6 +90,3 @@ bit_few b set bit k is few = rw (pow_more 2 k) (rw is (grown b set (2 ^ k) few))
     grown : (b : Bool) (set bit : ℕ) → set < bit → set + cond b bit 0 < bit * 2
     grown true set bit few = omega (arith, few)
     grown false set bit few = omega (arith, few)
-
-pub few_sets : (n : ℕ) → n ≤ 6 → 2 ^ n ≤ 64
-few_sets n few = pow_mono few

@@ -1,5 +1,5 @@
 -- The bins before a tick are counted.
-use Rattle.std.proofs.Common.{◌≡◌, ◌∙◌, ℕ, ◌+◌, ◌^◌, ◌<◌, ◌≤◌, Bool, true, false, ◌&&◌, cond, ltb, leb, eqb, List, [], ◌∷◌, ◌++◌, length, get_or, refl, sym, arith, ⊎_elim}
+use Rattle.std.proofs.Common.{◌≡◌, ◌∙◌, ℕ, ◌+◌, ◌^◌, ◌<◌, ◌≤◌, Bool, true, false, ◌&&◌, cond, ltb, leb, eqb, List, [], ◌∷◌, ◌++◌, filter, length, get_or, refl, sym, arith, ⊎_elim}
 use Rattle.std.specs.Prelude.{slice_index}
 use Rattle.std.specs.List.{list_any, count_by, AllByRecursion}
 use Rattle.std.proofs.lemmas.Bool.{cases_lt}
@@ -10,12 +10,13 @@ use Rattle.tally_base.specs.Events.{is_photon, is_in}
 use Rattle.tally_base.specs.Settings.{FoldView}
 use Rattle.tally_base.specs.Tally.{History}
 use Rattle.lag_ring.specs.declared.ring.Entry.{Entry}
-use Rattle.lag_ring.proofs.Rising.{all_weaker}
+use Rattle.lag_ring.proofs.Rising.{all_push, all_weaker}
+use Rattle.lag_ring.proofs.Lists.{all_filter}
 use Rattle.fold_count.specs.FoldCounts.{is_of, is_of_any, is_seen, seen_set}
-use Rattle.fold_count.specs.Folded.{photons_where, set_by, is_from, Parted, AreCounts}
-use Rattle.fold_count.proofs.Numbers.{number_agree}
-use Rattle.fold_count.proofs.Lists.{any_agree, count_agree, count_parts}
-use Rattle.fold_count.proofs.Bins.{where_push}
+use Rattle.fold_count.specs.Folded.{photons_of, photons_where, is_from, met_from, Parted, AreCounts}
+use Rattle.fold_count.proofs.Numbers.{number_agree, number_none}
+use Rattle.fold_count.proofs.Lists.{any_agree, any_none, count_agree, count_parts}
+use Rattle.fold_count.proofs.Bins.{where_push, where_kept, of_known}
 
 both_true : (a b : Bool) → (a && b) ≡ true → (a ≡ true) × (b ≡ true)
 both_true true true is = (refl, refl)
@@ -43,15 +44,24 @@ seen_from set tick front t k x near from inside upto =
     (λ of. let le : x.0.time ≤ tick = upto (of_any set.groups x k inside of) in grind (arith, nat_tests, near, from, le))
 
 -- where no photon is behind a window, its set is that of the groups with a photon from its first tick on
-pub known : (set : FoldView) (ends : List ℕ) (tick front : ℕ) (h : History) → length ends ≡ length set.groups → tick ≤ front + set.window
+pub known : (set : FoldView) (tick front : ℕ) (h : History) → tick ≤ front + set.window
     → AllByRecursion (λ x. is_of_any set.groups x ≡ true → x.0.time ≤ tick) h
-    → ((k t : ℕ) → k < length set.groups → ltb t (slice_index ends k) ≡ list_any (is_from (slice_index set.groups k) t) h)
-    → (t : ℕ) → front ≤ t → seen_set set h t ≡ set_by ends t
-known set ends tick front h ended near upto seen t from =
-    number_agree (λ group. list_any (is_seen set.window t group) h) (λ last. ltb t last) set.groups ends 0 0 (sym ended)
+    → (t : ℕ) → front ≤ t → seen_set set h t ≡ met_from set.groups h t
+known set tick front h near upto t from =
+    number_agree (λ group. list_any (is_seen set.window t group) h) (λ group. list_any (is_from group t) h) set.groups set.groups 0 0 refl
     (λ k inside.
-    any_agree (λ x. is_of_any set.groups x ≡ true → x.0.time ≤ tick) (is_seen set.window t (get_or set.groups k 0)) (is_from (get_or set.groups k 0) t) h upto (λ x le. seen_from set tick front t k x near from inside le)
-    ∙ sym (seen k t inside))
+    any_agree (λ x. is_of_any set.groups x ≡ true → x.0.time ≤ tick) (is_seen set.window t (get_or set.groups k 0)) (is_from (get_or set.groups k 0) t) h upto (λ x le. seen_from set tick front t k x near from inside le))
+
+-- no photon of a group comes behind the last tick
+none_behind : (set : FoldView) (tick t k : ℕ) (h : History) → k < length set.groups → tick < t → AllByRecursion (λ x. is_of_any set.groups x ≡ true → x.0.time ≤ tick) h → list_any (is_from (get_or set.groups k 0) t) h ≡ false
+none_behind set tick t k h inside lt upto = any_none (λ x. is_of_any set.groups x ≡ true → x.0.time ≤ tick) (is_from (get_or set.groups k 0) t) h upto (λ x le. by_case x le (is_of (get_or set.groups k 0) x) refl)
+  where
+    by_case : (x : Event × ℕ) → (is_of_any set.groups x ≡ true → x.0.time ≤ tick) → (b : Bool) → is_of (get_or set.groups k 0) x ≡ b → (b && leb t x.0.time) ≡ false
+    by_case x le false is = refl
+    by_case x le true is = let below : x.0.time ≤ tick = le (of_any set.groups x k inside is) in grind (arith, nat_tests, lt, below)
+
+pub met_none : (set : FoldView) (tick t : ℕ) (h : History) → tick < t → AllByRecursion (λ x. is_of_any set.groups x ≡ true → x.0.time ≤ tick) h → met_from set.groups h t ≡ 0
+met_none set tick t h lt upto = number_none (λ group. list_any (is_from group t) h) set.groups 0 (λ k inside. none_behind set tick t k h inside lt upto)
 
 -- A photon is before the front, or between it and a later one, or neither.
 pieces : (any : Bool) (t front before pat digits s : ℕ) → front ≤ before → (any ≡ true → front ≤ t → pat ≡ digits)
@@ -91,19 +101,20 @@ everywhere true t tick before test lt upto =
     let e : ltb t before ≡ true = grind (arith, nat_tests, lt, le) in
     rw e refl
 
-module _ (set : FoldView) (cells ends : List ℕ) (bins : List Entry) (tick front : ℕ) (h : History) (is : Parted set cells ends bins tick front h) (ended : length ends ≡ length set.groups) (near : tick ≤ front + set.window) (before : ℕ) (le : front ≤ before) where
+module _ (set : FoldView) (cells : List ℕ) (bins : List Entry) (tick front : ℕ) (h : History) (is : Parted set cells bins tick front h) (near : tick ≤ front + set.window) (before : ℕ) (le : front ≤ before) where
   -- the cells once the bins before a tick are counted
   counted_before : (s cell cell' : ℕ) → cell ≡ count_by (λ x. is_of_any set.groups x && (ltb x.0.time front && eqb (seen_set set h x.0.time) s)) h
-      → cell' ≡ cell + photons_where (λ t. ltb t before && eqb (set_by ends t) s) bins
+      → cell' ≡ cell + photons_of before s bins
       → cell' ≡ count_by (λ x. is_of_any set.groups x && (ltb x.0.time before && eqb (seen_set set h x.0.time) s)) h
   counted_before s cell cell' was now =
-      let more = is.kept (λ t. ltb t before && eqb (set_by ends t) s) in
+      let more = is.kept (λ t. ltb t before && eqb (met_from set.groups h t) s) in
+      let sets = of_known (met_from set.groups h) before s bins is.met in
       let all = count_parts (λ x. is_of_any set.groups x ≡ true → x.0.time ≤ tick)
       (λ x. is_of_any set.groups x && (ltb x.0.time front && eqb (seen_set set h x.0.time) s))
-      (λ x. is_of_any set.groups x && (leb front x.0.time && (ltb x.0.time before && eqb (set_by ends x.0.time) s)))
+      (λ x. is_of_any set.groups x && (leb front x.0.time && (ltb x.0.time before && eqb (met_from set.groups h x.0.time) s)))
       (λ x. is_of_any set.groups x && (ltb x.0.time before && eqb (seen_set set h x.0.time) s))
-      h is.upto (λ x upto. pieces (is_of_any set.groups x) x.0.time front before (seen_set set h x.0.time) (set_by ends x.0.time) s le (λ any from. known set ends tick front h ended near is.upto is.seen x.0.time from)) in
-      omega (arith, was, now, more, all)
+      h is.upto (λ x upto. pieces (is_of_any set.groups x) x.0.time front before (seen_set set h x.0.time) (met_from set.groups h x.0.time) s le (λ any from. known set tick front h near is.upto x.0.time from)) in
+      omega (arith, was, now, more, sets, all)
 
   -- and the bins that are kept then
   kept_from : (test : ℕ → Bool) → photons_where (λ t. leb before t && test t) bins ≡ count_by (λ x. is_of_any set.groups x && (leb before x.0.time && test x.0.time)) h
@@ -115,14 +126,13 @@ module _ (set : FoldView) (cells ends : List ℕ) (bins : List Entry) (tick fron
       h is.upto (λ x upto. later (is_of_any set.groups x) x.0.time front before (test x.0.time) le)
 
   -- A bin without photons opens at a later tick.
-  pub parted_later : (cells' : List ℕ) (kept : List Entry) (bin : Entry) → tick ≤ bin.index → bin.a ≡ 0
-      → ((s : ℕ) → s < 2 ^ length set.groups → slice_index cells' s ≡ slice_index cells s + photons_where (λ t. ltb t before && eqb (set_by ends t) s) bins)
-      → ((test : ℕ → Bool) → photons_where test kept ≡ photons_where (λ t. leb before t && test t) bins)
-      → Parted set cells' ends (kept ++ bin ∷ []) bin.index before h
-  parted_later cells' kept bin after none now keeps = record {
+  pub parted_later : (cells' : List ℕ) (bin : Entry) → tick < bin.index → bin.a ≡ 0 → bin.b ≡ 0
+      → ((s : ℕ) → s < 2 ^ length set.groups → slice_index cells' s ≡ slice_index cells s + photons_of before s bins)
+      → Parted set cells' (filter (λ e. leb before e.index) bins ++ bin ∷ []) bin.index before h
+  parted_later cells' bin after none empty now = record {
     counted = λ s inside. counted_before s (slice_index cells s) (slice_index cells' s) (is.counted s inside) (now s inside);
-    kept = λ test. omega (arith, where_push test kept bin, no_photons (test bin.index) bin.a none, keeps test, kept_from test);
-    seen = is.seen;
+    kept = λ test. omega (arith, where_push test (filter (λ e. leb before e.index) bins) bin, no_photons (test bin.index) bin.a none, where_kept test before bins, kept_from test);
+    met = all_push (λ e. e.b ≡ met_from set.groups h e.index) (filter (λ e. leb before e.index) bins) bin (all_filter (λ e. e.b ≡ met_from set.groups h e.index) (λ e. leb before e.index) bins is.met) (empty ∙ sym (met_none set tick bin.index h after is.upto));
     upto = all_weaker (λ x. is_of_any set.groups x ≡ true → x.0.time ≤ tick) (λ x. is_of_any set.groups x ≡ true → x.0.time ≤ bin.index) (λ x upto any. let below : x.0.time ≤ tick = upto any in omega (arith, below, after)) h is.upto;
   }
     where
@@ -132,7 +142,7 @@ module _ (set : FoldView) (cells ends : List ℕ) (bins : List Entry) (tick fron
 
   -- Where all bins are before the tick, the cells are the counts.
   pub counts_all : (cells' : List ℕ) → tick < before
-      → ((s : ℕ) → s < 2 ^ length set.groups → slice_index cells' s ≡ slice_index cells s + photons_where (λ t. ltb t before && eqb (set_by ends t) s) bins)
+      → ((s : ℕ) → s < 2 ^ length set.groups → slice_index cells' s ≡ slice_index cells s + photons_of before s bins)
       → AreCounts set cells' h
   counts_all cells' behind now = λ s inside.
       counted_before s (slice_index cells s) (slice_index cells' s) (is.counted s inside) (now s inside)

@@ -16,7 +16,7 @@ settings t = FoldSettings (fold_view t.set)
 
 -- It was given these events. Once it is closed, each cell is the count over them.
 pub record Holds (t : Fold) (h : History) : Type 0 where
-  pub counts : Counts t.closed (fold_view t.set) t.cells.items t.ends.items t.ring t.bin h
+  pub counts : Counts t.closed (fold_view t.set) t.cells.items t.ring t.bin h
   pub taken : t.taken ≡ length h
   pub floor : t.floor ≡ greatest_time false h
 

@@ -1,5 +1,6 @@
 -- What the numbers that a fold keeps stand for.
-use Rattle.std.specs.Prelude.{◌≡◌, ℕ, ◌-◌, ◌^◌, ◌<◌, ◌≤◌, Bool, true, false, ◌&&◌, ◌==◌, nat_le, nat_lt, List, [], ◌∷◌, ◌++◌, length, slice_index, count_by, sum_by}
+use Rattle.std.specs.Prelude.{◌≡◌, ℕ, ◌-◌, ◌^◌, ◌<◌, ◌≤◌, ⊤, Bool, true, false, ◌&&◌, ◌==◌, nat_le, nat_lt, List, [], ◌∷◌, ◌++◌, length, map, slice_index, count_by, sum_by, bit_or, if◌then◌else◌}
+use Rattle.std.specs.Coded.{Unit-prop}
 use Rattle.std.specs.List.{list_any, AllByRecursion}
 use Rattle.std.proofs.Props.{props}
 use Rattle.tally_base.specs.declared.event.Event.{Event}
@@ -27,47 +28,73 @@ photons_where test bins = weight_where (λ e. e.a) test bins
 abbrev pub AreNumbers : List ℕ → Type 0
 AreNumbers groups = (k : ℕ) → k < length groups → (0 < slice_index groups k) × (slice_index groups k ≤ 64)
 
--- the set of the groups whose last photon came at a tick or later, by the first tick behind the last photon of each
-abbrev pub set_by : List ℕ → ℕ → ℕ
-set_by ends tick = number_of (λ last. nat_lt tick last) ends
-
 -- a photon of the group from a tick on
 abbrev pub is_from : ℕ → ℕ → Event × ℕ → Bool
 is_from group tick x = is_of group x && nat_le tick x.0.time
 
--- what is kept has the sizes that the settings ask for
-pub record IsSound (set : FoldView) (cells ends : List ℕ) (ring : Ring) (bin : Entry) : Type 0 where
+-- the set of the groups that have a photon from a tick on, as a number
+abbrev pub met_from : List ℕ → History → ℕ → ℕ
+met_from groups h tick = number_of (λ group. list_any (is_from group tick) h) groups
+
+-- the bins, where these groups were met in each too
+abbrev pub joined : ℕ → List Entry → List Entry
+joined groups bins = map (λ e. record { index = e.index; a = e.a; b = bit_or e.b groups }) bins
+
+-- the bins that wait to be counted, with the groups of the open one met in those before it too
+abbrev pub as_met : Ring → Entry → List Entry
+as_met ring bin = joined bin.b ring.entries ++ bin ∷ []
+
+-- how many photons those of the bins before a tick have in which this set of groups was met
+abbrev pub photons_of : ℕ → ℕ → List Entry → ℕ
+photons_of before s bins = sum_by (λ e. if nat_lt e.index before && (e.b == s) then e.a else 0) bins
+
+-- in each bin the groups were met that were met in those behind it
+abbrev pub IsNested : List Entry → Type 0
+IsNested [] = ⊤
+IsNested (e ∷ es) = AllByRecursion (λ f. bit_or e.b f.b ≡ e.b) es × IsNested es
+
+-- There is at most one proof of it.
+pub IsNested-prop : (bins : List Entry) → IsProp (IsNested bins)
+IsNested-prop [] one other = Unit-prop one other
+IsNested-prop (e ∷ es) one other = λ i. (each one.0 other.0 i, IsNested-prop es one.1 other.1 i)
+  where
+    each : IsProp (AllByRecursion (λ f. bit_or e.b f.b ≡ e.b) es)
+    each = hlevel props
+
+-- what is kept has the sizes that the settings ask for, and the groups met in each bin are a set of theirs
+pub record IsSound (set : FoldView) (cells : List ℕ) (ring : Ring) (bin : Entry) : Type 0 where
   pub sized : length cells ≡ 2 ^ length set.groups
-  pub ended : length ends ≡ length set.groups
   pub reach : ring.reach ≡ set.window
   pub within : length ring.entries ≤ ring.reach
   pub above : AllByRecursion (λ e. e.index < bin.index) ring.entries
   pub in_time : bin.index ≤ time_limit
+  pub sets : AllByRecursion (λ e. e.b < 2 ^ length set.groups) (waiting ring bin)
+  pub nested : IsNested ring.entries
 
 -- There is at most one proof of it.
-pub IsSound-prop : (set : FoldView) (cells ends : List ℕ) (ring : Ring) (bin : Entry) → IsProp (IsSound set cells ends ring bin)
-IsSound-prop set cells ends ring bin = hlevel props
+pub IsSound-prop : (set : FoldView) (cells : List ℕ) (ring : Ring) (bin : Entry) → IsProp (IsSound set cells ring bin)
+IsSound-prop set cells ring bin = hlevel (props, IsNested-prop)
 
 -- photons before this tick are counted where the bin is open
 abbrev pub front_of : FoldView → Entry → ℕ
 front_of set bin = bin.index - set.window
 
--- Photons before the front are in the cells, and those behind it in the bins that wait.
-pub record Parted (set : FoldView) (cells ends : List ℕ) (bins : List Entry) (tick front : ℕ) (h : History) : Type 0 where
+-- Photons before the front are in the cells, and those behind it in the bins that wait, each of which has the groups met from its tick on.
+pub record Parted (set : FoldView) (cells : List ℕ) (bins : List Entry) (tick front : ℕ) (h : History) : Type 0 where
   pub counted : (s : ℕ) → s < 2 ^ length set.groups → slice_index cells s ≡ count_by (λ x. is_of_any set.groups x && (nat_lt x.0.time front && (seen_set set h x.0.time == s))) h
   pub kept : (test : ℕ → Bool) → photons_where test bins ≡ count_by (λ x. is_of_any set.groups x && (nat_le front x.0.time && test x.0.time)) h
-  pub seen : (k t : ℕ) → k < length set.groups → nat_lt t (slice_index ends k) ≡ list_any (is_from (slice_index set.groups k) t) h
+  pub met : AllByRecursion (λ e. e.b ≡ met_from set.groups h e.index) bins
   pub upto : AllByRecursion (λ x. is_of_any set.groups x ≡ true → x.0.time ≤ tick) h
 
 -- an open fold with these numbers was given these events
-abbrev pub Stands : FoldView → List ℕ → List ℕ → Ring → Entry → History → Type 0
-Stands set cells ends ring bin h = Parted set cells ends (waiting ring bin) bin.index (front_of set bin) h
+abbrev pub Stands : FoldView → List ℕ → Ring → Entry → History → Type 0
+Stands set cells ring bin h = Parted set cells (as_met ring bin) bin.index (front_of set bin) h
 
 -- each cell is its count
 abbrev pub AreCounts : FoldView → List ℕ → History → Type 0
 AreCounts set cells h = (s : ℕ) → s < 2 ^ length set.groups → slice_index cells s ≡ in_set set s h
 
 -- a fold that is open or closed was given these events
-abbrev pub Counts : Bool → FoldView → List ℕ → List ℕ → Ring → Entry → History → Type 0
-Counts false set cells ends ring bin h = Stands set cells ends ring bin h
-Counts true set cells ends ring bin h = AreCounts set cells h
+abbrev pub Counts : Bool → FoldView → List ℕ → Ring → Entry → History → Type 0
+Counts false set cells ring bin h = Stands set cells ring bin h
+Counts true set cells ring bin h = AreCounts set cells h

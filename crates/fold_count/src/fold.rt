@@ -21,16 +21,16 @@ use tally_base::{Event, FoldSet, Steps, Tally, floor_behind};
 pub struct Fold {
     set: FoldSet,
     cells: Vec<u64>,
-    // For each group the first tick behind its last photon, or 0.
-    ends: Vec<u64>,
-    // The bins before the open one that the window of a photon at its tick may not have left.
+    // The bins before the open one that the window of a photon at its tick may not have left. Each is a tick
+    // with the number of its photons and the set of the groups met so far in the window that begins at it,
+    // but for those of the open bin.
     ring: LagRing,
-    // The photons of the last tick that had one.
+    // The photons of the last tick that had one, and the set of their groups.
     bin: Entry,
     taken: u64,
     floor: u64,
     closed: bool,
-    ghost sound: { IsSound (fold_view set) cells.items ends.items ring bin } by { IsSound-prop (fold_view set) cells.items ends.items ring bin },
+    ghost sound: { IsSound (fold_view set) cells.items ring bin } by { IsSound-prop (fold_view set) cells.items ring bin },
     ghost few: { taken ≤ record_limit },
     ghost small: { sum cells.items + photons_in (waiting ring bin) ≤ taken },
     ghost begun: { bin.index ≤ floor },
@@ -46,19 +46,17 @@ impl Fold {
 
     /// A fold of no events, with all the memory that it ever takes, or `AllocError` where it is wanting.
     pub fn open(alloc: Global, set: FoldSet) -> Result<Fold, AllocError>
-        ensures set { IfOk result (λ t. fold_view (set_of t) ≡ fold_view set) }
+        ensures set { IfOk result (λ t. set_of t ≡ set) }
         ensures settings { IfOk result (λ t.
             ⟦<Fold as Tally>⟧.settings t ≡ FoldSettings (fold_view set)) }
         ensures empty { IfOk result (λ t. Holds t []) }
         ensures opened { IfOk result (λ t. ⟦<Fold as Tally>⟧.closed t ≡ false) }
     {
         let cells = vec![in alloc; 0; 1 << set.groups.len()]?;
-        let ends = vec![in alloc; 0; set.groups.len()]?;
         let ring = LagRing::open(alloc, set.window)?;
         Ok(Fold {
             set,
             cells,
-            ends,
             ring,
             bin: Entry {
                 index: 0,
@@ -104,14 +102,7 @@ impl Fold {
     {
         self.taken += block.len() as u64;
         self.floor = block.floor_after(false, self.floor);
-        self.bin = put_block(
-            &mut self.cells,
-            &mut self.ends,
-            &mut self.ring,
-            self.bin,
-            &self.set,
-            block,
-        );
+        self.bin = put_block(&mut self.cells, &mut self.ring, self.bin, &self.set, block);
     }
 }
 
@@ -126,7 +117,6 @@ impl Tally for Fold {
 
     ghost floor = { λ t. t.floor };
 
-    // The ends of the groups are no entries.
     ghost held = { held };
 
     ghost settings = { settings };
@@ -144,7 +134,6 @@ impl Tally for Fold {
         self.floor = floor_behind(self.floor, e);
         self.bin = put_event(
             &mut self.cells,
-            &mut self.ends,
             &mut self.ring,
             self.bin,
             &self.set,
@@ -155,12 +144,6 @@ impl Tally for Fold {
 
     fn close<L: Ledger>(&mut self, _steps: &mut Steps<L>) {
         self.closed = true;
-        self.bin = count_all(
-            &mut self.cells,
-            &self.ends,
-            &mut self.ring,
-            self.bin,
-            &self.set,
-        );
+        self.bin = count_all(&mut self.cells, &mut self.ring, self.bin, &self.set);
     }
 }

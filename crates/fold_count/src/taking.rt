@@ -1,16 +1,16 @@
 // The events that a fold is given.
 ghost use Rattle.std.specs.Prelude.{◌≡◌, ◌+◌, ◌<◌, ◌≤◌, ◌++◌, ◌∷◌, [], ℕ, true, false, ◌^◌, IsTrue, length, sum, if◌then◌else◌};
 ghost use Rattle.tally_base.specs.declared.event.Event.{Event};
-ghost use Rattle.tally_base.specs.Events.{is_photon};
+ghost use Rattle.tally_base.specs.Events.{is_photon, is_in};
 ghost use Rattle.tally_base.specs.Settings.{fold_view};
 ghost use Rattle.tally_base.specs.Tally.{History};
 ghost use Rattle.tally_base.specs.Limits.{record_limit, time_limit};
 ghost use Rattle.event_block.specs.Columns.{gathered, events_in, IsSorted};
 ghost use Rattle.event_block.specs.Order.{floor_after, InOrder};
-ghost use Rattle.fold_count.specs.FoldCounts.{is_of_any};
+ghost use Rattle.fold_count.specs.FoldCounts.{is_of_any, number_of};
 ghost use Rattle.fold_count.specs.Folded.{IsSound, Stands, AreCounts, waiting, photons_in};
 
-use crate::groups::{has_any, mark};
+use crate::groups::set_in;
 use crate::waiting::settle;
 use event_block::{BLOCK_SIZE, Block};
 use lag_ring::{Entry, LagRing};
@@ -19,29 +19,22 @@ use tally_base::{Event, FoldSet};
 /// The bin that is open at a time, which is not before the open one. Before a later one opens, those that
 /// are further back than the window are counted.
 #[inline(always)]
-fn open_at(
-    cells: &mut [u64],
-    ends: &[u64],
-    ring: &mut LagRing,
-    bin: Entry,
-    set: &FoldSet,
-    time: u64,
-) -> Entry
-    requires sound { IsSound (fold_view set.now) cells.old ends.now ring.old bin }
+fn open_at(cells: &mut [u64], ring: &mut LagRing, bin: Entry, set: &FoldSet, time: u64) -> Entry
+    requires sound { IsSound (fold_view set.now) cells.old ring.old bin }
     requires room { sum cells.old + photons_in (waiting ring.old bin) ≤ record_limit }
     requires after { (bin.index ≤ time) × (time ≤ time_limit) }
-    ensures sound { IsSound (fold_view set.now) cells.new ends.now ring.new result }
+    ensures sound { IsSound (fold_view set.now) cells.new ring.new result }
     ensures sum { sum cells.new + photons_in (waiting ring.new result)
         ≡ sum cells.old + photons_in (waiting ring.old bin) }
     ensures time { result.index ≡ time }
-    ensures follows { (h : History) → Stands (fold_view set.now) cells.old ends.now ring.old bin h
-        → Stands (fold_view set.now) cells.new ends.now ring.new result h }
+    ensures follows { (h : History) → Stands (fold_view set.now) cells.old ring.old bin h
+        → Stands (fold_view set.now) cells.new ring.new result h }
 {
     if time == bin.index {
         return bin;
     }
     let before = time.saturating_sub(u64::from(set.window));
-    settle(cells, ends, ring, &bin, before);
+    settle(cells, ring, &bin, before);
     Entry {
         index: time,
         a: 0,
@@ -49,36 +42,36 @@ fn open_at(
     }
 }
 
-/// Puts a photon of at least one of the groups, which is not before the open bin, and answers the bin that
-/// is open then.
+/// Puts a photon of this set of the groups, which is not that of none, into the bin of its time, which is not
+/// before the open one, and answers the bin that is open then.
 #[inline(always)]
 fn put(
     cells: &mut [u64],
-    ends: &mut [u64],
     ring: &mut LagRing,
     bin: Entry,
     set: &FoldSet,
     time: u64,
-    groups: u64,
+    met: u64,
 ) -> Entry
-    requires sound { IsSound (fold_view set.now) cells.old ends.old ring.old bin }
+    requires sound { IsSound (fold_view set.now) cells.old ring.old bin }
     requires room { sum cells.old + photons_in (waiting ring.old bin) < record_limit }
     requires after { (bin.index ≤ time) × (time ≤ time_limit) }
-    ensures sound { IsSound (fold_view set.now) cells.new ends.new ring.new result }
+    requires inside { met < 2 ^ length (fold_view set.now).groups }
+    ensures sound { IsSound (fold_view set.now) cells.new ring.new result }
     ensures sum { sum cells.new + photons_in (waiting ring.new result)
         ≡ sum cells.old + photons_in (waiting ring.old bin) + 1 }
     ensures time { result.index ≡ time }
     ensures follows { (h : History) (x : Event × ℕ)
-        → is_of_any (fold_view set.now).groups x ≡ true → x.0.time ≡ time → x.1 ≡ groups
-        → Stands (fold_view set.now) cells.old ends.old ring.old bin h
-        → Stands (fold_view set.now) cells.new ends.new ring.new result (h ++ x ∷ []) }
+        → is_of_any (fold_view set.now).groups x ≡ true → x.0.time ≡ time
+        → number_of (λ group. is_in x.1 group) (fold_view set.now).groups ≡ met
+        → Stands (fold_view set.now) cells.old ring.old bin h
+        → Stands (fold_view set.now) cells.new ring.new result (h ++ x ∷ []) }
 {
-    let here = open_at(cells, ends, ring, bin, set, time);
-    mark(ends, &set.groups, time, groups);
+    let here = open_at(cells, ring, bin, set, time);
     Entry {
         index: here.index,
         a: here.a + 1,
-        b: 0,
+        b: here.b | met,
     }
 }
 
@@ -86,29 +79,29 @@ fn put(
 #[inline(always)]
 pub(crate) fn put_event(
     cells: &mut [u64],
-    ends: &mut [u64],
     ring: &mut LagRing,
     bin: Entry,
     set: &FoldSet,
     e: &Event,
     groups: u64,
 ) -> Entry
-    requires sound { IsSound (fold_view set.now) cells.old ends.old ring.old bin }
+    requires sound { IsSound (fold_view set.now) cells.old ring.old bin }
     requires room { sum cells.old + photons_in (waiting ring.old bin) < record_limit }
     requires in_time { e.now.time ≤ time_limit }
     requires after { IsTrue (is_photon e.now) → bin.index ≤ e.now.time }
-    ensures sound { IsSound (fold_view set.now) cells.new ends.new ring.new result }
+    ensures sound { IsSound (fold_view set.now) cells.new ring.new result }
     ensures few { sum cells.new + photons_in (waiting ring.new result)
         ≤ sum cells.old + photons_in (waiting ring.old bin) + 1 }
     ensures begun { (floor : ℕ) → bin.index ≤ floor
         → result.index ≤ (if is_photon e.now then e.now.time else floor) }
-    ensures follows { (h : History) → Stands (fold_view set.now) cells.old ends.old ring.old bin h
-        → Stands (fold_view set.now) cells.new ends.new ring.new result
+    ensures follows { (h : History) → Stands (fold_view set.now) cells.old ring.old bin h
+        → Stands (fold_view set.now) cells.new ring.new result
         (h ++ (e.now, groups) ∷ []) }
 {
     if e.is_photon() {
-        if has_any(&set.groups, groups) {
-            return put(cells, ends, ring, bin, set, e.time, groups);
+        let met = set_in(&set.groups, groups);
+        if met != 0 {
+            return put(cells, ring, bin, set, e.time, met);
         }
     }
     bin
@@ -117,51 +110,44 @@ pub(crate) fn put_event(
 /// Puts the photons of a block, and answers the bin that is open then.
 pub(crate) fn put_block(
     cells: &mut [u64],
-    ends: &mut [u64],
     ring: &mut LagRing,
     bin: Entry,
     set: &FoldSet,
     block: &Block,
 ) -> Entry
     requires sorted { IsSorted block.now }
-    requires sound { IsSound (fold_view set.now) cells.old ends.old ring.old bin }
+    requires sound { IsSound (fold_view set.now) cells.old ring.old bin }
     requires room { sum cells.old + photons_in (waiting ring.old bin)
         + length (gathered block.now) ≤ record_limit }
     requires in_order { InOrder false bin.index (gathered block.now) }
-    ensures sound { IsSound (fold_view set.now) cells.new ends.new ring.new result }
+    ensures sound { IsSound (fold_view set.now) cells.new ring.new result }
     ensures few { sum cells.new + photons_in (waiting ring.new result)
         ≤ sum cells.old + photons_in (waiting ring.old bin) + length (gathered block.now) }
     ensures begun { result.index ≤ floor_after false bin.index (gathered block.now) }
-    ensures follows { (h : History) → Stands (fold_view set.now) cells.old ends.old ring.old bin h
-        → Stands (fold_view set.now) cells.new ends.new ring.new result
+    ensures follows { (h : History) → Stands (fold_view set.now) cells.old ring.old bin h
+        → Stands (fold_view set.now) cells.new ring.new result
         (h ++ events_in block.now) }
 {
     let mut last = bin;
     for at in 0..block.len().min(BLOCK_SIZE) {
         let (e, groups) = block.get(at);
-        last = put_event(cells, ends, ring, last, set, &e, groups);
+        last = put_event(cells, ring, last, set, &e, groups);
     }
     last
 }
 
 /// Counts all photons that wait: nothing more comes.
-pub(crate) fn count_all(
-    cells: &mut [u64],
-    ends: &[u64],
-    ring: &mut LagRing,
-    bin: Entry,
-    set: &FoldSet,
-) -> Entry
-    requires sound { IsSound (fold_view set.now) cells.old ends.now ring.old bin }
+pub(crate) fn count_all(cells: &mut [u64], ring: &mut LagRing, bin: Entry, set: &FoldSet) -> Entry
+    requires sound { IsSound (fold_view set.now) cells.old ring.old bin }
     requires room { sum cells.old + photons_in (waiting ring.old bin) < 2 ^ 64 }
-    ensures sound { IsSound (fold_view set.now) cells.new ends.now ring.new result }
+    ensures sound { IsSound (fold_view set.now) cells.new ring.new result }
     ensures sum { sum cells.new + photons_in (waiting ring.new result)
         ≡ sum cells.old + photons_in (waiting ring.old bin) }
     ensures time { result.index ≡ bin.index }
-    ensures follows { (h : History) → Stands (fold_view set.now) cells.old ends.now ring.old bin h
+    ensures follows { (h : History) → Stands (fold_view set.now) cells.old ring.old bin h
         → AreCounts (fold_view set.now) cells.new h }
 {
-    settle(cells, ends, ring, &bin, bin.index + 1);
+    settle(cells, ring, &bin, bin.index + 1);
     Entry {
         index: bin.index,
         a: 0,

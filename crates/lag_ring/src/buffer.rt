@@ -1,5 +1,5 @@
 // Entries in a circular buffer.
-ghost use Rattle.std.specs.Prelude.{◌≡◌, ◌+◌, ◌<◌, ◌≤◌, [], ◌∷◌, ◌++◌, IfOk, filter, length, nat_le, slice_get, Some};
+ghost use Rattle.std.specs.Prelude.{◌≡◌, ◌+◌, ◌<◌, ◌≤◌, [], ◌∷◌, ◌++◌, IfOk, filter, length, nat_le, slice_get, slice_set, Some};
 ghost use Rattle.std.specs.List.{AllByRecursion};
 ghost use Rattle.lag_ring.specs.Ring.{IsRising, spare};
 
@@ -30,6 +30,7 @@ impl Model for Buffered {
 }
 
 impl Buffered {
+    ghost use Rattle.lag_ring.specs.declared.ring.Entry.{Entry};
     ghost use Rattle.lag_ring.specs.Ring.{ring};
 
     /// No entries, with room for `reach`, or `AllocError` where memory for them is wanting.
@@ -96,11 +97,26 @@ impl Buffered {
     }
 
     /// The entry at place `i` from the front, which is 0 for the first.
+    #[inline(always)]
     pub(crate) fn visit(&self, i: u32) -> Entry
         requires inside { i < length self.now.entries }
         ensures entry { slice_get self.now.entries i ≡ Some result }
     {
         *self.kept.get(i as usize).unwrap()
+    }
+
+    /// Replaces `b` of the entry at place `i` from the front, and nothing else.
+    #[inline(always)]
+    pub(crate) fn set_b(&mut self, i: u32, b: u64)
+        requires inside { i < length self.old.entries }
+        ensures set { (e : Entry) → slice_get self.old.entries i ≡ Some e
+            → self.new ≡ ring
+            (slice_set self.old.entries i (record { index = e.index; a = e.a; b = b }))
+            self.old.reach }
+    {
+        if let Some(entry) = self.kept.get_mut(i as usize) {
+            entry.b = b;
+        }
     }
 
     /// The entries in two slices, which hold them one after the other.

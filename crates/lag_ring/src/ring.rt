@@ -1,5 +1,5 @@
 // The recent occupied bins.
-ghost use Rattle.std.specs.Prelude.{◌≡◌, ◌+◌, ◌<◌, ◌≤◌, [], ◌∷◌, ◌++◌, IfOk, filter, length, nat_le, slice_get, Some, true};
+ghost use Rattle.std.specs.Prelude.{◌≡◌, ◌+◌, ◌<◌, ◌≤◌, [], ◌∷◌, ◌++◌, IfOk, filter, length, nat_le, slice_get, slice_set, Some, true};
 ghost use Rattle.std.specs.List.{AllByRecursion};
 ghost use Rattle.lag_ring.specs.Ring.{IsRising, spare, ring, kept_or};
 
@@ -73,6 +73,8 @@ fn lay_out(kept: &mut Buffered, last: &Entry, alone: bool)
 }
 
 impl LagRing {
+    ghost use Rattle.lag_ring.specs.declared.ring.Entry.{Entry};
+
     /// A ring of no entries, with room for `reach`, or `AllocError` where memory for them is wanting.
     pub fn open(alloc: Global, reach: u32) -> Result<LagRing, AllocError>
         requires some { 0 < reach }
@@ -159,6 +161,7 @@ impl LagRing {
     }
 
     /// The entry at place `i` from the front, which is 0 for the first.
+    #[inline(always)]
     pub fn visit(&self, i: u32) -> Entry
         requires inside { i < length self.now.entries }
         ensures entry { slice_get self.now.entries i ≡ Some result }
@@ -168,6 +171,21 @@ impl LagRing {
         } else {
             self.kept.visit(i)
         }
+    }
+
+    /// Replaces `b` of the entry at place `i` from the front, which is 0 for the first. Its index and its `a`
+    /// stay, and so do all other entries.
+    #[inline(always)]
+    pub fn set_b(&mut self, i: u32, b: u64)
+        requires inside { i < length self.old.entries }
+        ensures set { (e : Entry) → slice_get self.old.entries i ≡ Some e
+            → self.new ≡ ring
+            (slice_set self.old.entries i (record { index = e.index; a = e.a; b = b }))
+            self.old.reach }
+    {
+        lay_out(&mut self.kept, &self.last, self.alone);
+        self.alone = false;
+        self.kept.set_b(i, b);
     }
 
     /// The entries in two slices, which hold them one after the other.

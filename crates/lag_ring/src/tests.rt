@@ -117,6 +117,33 @@ fn a_ring_begins_anew(rt: HostRuntime) -> Result<(), Fail> {
     agrees(&rt, rt.alloc(), &ring, &[])
 }
 
+/// Replaces the second weight of an entry, where there is one at the place.
+fn replaced(ring: &mut LagRing, i: u32, b: u64) -> Result<(), Fail> {
+    if i >= ring.len() {
+        return Err(Fail::new("no entry is at the place"));
+    }
+    ring.set_b(i, b);
+    Ok(())
+}
+
+#[test]
+fn one_weight_is_replaced(rt: HostRuntime) -> Result<(), Fail> {
+    let mut ring = LagRing::open(rt.alloc(), REACH)?;
+    ring.push(4, 1, 2);
+    ring.push(5, 3, 4);
+    ring.push(7, 5, 6);
+    ring.retire(5);
+    // From here on the entries go round.
+    ring.push(8, 7, 0);
+    replaced(&mut ring, 2, 9)?;
+    agrees(&rt, rt.alloc(), &ring, &[(5, 3, 4), (7, 5, 6), (8, 7, 9)])?;
+    replaced(&mut ring, 0, 11)?;
+    agrees(&rt, rt.alloc(), &ring, &[(5, 3, 11), (7, 5, 6), (8, 7, 9)])?;
+    ring.restart(9, 1, 1);
+    replaced(&mut ring, 0, 3)?;
+    agrees(&rt, rt.alloc(), &ring, &[(9, 1, 3)])
+}
+
 /// Cells to which some pairs were added.
 fn filled<L: Ledger>(alloc: Global, blank: Blank) -> Result<PairCells, Fail>
     requires name { blank.name ≡ L.name }

@@ -1,8 +1,18 @@
-use Rattle.std.proofs.Common.{◌+◌, ◌≤◌, arith}
+use Rattle.std.proofs.Common.{◌+◌, ◌≤◌, length, arith}
 use Rattle.tally_base.specs.Settings.{fold_view}
-use Rattle.fold_count.specs.Folded.{waiting, front_of}
+use Rattle.fold_count.specs.Folded.{as_met, front_of}
+use Rattle.fold_count.proofs.Nested.{sets_joined}
 use Rattle.fold_count.proofs.Settled.{counts_all}
+use Rattle.fold_count.proofs.Sound.{sound_later}
 use Rattle.fold_count.proofs.taking.count_all.Goals as goal
+
+pub settle-requires-clause-inside : goal.settle-requires-clause-inside
+settle-requires-clause-inside c = rw c.requires.sound.sized (sets_joined (length (fold_view c.args.set.now).groups) c.args.ring.now.entries c.args.bin c.requires.sound.sets)
+
+pub returns-clause-sound : goal.returns-clause-sound
+returns-clause-sound c =
+    let bin = c.args.bin in
+    sound_later (fold_view c.args.set.now) c.args.cells.now c.settle.new.cells c.args.ring.now c.settle.new.ring bin (bin.index + 1) bin.index c.requires.sound c.settle.ensures.same c.settle.ensures.kept c.settle.ensures.within (λ le. absurd (omega (arith, le))) c.requires.sound.in_time
 
 pub returns-clause-follows : goal.returns-clause-follows
 returns-clause-follows c = λ h is.
@@ -10,5 +20,5 @@ returns-clause-follows c = λ h is.
     let bin = c.args.bin in
     let near : bin.index ≤ front_of set bin + set.window = omega arith in
     let later : front_of set bin ≤ bin.index + 1 = omega arith in
-    counts_all set c.args.cells.now c.args.ends.now (waiting c.args.ring.now bin) bin.index (front_of set bin) h is c.requires.sound.ended near (bin.index + 1) later c.settle.new.cells (omega arith)
+    counts_all set c.args.cells.now (as_met c.args.ring.now bin) bin.index (front_of set bin) h is near (bin.index + 1) later c.settle.new.cells (omega arith)
     (λ s inside. c.settle.ensures.cells s (rw c.requires.sound.sized inside))

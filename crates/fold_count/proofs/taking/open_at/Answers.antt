@@ -1,22 +1,36 @@
-use Rattle.std.proofs.Common.{◌≡◌, ◌+◌, ◌-◌, ◌≤◌, refl, subst, rules, arith}
+use Rattle.std.proofs.Common.{◌≡◌, ◌+◌, ◌-◌, ◌<◌, ◌≤◌, [], ◌∷◌, ◌++◌, filter, length, refl, ap, subst, rules, arith}
+use Rattle.std.specs.Prelude.{nat_le}
 use Rattle.tally_base.specs.Settings.{fold_view}
 use Rattle.lag_ring.specs.declared.ring.Entry.{Entry}
-use Rattle.fold_count.specs.Folded.{Parted, waiting, front_of}
+use Rattle.lag_ring.specs.Ring.{Ring}
+use Rattle.fold_count.specs.Folded.{Parted, as_met, front_of}
+use Rattle.fold_count.proofs.Nested.{joined_none, sets_joined}
 use Rattle.fold_count.proofs.Settled.{parted_later}
+use Rattle.fold_count.proofs.Sound.{sound_later}
 use Rattle.fold_count.proofs.taking.open_at.Goals as goal
+
+pub settle-requires-clause-inside : goal.settle-requires-clause-inside
+settle-requires-clause-inside c = rw c.requires.sound.sized (sets_joined (length (fold_view c.args.set.now).groups) c.args.ring.now.entries c.args.bin c.requires.sound.sets)
+
+pub returns-clause-sound : goal.returns-clause-sound
+returns-clause-sound c =
+    let after : c.args.bin.index < c.args.time = omega (arith, c.if-time-bin.false, c.requires.after.0) in
+    sound_later (fold_view c.args.set.now) c.args.cells.now c.settle.new.cells c.args.ring.now c.settle.new.ring c.args.bin c.saturating_sub-before.result c.args.time c.requires.sound c.settle.ensures.same c.settle.ensures.kept c.settle.ensures.within (λ le. after) c.requires.after.1
 
 pub returns-clause-follows : goal.returns-clause-follows
 returns-clause-follows c = λ h is.
     let set = fold_view c.args.set.now in
-    let cells = c.args.cells.now in
-    let ends = c.args.ends.now in
     let bin = c.args.bin in
-    let bins = waiting c.args.ring.now bin in
+    let bins = as_met c.args.ring.now bin in
     let opened : Entry = record { index = c.args.time; a = 0; b = 0 } in
     let before = c.saturating_sub-before.result in
     let at_front : before ≡ c.args.time - set.window = search (rules, arith) in
     let near : bin.index ≤ front_of set bin + set.window = omega arith in
     let later : front_of set bin ≤ before = omega (arith, at_front, c.requires.after.0) in
-    subst (λ front. Parted set c.settle.new.cells ends (waiting c.settle.new.ring opened) c.args.time front h) at_front
-    (parted_later set cells ends bins bin.index (front_of set bin) h is c.requires.sound.ended near before later c.settle.new.cells c.settle.new.ring.entries opened c.requires.after.0 refl
-    (λ s inside. c.settle.ensures.cells s (rw c.requires.sound.sized inside)) c.settle.ensures.kept)
+    let after : bin.index < c.args.time = omega (arith, c.if-time-bin.false, c.requires.after.0) in
+    let entries : c.settle.new.ring.entries ≡ filter (λ e. nat_le before e.index) bins = ap (λ (r : Ring). r.entries) c.settle.ensures.kept in
+    let stands : Parted set c.settle.new.cells (filter (λ e. nat_le before e.index) bins ++ opened ∷ []) c.args.time before h =
+    parted_later set c.args.cells.now bins bin.index (front_of set bin) h is near before later c.settle.new.cells opened after refl refl
+    (λ s inside. c.settle.ensures.cells s (rw c.requires.sound.sized inside)) in
+    subst (λ front. Parted set c.settle.new.cells (as_met c.settle.new.ring opened) c.args.time front h) at_front
+    (rw (joined_none c.settle.new.ring.entries, entries) stands)

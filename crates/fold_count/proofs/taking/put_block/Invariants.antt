@@ -8,8 +8,8 @@ use Rattle.fold_count.proofs.taking.put_block.Given as goal
 
 abbrev pub invariant-loop-at : goal.invariant-loop-at
 invariant-loop-at l = record {
-  sound : IsSound (fold_view l.set) l.cells l.ends l.ring l.last;
+  sound : IsSound (fold_view l.set) l.cells l.ring l.last;
   few : sum l.cells + photons_in (waiting l.ring l.last) ≤ sum l.fn.cells + photons_in (waiting l.fn.ring l.fn.bin) + l.at;
   begun : l.last.index ≤ floor_after false l.fn.bin.index (rows (event_at l.block) l.at);
-  follows : (h : History) → Stands (fold_view l.set) l.fn.cells l.fn.ends l.fn.ring l.fn.bin h → Stands (fold_view l.set) l.cells l.ends l.ring l.last (h ++ rows (item l.block) l.at);
+  follows : (h : History) → Stands (fold_view l.set) l.fn.cells l.fn.ring l.fn.bin h → Stands (fold_view l.set) l.cells l.ring l.last (h ++ rows (item l.block) l.at);
 }

@@ -1,9 +1,16 @@
-use Rattle.std.proofs.Common.{ap, arith}
+use Rattle.std.proofs.Common.{◌<◌, ap, arith, length}
 use Rattle.std.specs.Prelude.{nat_lt}
+use Rattle.lag_ring.proofs.Lists.{all_front, all_back}
 use Rattle.lag_ring.proofs.Rising.{rising_front, rising_back}
 use Rattle.fold_count.specs.Folded.{photons_in}
 use Rattle.fold_count.proofs.Bins.{where_at_most, photons_append}
 use Rattle.fold_count.proofs.waiting.count_closed.Goals as goal
+
+pub count_front-requires-clause-inside : goal.count_front-requires-clause-inside
+count_front-requires-clause-inside c = all_front (λ e. e.b < length c.args.cells.now) c.slices.result.0.now c.slices.result.1.now (rw c.slices.ensures.entries c.requires.inside)
+
+pub count_front-requires-2-clause-inside : goal.count_front-requires-2-clause-inside
+count_front-requires-2-clause-inside c = rw c.count_front.ensures.same (all_back (λ e. e.b < length c.args.cells.now) c.slices.result.0.now c.slices.result.1.now (rw c.slices.ensures.entries c.requires.inside))
 
 pub count_front-requires-clause-rising : goal.count_front-requires-clause-rising
 count_front-requires-clause-rising c = rising_front c.slices.result.0.now c.slices.result.1.now (rw c.slices.ensures.entries c.slices.ensures.rising)

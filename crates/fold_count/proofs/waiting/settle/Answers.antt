@@ -1,67 +1,103 @@
-use Rattle.std.proofs.Common.{◌≤◌, [], ◌∷◌, filter, refl, arith, length-append}
+use Rattle.std.proofs.Common.{◌<◌, [], ◌∷◌, filter, length, ap, arith, length-append}
+use Rattle.std.proofs.lemmas.List.{length-map}
 use Rattle.std.specs.Prelude.{nat_lt, nat_le}
-use Rattle.lag_ring.specs.declared.ring.Entry.{Entry}
-use Rattle.lag_ring.proofs.Rising.{all_push}
-use Rattle.fold_count.proofs.Bins.{where_at_most, photons_push, photons_kept, kept_short, kept_long, between_kept, below_kept, few_after, room_left}
+use Rattle.lag_ring.specs.Ring.{ring as ring_of}
+use Rattle.lag_ring.proofs.Lists.{all_front}
+use Rattle.fold_count.specs.Folded.{joined}
+use Rattle.fold_count.proofs.Bins.{of_push, of_late, where_at_most, photons_push, photons_kept, kept_short, kept_long, below_kept, few_after, room_left}
+use Rattle.fold_count.proofs.Nested.{join, below_joined, photons_joined, last_of}
 use Rattle.fold_count.proofs.waiting.settle.Goals as goal
+
+pub count_closed-requires-clause-inside : goal.count_closed-requires-clause-inside
+count_closed-requires-clause-inside c =
+    let bin = c.args.bin.now in
+    rw c.meet.ensures.met (all_front (λ e. e.b < length c.args.cells.now) (joined bin.b c.args.ring.now.entries) (bin ∷ []) c.requires.inside)
+
+pub count_closed-requires-clause-room : goal.count_closed-requires-clause-room
+count_closed-requires-clause-room c =
+    let bin = c.args.bin.now in
+    let bins = c.args.ring.now.entries in
+    rw c.meet.ensures.met (omega (arith, photons_joined bin.b bins, photons_push bins bin, c.requires.room))
+
+pub count_bin-requires-clause-inside : goal.count_bin-requires-clause-inside
+count_bin-requires-clause-inside c =
+    let bin = c.args.bin.now in
+    rw c.count_closed.ensures.same (last_of (λ e. e.b < length c.args.cells.now) (joined bin.b c.args.ring.now.entries) bin c.requires.inside)
 
 pub count_bin-requires-clause-room : goal.count_bin-requires-clause-room
 count_bin-requires-clause-room c =
+    let bin = c.args.bin.now in
     let bins = c.args.ring.now.entries in
-    omega (arith, c.count_closed.ensures.sum, where_at_most (λ tick. nat_lt tick c.args.before) bins, photons_push bins c.args.bin.now, c.requires.room)
+    let counted = rw c.meet.ensures.met at c.count_closed.ensures.sum in
+    omega (arith, counted, where_at_most (λ tick. nat_lt tick c.args.before) (joined bin.b bins), photons_joined bin.b bins, photons_push bins bin, c.requires.room)
 
 pub push-requires-clause-above : goal.push-requires-clause-above
-push-requires-clause-above c = rw c.retire.ensures.kept (below_kept c.args.before c.args.bin.now.index c.args.ring.now.entries c.requires.above)
+push-requires-clause-above c =
+    let bin = c.args.bin.now in
+    let bins = c.args.ring.now.entries in
+    rw (c.retire.ensures.kept, c.meet.ensures.met) (below_kept c.args.before bin.index (joined bin.b bins) (below_joined bin.b bin.index bins c.requires.above))
 
 pub push-requires-clause-room : goal.push-requires-clause-room
 push-requires-clause-room c =
-    let rising = rw c.retire.ensures.kept at c.retire.ensures.rising in
-    let few = room_left c.args.before c.args.bin.now.index c.args.ring.now.reach c.args.ring.now.entries rising c.requires.above c.if-bin-before.false c.requires.near in
-    rw c.retire.ensures.kept (omega (arith, few))
+    let bin = c.args.bin.now in
+    let bins = c.args.ring.now.entries in
+    let rising = rw (c.retire.ensures.kept, c.meet.ensures.met) at c.retire.ensures.rising in
+    let few = room_left c.args.before bin.index c.args.ring.now.reach (joined bin.b bins) rising (below_joined bin.b bin.index bins c.requires.above) c.if-bin-before.false c.requires.near in
+    rw (c.retire.ensures.kept, c.meet.ensures.met) (omega (arith, few))
+
+pub returns-then-bin-before-clause-cells : goal.returns-then-bin-before-clause-cells
+returns-then-bin-before-clause-cells c = λ s inside.
+    let bin = c.args.bin.now in
+    let bins = c.args.ring.now.entries in
+    let counted = rw c.meet.ensures.met at c.count_closed.ensures.cells s inside in
+    let last = c.count_bin.ensures.cells s (rw c.count_closed.ensures.same inside) in
+    omega (arith, counted, last, of_push c.args.before s (joined bin.b bins) bin c.if-bin-before.true)
 
 pub returns-then-bin-before-clause-kept : goal.returns-then-bin-before-clause-kept
-returns-then-bin-before-clause-kept c = λ test. rw c.retire.ensures.kept (kept_short test c.args.before c.args.ring.now.entries c.args.bin.now c.if-bin-before.true)
-
-pub returns-then-bin-before-clause-between : goal.returns-then-bin-before-clause-between
-returns-then-bin-before-clause-between c = rw c.retire.ensures.kept (between_kept c.args.before c.args.bin.now.index c.args.ring.now.entries c.requires.above)
+returns-then-bin-before-clause-kept c =
+    let bin = c.args.bin.now in
+    let bins = c.args.ring.now.entries in
+    rw (c.retire.ensures.kept, c.meet.ensures.met) (ap (λ es. ring_of es c.args.ring.now.reach) (kept_short c.args.before (joined bin.b bins) bin c.if-bin-before.true))
 
 pub returns-then-bin-before-clause-within : goal.returns-then-bin-before-clause-within
 returns-then-bin-before-clause-within c =
-    let few = few_after c.args.before c.args.ring.now.entries in
-    rw c.retire.ensures.kept (refl, omega (arith, few, c.requires.within))
+    let bin = c.args.bin.now in
+    let bins = c.args.ring.now.entries in
+    let few = few_after c.args.before (joined bin.b bins) in
+    rw (c.retire.ensures.kept, c.meet.ensures.met) (omega (arith, few, length-map bins (join bin.b), c.requires.within))
 
 pub returns-then-bin-before-clause-sum : goal.returns-then-bin-before-clause-sum
 returns-then-bin-before-clause-sum c =
+    let bin = c.args.bin.now in
     let bins = c.args.ring.now.entries in
-    rw c.retire.ensures.kept (omega (arith, c.count_bin.ensures.sum, c.count_closed.ensures.sum, photons_kept c.args.before bins, photons_push bins c.args.bin.now))
+    let counted = rw c.meet.ensures.met at c.count_closed.ensures.sum in
+    rw (c.retire.ensures.kept, c.meet.ensures.met) (omega (arith, c.count_bin.ensures.sum, counted, photons_kept c.args.before (joined bin.b bins), photons_joined bin.b bins, photons_push bins bin))
+
+pub returns-else-bin-before-clause-cells : goal.returns-else-bin-before-clause-cells
+returns-else-bin-before-clause-cells c = λ s inside.
+    let bin = c.args.bin.now in
+    let bins = c.args.ring.now.entries in
+    let counted = rw c.meet.ensures.met at c.count_closed.ensures.cells s inside in
+    omega (arith, counted, of_late c.args.before s (joined bin.b bins) bin c.if-bin-before.false)
 
 pub returns-else-bin-before-clause-kept : goal.returns-else-bin-before-clause-kept
-returns-else-bin-before-clause-kept c = λ test.
-    let bin = c.args.bin.now in
-    let pushed : Entry = record { index = bin.index; a = bin.a; b = 0 } in
-    rw (c.push.ensures.pushed, c.retire.ensures.kept) (kept_long test c.args.before c.args.ring.now.entries bin pushed c.if-bin-before.false refl refl)
-
-pub returns-else-bin-before-clause-between : goal.returns-else-bin-before-clause-between
-returns-else-bin-before-clause-between c =
+returns-else-bin-before-clause-kept c =
     let bin = c.args.bin.now in
     let bins = c.args.ring.now.entries in
-    let pushed : Entry = record { index = bin.index; a = bin.a; b = 0 } in
-    rw (c.push.ensures.pushed, c.retire.ensures.kept)
-    (all_push (λ e. (c.args.before ≤ e.index) × (e.index ≤ bin.index)) (filter (λ e. nat_le c.args.before e.index) bins) pushed (between_kept c.args.before bin.index bins c.requires.above) (c.if-bin-before.false, omega arith))
+    rw (c.push.ensures.pushed, c.retire.ensures.kept, c.meet.ensures.met) (ap (λ es. ring_of es c.args.ring.now.reach) (kept_long c.args.before (joined bin.b bins) bin c.if-bin-before.false))
 
 pub returns-else-bin-before-clause-within : goal.returns-else-bin-before-clause-within
 returns-else-bin-before-clause-within c =
     let bin = c.args.bin.now in
     let bins = c.args.ring.now.entries in
-    let pushed : Entry = record { index = bin.index; a = bin.a; b = 0 } in
-    let rising = rw c.retire.ensures.kept at c.retire.ensures.rising in
-    let few = room_left c.args.before bin.index c.args.ring.now.reach bins rising c.requires.above c.if-bin-before.false c.requires.near in
-    rw (c.push.ensures.pushed, c.retire.ensures.kept) (refl, omega (arith, few, length-append (filter (λ e. nat_le c.args.before e.index) bins) (pushed ∷ [])))
+    let rising = rw (c.retire.ensures.kept, c.meet.ensures.met) at c.retire.ensures.rising in
+    let few = room_left c.args.before bin.index c.args.ring.now.reach (joined bin.b bins) rising (below_joined bin.b bin.index bins c.requires.above) c.if-bin-before.false c.requires.near in
+    rw (c.push.ensures.pushed, c.retire.ensures.kept, c.meet.ensures.met) (omega (arith, few, length-append (filter (λ e. nat_le c.args.before e.index) (joined bin.b bins)) (bin ∷ [])))
 
 pub returns-else-bin-before-clause-sum : goal.returns-else-bin-before-clause-sum
 returns-else-bin-before-clause-sum c =
     let bin = c.args.bin.now in
     let bins = c.args.ring.now.entries in
-    let pushed : Entry = record { index = bin.index; a = bin.a; b = 0 } in
-    rw (c.push.ensures.pushed, c.retire.ensures.kept)
-    (omega (arith, c.count_closed.ensures.sum, photons_kept c.args.before bins, photons_push bins bin, photons_push (filter (λ e. nat_le c.args.before e.index) bins) pushed))
+    let counted = rw c.meet.ensures.met at c.count_closed.ensures.sum in
+    rw (c.push.ensures.pushed, c.retire.ensures.kept, c.meet.ensures.met)
+    (omega (arith, counted, photons_kept c.args.before (joined bin.b bins), photons_joined bin.b bins, photons_push bins bin, photons_push (filter (λ e. nat_le c.args.before e.index) (joined bin.b bins)) bin))

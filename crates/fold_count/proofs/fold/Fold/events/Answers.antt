@@ -17,13 +17,11 @@ pub invariant_of-self : goal.invariant_of-self
 invariant_of-self c =
     let t = c.args.self.now in
     let es = gathered c.args.block.now in
-    let e = rw (c.deref_mut.ensures.value, c.deref_mut-2.ensures.value) at c.put_block-self.ensures in
+    let e = rw c.deref_mut.ensures.value at c.put_block-self.ensures in
     let count : length c.put_block-self.new.cells ≡ length t.cells.items = search rules in
     let all : t.cells.len ≡ length t.cells.items = search rules in
-    let count_ends : length c.put_block-self.new.ends ≡ length t.ends.items = search rules in
-    let all_ends : t.ends.len ≡ length t.ends.items = search rules in
     record {
-      sound = rw (whole_slice c.put_block-self.new.cells t.cells.items t.cells.len count all, whole_slice c.put_block-self.new.ends t.ends.items t.ends.len count_ends all_ends) e.sound;
+      sound = rw (whole_slice c.put_block-self.new.cells t.cells.items t.cells.len count all) e.sound;
       few = omega (arith, c.requires.may.room, c.len.ensures.value);
       small = rw (whole_slice c.put_block-self.new.cells t.cells.items t.cells.len count all) (omega (arith, e.few, t.small, c.len.ensures.value));
       begun = rw c.floor_after-self.ensures (omega (arith, e.begun, floor-lower false t.bin.index t.floor es t.begun));
@@ -35,16 +33,14 @@ returns c = record {
       let t = c.args.self.now in
       let set = fold_view t.set in
       let block = c.args.block.now in
-      let e = rw (c.deref_mut.ensures.value, c.deref_mut-2.ensures.value) at c.put_block-self.ensures in
+      let e = rw c.deref_mut.ensures.value at c.put_block-self.ensures in
       let count : length c.put_block-self.new.cells ≡ length t.cells.items = search rules in
       let all : t.cells.len ≡ length t.cells.items = search rules in
-      let count_ends : length c.put_block-self.new.ends ≡ length t.ends.items = search rules in
-      let all_ends : t.ends.len ≡ length t.ends.items = search rules in
       let ordered : InOrder false (greatest_time false h) (gathered block) = rw (← is.floor) c.requires.may.in_order in
-      let now = e.follows h (open_counts t.closed set t.cells.items t.ends.items t.ring t.bin h c.requires.may.open' is.counts) in
+      let now = e.follows h (open_counts t.closed set t.cells.items t.ring t.bin h c.requires.may.open' is.counts) in
       record {
-        counts = rw (whole_slice c.put_block-self.new.cells t.cells.items t.cells.len count all, whole_slice c.put_block-self.new.ends t.ends.items t.ends.len count_ends all_ends)
-            (counts_open t.closed set c.put_block-self.new.cells c.put_block-self.new.ends c.put_block-self.new.ring c.put_block-self.result (h ++ events_in block) c.requires.may.open' now);
+        counts = rw (whole_slice c.put_block-self.new.cells t.cells.items t.cells.len count all)
+            (counts_open t.closed set c.put_block-self.new.cells c.put_block-self.new.ring c.put_block-self.result (h ++ events_in block) c.requires.may.open' now);
         taken = omega (arith, is.taken, c.len.ensures.count, length-append h (events_in block), length-rows (item block) block.len);
         floor = c.floor_after-self.ensures ∙ ap (λ n. floor_after false n (gathered block)) is.floor ∙ sym (greatest-rows false h (item block) block.len ordered);
       };

@@ -1,0 +1,128 @@
+-- Bins in which the groups of those behind them were met too.
+use Rattle.std.proofs.Common.{◌≡◌, ◌∙◌, ℕ, zero, suc, ◌-◌, ◌^◌, ◌<◌, Bool, true, false, cond, List, [], ◌∷◌, ◌++◌, filter, length, refl, sym, ap, arith, slice_get, Some}
+use Rattle.std.specs.Prelude.{bit_or, slice_set}
+use Rattle.std.specs.Int.Bits.{or_zero_r}
+use Rattle.std.specs.List.{AllByRecursion}
+use Rattle.std.proofs.lemmas.List.Sums.{sum_by-cons}
+use Rattle.std.proofs.lemmas.Nat.{or_lt}
+use Rattle.lag_ring.specs.declared.ring.Entry.{Entry}
+use Rattle.lag_ring.specs.Ring.{Ring, ring}
+use Rattle.lag_ring.proofs.Rising.{all_push, all_weaker, all_at}
+use Rattle.lag_ring.proofs.Lists.{all_map, all_filter}
+use Rattle.fold_count.specs.Folded.{joined, photons_in, photons_where, IsNested}
+use Rattle.fold_count.proofs.Unions.{or_assoc, or_again, or_within, or_both}
+
+-- ## Bins with more groups
+
+abbrev pub join : ℕ → Entry → Entry
+join groups e = record { index = e.index; a = e.a; b = bit_or e.b groups }
+
+join_same : (groups : ℕ) (e : Entry) → bit_or e.b groups ≡ e.b → join groups e ≡ e
+join_same groups e is = ap (λ (b : ℕ). record { index = e.index; a = e.a; b = b }) is
+
+pub where_joined : (test : ℕ → Bool) (groups : ℕ) (bins : List Entry) → photons_where test (joined groups bins) ≡ photons_where test bins
+where_joined test groups [] = refl
+where_joined test groups (e ∷ bins) =
+    omega (arith, where_joined test groups bins, sum_by-cons (λ e. cond (test e.index) e.a 0) e bins, sum_by-cons (λ e. cond (test e.index) e.a 0) (join groups e) (joined groups bins))
+
+pub photons_joined : (groups : ℕ) (bins : List Entry) → photons_in (joined groups bins) ≡ photons_in bins
+photons_joined groups [] = refl
+photons_joined groups (e ∷ bins) = omega (arith, photons_joined groups bins, sum_by-cons (λ e. e.a) e bins, sum_by-cons (λ e. e.a) (join groups e) (joined groups bins))
+
+-- no groups more
+pub joined_none : (bins : List Entry) → joined 0 bins ≡ bins
+joined_none [] = refl
+joined_none (e ∷ bins) =
+    let here : join 0 e ≡ e = join_same 0 e (or_zero_r e.b) in
+    let rest : joined 0 bins ≡ bins = joined_none bins in
+    ap (λ x. x ∷ joined 0 bins) here ∙ ap (λ xs. e ∷ xs) rest
+
+pub below_joined : (groups index : ℕ) (bins : List Entry) → AllByRecursion (λ e. e.index < index) bins → AllByRecursion (λ e. e.index < index) (joined groups bins)
+below_joined groups index bins above = all_map (λ e. e.index < index) (join groups) bins above
+
+pub last_of : {X : Type 0} (P : X → Type 0) (xs : List X) (y : X) → AllByRecursion P (xs ++ y ∷ []) → P y
+last_of P [] y all = all.0
+last_of P (x ∷ xs) y all = last_of P xs y all.1
+
+pub sets_joined : (n : ℕ) (bins : List Entry) (bin : Entry) → AllByRecursion (λ e. e.b < 2 ^ n) (bins ++ bin ∷ []) → AllByRecursion (λ e. e.b < 2 ^ n) (joined bin.b bins ++ bin ∷ [])
+sets_joined n [] bin sets = sets
+sets_joined n (e ∷ bins) bin sets = (or_lt n e.b bin.b sets.0 (last_of (λ e. e.b < 2 ^ n) bins bin sets.1), sets_joined n bins bin sets.1)
+
+-- what each bin met, once one photon more came to the open one
+pub met_joined : (f g : ℕ → ℕ) (was more now tick : ℕ) → now ≡ bit_or was more → ((t : ℕ) → t < tick → bit_or (f t) more ≡ g t)
+    → (bins : List Entry) → AllByRecursion (λ e. e.index < tick) bins → AllByRecursion (λ e. e.b ≡ f e.index) (joined was bins) → AllByRecursion (λ e. e.b ≡ g e.index) (joined now bins)
+met_joined f g was more now tick is step [] above met = tt
+met_joined f g was more now tick is step (e ∷ bins) above met =
+    (ap (bit_or e.b) is ∙ sym (or_assoc e.b was more) ∙ ap (λ n. bit_or n more) met.0 ∙ step e.index above.0, met_joined f g was more now tick is step bins above.1 met.1)
+
+-- ## Nested bins
+
+pub nested_met : (bins : List Entry) (bin : Entry) → IsNested bins → IsNested (joined bin.b bins ++ bin ∷ [])
+nested_met [] bin nested = (tt, tt)
+nested_met (e ∷ bins) bin nested = (
+  all_push (λ f. bit_or (bit_or e.b bin.b) f.b ≡ bit_or e.b bin.b) (joined bin.b bins) bin
+      (all_map (λ f. bit_or (bit_or e.b bin.b) f.b ≡ bit_or e.b bin.b) (join bin.b) bins (all_weaker (λ f. bit_or e.b f.b ≡ e.b) (λ f. bit_or (bit_or e.b bin.b) (bit_or f.b bin.b) ≡ bit_or e.b bin.b) (λ f is. or_both e.b f.b bin.b is) bins nested.0))
+      (or_again e.b bin.b),
+  nested_met bins bin nested.1,
+)
+
+pub nested_filter : (p : Entry → Bool) (bins : List Entry) → IsNested bins → IsNested (filter p bins)
+nested_filter p [] nested = tt
+nested_filter p (e ∷ bins) nested = elim (p e) as (λ b. IsNested (cond b (e ∷ filter p bins) (filter p bins))) [ true ↦ (all_filter (λ f. bit_or e.b f.b ≡ e.b) p bins nested.0, nested_filter p bins nested.1) | false ↦ nested_filter p bins nested.1 ]
+
+-- ## The walk from the newest back
+
+-- the bins, where these groups were met in all but the first so many of them
+abbrev pub partly : ℕ → ℕ → List Entry → List Entry
+partly zero groups bins = joined groups bins
+partly (suc i) groups [] = []
+partly (suc i) groups (e ∷ bins) = e ∷ partly i groups bins
+
+pub partly_none : (groups : ℕ) (bins : List Entry) → partly (length bins) groups bins ≡ bins
+partly_none groups [] = refl
+partly_none groups (e ∷ bins) = ap (λ xs. e ∷ xs) (partly_none groups bins)
+
+pub length-partly : (i groups : ℕ) (bins : List Entry) → length (partly i groups bins) ≡ length bins
+length-partly zero groups [] = refl
+length-partly zero groups (e ∷ bins) = ap suc (length-partly zero groups bins)
+length-partly (suc i) groups [] = refl
+length-partly (suc i) groups (e ∷ bins) = ap suc (length-partly i groups bins)
+
+pub partly_step : (i groups : ℕ) (bins : List Entry) (e : Entry) → slice_get (partly (suc i) groups bins) i ≡ Some e → slice_set (partly (suc i) groups bins) i (join groups e) ≡ partly i groups bins
+partly_step i groups [] e at = cc
+partly_step zero groups (x ∷ bins) e at =
+    let same : x ≡ e = cc in
+    ap (λ y. join groups y ∷ joined groups bins) (sym same)
+partly_step (suc i) groups (x ∷ bins) e at = ap (λ xs. x ∷ xs) (partly_step i groups bins e at)
+
+partly_at : (i groups : ℕ) (bins : List Entry) → slice_get (partly (suc i) groups bins) i ≡ slice_get bins i
+partly_at i groups [] = refl
+partly_at zero groups (x ∷ bins) = refl
+partly_at (suc i) groups (x ∷ bins) = partly_at i groups bins
+
+-- where all were met in a bin already, they were in those before it
+pub partly_all : (i groups : ℕ) (bins : List Entry) (e : Entry) → IsNested bins → slice_get (partly (suc i) groups bins) i ≡ Some e → bit_or e.b groups ≡ e.b → partly (suc i) groups bins ≡ joined groups bins
+partly_all i groups [] e nested at is = cc
+partly_all zero groups (x ∷ bins) e nested at is =
+    let same : x ≡ e = cc in
+    ap (λ y. y ∷ joined groups bins) (sym (join_same groups x (rw same is)))
+partly_all (suc i) groups (x ∷ bins) e nested at is =
+    let here : bit_or x.b e.b ≡ x.b = all_at (λ f. bit_or x.b f.b ≡ x.b) bins i e (sym (partly_at i groups bins) ∙ at) nested.0 in
+    ap (λ y. y ∷ partly (suc i) groups bins) (sym (join_same groups x (or_within x.b e.b groups here is)))
+    ∙ ap (λ xs. join groups x ∷ xs) (partly_all i groups bins e nested.1 at is)
+
+-- the same at a place that is not 0
+pub partly_next : (at groups : ℕ) (bins : List Entry) (e : Entry) → 0 < at → slice_get (partly at groups bins) (at - 1) ≡ Some e → slice_set (partly at groups bins) (at - 1) (join groups e) ≡ partly (at - 1) groups bins
+partly_next zero groups bins e some at = absurd (omega (arith, some))
+partly_next (suc i) groups bins e some here =
+    let less : suc i - 1 ≡ i = omega arith in
+    rw less (partly_step i groups bins e (rw less at here))
+
+pub partly_stop : (at groups : ℕ) (bins : List Entry) (e : Entry) → 0 < at → IsNested bins → slice_get (partly at groups bins) (at - 1) ≡ Some e → bit_or e.b groups ≡ e.b → partly at groups bins ≡ joined groups bins
+partly_stop zero groups bins e some nested at is = absurd (omega (arith, some))
+partly_stop (suc i) groups bins e some nested here is =
+    let less : suc i - 1 ≡ i = omega arith in
+    partly_all i groups bins e nested (rw less at here) is
+
+pub ring_is : (r : Ring) (es : List Entry) (n : ℕ) → r.entries ≡ es → r.reach ≡ n → r ≡ ring es n
+ring_is r es n entries reach = λ i. record { entries = entries i; reach = reach i }
