@@ -7,6 +7,7 @@ use Rattle.tally_base.specs.Tally.{History, greatest_time}
 use Rattle.marker_map.specs.Lines.{Saw}
 use Rattle.scan_image.specs.ImageCounts.{markers, count_outside}
 use Rattle.flim_cube.specs.declared.cube.FlimCube.{FlimCube}
+use Rattle.flim_cube.specs.Cells.{counts_of}
 use Rattle.flim_cube.specs.CubeCounts.{in_cell, count_over}
 
 -- what it was opened with
@@ -18,7 +19,7 @@ settings t = CubeSettings (cube_view t.set)
 
 -- Each cell is the count over the events.
 pub record Holds (t : FlimCube) (h : History) : Type 0 where
-  pub cells : (x y b : ℕ) → x < t.set.image.width → y < t.set.image.height → b < t.set.dbins → slice_index t.cells.items ((y * t.set.image.width + x) * t.set.dbins + b) ≡ in_cell (cube_view t.set) x y b h
+  pub cells : (x y b : ℕ) → x < t.set.image.width → y < t.set.image.height → b < t.set.dbins → slice_index (counts_of t.cells) ((y * t.set.image.width + x) * t.set.dbins + b) ≡ in_cell (cube_view t.set) x y b h
   pub outside : t.rest.outside ≡ count_outside (image_view t.set.image) h
   pub over : t.rest.over ≡ count_over (cube_view t.set) h
   pub lines : Saw t.lines (markers h)

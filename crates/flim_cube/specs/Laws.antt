@@ -4,6 +4,7 @@ use Rattle.std.proofs.Common.{rules}
 use Rattle.tally_base.specs.Settings.{entries}
 use Rattle.tally_base.specs.Tally.{History, greatest_time}
 use Rattle.flim_cube.specs.declared.cube.FlimCube.{FlimCube}
+use Rattle.flim_cube.specs.Cells.{entries_of, few_entries}
 use Rattle.flim_cube.specs.Cube.{Holds, settings}
 
 pub taken_is : (t : FlimCube) (h : History) → Holds t h → t.taken ≡ length h
@@ -12,5 +13,5 @@ taken_is t h is = is.taken
 pub floor_is : (t : FlimCube) (h : History) → Holds t h → t.floor ≡ greatest_time true h
 floor_is t h is = is.floor
 
-pub within_bound : (t : FlimCube) → length t.cells.items + 5 ≤ entries (settings t)
-within_bound t = search rules
+pub within_bound : (t : FlimCube) → entries_of t.cells + 5 ≤ entries (settings t)
+within_bound t = search (rules, few_entries t.cells)

@@ -1,3 +1,5 @@
+pub mod Bytes
+pub mod Cells
 pub mod CubeCounts
 pub mod Totals
 pub mod Cube

@@ -3,19 +3,22 @@ ghost use Rattle.std.specs.Prelude.{◌≡◌, ◌+◌, ◌*◌, ◌/◌, ◌^�
 ghost use Rattle.tally_base.specs.Settings.{image_view, cube_view};
 ghost use Rattle.tally_base.specs.Tally.{History};
 ghost use Rattle.tally_base.specs.Limits.{record_limit};
+ghost use Rattle.tally_base.specs.Divisors.{divisor_of};
 ghost use Rattle.event_block.specs.Columns.{count, code_at, time_at, gathered, events_in, IsSorted};
 ghost use Rattle.event_block.specs.Order.{floor_after, InOrder};
 ghost use Rattle.marker_map.specs.Lines.{image_of, markers_given, line_start};
 ghost use Rattle.marker_map.specs.declared.lines.Lines.{Lines};
 ghost use Rattle.marker_map.specs.Strips.{start_of};
 ghost use Rattle.scan_image.specs.Counted.{IsStripOf, IsOfSize};
+ghost use Rattle.flim_cube.specs.Cells.{counts_of};
 ghost use Rattle.flim_cube.specs.CubeCounts.{is_in_cell, is_over};
 ghost use Rattle.flim_cube.specs.Counted.{Counted, CountsOn, in_rest};
 
+use crate::spread::Cells;
 use event_block::{BLOCK_SIZE, Block};
 use marker_map::{Strip, Way};
 use scan_image::Lines;
-use tally_base::CubeSet;
+use tally_base::{CubeSet, Divisor};
 
 /// How many photons of the group are in no cell.
 #[derive(Clone, Copy)]
@@ -32,20 +35,21 @@ pub(crate) struct Rest {
 pub(crate) fn count_block(
     set: &CubeSet,
     lines: &mut Lines,
-    cells: &mut [u64],
+    cells: &mut Cells,
     rest: Rest,
     block: &Block,
 ) -> Rest
     requires sorted { IsSorted block.now }
-    requires sized { length cells.old ≡ set.now.image.width * set.now.image.height * set.now.dbins }
-    requires room { sum cells.old + in_rest rest + length (gathered block.now) ≤ record_limit }
+    requires sized { length (counts_of cells.old) ≡ set.now.image.width * set.now.image.height * set.now.dbins }
+    requires room { sum (counts_of cells.old) + in_rest rest + length (gathered block.now) ≤ record_limit }
     requires of_set { image_of lines.old ≡ image_view set.now.image }
     requires few { markers_given lines.old + length (gathered block.now) ≤ record_limit }
     requires in_order { InOrder true (line_start lines.old) (gathered block.now) }
-    ensures follows { (h : History) → Counted (cube_view set.now) lines.old cells.old rest h
-        → Counted (cube_view set.now) lines.new cells.new result (h ++ events_in block.now) }
-    ensures few { sum cells.new + in_rest result
-        ≤ sum cells.old + in_rest rest + length (gathered block.now) }
+    ensures follows { (h : History) → Counted (cube_view set.now) lines.old (counts_of cells.old) rest h
+        → Counted (cube_view set.now) lines.new (counts_of cells.new) result (h ++ events_in block.now) }
+    ensures few { sum (counts_of cells.new) + in_rest result
+        ≤ sum (counts_of cells.old) + in_rest rest + length (gathered block.now) }
+    ensures sized { length (counts_of cells.new) ≡ length (counts_of cells.old) }
     ensures of_set { image_of lines.new ≡ image_of lines.old }
     ensures few_markers { markers_given lines.new
         ≤ markers_given lines.old + length (gathered block.now) }
@@ -53,10 +57,11 @@ pub(crate) fn count_block(
         ≤ floor_after true (line_start lines.old) (gathered block.now) }
 {
     let len = block.len().min(BLOCK_SIZE);
+    let ticks = Divisor::new(u64::from(set.dwidth));
     let mut rest = rest;
     let mut from = 0;
     'runs: loop {
-        let run = count_run(set, lines, cells, rest, block, from);
+        let run = count_run(set, &ticks, lines, cells, rest, block, from);
         if run.at >= len {
             return run.rest;
         }
@@ -80,32 +85,51 @@ struct Run {
 #[inline(always)]
 fn count_run(
     set: &CubeSet,
+    ticks: &Divisor,
     lines: &Lines,
-    cells: &mut [u64],
+    cells: &mut Cells,
     rest: Rest,
     block: &Block,
     from: usize,
 ) -> Run
     requires sorted { IsSorted block.now }
+    requires bins { divisor_of ticks.now ≡ set.now.dwidth }
     requires within { from ≤ count block.now }
-    requires sized { length cells.old ≡ set.now.image.width * set.now.image.height * set.now.dbins }
-    requires room { sum cells.old + in_rest rest + count block.now ≤ record_limit + from }
+    requires sized { length (counts_of cells.old) ≡ set.now.image.width * set.now.image.height * set.now.dbins }
+    requires room { sum (counts_of cells.old) + in_rest rest + count block.now ≤ record_limit + from }
     requires of_set { image_of lines.now ≡ image_view set.now.image }
     requires in_time { (i : ℕ) → from ≤ i → i < count block.now
         → line_start lines.now ≤ time_at block.now i }
-    ensures follows { CountsOn (cube_view set.now) lines.now block.now from result.at cells.old
-        rest cells.new result.rest }
+    ensures follows { CountsOn (cube_view set.now) lines.now block.now from result.at
+        (counts_of cells.old) rest (counts_of cells.new) result.rest }
+    ensures sized { length (counts_of cells.new) ≡ length (counts_of cells.old) }
     ensures onward { from ≤ result.at }
     ensures inside { result.at ≤ count block.now }
     ensures marker { result.at < count block.now → 256 ≤ code_at block.now result.at }
-    ensures few { sum cells.new + in_rest result.rest + from
-        ≤ sum cells.old + in_rest rest + result.at }
+    ensures few { sum (counts_of cells.new) + in_rest result.rest + from
+        ≤ sum (counts_of cells.old) + in_rest rest + result.at }
 {
     let strip = lines.strip();
     if strip.is_backwards() {
-        count_on(set, &strip.facing(Way::Backwards), cells, rest, block, from)
+        count_on(
+            set,
+            ticks,
+            &strip.facing(Way::Backwards),
+            cells,
+            rest,
+            block,
+            from,
+        )
     } else {
-        count_on(set, &strip.facing(Way::Forwards), cells, rest, block, from)
+        count_on(
+            set,
+            ticks,
+            &strip.facing(Way::Forwards),
+            cells,
+            rest,
+            block,
+            from,
+        )
     }
 }
 
@@ -113,30 +137,34 @@ fn count_run(
 #[inline(always)]
 fn count_on(
     set: &CubeSet,
+    ticks: &Divisor,
     strip: &Strip,
-    cells: &mut [u64],
+    cells: &mut Cells,
     rest: Rest,
     block: &Block,
     from: usize,
 ) -> Run
     requires sorted { IsSorted block.now }
+    requires bins { divisor_of ticks.now ≡ set.now.dwidth }
     requires within { from ≤ count block.now }
-    requires sized { length cells.old ≡ set.now.image.width * set.now.image.height * set.now.dbins }
-    requires room { sum cells.old + in_rest rest + count block.now ≤ record_limit + from }
+    requires sized { length (counts_of cells.old) ≡ set.now.image.width * set.now.image.height * set.now.dbins }
+    requires room { sum (counts_of cells.old) + in_rest rest + count block.now ≤ record_limit + from }
     requires of_set { IsOfSize set.now.image strip.now }
     requires in_time { (i : ℕ) → from ≤ i → i < count block.now
         → start_of strip.now ≤ time_at block.now i }
     ensures follows { (lines : Lines) → IsStripOf lines strip.now
         → image_of lines ≡ image_view set.now.image → CountsOn (cube_view set.now) lines block.now from
-        result.at cells.old rest cells.new result.rest }
+        result.at (counts_of cells.old) rest (counts_of cells.new) result.rest }
+    ensures sized { length (counts_of cells.new) ≡ length (counts_of cells.old) }
     ensures onward { from ≤ result.at }
     ensures inside { result.at ≤ count block.now }
     ensures marker { result.at < count block.now → 256 ≤ code_at block.now result.at }
-    ensures few { sum cells.new + in_rest result.rest + from
-        ≤ sum cells.old + in_rest rest + result.at }
+    ensures few { sum (counts_of cells.new) + in_rest result.rest + from
+        ≤ sum (counts_of cells.old) + in_rest rest + result.at }
 {
     // Copies, so that no field is read again for each photon.
     let own = *set;
+    let ticks = *ticks;
     let line = *strip;
     let len = block.len().min(BLOCK_SIZE);
     let mut rest = rest;
@@ -147,7 +175,7 @@ fn count_on(
         // No branch on the group, which is as good as random from photon to photon.
         let more = block.photons_in(at, own.image.group);
         let place = line.place(block.time(at));
-        let bin = bin_of(own.dwidth, block.dtime(at));
+        let bin = bin_by(&ticks, block.dtime(at));
         rest = put(&own, cells, rest, place, bin, more);
     }
     Run { at: len, rest }
@@ -157,23 +185,24 @@ fn count_on(
 #[inline(always)]
 pub(crate) fn put(
     set: &CubeSet,
-    cells: &mut [u64],
+    cells: &mut Cells,
     rest: Rest,
     place: Option<(u32, u32)>,
     bin: u32,
     more: u64,
 ) -> Rest
-    requires sized { length cells.old ≡ set.now.image.width * set.now.image.height * set.now.dbins }
+    requires sized { length (counts_of cells.old) ≡ set.now.image.width * set.now.image.height * set.now.dbins }
     requires inside { IfSome place (λ place.
         (place.0 < set.now.image.width) × (place.1 < set.now.image.height)) }
-    requires room { sum cells.old + in_rest rest + more < 2 ^ 64 }
+    requires room { sum (counts_of cells.old) + in_rest rest + more < 2 ^ 64 }
     ensures cells { (x y b : ℕ) → x < set.now.image.width → y < set.now.image.height → b < set.now.dbins
-        → slice_index cells.new ((y * set.now.image.width + x) * set.now.dbins + b)
-        ≡ slice_index cells.old ((y * set.now.image.width + x) * set.now.dbins + b)
+        → slice_index (counts_of cells.new) ((y * set.now.image.width + x) * set.now.dbins + b)
+        ≡ slice_index (counts_of cells.old) ((y * set.now.image.width + x) * set.now.dbins + b)
         + (if is_in_cell x y b place bin then more else 0) }
     ensures outside { result.outside ≡ rest.outside + (if is_none place then more else 0) }
     ensures over { result.over ≡ rest.over + (if is_over set.now.dbins place bin then more else 0) }
-    ensures sum { sum cells.new + in_rest result ≡ sum cells.old + in_rest rest + more }
+    ensures sized { length (counts_of cells.new) ≡ length (counts_of cells.old) }
+    ensures sum { sum (counts_of cells.new) + in_rest result ≡ sum (counts_of cells.old) + in_rest rest + more }
 {
     match place {
         None => Rest {
@@ -185,23 +214,28 @@ pub(crate) fn put(
             over: rest.over + more,
         },
         Some((column, row)) => {
-            cells[cell_of(set, column, row, bin)] += more;
+            cells.add(cell_of(set, column, row, bin), more);
             rest
         }
     }
 }
 
-/// The bin of a dtime, or the one where it would be behind the last. Bins of one tick need no division.
+/// The bin of a dtime, or the one where it would be behind the last, by a product.
+#[inline(always)]
+fn bin_by(ticks: &Divisor, dtime: u16) -> u32
+    requires { divisor_of ticks.now ≤ 32768 }
+    ensures { result ≡ dtime / divisor_of ticks.now }
+{
+    ticks.short_quotient(u64::from(dtime)) as u32
+}
+
+/// The bin of one dtime.
 #[inline(always)]
 pub(crate) fn bin_of(width: u32, dtime: u16) -> u32
     requires { 0 < width }
     ensures { result ≡ dtime / width }
 {
-    if width == 1 {
-        u32::from(dtime)
-    } else {
-        u32::from(dtime) / width
-    }
+    u32::from(dtime) / width
 }
 
 /// Where the cell of a column, a row and a bin stands.

@@ -1,10 +1,12 @@
 // A cube: an image of a scan with a histogram in each pixel.
-ghost use Rattle.std.specs.Prelude.{◌≡◌, ◌+◌, ◌*◌, ◌<◌, ◌≤◌, vec_len, sum};
+ghost use Rattle.std.specs.Prelude.{◌≡◌, ◌+◌, ◌*◌, ◌<◌, ◌≤◌, length, sum};
 ghost use Rattle.tally_base.specs.Settings.{image_view, cube_view};
 ghost use Rattle.tally_base.specs.Tally.{History};
 ghost use Rattle.marker_map.specs.Lines.{image_of, markers_given, line_start};
+ghost use Rattle.flim_cube.specs.Cells.{counts_of};
 
 use crate::count::{Rest, bin_of, cell_of, count_block, put};
+use crate::spread::Cells;
 use event_block::Block;
 use scan_image::Lines;
 use std::alloc::{AllocError, Global};
@@ -22,13 +24,13 @@ pub struct FlimCube {
     set: CubeSet,
     lines: Lines,
     // Row by row, in each row by column, in each column by bin.
-    cells: Vec<u64>,
+    cells: Cells,
     rest: Rest,
     taken: u64,
     floor: u64,
     closed: bool,
-    ghost sized: { vec_len cells ≡ set.image.width * set.image.height * set.dbins },
-    ghost small: { sum cells.items + (rest.outside + rest.over) ≤ taken },
+    ghost sized: { length (counts_of cells) ≡ set.image.width * set.image.height * set.dbins },
+    ghost small: { sum (counts_of cells) + (rest.outside + rest.over) ≤ taken },
     ghost of_set: { image_of lines ≡ image_view set.image },
     ghost few_markers: { markers_given lines ≤ taken },
     ghost begun: { line_start lines ≤ floor },
@@ -55,7 +57,7 @@ impl FlimCube {
         Ok(FlimCube {
             set,
             lines: Lines::new(&set.image),
-            cells: vec![in alloc; 0; size as usize]?,
+            cells: Cells::open(alloc, size)?,
             rest: Rest {
                 outside: 0,
                 over: 0,
@@ -82,7 +84,7 @@ impl FlimCube {
         ensures { (h : History) → Holds self.now h
             → result ≡ in_cell (cube_view (set_of self.now)) x y b h }
     {
-        self.cells[cell_of(&self.set, x, y, b)]
+        self.cells.get(cell_of(&self.set, x, y, b))
     }
 
     /// How many photons of the group came outside the image.
@@ -121,7 +123,7 @@ impl FlimCube {
 }
 
 impl Tally for FlimCube {
-    ghost use Rattle.std.specs.Prelude.{length};
+    ghost use Rattle.flim_cube.specs.Cells.{entries_of};
     ghost use Rattle.flim_cube.specs.Cube.{Holds, settings};
     ghost use Rattle.flim_cube.specs.Laws.{taken_is, floor_is, within_bound};
 
@@ -131,9 +133,9 @@ impl Tally for FlimCube {
 
     ghost floor = { λ t. t.floor };
 
-    // The time and the row of the line and the row of the next line are entries, beside the cells and the
-    // two rest counts.
-    ghost held = { λ t. length t.cells.items + 5 };
+    // The time and the row of the line and the row of the next line are entries, beside those that hold the
+    // bytes of the counts and the two rest counts.
+    ghost held = { λ t. entries_of t.cells + 5 };
 
     ghost settings = { settings };
 

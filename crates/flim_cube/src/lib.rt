@@ -4,8 +4,11 @@
 mod count;
 mod cube;
 pub mod laws;
+mod spread;
 
 pub use cube::FlimCube;
 
+#[cfg(test)]
+mod spread_tests;
 #[cfg(test)]
 mod tests;

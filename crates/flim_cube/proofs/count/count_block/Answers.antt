@@ -1,13 +1,14 @@
-use Rattle.std.proofs.Common.{◌≡◌, ◌∙◌, ◌+◌, ◌<◌, ◌≤◌, ◌%◌, [], ◌∷◌, ◌++◌, true, false, List, ap, subst, rules, arith, append_assoc}
+use Rattle.std.proofs.Common.{◌≡◌, ◌∙◌, ◌<◌, ◌≤◌, ◌%◌, [], ◌∷◌, ◌++◌, true, false, List, ap, subst, rules, arith, append_assoc}
 use Rattle.std.specs.Prelude.{nat_lt, if◌then◌else◌}
 use Rattle.std.proofs.lemmas.Bool.Decides.{nat_tests}
 use Rattle.tally_base.specs.declared.event.EventKind.TheVariants.{Photon, Marker}
-use Rattle.tally_base.specs.Settings.{image_view, cube_view}
+use Rattle.tally_base.specs.Settings.{cube_view}
 use Rattle.event_block.specs.Columns.{item, event_at, rows, code_at, dtime_at, time_at}
 use Rattle.event_block.proofs.Rows.{more_rows}
 use Rattle.event_block.proofs.Order.{floor-more}
 use Rattle.marker_map.specs.Lines.{Saw, line_start}
 use Rattle.marker_map.specs.Marks.{Mark, mark}
+use Rattle.flim_cube.specs.Cells.{counts_of}
 use Rattle.flim_cube.specs.Counted.{Counted}
 use Rattle.flim_cube.proofs.Steps.{marker_step}
 use Rattle.scan_image.proofs.Later.{floor-below, floor-rises}
@@ -37,8 +38,9 @@ runs-preserved c =
     let moved = floor-more true low (event_at b) at in
     let in_time : line_start c.runs.lines ≤ time = omega (arith, inv.before, floor-below low (event_at b) b.len c.runs.from at run.onward within c.requires.in_order) in
     record {
-      counted = λ h is. rw (more_rows (item b) at, ← append_assoc) (marker_step set c.runs.lines lines' c.count_run-run.new.cells c.count_run-run.result.rest (h ++ rows (item b) at) (item b at) (code % 256) kind saw (run.follows h (inv.counted h is)));
+      counted = λ h is. rw (more_rows (item b) at, ← append_assoc) (marker_step set c.runs.lines lines' (counts_of c.count_run-run.new.cells) c.count_run-run.result.rest (h ++ rows (item b) at) (item b at) (code % 256) kind saw (run.follows h (inv.counted h is)));
       within = omega (arith, within);
+      sized = run.sized ∙ inv.sized;
       few = omega (arith, inv.few, run.few);
       of_set = c.marker.ensures.same_image ∙ inv.of_set;
       few_markers = omega (arith, inv.few_markers, c.marker.ensures.one_more, run.onward);
@@ -51,7 +53,7 @@ returns-then-run-len-clause-follows c = λ h is.
     let run = c.count_run-run in
     let len : c.min-len.result ≡ b.len = search (rules, arith) in
     let end : run.result.at ≡ b.len = omega (arith, len, run.ensures.inside, c.if-run-len.true) in
-    subst (λ n. Counted (cube_view c.args.set.now) c.runs.lines run.new.cells run.result.rest (h ++ rows (item b) n)) end (run.ensures.follows h (c.runs.invariant.counted h is))
+    subst (λ n. Counted (cube_view c.args.set.now) c.runs.lines (counts_of run.new.cells) run.result.rest (h ++ rows (item b) n)) end (run.ensures.follows h (c.runs.invariant.counted h is))
 
 pub returns-then-run-len-clause-begun : goal.returns-then-run-len-clause-begun
 returns-then-run-len-clause-begun c =

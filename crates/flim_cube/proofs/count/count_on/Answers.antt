@@ -1,9 +1,10 @@
-use Rattle.std.proofs.Common.{◌≡◌, ◌∙◌, ◌+◌, ◌<◌, ◌≤◌, ◌%◌, ◌/◌, [], ◌∷◌, ◌++◌, true, List, cond, sym, ap, subst, rules, arith, append_assoc}
+use Rattle.std.proofs.Common.{◌≡◌, ◌∙◌, ◌<◌, ◌%◌, ◌/◌, ◌++◌, true, List, cond, sym, ap, subst, rules, arith, append_assoc}
 use Rattle.std.specs.Prelude.{nat_lt, if◌then◌else◌}
 use Rattle.std.proofs.lemmas.Bool.Decides.{nat_tests}
 use Rattle.tally_base.specs.declared.event.EventKind.TheVariants.{Photon, Marker}
+use Rattle.tally_base.specs.Divisors.{divisor_of}
 use Rattle.tally_base.specs.Events.{is_in}
-use Rattle.tally_base.specs.Settings.{image_view, cube_view}
+use Rattle.tally_base.specs.Settings.{cube_view}
 use Rattle.event_block.specs.Columns.{item, rows, code_at, dtime_at, groups_at, time_at}
 use Rattle.event_block.proofs.Rows.{more_rows}
 use Rattle.marker_map.specs.declared.lines.Lines.{Lines}
@@ -12,6 +13,7 @@ use Rattle.marker_map.specs.Marks.{Mark}
 use Rattle.marker_map.specs.Places.{place_of}
 use Rattle.scan_image.specs.Counted.{IsStripOf}
 use Rattle.scan_image.proofs.Steps.{only_group, few_more}
+use Rattle.flim_cube.specs.Cells.{counts_of}
 use Rattle.flim_cube.specs.Counted.{Counted}
 use Rattle.flim_cube.proofs.Steps.{photon_step}
 use Rattle.flim_cube.proofs.count.count_on.Goals as goal
@@ -36,11 +38,12 @@ loop-at-preserved c =
     let more = c.photons_in-more.result in
     let of_group : more ≡ cond (is_in (groups_at b at) set.image.group) 1 0 = c.photons_in-more.ensures ∙ only_group (is_in (groups_at b at) set.image.group) (nat_lt code 256) photon in
     let place = c.place-place.result in
-    let bin : c.bin_of-bin.result ≡ dtime / set.dwidth = c.bin_of-bin.ensures ∙ ap (λ d. d / set.dwidth) c.dtime.ensures in
+    let bin : c.bin_by-bin.result ≡ dtime / set.dwidth = c.bin_by-bin.ensures ∙ ap (λ d. d / divisor_of c.args.ticks.now) c.dtime.ensures ∙ ap (λ width. dtime / width) c.requires.bins in
     let found : (lines : Lines) → IsStripOf lines c.args.strip.now → image_of lines ≡ set.image → (ms : List Mark) → Saw lines ms → place_of set.image time ms ≡ place = λ lines strip of_set ms saw. sym (ap (λ image. place_of image time ms) of_set) ∙ (sym (strip ms saw time) ∙ sym (rw c.time.ensures at c.place-place.ensures.value)) in
     let put = rw bin at c.put-rest.ensures in
     record {
-      counted = λ lines h strip of_set is. rw (more_rows (item b) at, ← append_assoc) (photon_step set lines c.loop-at.cells c.put-rest.new.cells c.loop-at.rest c.put-rest.result more place (h ++ rows (item b) at) (item b at) code dtime kind of_group (found lines strip of_set) put.cells put.outside put.over (inv.counted lines h strip of_set is));
+      counted = λ lines h strip of_set is. rw (more_rows (item b) at, ← append_assoc) (photon_step set lines (counts_of c.loop-at.cells) (counts_of c.put-rest.new.cells) c.loop-at.rest c.put-rest.result more place (h ++ rows (item b) at) (item b at) code dtime kind of_group (found lines strip of_set) put.cells put.outside put.over (inv.counted lines h strip of_set is));
+      sized = c.put-rest.ensures.sized ∙ inv.sized;
       few = omega (arith, c.put-rest.ensures.sum, inv.few, few_more (is_in (groups_at b at) set.image.group), of_group);
     }
 
@@ -49,4 +52,4 @@ returns-clause-follows c = λ lines strip of_set h is.
     let b = c.args.block.now in
     let len : c.min-len.result ≡ b.len = search (rules, arith) in
     let end : c.loop-at.at ≡ c.min-len.result = omega (arith, len, c.requires.within, c.loop-at-test.false, c.loop-at.auto.at-end) in
-    subst (λ n. Counted (cube_view c.args.set.now) lines c.loop-at.cells c.loop-at.rest (h ++ rows (item b) n)) end (c.loop-at.invariant.counted lines h strip of_set is)
+    subst (λ n. Counted (cube_view c.args.set.now) lines (counts_of c.loop-at.cells) c.loop-at.rest (h ++ rows (item b) n)) end (c.loop-at.invariant.counted lines h strip of_set is)

@@ -1,11 +1,10 @@
-use Rattle.std.proofs.Common.{◌≡◌, ◌∙◌, true, length, refl, sym, ap, rules, arith, length-append}
+use Rattle.std.proofs.Common.{◌∙◌, true, refl, sym, ap, rules, arith, length-append}
 use Rattle.tally_base.specs.Tally.{greatest_time}
 use Rattle.event_block.specs.Columns.{item, gathered, events_in}
 use Rattle.event_block.specs.Order.{floor_after, InOrder}
 use Rattle.event_block.proofs.Rows.{length-rows}
 use Rattle.event_block.proofs.Greatest.{greatest-rows}
 use Rattle.event_block.proofs.Lower.{order-lower, floor-lower}
-use Rattle.event_block.proofs.Slices.{whole_slice}
 use Rattle.marker_map.specs.Lines.{line_start}
 use Rattle.flim_cube.proofs.cube.FlimCube.events.Goals as goal
 
@@ -16,12 +15,10 @@ pub invariant_of-self : goal.invariant_of-self
 invariant_of-self c =
     let t = c.args.self.now in
     let es = gathered c.args.block.now in
-    let e = rw c.deref_mut.ensures.value at c.count_block-self.ensures in
-    let count : length c.count_block-self.new.cells ≡ length t.cells.items = search rules in
-    let all : t.cells.len ≡ length t.cells.items = search rules in
+    let e = c.count_block-self.ensures in
     record {
-      sized = t.sized;
-      small = rw (whole_slice c.count_block-self.new.cells t.cells.items t.cells.len count all) (omega (arith, e.few, t.small, c.len.ensures.value));
+      sized = e.sized ∙ t.sized;
+      small = omega (arith, e.few, t.small, c.len.ensures.value);
       of_set = e.of_set ∙ t.of_set;
       few_markers = omega (arith, e.few_markers, t.few_markers, c.len.ensures.value);
       begun = rw c.floor_after-self.ensures (omega (arith, e.begun, floor-lower true (line_start t.lines) t.floor es t.begun));
@@ -32,13 +29,11 @@ returns c = record {
   follows = λ h is.
       let t = c.args.self.now in
       let block = c.args.block.now in
-      let e = rw c.deref_mut.ensures.value at c.count_block-self.ensures in
-      let count : length c.count_block-self.new.cells ≡ length t.cells.items = search rules in
-      let all : t.cells.len ≡ length t.cells.items = search rules in
+      let e = c.count_block-self.ensures in
       let ordered : InOrder true (greatest_time true h) (gathered block) = rw (← is.floor) c.requires.may.in_order in
       let now = e.follows h (record { each = is.cells; outside = is.outside; over = is.over; saw = is.lines }) in
       record {
-        cells = λ x y b in_width in_height in_bins. rw (whole_slice c.count_block-self.new.cells t.cells.items t.cells.len count all) (now.each x y b in_width in_height in_bins);
+        cells = now.each;
         outside = now.outside;
         over = now.over;
         lines = now.saw;
