@@ -1,10 +1,10 @@
 -- The groups without a gate and those with gates, apart.
-use Rattle.std.specs.Prelude.{ℕ, ◌*◌, ◌^◌, Bool, true, false, ◌&&◌, List, [], ◌∷◌, map, sum_by, slice_index_or}
+use Rattle.std.specs.Prelude.{ℕ, ◌≡◌, ◌<◌, ◌+◌, ◌*◌, ◌^◌, Bool, true, false, ◌&&◌, List, [], ◌∷◌, map, sum_by, slice_index, slice_index_or}
 use Rattle.std.specs.List.{list_any}
 use Rattle.tally_base.specs.Settings.{GroupView}
 use Rattle.gate_plan.specs.Taking.{is_among, is_in_gate, one_if, bits_of}
 use Rattle.gate_plan.specs.declared.gated.Gated.{Gated}
-use Rattle.gate_plan.specs.declared.gated.OnlyGate.{OnlyGate}
+use Rattle.gate_plan.specs.declared.only_gate.OnlyGate.{OnlyGate}
 
 abbrev pub is_open : List (ℕ × ℕ) → Bool
 is_open [] = true
@@ -37,6 +37,10 @@ gated_bit input dtime group = one_if (slice_index_or group.has input false && pa
 abbrev pub gated_sum : List Gated → ℕ → ℕ → ℕ
 gated_sum gated input dtime = sum_by (gated_bit input dtime) gated
 
--- the bit of the group of an only gate
-abbrev pub bit_behind : ℕ → ℕ → OnlyGate → ℕ
-bit_behind input dtime only = one_if (slice_index_or only.has input false && is_in_gate dtime only.gate) * 2 ^ only.place
+-- the groups of a photon behind an only gate
+abbrev pub groups_behind : ℕ → ℕ → OnlyGate → ℕ
+groups_behind input dtime only = slice_index (slice_index_or only.groups (one_if (is_in_gate dtime only.gate)) []) input
+
+-- An only gate tells what photons of these groups are in.
+abbrev pub TellsGroups : OnlyGate → List GroupView → Type 0
+TellsGroups only groups = (input dtime : ℕ) → input < 256 → groups_behind input dtime only ≡ plain_bits groups input + gated_bits groups input dtime

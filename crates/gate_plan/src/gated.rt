@@ -17,18 +17,6 @@ pub struct Gated {
     pub ghost in_place: { place < 64 },
 }
 
-/// The gate of a group that has no other.
-#[derive(Clone, Copy)]
-pub struct OnlyGate {
-    /// The place of the group's bit.
-    pub place: u64,
-    /// By input: whether it is in the group.
-    pub has: [bool; 256],
-    /// The range of dtimes, from its first number on and below its second.
-    pub gate: (u16, u16),
-    pub ghost in_place: { place < 64 },
-}
-
 /// The group of no input, which fills unused room.
 impl Default for Gated {
     fn default() -> Gated {

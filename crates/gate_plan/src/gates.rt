@@ -3,12 +3,13 @@ ghost use Rattle.std.specs.Prelude.{◌≡◌, ◌<◌, ◌≤◌, ℕ, map, len
 ghost use Rattle.std.specs.Option.{ForSome};
 ghost use Rattle.tally_base.specs.Settings.{group_view, shift_view};
 ghost use Rattle.gate_plan.specs.Shifting.{shift_of};
-ghost use Rattle.gate_plan.specs.Parting.{plain_bits, gated_bits, gated_sum, bit_behind};
+ghost use Rattle.gate_plan.specs.Parting.{plain_bits, gated_bits, gated_sum, TellsGroups};
 
 use crate::copies::groups_again;
-use crate::gated::{Gated, OnlyGate};
+use crate::gated::Gated;
+use crate::only_gate::OnlyGate;
 use crate::shifts::{shift_table, shifted_by};
-use crate::table::{bit_behind, bits_of_gated, gated_of, only_gate, plain_table};
+use crate::table::{bits_of_gated, gated_of, only_gate, plain_table};
 use arrayvec::ArrayVec;
 use plan_text::Plan;
 use tally_base::{Event, EventKind, Group, ShiftSet};
@@ -25,7 +26,7 @@ pub struct Gates {
     plain: [u64; 256],
     // The groups that have gates.
     gated: ArrayVec<Gated, 64>,
-    // The gate of those, where there is only one.
+    // The gate of those with the groups of each input, where there is only one.
     only: Option<OnlyGate>,
     ghost some_period: { (0 < period) × (period ≤ 32768) },
     ghost few: { length groups.items ≤ 64 },
@@ -35,8 +36,7 @@ pub struct Gates {
         → slice_index plain input ≡ plain_bits (map group_view groups.items) input },
     ghost gated_is: { (input dtime : ℕ) → gated_sum gated.items input dtime
         ≡ gated_bits (map group_view groups.items) input dtime },
-    ghost only_is: { ForSome only (λ gate. (input dtime : ℕ)
-        → bit_behind input dtime gate ≡ gated_bits (map group_view groups.items) input dtime) },
+    ghost only_is: { ForSome only (λ gate. TellsGroups gate (map group_view groups.items)) },
 }
 
 impl Gates {
@@ -57,7 +57,7 @@ impl Gates {
         let groups = groups_again(plan.groups.as_slice());
         let plain = plain_table(groups.as_slice());
         let gated = gated_of(groups.as_slice());
-        let only = only_gate(gated.as_slice());
+        let only = only_gate(gated.as_slice(), &plain);
         Gates {
             period: plan.period,
             shifts,
@@ -103,24 +103,23 @@ impl Gates {
         }
     }
 
-    /// The groups with a gate that a photon is in, by its shifted dtime. One gate takes no loop.
-    #[inline(always)]
-    fn of_gated(&self, input: u8, dtime: u16) -> u64
-        ensures { result ≡ gated_bits (sorting_of self.now).groups input dtime }
-    {
-        match &self.only {
-            Some(only) => bit_behind(only, input, dtime),
-            None => bits_of_gated(self.gated.as_slice(), input, dtime),
-        }
-    }
-
-    /// The groups that a photon is in, by its shifted dtime.
+    /// The groups that a photon is in, by its shifted dtime. One gate takes no loop.
     #[inline(always)]
     pub fn of_photon(&self, input: u8, dtime: u16) -> u64
         ensures { result ≡ plain_bits (sorting_of self.now).groups input
             + gated_bits (sorting_of self.now).groups input dtime }
     {
-        self.of_input(input) + self.of_gated(input, dtime)
+        match &self.only {
+            Some(only) => only.of_photon(input, dtime),
+            None => self.of_input(input) + bits_of_gated(self.gated.as_slice(), input, dtime),
+        }
+    }
+
+    /// The only gate of the plan, if there is one, with the groups of each input behind it.
+    pub fn only_gate(&self) -> Option<&OnlyGate>
+        ensures { ForSome result (λ gate. TellsGroups gate.now (sorting_of self.now).groups) }
+    {
+        self.only.as_ref()
     }
 
     /// Whether a group has a gate.

@@ -4,10 +4,12 @@
 mod copies;
 mod gated;
 mod gates;
+mod only_gate;
 mod shifts;
 mod table;
 
 pub use gates::Gates;
+pub use only_gate::OnlyGate;
 
 #[cfg(test)]
 mod tests;

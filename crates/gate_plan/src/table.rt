@@ -1,13 +1,14 @@
 // The groups without a gate by input, and those with gates.
-ghost use Rattle.std.specs.Prelude.{◌≡◌, ◌<◌, ◌≤◌, ◌*◌, ◌^◌, ℕ, map, length, slice_index, slice_index_or, false};
+ghost use Rattle.std.specs.Prelude.{◌≡◌, ◌<◌, ◌≤◌, ◌+◌, ◌-◌, ◌*◌, ◌^◌, ℕ, min, map, length, slice_index, slice_index_or, false};
 ghost use Rattle.std.specs.Int.{bit_at};
 ghost use Rattle.std.specs.Option.{ForSome};
 ghost use Rattle.tally_base.specs.Settings.{group_view};
 ghost use Rattle.gate_plan.specs.Taking.{is_among, is_in_gate, one_if};
-ghost use Rattle.gate_plan.specs.Parting.{takes_plainly, takes_gated, passes, gates_of, plain_bits, gated_bits, gated_bit, gated_sum, bit_behind};
+ghost use Rattle.gate_plan.specs.Parting.{takes_plainly, takes_gated, passes, gates_of, plain_bits, gated_bits, gated_bit, gated_sum, groups_behind};
 
 use crate::copies::gates_again;
-use crate::gated::{Gated, OnlyGate};
+use crate::gated::Gated;
+use crate::only_gate::{OnlyGate, is_in_gate};
 use arrayvec::ArrayVec;
 use tally_base::Group;
 
@@ -79,28 +80,33 @@ fn gated_at(group: &Group, place: u64) -> Gated
     }
 }
 
-/// The only gate of these groups, if they are one group that has one gate.
-pub(crate) fn only_gate(gated: &[Gated]) -> Option<OnlyGate>
-    ensures { ForSome result (λ gate. (input dtime : ℕ)
-        → gated_sum gated.now input dtime ≡ bit_behind input dtime gate) }
+/// The only gate of these groups, if they are one group that has one gate, with the groups of each input
+/// behind it, where these are the groups that have none.
+pub(crate) fn only_gate(gated: &[Gated], plain: &[u64; 256]) -> Option<OnlyGate>
+    ensures { ForSome result (λ gate. (input dtime : ℕ) → input < 256
+        → slice_index plain.now input + gated_sum gated.now input dtime < 2 ^ 64
+        → groups_behind input dtime gate ≡ slice_index plain.now input + gated_sum gated.now input dtime) }
 {
     match gated {
-        [group] if group.others.is_empty() => Some(OnlyGate {
-            place: group.place,
-            has: group.has,
-            gate: group.gate,
-        }),
+        [group] if group.others.is_empty() => {
+            Some(OnlyGate::new(group.gate, *plain, inside_table(group, plain)))
+        }
         _ => None,
     }
 }
 
-/// The bit of the group of a gate, if a photon is in it. It takes no branch on the input or on the dtime.
-#[inline(always)]
-pub(crate) fn bit_behind(only: &OnlyGate, input: u8, dtime: u16) -> u64
-    ensures { result ≡ bit_behind input dtime only.now }
+/// For each input the number of its groups where the dtime is in a gate of this group, and these are the groups
+/// that have none.
+fn inside_table(group: &Gated, plain: &[u64; 256]) -> [u64; 256]
+    ensures { (input : ℕ) → input < 256 → slice_index result input
+        ≡ min (slice_index plain.now input + one_if (slice_index_or group.now.has input false) * 2 ^ group.now.place) (2 ^ 64 - 1) }
 {
-    let set = only.has[input as usize] & is_in_gate(&only.gate, dtime);
-    u64::from(set) << only.place
+    let mut table = [0; 256];
+    for input in 0..256u16 {
+        let at = input as usize;
+        table[at] = plain[at].saturating_add(bit_if(group.has[at], group.place));
+    }
+    table
 }
 
 /// The number of those of these groups that a photon is in.
@@ -149,14 +155,6 @@ fn passes_some(gates: &[(u16, u16)], dtime: u16) -> bool
         found |= is_in_gate(gate, dtime);
     }
     found
-}
-
-/// Whether a dtime is in the gate: from its first on and below its second.
-#[inline(always)]
-fn is_in_gate(gate: &(u16, u16), dtime: u16) -> bool
-    ensures { result ≡ is_in_gate dtime gate.now }
-{
-    (gate.0 <= dtime) & (dtime < gate.1)
 }
 
 /// For each input whether it is one of these.

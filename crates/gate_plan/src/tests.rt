@@ -19,9 +19,51 @@ fn photon(input: u8, dtime: u16) -> EventKind {
     EventKind::Photon { input, dtime }
 }
 
-/// These events are in these groups.
-fn sorts(rt: &impl Abort, gates: &Gates) {
-    for (kind, groups) in [
+/// Group 1 has the inputs 0 and 3. Group 2 has the inputs 1 and 3 and the dtimes 10 to 19, by the only gate of
+/// the plan.
+const ONE_GATE: &str = "[[group]]\n\
+inputs = [0, 3]\n\
+[[group]]\n\
+inputs = [1, 3]\n\
+gate = [10, 20]\n";
+
+/// The events of a table are in its groups.
+fn sorts(rt: &impl Abort, gates: &Gates, rows: &[(EventKind, u64)]) {
+    for &(kind, groups) in rows {
+        let event = Event {
+            place: 1,
+            kind,
+            time: 5,
+        };
+        assert_eq!(rt; gates.groups(&event), groups, "{kind:?}");
+    }
+}
+
+#[test]
+fn groups_behind_one_gate(rt: HostRuntime) {
+    let rows = [
+        (photon(0, 0), 0b01),
+        (photon(0, 10), 0b01),
+        (photon(3, 9), 0b01),
+        (photon(3, 10), 0b11),
+        (photon(3, 19), 0b11),
+        (photon(3, 20), 0b01),
+        (photon(1, 9), 0),
+        (photon(1, 10), 0b10),
+        (photon(2, 10), 0),
+        (photon(255, 10), 0),
+        (EventKind::Marker { bits: 3 }, 0),
+    ];
+    let Ok(plan) = read_plan(rt.alloc(), ONE_GATE.as_bytes()) else {
+        assert!(rt; false, "the plan is read");
+        return;
+    };
+    sorts(&rt, &Gates::of(&plan), &rows);
+}
+
+#[test]
+fn groups_of_events(rt: HostRuntime) {
+    let rows = [
         (photon(0, 0), 0b001),
         (photon(3, 9), 0b001),
         (photon(3, 10), 0b011),
@@ -35,14 +77,12 @@ fn sorts(rt: &impl Abort, gates: &Gates) {
         (photon(255, 10), 0),
         (EventKind::Marker { bits: 1 }, 0),
         (EventKind::Marker { bits: 15 }, 0),
-    ] {
-        let event = Event {
-            place: 1,
-            kind,
-            time: 5,
-        };
-        assert_eq!(rt; gates.groups(&event), groups, "{kind:?}");
-    }
+    ];
+    let Ok(plan) = read_plan(rt.alloc(), PLAN.as_bytes()) else {
+        assert!(rt; false, "the plan is read");
+        return;
+    };
+    sorts(&rt, &Gates::of(&plan), &rows);
 }
 
 /// The groups that a photon of the input 0 is in, by a plan of so many groups with that input.
@@ -53,15 +93,6 @@ fn sorts_by_many(rt: &impl Abort, plan: &Plan, groups: u64) {
         time: 0,
     };
     assert_eq!(rt; Gates::of(plan).groups(&event), groups);
-}
-
-#[test]
-fn groups_of_events(rt: HostRuntime) {
-    let Ok(plan) = read_plan(rt.alloc(), PLAN.as_bytes()) else {
-        assert!(rt; false, "the plan is read");
-        return;
-    };
-    sorts(&rt, &Gates::of(&plan));
 }
 
 #[test]

@@ -1,12 +1,13 @@
 // A block of events to every table.
-ghost use Rattle.std.specs.Prelude.{◌≡◌, ℕ, ◌+◌, ◌<◌, ◌≤◌, ◌++◌, ◌∷◌, [], All, false, map, length, if◌then◌else◌};
+ghost use Rattle.std.specs.Prelude.{◌≡◌, ℕ, ◌+◌, ◌<◌, ◌≤◌, ◌++◌, ◌∷◌, [], All, List, false, map, length, if◌then◌else◌};
 ghost use Rattle.tally_base.specs.declared.event.Event.{Event};
+ghost use Rattle.tally_base.specs.Settings.{GroupView};
 ghost use Rattle.event_block.specs.Codes.{kind_of};
 ghost use Rattle.event_block.specs.Columns.{sorted, gathered, events_in, IsSorted};
 ghost use Rattle.gate_plan.specs.Groups.{sorting_of};
 ghost use Rattle.gate_plan.specs.Shifting.{shifted, shifted_dtime};
 ghost use Rattle.gate_plan.specs.Taking.{groups_by};
-ghost use Rattle.gate_plan.specs.Parting.{plain_bits, gated_bits};
+ghost use Rattle.gate_plan.specs.Parting.{plain_bits, gated_bits, TellsGroups};
 ghost use Rattle.tally_base.specs.Events.{is_ordered};
 ghost use Rattle.tally_base.specs.Limits.{record_limit};
 ghost use Rattle.record_stream.specs.Floors.{moved_floor};
@@ -18,7 +19,7 @@ ghost use Rattle.tally_engine.specs.Histories.{grouped, with_groups};
 use crate::part::Part;
 use crate::reached::Reached;
 use event_block::{BLOCK_SIZE, Block};
-use gate_plan::Gates;
+use gate_plan::{Gates, OnlyGate};
 use std::sync::ledger::Ledger;
 use tally_base::{Event, Mode, Steps, Tally};
 
@@ -176,9 +177,8 @@ fn dtime_behind(gates: &Gates, code: u16, dtime: u16) -> u16
     }
 }
 
-/// Finds the groups of the events of a block, whose dtimes are shifted.
-// Not inlined, so that its loop has the registers for itself.
-#[inline(never)]
+/// Finds the groups of the events of a block, whose dtimes are shifted. Where a plan has one gate, its numbers
+/// are read once for them all.
 fn sort(gates: &Gates, block: &mut Block)
     requires { sorted block.old ≡ 0 }
     ensures same { gathered block.new ≡ gathered block.old }
@@ -186,8 +186,55 @@ fn sort(gates: &Gates, block: &mut Block)
         ≡ grouped (sorting_of gates.now).groups (gathered block.old) }
     ensures ready { IsSorted block.new }
 {
-    let gated = gates.has_gates();
+    match gates.only_gate() {
+        Some(only) => sort_by_gate(only, block),
+        None => sort_each(gates, block),
+    }
+}
+
+/// Finds the groups of the events of a block by an only gate.
+// Not inlined, so that its loop has the registers for itself.
+#[inline(never)]
+fn sort_by_gate(only: &OnlyGate, block: &mut Block)
+    requires { sorted block.old ≡ 0 }
+    ensures same { gathered block.new ≡ gathered block.old }
+    ensures sorted { (groups : List GroupView) → TellsGroups only.now groups
+        → events_in block.new ≡ grouped groups (gathered block.old) }
+    ensures ready { IsSorted block.new }
+{
     // Of its own: a number behind the groups of a block is written again for each of them.
+    let mut groups = [0; BLOCK_SIZE];
+    for at in 0..block.len().min(BLOCK_SIZE) {
+        groups[at] = groups_behind(only, block.code(at), block.dtime(at));
+    }
+    block.put_all(&groups);
+}
+
+/// The groups of an event in a block, by an only gate.
+#[inline(always)]
+fn groups_behind(only: &OnlyGate, code: u16, dtime: u16) -> u64
+    ensures marker { 256 ≤ code → result ≡ 0 }
+    ensures value { (groups : List GroupView) → TellsGroups only.now groups
+        → (e : Event) → e.kind ≡ kind_of code dtime → result ≡ groups_by groups e }
+{
+    if code < 256 {
+        only.of_photon(code as u8, dtime)
+    } else {
+        0
+    }
+}
+
+/// Finds the groups of the events of a block, event by event.
+// Not inlined, so that its loop has the registers for itself.
+#[inline(never)]
+fn sort_each(gates: &Gates, block: &mut Block)
+    requires { sorted block.old ≡ 0 }
+    ensures same { gathered block.new ≡ gathered block.old }
+    ensures sorted { events_in block.new
+        ≡ grouped (sorting_of gates.now).groups (gathered block.old) }
+    ensures ready { IsSorted block.new }
+{
+    let gated = gates.has_gates();
     let mut groups = [0; BLOCK_SIZE];
     for at in 0..block.len().min(BLOCK_SIZE) {
         groups[at] = groups_at(gates, gated, block.code(at), block.dtime(at));

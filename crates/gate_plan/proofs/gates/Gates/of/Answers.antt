@@ -1,0 +1,23 @@
+use Rattle.std.proofs.Common.{◌≡◌, ◌+◌, ◌<◌, ◌^◌, ℕ, map, get_or, rules, arith, ap, refl, sym, ◌∙◌}
+use Rattle.tally_base.specs.Settings.{group_view}
+use Rattle.gate_plan.specs.Parting.{plain_bits, gated_bits, gated_sum, groups_behind}
+use Rattle.gate_plan.proofs.Parts.{parted_fits, few_groups}
+use Rattle.gate_plan.proofs.gates.Gates.of.Goals as goal
+
+pub invariant_of-result-clause-shifts_are : goal.invariant_of-result-clause-shifts_are
+invariant_of-result-clause-shifts_are c = rw c.as_slice-2.ensures.value at c.shift_table-shift_by_input.ensures
+
+pub invariant_of-result-clause-plain_is : goal.invariant_of-result-clause-plain_is
+invariant_of-result-clause-plain_is c = rw c.as_slice-4.ensures.value at c.plain_table-plain.ensures
+
+pub invariant_of-result-clause-gated_is : goal.invariant_of-result-clause-gated_is
+invariant_of-result-clause-gated_is c = rw c.as_slice-5.ensures.value at c.gated_of-gated.ensures
+
+pub invariant_of-result-clause-only_is : goal.invariant_of-result-clause-only_is
+invariant_of-result-clause-only_is c = λ gate is input dtime below.
+    let groups = map group_view c.groups_again-groups.result.items in
+    let plain = (rw c.as_slice-4.ensures.value at c.plain_table-plain.ensures) input below in
+    let gated = (rw c.as_slice-5.ensures.value at c.gated_of-gated.ensures) input dtime in
+    let same : get_or c.plain_table-plain.result input 0 + gated_sum c.as_slice-6.result.now input dtime ≡ plain_bits groups input + gated_bits groups input dtime = rw (c.as_slice-6.ensures.value, plain, gated) refl in
+    let fits = parted_fits groups input dtime (few_groups c.groups_again-groups.result.items c.groups_again-groups.ensures.few) in
+    c.only_gate-only.ensures gate is input dtime below (rw same fits) ∙ same

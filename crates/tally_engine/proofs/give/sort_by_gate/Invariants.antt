@@ -1,0 +1,14 @@
+use Rattle.std.proofs.Common.{length, List, ℕ, ◌≡◌, ◌<◌, ◌≤◌}
+use Rattle.std.specs.Prelude.{slice_index}
+use Rattle.event_block.specs.Columns.{event_at, code_at}
+use Rattle.tally_base.specs.Settings.{GroupView}
+use Rattle.gate_plan.specs.Parting.{TellsGroups}
+use Rattle.gate_plan.specs.Taking.{groups_by}
+use Rattle.tally_engine.proofs.give.sort_by_gate.Given as goal
+
+abbrev pub invariant-loop-at : goal.invariant-loop-at
+invariant-loop-at l = record {
+  sized : length l.groups ≡ 64;
+  sorted : (groups : List GroupView) → TellsGroups l.only groups → (i : ℕ) → i < l.at → slice_index l.groups i ≡ groups_by groups (event_at l.block i);
+  markers : (i : ℕ) → i < l.at → 256 ≤ code_at l.block i → slice_index l.groups i ≡ 0;
+}
