@@ -23,13 +23,14 @@ use Rattle.record_stream.specs.declared.taker.EventTaker.{Ghosts}
 use Rattle.record_stream.specs.Ending.{GaveRest, BrokeFirst, Ended}
 use Rattle.short_file.specs.ShortFiles.{bytes_in}
 use Rattle.record_write.specs.Picked.{photon_words}
+use Rattle.told_text.specs.Texts.{WroteText, CutText}
 use Rattle.photon_pick.specs.Taking.{Stand, Took, Refused, RefusedLate, RefusedCut}
 use Rattle.photon_pick.specs.Texts.{photons_in, text_in, answer_by, HasPickedIn}
-use Rattle.photon_pick.specs.Ends.{photons_kept, photons_by, end_text, end_fault, WroteEnd, CutEnd, WritesEnd}
+use Rattle.photon_pick.specs.Ends.{photons_kept, photons_by, end_text, end_fault, WritesEnd}
 use Rattle.photon_pick.proofs.Parts.{AppendsShort-none, chosen-more, bytes_of, took-clear, took-bytes, took-put, late-first, late-bytes, late-put, cut-bytes, cut-short}
 
 -- the kept list has what was given, and what is given at the end
-kept-are : (chooses : Event → Bool) (how : Reading) (words : List ℕ) → record_refusal how words ≡ None → photons_kept chooses how words ≡ photons_in chooses how words ++ filter chooses (not_marked (last_in how words))
+pub kept-are : (chooses : Event → Bool) (how : Reading) (words : List ℕ) → record_refusal how words ≡ None → photons_kept chooses how words ≡ photons_in chooses how words ++ filter chooses (not_marked (last_in how words))
 kept-are chooses how words clear =
     let k = how.policy.settle in
     let es = events (map how.meaning words) in
@@ -69,7 +70,7 @@ module _ {T : Type 0} (g : Ghosts T) (a b : T) (at : T → Stand) (chooses : Eve
   gave-adds : (sum : Summary) (h : GaveRest g how a b bytes sum) → end_text chooses how bytes ≡ text ++ bytes_in (each_after (photon_words how.mode) before (filter chooses (not_marked (last_in how (words_of bytes)))))
   gave-adds sum h = text-whole sum h.streams ∙ took-bytes s t chooses how.mode same_choice same_mode empty before total has.in_time has.picked (last_in how (words_of bytes)) (gave sum h) (kept-are chooses how (words_of bytes) clear)
 
-  gave-wrote : (sum : Summary) (h : GaveRest g how a b bytes sum) → Appends t.written c t.held → faults ≡ t.sink → WroteEnd chooses how s.written c s.sink faults bytes
+  gave-wrote : (sum : Summary) (h : GaveRest g how a b bytes sum) → Appends t.written c t.held → faults ≡ t.sink → WroteText text (end_text chooses how bytes) s.written c s.sink faults
   gave-wrote sum h flushed still = record {
     more = _;
     adds = gave-adds sum h;
@@ -80,7 +81,7 @@ module _ {T : Type 0} (g : Ghosts T) (a b : T) (at : T → Stand) (chooses : Eve
   gave-clear : (sum : Summary) (h : GaveRest g how a b bytes sum) → end_fault chooses how bytes ≡ None
   gave-clear sum h = rw (h.streams, took-clear s t chooses how.mode same_choice same_mode empty before total has.in_time has.picked (last_in how (words_of bytes)) (gave sum h) (kept-are chooses how (words_of bytes) clear)) refl
 
-  gave-cut : (sum : Summary) (h : GaveRest g how a b bytes sum) → AppendsShort t.written c t.held → Rose t.sink faults → CutEnd chooses how s.written c s.sink faults bytes
+  gave-cut : (sum : Summary) (h : GaveRest g how a b bytes sum) → AppendsShort t.written c t.held → Rose t.sink faults → CutText text (end_text chooses how bytes) s.written c s.sink faults
   gave-cut sum h short rose =
       let still = (gave sum h).kept_sink in
       record {

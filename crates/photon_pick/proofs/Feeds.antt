@@ -16,10 +16,11 @@ use Rattle.ptu_definitions.specs.Streams.{Reading, record_refusal, given}
 use Rattle.record_stream.specs.declared.taker.EventTaker.{Ghosts}
 use Rattle.record_stream.specs.Feeding.{GaveOn, BrokeOn, Fed}
 use Rattle.photon_pick.specs.Taking.{Stand, Took, Refused, RefusedLate, RefusedCut}
-use Rattle.photon_pick.specs.Texts.{photons_in, text_in, refusal_in, answer_by, WroteText, CutText, WritesText, HasPickedIn}
+use Rattle.told_text.specs.Texts.{WroteText, CutText, WritesText}
+use Rattle.photon_pick.specs.Texts.{photons_in, text_in, refusal_in, answer_by, HasPickedIn}
 use Rattle.photon_pick.proofs.Parts.{AppendsShort-none, chosen-more, took-clear, took-bytes, took-put, took-picked, late-first, late-bytes, late-put, cut-bytes, cut-short}
 
-photons-more : (chooses : Event → Bool) (how : Reading) (words now : List ℕ) (more : Marked) → given how now ≡ given how words ++ more → photons_in chooses how now ≡ photons_in chooses how words ++ filter chooses (not_marked more)
+pub photons-more : (chooses : Event → Bool) (how : Reading) (words now : List ℕ) (more : Marked) → given how now ≡ given how words ++ more → photons_in chooses how now ≡ photons_in chooses how words ++ filter chooses (not_marked more)
 photons-more chooses how words now more adds = ap (λ l. filter chooses (not_marked l)) adds ∙ chosen-more chooses (given how words) more
 
 module _ {T : Type 0} (g : Ghosts T) (a b : T) (at : T → Stand) (chooses : Event → Bool) (how : Reading) (same_choice : (at a).chooses ≡ chooses) (same_mode : (at a).mode ≡ how.mode) (empty : (at a).held ≡ []) (c : Option (List ℕ)) (faults : ℕ)
@@ -49,7 +50,7 @@ module _ {T : Type 0} (g : Ghosts T) (a b : T) (at : T → Stand) (chooses : Eve
   gave-are : (h : GaveOn g how a b words now) → total ≡ before ++ filter chooses (not_marked h.more)
   gave-are h = photons-more chooses how words now h.more h.adds
 
-  gave-wrote : (h : GaveOn g how a b words now) → Appends t.written c t.held → faults ≡ t.sink → WroteText text s.written c s.sink faults words now
+  gave-wrote : (h : GaveOn g how a b words now) → Appends t.written c t.held → faults ≡ t.sink → WroteText (text words) (text now) s.written c s.sink faults
   gave-wrote h flushed still = record {
     more = _;
     adds = took-bytes s t chooses how.mode same_choice same_mode empty before total has.in_time has.picked h.more (gave h) (gave-are h);
@@ -66,7 +67,7 @@ module _ {T : Type 0} (g : Ghosts T) (a b : T) (at : T → Stand) (chooses : Eve
     in_time = took-clear s t chooses how.mode same_choice same_mode empty before total has.in_time has.picked h.more (gave h) (gave-are h);
   }
 
-  gave-cut : (h : GaveOn g how a b words now) → AppendsShort t.written c t.held → Rose t.sink faults → CutText text s.written c s.sink faults words now
+  gave-cut : (h : GaveOn g how a b words now) → AppendsShort t.written c t.held → Rose t.sink faults → CutText (text words) (text now) s.written c s.sink faults
   gave-cut h short rose =
       let still = (gave h).kept_sink in
       record {
@@ -85,7 +86,7 @@ module _ {T : Type 0} (g : Ghosts T) (a b : T) (at : T → Stand) (chooses : Eve
 
   -- What a piece wrote, where the block was flushed.
   pub feeds-on : (r : Result (Unit {0}) Fault) → s.fault ≡ None → Appends t.written c t.held → faults ≡ t.sink → Fed g how a b words now r
-      → WritesText text refuses s.written c s.sink faults words now (answer_by t.fault r) × OnOk (answer_by t.fault r) (HasPickedIn chooses how t.picker now)
+      → WritesText (text words) (text now) (refuses now) s.written c s.sink faults (answer_by t.fault r) × OnOk (answer_by t.fault r) (HasPickedIn chooses how t.picker now)
   feeds-on (Ok done) free flushed still fed = ((gave-clear fed.1 None fed.0, gave-wrote fed.1 flushed still), gave-stands fed.1)
   feeds-on (Err fault) free flushed still fed =
       ⊎_elim
@@ -127,7 +128,7 @@ module _ {T : Type 0} (g : Ghosts T) (a b : T) (at : T → Stand) (chooses : Eve
       fed
 
   -- What it wrote where the flush failed.
-  pub feeds-cut : (r : Result (Unit {0}) Fault) → AppendsShort t.written c t.held → Rose t.sink faults → Fed g how a b words now r → WritesText {X = Unit {0}} text refuses s.written c s.sink faults words now (Err WriteFault)
+  pub feeds-cut : (r : Result (Unit {0}) Fault) → AppendsShort t.written c t.held → Rose t.sink faults → Fed g how a b words now r → WritesText {X = Unit {0}} (text words) (text now) (refuses now) s.written c s.sink faults (Err WriteFault)
   feeds-cut (Ok done) short rose fed = inr (refl, gave-cut fed.1 short rose)
   feeds-cut (Err fault) short rose fed =
       ⊎_elim

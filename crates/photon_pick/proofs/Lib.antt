@@ -4,3 +4,5 @@ pub mod Wanted
 pub mod Parts
 pub mod Feeds
 pub mod Ends
+pub mod Streams
+pub mod Stays

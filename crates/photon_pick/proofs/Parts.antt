@@ -57,7 +57,7 @@ move-cut m n a b held behind photons same none h =
 -- ## Texts
 
 -- the words of photons behind others
-words-more : (mode : Mode) (ps qs : List Event) → bytes_in (picked_words mode (ps ++ qs)) ≡ bytes_in (picked_words mode ps) ++ bytes_in (each_after (photon_words mode) ps qs)
+pub words-more : (mode : Mode) (ps qs : List Event) → bytes_in (picked_words mode (ps ++ qs)) ≡ bytes_in (picked_words mode ps) ++ bytes_in (each_after (photon_words mode) ps qs)
 unfolding picked_words
 words-more mode ps qs = ap bytes_in (each_after-append (photon_words mode) [] ps qs) ∙ bytes_in-append (each_after (photon_words mode) [] ps) (each_after (photon_words mode) ps qs)
 

@@ -1,20 +1,17 @@
 -- What all bytes behind a header write of the photons that are chosen.
-use Rattle.std.specs.Prelude.{ℕ, ◌≡◌, ◌⊎◌, Bool, List, ◌++◌, map, None, Some, Result, Ok, Err}
+use Rattle.std.specs.Prelude.{ℕ, Bool, List, map, Result, Ok, Err}
 use Rattle.std.specs.List.{filter}
 use Rattle.std.specs.declared.option.Option.{Option}
-use Rattle.std.specs.Io.KnownBytes.{Appends}
 use Rattle.tally_base.specs.declared.event.Event.{Event}
 use Rattle.tally_base.specs.declared.fault.Fault.{Fault}
-use Rattle.tally_base.specs.declared.fault.Fault.TheVariants.{WriteFault}
-use Rattle.tally_base.specs.FaultCounts.{Rose}
 use Rattle.tally_base.specs.Faults.{fault_in}
-use Rattle.bench_io.specs.Sinks.{AppendsShort}
 use Rattle.ptu_definitions.specs.declared.records.Summary.{Summary}
 use Rattle.ptu_definitions.specs.Prefixes.{first}
 use Rattle.ptu_definitions.specs.Settled.{kept_by}
 use Rattle.ptu_definitions.specs.Streams.{Reading, streamed}
 use Rattle.ptu_definitions.specs.Times.{events}
 use Rattle.ptu_definitions.specs.Words.{words_of}
+use Rattle.told_text.specs.Texts.{WritesText}
 use Rattle.short_file.specs.ShortFiles.{bytes_in}
 use Rattle.record_write.specs.Picked.{picked_words}
 use Rattle.photon_pick.specs.Late.{too_late, writable}
@@ -40,21 +37,7 @@ end_text chooses how bytes = bytes_in (picked_words how.mode (writable how.mode 
 abbrev pub end_fault : (Event → Bool) → Reading → List ℕ → Option Fault
 end_fault chooses how bytes = late_or (first (too_late how.mode (photons_of chooses how bytes))) (fault_in (streamed how bytes))
 
--- Behind what the words of the bytes wrote while more might come, the rest was written, and no write failed.
-pub record WroteEnd (chooses : Event → Bool) (how : Reading) (old new : Option (List ℕ)) (before after : ℕ) (bytes : List ℕ) : Type 0 where
-  pub more : List ℕ
-  pub adds : end_text chooses how bytes ≡ text_in chooses how (words_of bytes) ++ more
-  pub written : Appends old new more
-  pub kept : after ≡ before
-
--- It was cut short, since a write failed.
-pub record CutEnd (chooses : Event → Bool) (how : Reading) (old new : Option (List ℕ)) (before after : ℕ) (bytes : List ℕ) : Type 0 where
-  pub more : List ℕ
-  pub adds : end_text chooses how bytes ≡ text_in chooses how (words_of bytes) ++ more
-  pub cut : AppendsShort old new more
-  pub rose : Rose before after
-
--- what the end of the bytes wrote, by the answer
+-- What the end of the bytes wrote behind what their words wrote while more might come, by the answer.
 abbrev pub WritesEnd : (Event → Bool) → Reading → Option (List ℕ) → Option (List ℕ) → ℕ → ℕ → List ℕ → Result (Unit {0}) Fault → Type 0
-WritesEnd chooses how old new before after bytes (Ok done) = (end_fault chooses how bytes ≡ None) × WroteEnd chooses how old new before after bytes
-WritesEnd chooses how old new before after bytes (Err fault) = ((end_fault chooses how bytes ≡ Some fault) × WroteEnd chooses how old new before after bytes) ⊎ ((fault ≡ WriteFault) × CutEnd chooses how old new before after bytes)
+WritesEnd chooses how old new before after bytes result =
+    WritesText (text_in chooses how (words_of bytes)) (end_text chooses how bytes) (end_fault chooses how bytes) old new before after result

@@ -8,7 +8,8 @@ use Rattle.record_stream.specs.declared.stream.RecordStream.{RecordStream}
 use Rattle.record_stream.specs.Standing.{how_of, greatest_of, refused_with, HasStreamed}
 use Rattle.record_write.specs.declared.picker.Picker.{Picker}
 use Rattle.record_write.specs.Picker.{mode_of, last_by}
-use Rattle.photon_pick.specs.Texts.{text_in, refusal_in, WritesText, HasPickedIn}
+use Rattle.told_text.specs.Texts.{WritesText}
+use Rattle.photon_pick.specs.Texts.{text_in, refusal_in, HasPickedIn}
 
 -- The picker writes in the mode of the stream, and is no further on than it.
 pub record IsNoFurther (stream : RecordStream) (picker : Picker) : Type 0 where
@@ -19,5 +20,5 @@ pub record IsNoFurther (stream : RecordStream) (picker : Picker) : Type 0 where
 abbrev pub PicksPiece : {O : Type 0} → Ghosts O → (Event → Bool) → RecordStream → List ℕ → Picker → Picker → O → O → Result (Unit {0}) Fault → Type 0
 PicksPiece o chooses stream piece picker now old new result =
     refused_with stream ≡ None → (bytes : List ℕ) → HasStreamed stream bytes → HasPickedIn chooses (how_of stream) picker (words_of bytes)
-    → WritesText (text_in chooses (how_of stream)) (refusal_in chooses (how_of stream)) (o.written old) (o.written new) (o.faults old) (o.faults new) (words_of bytes) (words_of (bytes ++ piece)) result
+    → WritesText (text_in chooses (how_of stream) (words_of bytes)) (text_in chooses (how_of stream) (words_of (bytes ++ piece))) (refusal_in chooses (how_of stream) (words_of (bytes ++ piece))) (o.written old) (o.written new) (o.faults old) (o.faults new) result
     × OnOk result (HasPickedIn chooses (how_of stream) now (words_of (bytes ++ piece)))

@@ -1,13 +1,10 @@
 -- What the words of a file write of the photons that are chosen.
-use Rattle.std.specs.Prelude.{ℕ, ◌≡◌, ◌⊎◌, Bool, List, [], ◌++◌, None, Some, Result, Ok, Err}
+use Rattle.std.specs.Prelude.{ℕ, ◌≡◌, Bool, List, [], None, Some, Result, Ok, Err}
 use Rattle.std.specs.List.{filter}
 use Rattle.std.specs.declared.option.Option.{Option}
-use Rattle.std.specs.Io.KnownBytes.{Appends}
 use Rattle.tally_base.specs.declared.event.Event.{Event}
 use Rattle.tally_base.specs.declared.fault.Fault.{Fault}
-use Rattle.tally_base.specs.declared.fault.Fault.TheVariants.{PickTime, WriteFault}
-use Rattle.tally_base.specs.FaultCounts.{Rose}
-use Rattle.bench_io.specs.Sinks.{AppendsShort}
+use Rattle.tally_base.specs.declared.fault.Fault.TheVariants.{PickTime}
 use Rattle.ptu_definitions.specs.Prefixes.{first}
 use Rattle.ptu_definitions.specs.Settled.{not_marked}
 use Rattle.ptu_definitions.specs.Streams.{Reading, record_refusal, given}
@@ -33,25 +30,6 @@ late_or (Some e) other = Some (PickTime e.place)
 -- Why words are refused: a photon that is chosen is too late, and stands before a record that is refused; or such a record.
 abbrev pub refusal_in : (Event → Bool) → Reading → List ℕ → Option Fault
 refusal_in chooses how words = late_or (first (too_late how.mode (photons_in chooses how words))) (record_refusal how words)
-
--- The rest of the text of more words was written, and no write failed.
-pub record WroteText (text : List ℕ → List ℕ) (old new : Option (List ℕ)) (before after : ℕ) (words now : List ℕ) : Type 0 where
-  pub more : List ℕ
-  pub adds : text now ≡ text words ++ more
-  pub written : Appends old new more
-  pub kept : after ≡ before
-
--- It was cut short, since a write failed.
-pub record CutText (text : List ℕ → List ℕ) (old new : Option (List ℕ)) (before after : ℕ) (words now : List ℕ) : Type 0 where
-  pub more : List ℕ
-  pub adds : text now ≡ text words ++ more
-  pub cut : AppendsShort old new more
-  pub rose : Rose before after
-
--- what words wrote that came behind others, by the answer
-abbrev pub WritesText : {X : Type 0} → (List ℕ → List ℕ) → (List ℕ → Option Fault) → Option (List ℕ) → Option (List ℕ) → ℕ → ℕ → List ℕ → List ℕ → Result X Fault → Type 0
-WritesText text refuses old new before after words now (Ok x) = (refuses now ≡ None) × WroteText text old new before after words now
-WritesText text refuses old new before after words now (Err fault) = ((refuses now ≡ Some fault) × WroteText text old new before after words now) ⊎ ((fault ≡ WriteFault) × CutText text old new before after words now)
 
 -- the answer of a stream, with the fault that its taker met in place of its own
 abbrev pub answer_by : {X : Type 0} → Option Fault → Result X Fault → Result (Unit {0}) Fault

@@ -7,3 +7,6 @@ mod taker;
 
 pub use end::pick_end;
 pub use piece::pick_piece;
+
+#[cfg(test)]
+mod tests;
