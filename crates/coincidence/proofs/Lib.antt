@@ -20,4 +20,3 @@ pub mod Gathers
 pub mod Together
 pub mod GatherRows
 pub mod CellRows
-pub mod InBlocks

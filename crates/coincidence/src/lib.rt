@@ -14,10 +14,3 @@ mod taking;
 
 pub use coincidence::Coincidence;
 pub use start_stop::StartStop;
-
-#[cfg(test)]
-mod coincidence_tests;
-#[cfg(test)]
-mod greatest_tests;
-#[cfg(test)]
-mod tests;

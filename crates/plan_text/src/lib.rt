@@ -22,18 +22,3 @@ mod version;
 
 pub use plan::Plan;
 pub use read::{TEXT_LIMIT, read_plan};
-
-#[cfg(test)]
-mod cube_tests;
-#[cfg(test)]
-mod fold_tests;
-#[cfg(test)]
-mod greatest_tests;
-#[cfg(test)]
-mod pair_tests;
-#[cfg(test)]
-mod second_tests;
-#[cfg(test)]
-mod settle_tests;
-#[cfg(test)]
-mod tests;

@@ -5,12 +5,8 @@ mod blocks;
 mod count;
 pub mod laws;
 mod letting_go;
-#[cfg(test)]
-mod refused_tests;
 mod settled;
 mod settled_blocks;
-#[cfg(test)]
-mod settled_tests;
 mod stream;
 mod taker;
 mod walk;

@@ -13,6 +13,3 @@ mod reached;
 pub use engine::{Engine, Results};
 pub use give::sort_events;
 pub use part::Part;
-
-#[cfg(test)]
-mod tests;

@@ -24,4 +24,3 @@ pub mod Shown
 pub mod Opens
 pub mod Work
 pub mod SettingsRead
-pub mod InBlocks

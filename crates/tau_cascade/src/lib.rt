@@ -10,8 +10,3 @@ mod level;
 mod pairing;
 
 pub use cascade::Cascade;
-
-#[cfg(test)]
-mod greatest_tests;
-#[cfg(test)]
-mod tests;

@@ -1,0 +1,36 @@
+use Rattle.std.proofs.Common.{◌≤◌, false, length, rules, arith, length-append, ap, ◌∙◌}
+use Rattle.tally_base.specs.declared.event.Event.{Event}
+use Rattle.event_block.specs.Columns.{event_at, gathered}
+use Rattle.event_block.specs.Order.{floor_after}
+use Rattle.event_block.proofs.Rows.{length-rows}
+use Rattle.pair_rows.proofs.InBlocks.{order-more, floor-more}
+use Rattle.pair_rows.proofs.coincidences.filled_in_blocks.Goals as goal
+
+pub loop-time-init : goal.loop-time-init
+loop-time-init g c =
+    let block = c.new-block.result in
+    let empty = c.new-block.ensures.empty in
+    record {
+      not_closed = search rules;
+      count = rw empty (search rules);
+      sorted = omega (arith, length-rows (event_at block) block.len, ap length empty, c.new-block.ensures.unsorted);
+      in_order = rw empty tt;
+      early = rw empty (search (rules, arith));
+      same = search rules;
+    }
+
+pub loop-time-preserved : goal.loop-time-preserved
+loop-time-preserved g c =
+    let inv = c.loop-time.invariant in
+    let more = c.put_event.ensures.more in
+    let floor = c.give_full.new.table.floor in
+    let before = c.give_full.new.block in
+    let early : floor_after false floor (gathered before) ≤ c.loop-time.latest = omega (arith, inv.early, c.give_full.ensures.floor) in
+    record {
+      not_closed = search rules;
+      count = omega (arith, inv.count, c.give_full.ensures.all, ap length more, length-append {A = Event});
+      sorted = search rules;
+      in_order = order-more floor before c.put_event.new.block _ more c.give_full.ensures.in_order (omega (arith, early, c.if-time-latest.false)) (search (rules, arith));
+      early = floor-more floor before c.put_event.new.block _ more (omega (arith, early, c.if-time-latest.false));
+      same = c.give_full.ensures.set ∙ inv.same;
+    }
