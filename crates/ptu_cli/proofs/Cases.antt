@@ -1,8 +1,7 @@
 -- The outcome of a command is the one that the table of cases calls for.
-use Rattle.std.proofs.Common.{◌≡◌, ◌≢◌, ◌<◌, ◌≤◌, ℕ, zero, suc, List, [], ◌∷◌, ◌++◌, length, Bool, true, false, None, Some, Ok, Err, refl, sym, ap, ◌∙◌, subst, inl, inr, arith}
+use Rattle.std.proofs.Common.{◌≡◌, ℕ, zero, suc, List, [], ◌∷◌, ◌++◌, length, Bool, true, false, None, Some, Ok, Err, refl, sym, ap, ◌∙◌, subst, inl, inr}
 use Rattle.std.specs.Prelude.{◌⊎◌, ◌↔◌, ◌==◌, ◌/◌, Result, nat_lt, nat_le, codes, decimal, map, flat_map, if◌then◌else◌}
 use Rattle.std.specs.declared.option.Option.{Option}
-use Rattle.std.proofs.lemmas.Bool.Decides.{nat_tests}
 use Rattle.toml.specs.Data.{table}
 use Rattle.tally_base.specs.declared.fault.Fault.{Fault}
 use Rattle.tally_base.specs.declared.fault.Fault.TheVariants.{RecordLimit, TruncatedRecord}
@@ -25,7 +24,7 @@ use Rattle.ptu_definitions.specs.Counted.{record_limit, records_of, counted}
 use Rattle.ptu_definitions.specs.Prefixes.{each_after}
 use Rattle.ptu_definitions.specs.Firsts.{IsFirst}
 use Rattle.ptu_definitions.specs.Times.{events}
-use Rattle.ptu_definitions.specs.Streams.{Reading, record_refusal, or_refusal, summary, summary_of, streamed}
+use Rattle.ptu_definitions.specs.Streams.{Reading, record_refusal, summary, summary_of, streamed}
 use Rattle.ptu_definitions.proofs.Sound.{one_answer}
 use Rattle.ptu_definitions.proofs.SeenLemmas.{seen-header, seen_preamble-header}
 use Rattle.ptu_definitions.proofs.SeenLaws.{seen-longest, seen-none}
@@ -51,50 +50,23 @@ use Rattle.ptu_made.specs.Generator.{made_words}
 use Rattle.ptu_made.specs.Records.{made_header}
 use Rattle.ptu_cli.specs.Demo.{demo_plan, demo_report}
 use Rattle.ptu_cli.specs.CountText.{counts_text}
-use Rattle.ptu_cli.specs.Commands.{Request, Count, Header as HeaderOf, Events, Run, Trace, Demo}
+use Rattle.ptu_cli.specs.Commands.{Request, Count, Header as HeaderOf, Events, Run, Trace, Pick, Demo}
 use Rattle.ptu_cli.specs.Reports.{report_of, if_fits, report_behind}
 use Rattle.ptu_cli.specs.Outcomes.{Outcome, refused, written, with_counts, counts_behind, count_outcome, header_outcome, listing, listed, events_behind, report_outcome}
-use Rattle.ptu_cli.specs.Behaviours.{Work, counting, printing, listing_all, reporting, tracing, any_plan, behaviour}
+use Rattle.ptu_cli.specs.Behaviours.{counting, printing, listing_all, reporting, tracing, any_plan, behaviour}
 use Rattle.ptu_cli.specs.Endings.{on_file, unless, by_plan, outcome}
 use Rattle.ptu_cli.specs.Cases.{FileCase, HeaderCase, WholeCase, CountCase, Prints, PrintCase, LeftOver, ListCase, startstop_by_places, by_places, placed_text, report_by_places, words_report, StreamCase, ReportCase, PlanCase, WholeTrace, RecordsCase, TraceCase, PlannedTrace, TracePlanCase, IsOutcome}
 use Rattle.long_trace.specs.Texts.{open_text}
 use Rattle.ptu_cli.specs.TraceOutcomes.{no_trace, unless_traced, trace_of, traced, records_traced, traced_if_fits, traced_behind}
 use Rattle.ptu_cli.proofs.TraceTexts.{settled-first, settled-whole}
+use Rattle.ptu_cli.proofs.CaseSteps.{lt-true, lt-false, true-lt, false-lt, empty-true, empty-false, true-empty, false-empty, file-holds, file-only, header-holds, header-only, whole_answer, streamed-clear, not_fit}
+use Rattle.ptu_cli.proofs.PickCases.{pick_plan-holds, pick_plan-only}
 
 abbrev end_with : List ℕ → Option Fault → Outcome
 end_with text fault = record { text = text; fault = fault }
 
 same-end : (a b : List ℕ) (f g : Option Fault) → a ≡ b → f ≡ g → end_with a f ≡ end_with b g
 same-end a b f g p q = rw (p, q) refl
-
--- ## Tests
-
-lt-true : (a b : ℕ) → nat_lt a b ≡ true → a < b
-lt-true a b h = grind (arith, nat_tests)
-
-lt-false : (a b : ℕ) → nat_lt a b ≡ false → b ≤ a
-lt-false a b h = grind (arith, nat_tests)
-
-true-lt : (a b : ℕ) → a < b → nat_lt a b ≡ true
-true-lt a b h = grind (arith, nat_tests)
-
-false-lt : (a b : ℕ) → b ≤ a → nat_lt a b ≡ false
-false-lt a b h = grind (arith, nat_tests)
-
-empty-true : (xs : List ℕ) → (length xs == 0) ≡ true → xs ≡ []
-empty-true [] h = refl
-empty-true (x ∷ xs) h = let some : (length (x ∷ xs) == 0) ≡ false = grind (arith, nat_tests) in cc
-
-empty-false : (xs : List ℕ) → (length xs == 0) ≡ false → xs ≢ []
-empty-false [] h = cc
-empty-false (x ∷ xs) h = λ e. cc
-
-true-empty : (xs : List ℕ) → xs ≡ [] → (length xs == 0) ≡ true
-true-empty xs e = rw e refl
-
-false-empty : (xs : List ℕ) → xs ≢ [] → (length xs == 0) ≡ false
-false-empty [] h = absurd (h refl)
-false-empty (x ∷ xs) h = grind (arith, nat_tests)
 
 -- ## A report by places
 
@@ -132,32 +104,6 @@ words-same : (view : PlanView) (header : Header) (words : List ℕ) → report h
 words-same view header words =
     let tables = with_events (parts_of view) (history (sorting view) (reading_by view header) words) in
     ap (λ sum. report header sum tables) (summary-same (reading_by view header) words) ∙ sym (report-same header _ tables)
-
--- ## Files and headers
-
-file-holds : (work : Work) (case : List ℕ → Outcome → Type 0) → ((bytes : List ℕ) → case bytes (work.outcome bytes)) → (data_file : File) → FileCase case data_file (on_file work data_file)
-file-holds work case holds None = refl
-file-holds work case holds (Some bytes) = holds bytes
-
-file-only : (work : Work) (case : List ℕ → Outcome → Type 0) → ((bytes : List ℕ) (end : Outcome) → case bytes end → work.outcome bytes ≡ end) → (data_file : File) (end : Outcome) → FileCase case data_file end → on_file work data_file ≡ end
-file-only work case only None end h = sym h
-file-only work case only (Some bytes) end h = only bytes end h
-
-abbrev Answer : Type 0
-Answer = Result (Header × List ℕ) Fault
-
-header-holds : (out : Answer → Outcome) (case : Header → List ℕ → Outcome → Type 0) → ((fault : Fault) → out (Err fault) ≡ refused fault) → ((header : Header) (behind : List ℕ) → case header behind (out (Ok (header, behind)))) → (bytes : List ℕ)
-    → HeaderCase case bytes (out (header_answer bytes))
-header-holds out case fails holds bytes = by (header_answer bytes) refl
-  where
-    by : (r : Answer) → header_answer bytes ≡ r → HeaderCase case bytes (out r)
-    by (Err fault) e = inl (fault, (one_answer bytes (Err fault)).1 e, fails fault)
-    by (Ok found) e = inr (found.0, found.1, (one_answer bytes (Ok found)).1 e, holds found.0 found.1)
-
-header-only : (out : Answer → Outcome) (case : Header → List ℕ → Outcome → Type 0) → ((fault : Fault) → out (Err fault) ≡ refused fault) → ((header : Header) (behind : List ℕ) (end : Outcome) → case header behind end → out (Ok (header, behind)) ≡ end) → (bytes : List ℕ) (end : Outcome)
-    → HeaderCase case bytes end → out (header_answer bytes) ≡ end
-header-only out case fails only bytes end (inl h) = ap out ((one_answer bytes (Err h.0)).0 h.1) ∙ fails h.0 ∙ sym h.2
-header-only out case fails only bytes end (inr h) = ap out ((one_answer bytes (Ok (h.0, h.1))).0 h.2) ∙ only h.0 h.1 end h.3
 
 -- ## Whole records
 
@@ -251,13 +197,6 @@ print-only bytes end h =
 
 -- ## events
 
-abbrev whole_answer : Reading → List ℕ → Bool → Result Summary Fault
-whole_answer how behind whole = if whole then Ok (summary how (words_of behind)) else Err (TruncatedRecord (length (rest_of behind)))
-
-streamed-clear : (how : Reading) (behind : List ℕ) → record_refusal how (words_of behind) ≡ None → streamed how behind ≡ whole_answer how behind (length (rest_of behind) == 0)
-unfolding streamed
-streamed-clear how behind none = ap (λ o. or_refusal o (whole_answer how behind (length (rest_of behind) == 0))) none
-
 left-holds : (how : Reading) (behind : List ℕ) (whole : Bool) → (length (rest_of behind) == 0) ≡ whole → LeftOver (rest_of behind) (fault_in (whole_answer how behind whole))
 left-holds how behind true h = inr (empty-true (rest_of behind) h, refl)
 left-holds how behind false h = inl (empty-false (rest_of behind) h, refl)
@@ -327,12 +266,6 @@ stream-only view header behind end (inr h) =
 
 abbrev fit_end : PlanView → Header → List ℕ → Result (Unit {0}) Fault → Outcome
 fit_end view header behind r = report_outcome (if_fits view header behind r)
-
-abbrev fit : Result (Unit {0}) Fault
-fit = Ok tt
-
-not_fit : (fault : Fault) → fit ≡ Err fault → ⊥
-not_fit fault e = cc
 
 report-holds : (view : PlanView) (header : Header) (behind : List ℕ) → ReportCase view header behind (fit_end view header behind (fits (mode_of header.record_type) view))
 report-holds view header behind = by (fits (mode_of header.record_type) view) refl
@@ -492,6 +425,8 @@ outcome-holds (Some (Run plan_name file)) None data_file = refl
 outcome-holds (Some (Run plan_name file)) (Some text) data_file = plan-holds text data_file
 outcome-holds (Some (Trace plan_name file)) None data_file = refl
 outcome-holds (Some (Trace plan_name file)) (Some text) data_file = trace_plan-holds text data_file
+outcome-holds (Some (Pick plan_name group file)) None data_file = refl
+outcome-holds (Some (Pick plan_name group file)) (Some text) data_file = pick_plan-holds group text data_file
 outcome-holds (Some (Demo seed count)) plan_file data_file = ap (λ text. written text) (demo-same seed count)
 
 outcome-only : (request : Option Request) (plan_file data_file : File) (end : Outcome) → IsOutcome request plan_file data_file end → outcome (behaviour request) plan_file data_file ≡ end
@@ -504,6 +439,8 @@ outcome-only (Some (Run plan_name file)) None data_file end h = sym h
 outcome-only (Some (Run plan_name file)) (Some text) data_file end h = plan-only text data_file end h
 outcome-only (Some (Trace plan_name file)) None data_file end h = sym h
 outcome-only (Some (Trace plan_name file)) (Some text) data_file end h = trace_plan-only text data_file end h
+outcome-only (Some (Pick plan_name group file)) None data_file end h = sym h
+outcome-only (Some (Pick plan_name group file)) (Some text) data_file end h = pick_plan-only group text data_file end h
 outcome-only (Some (Demo seed count)) plan_file data_file end h = ap (λ text. written text) (demo-same seed count) ∙ sym h
 
 pub one-outcome : (request : Option Request) (plan_file data_file : File) (end : Outcome) → IsOutcome request plan_file data_file end ↔ (outcome (behaviour request) plan_file data_file ≡ end)

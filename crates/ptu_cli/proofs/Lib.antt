@@ -30,6 +30,11 @@ pub mod Demos
 pub mod PickedFiles
 pub mod Numbers
 pub mod Few
+pub mod CaseSteps
+pub mod PickPhotons
+pub mod PickCases
+pub mod PickShown
+pub mod PickFaults
 pub mod Cases
 pub mod Causes
 pub mod Shown
@@ -39,7 +44,9 @@ pub mod TraceOrder
 pub mod TraceTexts
 pub mod TraceSteps
 pub mod TraceFeeds
-pub mod TraceEnds
+pub mod TextEnds
+pub mod TextComposed
 pub mod TraceComposed
 pub mod TraceFaults
 pub mod TraceLast
+pub mod PickComposed

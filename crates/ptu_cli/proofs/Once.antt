@@ -8,7 +8,7 @@ use Rattle.tally_base.specs.declared.fault.Fault.{Fault}
 use Rattle.tally_base.specs.declared.fault.Fault.TheVariants.{OpenFault, ReadFault, WriteFault}
 use Rattle.tally_base.specs.FaultCounts.{Rose}
 use Rattle.bench_io.specs.TriesOnce.{TriesOnce}
-use Rattle.tally_base.specs.Faults.{fault_in}
+use Rattle.tally_base.specs.Faults.{fault_in, is_outside}
 use Rattle.bench_io.specs.Inputs.{InputState, KeepsOther, OpensNone}
 use Rattle.ptu_definitions.specs.Kept.{Marked}
 use Rattle.ptu_definitions.specs.Streams.{Reading, record_refusal}
@@ -106,3 +106,8 @@ fed-once g how a b words now (Err fault) none keeps fed =
     (λ (r : (record_refusal how now ≡ Some fault) × GaveOn g how a b words now). stays-same (tells_writing (Some fault)) _ _ (keeps r.1.more (r.1.follows a [] none)))
     (λ (r : (fault ≡ WriteFault) × BrokeOn g how a b words now). rw r.0 tt)
     fed
+
+-- a fault that isn't from outside tells of no write
+pub once-inside : (fault : Fault) (before now : ℕ) → is_outside fault ≡ false → OutOnce (Some fault) before now → now ≡ before
+once-inside WriteFault before now inside h = cc
+once-inside _ before now inside h = h

@@ -14,7 +14,7 @@ use Rattle.ptu_definitions.specs.Counted.{counted, records_of}
 use Rattle.ptu_definitions.specs.Seen.{seen, seen_preamble}
 use Rattle.table_out.specs.HeaderText.{shown_text, header_text}
 use Rattle.ptu_cli.specs.CountText.{counts_text}
-use Rattle.ptu_cli.specs.Commands.{Count, Header, Demo, number_in, request_of}
+use Rattle.ptu_cli.specs.Commands.{Count, Header, Events, Run, Trace, Pick, Demo, number_in, request_of}
 use Rattle.ptu_cli.specs.Behaviours.{behaviour}
 use Rattle.ptu_cli.specs.Endings.{outcome}
 
@@ -63,6 +63,34 @@ row-digits = refl
 pub row-no_digit : request_of (codes "demo" ∷ [] ∷ codes "1" ∷ []) ≡ None
 unfolding number_in
 row-no_digit = refl
+
+pub row-events : request_of (codes "events" ∷ codes "f" ∷ []) ≡ Some (Events (codes "f"))
+row-events = refl
+
+pub row-run : request_of (codes "run" ∷ codes "p" ∷ codes "f" ∷ []) ≡ Some (Run (codes "p") (codes "f"))
+row-run = refl
+
+pub row-trace : request_of (codes "trace" ∷ codes "p" ∷ codes "f" ∷ []) ≡ Some (Trace (codes "p") (codes "f"))
+row-trace = refl
+
+pub row-pick : request_of (codes "pick" ∷ codes "p" ∷ codes "012" ∷ codes "f" ∷ []) ≡ Some (Pick (codes "p") 12 (codes "f"))
+unfolding number_in
+row-pick = refl
+
+pub row-pick_greatest : request_of (codes "pick" ∷ [] ∷ codes "18446744073709551615" ∷ [] ∷ []) ≡ Some (Pick [] 18446744073709551615 [])
+unfolding number_in
+row-pick_greatest = refl
+
+pub row-pick_great : request_of (codes "pick" ∷ [] ∷ codes "18446744073709551616" ∷ [] ∷ []) ≡ None
+unfolding number_in
+row-pick_great = refl
+
+pub row-pick_word : request_of (codes "pick" ∷ codes "p" ∷ codes "first" ∷ codes "f" ∷ []) ≡ None
+unfolding number_in
+row-pick_word = refl
+
+pub row-pick_fewer : request_of (codes "pick" ∷ codes "p" ∷ codes "1" ∷ []) ≡ None
+row-pick_fewer = refl
 
 pub row-usage : outcome (behaviour None) None None ≡ record { text = []; fault = Some Usage }
 unfolding outcome

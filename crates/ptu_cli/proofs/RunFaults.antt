@@ -46,14 +46,14 @@ pub plan_answer-bytes : (text : List ℕ) → IsOfBytes (plan_answer text)
 unfolding plan_answer
 plan_answer-bytes text = short-bytes (nat_le (length text) text_limit) (plan_of_document (document text)) (document-bytes (document text))
 
-misfit-bytes : (mode : Mode) (view : PlanView) (fault : Fault) → IsMisfit mode view fault → status_of fault ≢ 1
+pub misfit-bytes : (mode : Mode) (view : PlanView) (fault : Fault) → IsMisfit mode view fault → status_of fault ≢ 1
 misfit-bytes mode view fault misfit = rw (names_part mode view fault misfit).2 (λ e. omega arith)
 
 report_of-bytes : (view : PlanView) (header : Header) (bytes : List ℕ) (r : Result Summary Fault) → status (fault_in r) ≢ 1 → IsOfBytes (report_of view header bytes r)
 report_of-bytes view header bytes (Ok summary) h = tt
 report_of-bytes view header bytes (Err fault) h = h
 
-streamed_by-bytes : (view : PlanView) (header : Header) (bytes : List ℕ) → status (fault_in (streamed (reading_by view header) bytes)) ≢ 1
+pub streamed_by-bytes : (view : PlanView) (header : Header) (bytes : List ℕ) → status (fault_in (streamed (reading_by view header) bytes)) ≢ 1
 unfolding streamed
 streamed_by-bytes view header bytes =
     let how = reading_by view header in

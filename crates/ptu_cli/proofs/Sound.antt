@@ -11,13 +11,14 @@ use Rattle.ptu_definitions.specs.Counted.{counted, records_of, record_limit}
 use Rattle.ptu_definitions.specs.Streams.{Reading, summary, streamed}
 use Rattle.plan_text.specs.Plan.{PlanView}
 use Rattle.tally_engine.specs.Plans.{reading_by}
-use Rattle.ptu_cli.specs.Commands.{Request, Count, Header, Events, Run, Trace, Demo}
+use Rattle.ptu_cli.specs.Commands.{Request, Count, Header, Events, Run, Trace, Pick, Demo}
 use Rattle.ptu_cli.specs.Outcomes.{status, file_counts, listing}
-use Rattle.ptu_cli.specs.Behaviours.{Work, Behaviour, NoCommand, Alone, OnFile, ByPlan, AreWhole, AreRead, counting, printing, listing_all, reporting, tracing, behaviour}
+use Rattle.ptu_cli.specs.Behaviours.{Work, Behaviour, NoCommand, Alone, OnFile, ByPlan, AreWhole, AreRead, counting, printing, listing_all, reporting, tracing, picking, behaviour}
 use Rattle.ptu_cli.proofs.ByteFaults.{header_answer-bytes, counts_behind-bytes, count_outcome-bytes, fault_in-bytes, events_behind-bytes}
 use Rattle.ptu_cli.proofs.RunFaults.{report-bytes}
 use Rattle.ptu_cli.specs.TraceOutcomes.{trace_of}
 use Rattle.ptu_cli.proofs.TraceFaults.{trace-fault, untraced-status}
+use Rattle.ptu_cli.proofs.PickFaults.{pick-bytes, ungrouped-status}
 
 pub record WorkIsSound (work : Work) : Type 0 where
   pub well : (bytes : List ℕ) → work.good bytes → (work.outcome bytes).fault ≡ None
@@ -70,10 +71,17 @@ tracing-sound view = record {
   no_usage = λ bytes e. report-bytes view bytes (ap status (sym (trace-fault view bytes)) ∙ e);
 }
 
+picking-sound : (group : ℕ) (view : PlanView) → WorkIsSound (picking group view)
+picking-sound group view = record {
+  well = λ bytes h. rw (h.2, h.3.0, streamed-read (reading_by view h.0) h.1 h.3.1, h.3.2) refl;
+  no_usage = λ bytes. pick-bytes group view bytes;
+}
+
 pub sound : (request : Request) → IsSound (behaviour (Some request))
 sound (Count file) = counting-sound
 sound (Header file) = printing-sound
 sound (Events file) = listing-sound
 sound (Run plan file) = λ view. (reporting-sound view, λ e. omega arith)
 sound (Trace plan file) = λ view. (tracing-sound view, untraced-status (trace_of view))
+sound (Pick plan group file) = λ view. (picking-sound group view, ungrouped-status group view)
 sound (Demo seed count) = λ e. omega arith

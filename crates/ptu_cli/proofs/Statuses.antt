@@ -6,13 +6,13 @@ use Rattle.std.proofs.lemmas.Bool.{cases_lt, cases_eq}
 use Rattle.tally_base.specs.declared.fault.Fault.{Fault}
 use Rattle.tally_base.specs.Faults.{status_of}
 use Rattle.bench_io.specs.Inputs.{File}
-use Rattle.ptu_cli.specs.Commands.{Request, Count, Header as HeaderOf, Events, Run, Trace, Demo}
+use Rattle.ptu_cli.specs.Commands.{Request, Count, Header as HeaderOf, Events, Run, Trace, Pick, Demo}
 use Rattle.ptu_cli.specs.Outcomes.{status}
 use Rattle.ptu_cli.specs.Behaviours.{behaviour}
 use Rattle.ptu_cli.specs.Endings.{outcome}
 use Rattle.ptu_cli.specs.Runs.{Around, Runs}
 use Rattle.ptu_cli.specs.Causes.{EndsWithFault, IsIn, StatusIn}
-use Rattle.ptu_cli.proofs.Causes.{count-statuses, header-statuses, events-statuses, run-statuses, trace-statuses, demo-statuses}
+use Rattle.ptu_cli.proofs.Causes.{count-statuses, header-statuses, events-statuses, run-statuses, trace-statuses, pick-statuses, demo-statuses}
 
 abbrev OfFiles : Option Request → ℕ → Type 0
 OfFiles request result = (plan_file : File) × (data_file : File) × (result ≡ status (outcome (behaviour request) plan_file data_file).fault)
@@ -119,6 +119,21 @@ trace-runs plan_name file run result h = by (ends-in (Some (Trace plan_name file
     by : IsIn 2 5 result ⊎ OfFiles (Some (Trace plan_name file)) result → TraceEnds result
     by (inl few) = inr (few.0, omega (arith, few.1))
     by (inr it) = of-status (Some (Trace plan_name file)) it.0 it.1 result TraceEnds it.2 (inl refl) (λ fault e. from fault (trace-statuses plan_name file it.0 it.1 fault e))
+
+abbrev pub PickEnds : ℕ → Type 0
+PickEnds n = (n ≡ 0) ⊎ (IsIn 2 21 n ⊎ IsIn 23 24 n)
+
+pub pick-runs : (plan_name : List ℕ) (group : ℕ) (file : List ℕ) (run : Around) (result : ℕ) → Runs (Some (Pick plan_name group file)) run result → PickEnds result
+pick-runs plan_name group file run result h = by (ends-in (Some (Pick plan_name group file)) run result h)
+  where
+    from : (fault : Fault) → StatusIn 2 2 fault ⊎ (StatusIn 6 21 fault ⊎ StatusIn 23 24 fault) → PickEnds (status_of fault)
+    from fault (inl s) = inr (inl (s.0, omega (arith, s.1)))
+    from fault (inr (inl s)) = inr (inl (omega (arith, s.0), s.1))
+    from fault (inr (inr s)) = inr (inr s)
+
+    by : IsIn 2 5 result ⊎ OfFiles (Some (Pick plan_name group file)) result → PickEnds result
+    by (inl few) = inr (inl (few.0, omega (arith, few.1)))
+    by (inr it) = of-status (Some (Pick plan_name group file)) it.0 it.1 result PickEnds it.2 (inl refl) (λ fault e. from fault (pick-statuses plan_name group file it.0 it.1 fault e))
 
 abbrev pub DemoEnds : ℕ → Type 0
 DemoEnds n = (n ≡ 0) ⊎ IsIn 4 5 n

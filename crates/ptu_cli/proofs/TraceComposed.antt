@@ -1,5 +1,5 @@
 -- A header, and the trace of the records behind it.
-use Rattle.std.proofs.Common.{◌≡◌, ◌∙◌, ℕ, List, [], ◌++◌, None, Some, Ok, Err, refl, sym, ap, subst, inl, inr, append_assoc, append-nil}
+use Rattle.std.proofs.Common.{◌≡◌, ◌∙◌, ℕ, List, [], ◌++◌, None, Some, Ok, Err, refl, sym, ap, append-nil}
 use Rattle.std.specs.Prelude.{◌⊎◌, ◌<◌, true, false, Result}
 use Rattle.std.specs.declared.option.Option.{Option}
 use Rattle.std.specs.Io.KnownBytes.{Appends, Consumes}
@@ -9,13 +9,13 @@ use Rattle.tally_base.specs.declared.header.Mode.{Mode}
 use Rattle.ptu_definitions.specs.declared.records.Summary.{Summary}
 use Rattle.plan_text.specs.Fits.{IsMisfit}
 use Rattle.plan_text.proofs.Misfits.{names_part}
-use Rattle.ptu_cli.specs.TracePieces.{WroteText, CutText}
+use Rattle.told_text.specs.Texts.{WroteText, CutText}
 use Rattle.ptu_cli.proofs.TraceTexts.{text-front}
 use Rattle.tally_base.specs.Faults.{is_outside, fault_in}
 use Rattle.tally_base.specs.RecordTypes.{mode_of}
 use Rattle.tally_base.specs.Settings.{TraceView}
 use Rattle.bench_io.specs.Sinks.{AppendsShort}
-use Rattle.bench_io.proofs.Bytes.{Appends-nil, Appends-trans, Appends-same, Consumes-trans, AppendsShort-behind, AppendsShort-more, AppendsShort-same}
+use Rattle.bench_io.proofs.Bytes.{Appends-trans, Appends-same, AppendsShort-behind, AppendsShort-same}
 use Rattle.ptu_definitions.specs.Headers.{header_answer}
 use Rattle.ptu_definitions.specs.Words.{words_of}
 use Rattle.ptu_definitions.specs.Streams.{Reading, record_refusal, streamed}
@@ -26,12 +26,12 @@ use Rattle.tally_engine.proofs.Opens.{history-none}
 use Rattle.long_trace.specs.Texts.{first_line, open_text}
 use Rattle.tally_engine.specs.Plans.{reading_by}
 use Rattle.ptu_cli.specs.Told.{Says}
-use Rattle.ptu_cli.specs.Outcomes.{Outcome, MayChange, IsCut, refused}
+use Rattle.ptu_cli.specs.Outcomes.{Outcome, MayChange, IsCut}
 use Rattle.ptu_cli.specs.TraceOutcomes.{settled_before, trace_of, words_traced, traced, records_traced, traced_if_fits, traced_behind, trace_outcome, open_if_fits, open_behind, trace_so_far}
-use Rattle.ptu_cli.specs.TraceRuns.{AnswersTrace, ReadsTrace, CutsTrace}
+use Rattle.ptu_cli.specs.TextRuns.{AnswersText, ReadsText, CutsText}
 use Rattle.ptu_cli.specs.Behaviours.{AsItReads, tracing}
 use Rattle.ptu_cli.specs.Works.{AnswersWork, ReadsWork, CutsWork}
-use Rattle.ptu_cli.proofs.Told.{Says-shown, Says-map, some_left}
+use Rattle.ptu_cli.proofs.TextComposed as composed
 use Rattle.ptu_cli.proofs.Composed.{ShowsHeader}
 
 abbrev fit : Result (Unit {0}) Fault
@@ -45,11 +45,11 @@ pub text-none : (set : TraceView) (by : Sorting) (how : Reading) → words_trace
 text-none set by how = ap (open_text set) (settled-none by how) ∙ append-nil (first_line set)
 
 -- behind the first line comes the rest of the text of what was read with the header
-pub first-text : (set : TraceView) (by : Sorting) (how : Reading) (a b c : Option (List ℕ)) (behind : List ℕ) → Appends a b (first_line set) → WroteText (words_traced (Some set) by how) b c (words_of []) (words_of behind) → Appends a c (words_traced (Some set) by how (words_of behind))
-first-text set by how a b c behind first wrote =
+pub first-text : (set : TraceView) (by : Sorting) (how : Reading) (a b c : Option (List ℕ)) (faults now : ℕ) (behind : List ℕ) → Appends a b (first_line set) → WroteText (words_traced (Some set) by how (words_of [])) (words_traced (Some set) by how (words_of behind)) b c faults now → Appends a c (words_traced (Some set) by how (words_of behind))
+first-text set by how a b c faults now behind first wrote =
     Appends-same a c _ _ (ap (λ l. l ++ wrote.more) (sym (text-none set by how)) ∙ sym wrote.adds) (Appends-trans a b c (first_line set) wrote.more first wrote.written)
 
-pub first-cut : (set : TraceView) (by : Sorting) (how : Reading) (a b c : Option (List ℕ)) (faults now : ℕ) (behind : List ℕ) → Appends a b (first_line set) → CutText (words_traced (Some set) by how) b c faults now (words_of []) (words_of behind) → AppendsShort a c (words_traced (Some set) by how (words_of behind))
+pub first-cut : (set : TraceView) (by : Sorting) (how : Reading) (a b c : Option (List ℕ)) (faults now : ℕ) (behind : List ℕ) → Appends a b (first_line set) → CutText (words_traced (Some set) by how (words_of [])) (words_traced (Some set) by how (words_of behind)) b c faults now → AppendsShort a c (words_traced (Some set) by how (words_of behind))
 first-cut set by how a b c faults now behind first short =
     AppendsShort-same a c _ _ (ap (λ l. l ++ short.more) (sym (text-none set by how)) ∙ sym short.adds) (AppendsShort-behind a b c (first_line set) short.more first short.cut)
 
@@ -72,23 +72,11 @@ misfit-inside mode plan fault misfit = rw (names_part mode plan fault misfit).2 
 module _ (plan : PlanView) where
   -- there is no header
   pub unheaded-answers : (taken : List ℕ) (before after a : Option (List ℕ)) (fault : Fault) → Consumes before after taken → (is_outside fault ≡ true) ⊎ Says header_answer taken after (Err fault) → AnswersWork (tracing plan) before after a a (Err fault)
-  unheaded-answers taken before after a fault consumes (inl outside) = inl outside
-  unheaded-answers taken before after a fault consumes (inr says) = inr (record {
-    taken = taken;
-    consumes = consumes;
-    text = [];
-    written = Appends-nil a;
-    says = Says-map (traced_behind plan) header_answer taken after (Err fault) says;
-  })
+  unheaded-answers = composed.unheaded-answers (tracing plan) (traced_behind plan) (λ bytes. refl) (λ fault. refl)
 
   -- the header was read in part
   pub cut-reads : (taken : List ℕ) (before after a : Option (List ℕ)) → Consumes before after taken → IsCut taken → ReadsWork (AsItReads (trace_so_far plan)) (tracing plan) before after a a
-  cut-reads taken before after a consumes cut = record {
-    taken = taken;
-    consumes = consumes;
-    written = subst (λ (text : List ℕ). Appends a a text) (sym (ap (open_behind plan) cut)) (Appends-nil a);
-    goes_on = rw cut refl;
-  }
+  cut-reads taken before after a consumes cut = composed.cut-reads (tracing plan) (trace_so_far plan) taken before after a consumes (ap (open_behind plan) cut) (rw cut refl)
 
   module _ (header : Header) (front behind : List ℕ) (shows : ShowsHeader front header behind) where
     abbrev how : Reading
@@ -99,13 +87,7 @@ module _ (plan : PlanView) where
 
     -- a part that doesn't suit the file
     pub misfit-answers : (before after a : Option (List ℕ)) (fault : Fault) → Consumes before after front → fits (mode_of header.record_type) plan ≡ Err fault → AnswersWork (tracing plan) before after a a (Err fault)
-    misfit-answers before after a fault consumes misfit = inr (record {
-      taken = front;
-      consumes = consumes;
-      text = [];
-      written = Appends-nil a;
-      says = Says-shown (trace_outcome plan) front after _ (λ more. outcome-behind (Err fault) more misfit);
-    })
+    misfit-answers before after a fault consumes misfit = composed.refused-answers (tracing plan) front before after a fault consumes (λ more. outcome-behind (Err fault) more misfit)
 
     module _ (suits : fits (mode_of header.record_type) plan ≡ fit) (set : TraceView) (has : trace_of plan ≡ Some set) where
       abbrev text : List ℕ → List ℕ
@@ -114,66 +96,33 @@ module _ (plan : PlanView) where
       abbrev ends : List ℕ → Outcome
       ends = records_traced (Some set) (sorting plan) how
 
+      abbrev refuses : List ℕ → Option Fault
+      refuses = record_refusal how
+
       outcome-suited : (more : List ℕ) → trace_outcome plan (front ++ more) ≡ ends (behind ++ more)
       outcome-suited more = outcome-behind fit more suits ∙ ap (λ o. records_traced o (sorting plan) how (behind ++ more)) has
-
-      outcome-more : (taken left : List ℕ) → trace_outcome plan ((front ++ taken) ++ left) ≡ ends ((behind ++ taken) ++ left)
-      outcome-more taken left = ap (trace_outcome plan) (append_assoc front taken left) ∙ outcome-suited (taken ++ left) ∙ ap ends (sym (append_assoc behind taken left))
 
       open-suited : (more : List ℕ) → trace_so_far plan (front ++ more) ≡ text (words_of (behind ++ more))
       open-suited more = ap (open_behind plan) (shows more) ∙ ap (open_if_fits plan header (behind ++ more)) suits ∙ ap (λ o. words_traced o (sorting plan) how (words_of (behind ++ more))) has
 
       -- the first line and the lines of what was read with the header were written, and then the rest
-      pub traced-answers : (before mid after a b c : Option (List ℕ)) (r : Result (Unit {0}) Fault) → Consumes before mid front → Appends a b (text (words_of behind)) → AnswersTrace text ends how behind mid after b c r → AnswersWork (tracing plan) before after a c r
-      traced-answers before mid after a b c r consumes wrote (inl outside) = inl outside
-      traced-answers before mid after a b c r consumes wrote (inr h) = inr (record {
-        taken = front ++ h.taken;
-        consumes = Consumes-trans before mid after front h.taken consumes h.consumes;
-        text = text (words_of behind) ++ h.more;
-        written = Appends-trans a b c (text (words_of behind)) h.more wrote h.written;
-        says = record { more = h.left; may_be = h.may_be; means = outcome-more h.taken h.left ∙ h.is };
-      })
+      pub traced-answers : (before mid after a b c : Option (List ℕ)) (r : Result (Unit {0}) Fault) → Consumes before mid front → Appends a b (text (words_of behind)) → AnswersText text ends refuses behind mid after b c r → AnswersWork (tracing plan) before after a c r
+      traced-answers = composed.behind-answers (tracing plan) (trace_so_far plan) [] text ends refuses front behind outcome-suited open-suited
 
-      pub traced-reads : (before mid after a b c : Option (List ℕ)) → Consumes before mid front → Appends a b (text (words_of behind)) → ReadsTrace text ends how behind mid after b c
+      pub traced-reads : (before mid after a b c : Option (List ℕ)) → Consumes before mid front → Appends a b (text (words_of behind)) → ReadsText text ends refuses behind mid after b c
           → ((bytes : List ℕ) → record_refusal how (words_of bytes) ≡ None → MayChange (ends bytes).fault) → ReadsWork (AsItReads (trace_so_far plan)) (tracing plan) before after a c
-      traced-reads before mid after a b c consumes wrote h may = record {
-        taken = front ++ h.taken;
-        consumes = Consumes-trans before mid after front h.taken consumes h.consumes;
-        written = Appends-same a c _ _ (sym (open-suited h.taken ∙ h.adds)) (Appends-trans a b c (text (words_of behind)) h.more wrote h.written);
-        goes_on = rw (outcome-suited h.taken) (may (behind ++ h.taken) h.unrefused);
-      }
+      traced-reads before mid after a b c consumes wrote h may =
+          composed.behind-reads (tracing plan) (trace_so_far plan) [] text ends refuses front behind outcome-suited open-suited before mid after a b c consumes wrote h (λ more none. rw (outcome-suited more) (may (behind ++ more) none))
 
-      pub traced-cuts : (before mid after a b c : Option (List ℕ)) → Consumes before mid front → Appends a b (text (words_of behind)) → CutsTrace text ends how behind mid after b c → CutsWork (AsItReads (trace_so_far plan)) (tracing plan) before after a c
-      traced-cuts before mid after a b c consumes wrote h = record {
-        taken = front ++ h.taken;
-        consumes = Consumes-trans before mid after front h.taken consumes h.consumes;
-        more = h.left;
-        may_be = h.may_be;
-        cut = rw (outcome-more h.taken h.left, h.adds) (AppendsShort-behind a b c (text (words_of behind)) h.more wrote h.cut);
-      }
+      pub traced-cuts : (before mid after a b c : Option (List ℕ)) → Consumes before mid front → Appends a b (text (words_of behind)) → CutsText text ends refuses behind mid after b c → CutsWork (AsItReads (trace_so_far plan)) (tracing plan) before after a c
+      traced-cuts = composed.behind-cuts (tracing plan) (trace_so_far plan) [] text ends refuses front behind outcome-suited open-suited
 
       pub suited-may : (more : List ℕ) → MayChange (fault_in (streamed how (behind ++ more))) → MayChange (trace_outcome plan (front ++ more)).fault
       suited-may more may = rw (outcome-suited more) (ends-may (Some set) (sorting plan) how (behind ++ more) may)
 
       -- the first piece was refused, or cut short
-      pub first-answers : (before after a c : Option (List ℕ)) (fault : Fault) → Consumes before after front → record_refusal how (words_of behind) ≡ Some fault
-          → ((more : List ℕ) → ends (behind ++ more) ≡ record { text = text (words_of behind); fault = Some fault }) → Appends a c (text (words_of behind)) → AnswersWork (tracing plan) before after a c (Err fault)
-      first-answers before after a c fault consumes refused stays written = inr (record {
-        taken = front;
-        consumes = consumes;
-        text = text (words_of behind);
-        written = written;
-        says = Says-shown (trace_outcome plan) front after _ (λ more. outcome-suited more ∙ stays more);
-      })
+      pub first-answers : (before after a c : Option (List ℕ)) (fault : Fault) → Consumes before after front → ((more : List ℕ) → ends (behind ++ more) ≡ record { text = text (words_of behind); fault = Some fault }) → Appends a c (text (words_of behind)) → AnswersWork (tracing plan) before after a c (Err fault)
+      first-answers = composed.first-answers (tracing plan) (trace_so_far plan) [] text ends refuses front behind outcome-suited open-suited
 
       pub first-cuts : (before after a c : Option (List ℕ)) (cut : List ℕ) → Consumes before after front → ((more : List ℕ) → (tail : List ℕ) × ((ends (behind ++ more)).text ≡ cut ++ tail)) → AppendsShort a c cut → CutsWork (AsItReads (trace_so_far plan)) (tracing plan) before after a c
-      first-cuts before after a c cut consumes front_of short =
-          let some = some_left after in
-          let it = front_of some.0 in
-          record {
-            taken = front;
-            consumes = consumes;
-            more = some.0;
-            may_be = some.1;
-            cut = rw (outcome-suited some.0, it.1) (AppendsShort-more a c cut it.0 short);
-          }
+      first-cuts = composed.first-cuts (tracing plan) (trace_so_far plan) [] text ends refuses front behind outcome-suited open-suited

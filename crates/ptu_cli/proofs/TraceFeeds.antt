@@ -1,15 +1,16 @@
 -- What a piece, and the end of a stream, write of a trace.
 use Rattle.std.proofs.Common.{◌≡◌, ◌≢◌, ◌∙◌, ◌≤◌, ◌<◌, ◌⊎◌, ℕ, List, [], ◌++◌, None, Some, Ok, Err, refl, sym, ap, subst, inl, inr, ⊎_elim, append_assoc, arith, length, length-append}
-use Rattle.std.specs.Prelude.{Result, OnOk, OnErr, IfErr, ◌==◌, Bool, true, false, if◌then◌else◌}
+use Rattle.std.specs.Prelude.{Result, OnOk, OnErr, IfErr, false}
 use Rattle.std.specs.declared.option.Option.{Option}
 use Rattle.std.specs.Io.KnownBytes.{Appends, Keeps}
 use Rattle.tally_base.specs.declared.fault.Fault.{Fault}
-use Rattle.tally_base.specs.declared.fault.Fault.TheVariants.{WriteFault, TruncatedRecord}
+use Rattle.tally_base.specs.declared.fault.Fault.TheVariants.{WriteFault}
 use Rattle.tally_base.specs.Faults.{is_outside, fault_in}
 use Rattle.tally_base.specs.FaultCounts.{Rose}
 use Rattle.tally_base.specs.Settings.{TraceView, trace_view}
 use Rattle.tally_base.specs.Tally.{History}
 use Rattle.tally_base.specs.declared.slot.Failed.{Failed}
+use Rattle.told_text.specs.Texts.{WroteText, WritesText}
 use Rattle.bench_io.specs.TriesOnce.{TriesOnce}
 use Rattle.bench_io.specs.Sinks.{AppendsShort, PassesOn}
 use Rattle.bench_io.specs.declared.sink.Sink.{Ghosts as SinkGhosts}
@@ -18,8 +19,7 @@ use Rattle.ptu_definitions.specs.declared.records.Summary.{Summary}
 use Rattle.ptu_definitions.specs.Kept.{Marked}
 use Rattle.ptu_definitions.specs.Settled.{not_marked}
 use Rattle.ptu_definitions.specs.Words.{words_of, rest_of}
-use Rattle.ptu_definitions.specs.Streams.{Reading, or_refusal, record_refusal, last_in, summary, streamed}
-use Rattle.ptu_definitions.proofs.Firsts.{record_refusal-inside}
+use Rattle.ptu_definitions.specs.Streams.{Reading, record_refusal, last_in, streamed}
 use Rattle.ptu_definitions.proofs.DeliveredLaws.{not_marked-append}
 use Rattle.record_stream.specs.declared.taker.EventTaker.{Ghosts}
 use Rattle.record_stream.specs.Feeding.{GaveOn, BrokeOn, Fed}
@@ -33,9 +33,10 @@ use Rattle.long_trace.specs.Texts.{open_text}
 use Rattle.long_trace.proofs.Rising.{RisesFrom, open-front}
 use Rattle.ptu_cli.specs.TraceOutcomes.{settled_before, words_traced}
 use Rattle.ptu_cli.specs.Once.{tells_writing, OutOnce}
-use Rattle.ptu_cli.specs.TracePieces.{WritesText, WroteLast, CutLast, WritesLast, both_ended}
+use Rattle.ptu_cli.specs.TracePieces.{WroteLast, CutLast, WritesLast, both_ended}
 use Rattle.ptu_cli.proofs.Once.{stays-same}
-use Rattle.ptu_cli.proofs.TraceTexts.{settled-adds, settled-rises, history-rest, history-rises, clear-from_ok}
+use Rattle.photon_pick.proofs.Streams.{clear-from_ok, streamed-inside}
+use Rattle.ptu_cli.proofs.TraceTexts.{settled-adds, settled-rises, history-rest, history-rises}
 
 AppendsShort-none : (a b : Option (List ℕ)) → AppendsShort a b [] → ⊥
 AppendsShort-none a b q = let e : length {A = ℕ} [] ≡ length (q.0 ++ q.1) = ap length q.3 in let some = q.2 in omega (arith, e, some, length-append q.0 q.1)
@@ -43,25 +44,12 @@ AppendsShort-none a b q = let e : length {A = ℕ} [] ≡ length (q.0 ++ q.1) = 
 with-parts : (by : Sorting) (l m : Marked) → with_groups by (not_marked (l ++ m)) ≡ with_groups by (not_marked l) ++ with_groups by (not_marked m)
 with-parts by l m = ap (with_groups by) (not_marked-append l m) ∙ with_groups-more by (not_marked l) (not_marked m)
 
--- no bytes call for a failed write
-streamed-inside : (how : Reading) (bytes : List ℕ) → streamed how bytes ≡ Err WriteFault → ⊥
-unfolding streamed
-streamed-inside how bytes is = by (record_refusal how (words_of bytes)) refl is
-  where
-    by : (o : Option Fault) → record_refusal how (words_of bytes) ≡ o → or_refusal o (if length (rest_of bytes) == 0 then Ok (summary how (words_of bytes)) else Err (TruncatedRecord (length (rest_of bytes)))) ≡ Err WriteFault → ⊥
-    by (Some fault) e h = let inside = record_refusal-inside how (words_of bytes) fault e in let same : fault ≡ WriteFault = cc in let bad : is_outside WriteFault ≡ false = rw same at inside in cc
-    by None e h = whole (length (rest_of bytes) == 0) h
-      where
-        whole : (b : Bool) → (if b then Ok (summary how (words_of bytes)) else Err (TruncatedRecord (length (rest_of bytes)))) ≡ Err WriteFault → ⊥
-        whole true h = cc
-        whole false h = cc
-
 clear-whole : (how : Reading) (bytes : List ℕ) → record_refusal how (words_of bytes) ≡ None → rest_of bytes ≡ [] → fault_in (streamed how bytes) ≡ None
 unfolding streamed
 clear-whole how bytes none whole = rw (none, whole) refl
 
 streamed-no_write : (how : Reading) (bytes : List ℕ) (fault : Fault) → streamed how bytes ≡ Err fault → fault ≢ WriteFault
-streamed-no_write how bytes fault is e = streamed-inside how bytes (is ∙ ap (λ (f : Fault). Err f) e)
+streamed-no_write how bytes fault is e = let inside = streamed-inside how bytes fault (ap fault_in is) in let bad : is_outside WriteFault ≡ false = rw e at inside in cc
 
 -- What a taker of a trace tells of the events that it was given, from a block that held nothing.
 pub record Gets (by : Sorting) (old new : LongTrace) (a b : Option (List ℕ)) (held : List ℕ) (l : Marked) : Type 0 where
@@ -107,27 +95,28 @@ module _ {T : Type 0} (g : Ghosts T) (trace : T → LongTrace) (told : T → Opt
         (it.lines ++ more.0, more.1, AppendsShort-more (told a) (told b) it.lines more.0 it.text, it.empty)
 
     -- What a piece wrote, where the block was flushed.
-    pub feeds-on : {X : Type 0} (r : Result X Fault) → Appends (told b) c (held b) → g.faults b ≤ faults → Fed g how a b words now r → WritesText text how (told a) c (g.faults a) faults words now r × OnOk r (Holds (trace b) (settled_before by how now))
-    feeds-on (Ok x) flushed later fed =
-        let it = gave-adds fed.1 in
-        ((fed.0, record { more = it.0; adds = it.1; written = Appends-flushed (told a) (told b) c it.0 (held b) it.2 flushed }), gave-holds fed.1)
-    feeds-on (Err fault) flushed later fed = (
-      ⊎_elim
-          (λ (r : (record_refusal how now ≡ Some fault) × GaveOn g how a b words now).
-          let it = gave-adds r.1 in inl (r.0, record { more = it.0; adds = it.1; written = Appends-flushed (told a) (told b) c it.0 (held b) it.2 flushed }))
-          (λ (r : (fault ≡ WriteFault) × BrokeOn g how a b words now).
-          let it = broke-adds r.1 in
-          let rose = r.1.rose in
-          inr (r.0, record { more = it.0; adds = it.1; cut = AppendsShort-kept (told a) (told b) c it.0 it.2 (Keeps-from_none (told b) c (rw it.3 at flushed)); rose = omega (arith, rose, later) }))
-          fed,
-      tt,
-    )
+    module _ (flushed : Appends (told b) c (held b)) (still : faults ≡ g.faults b) (keeps : (l : Marked) → g.got a b l → g.faults b ≡ g.faults a) where
+      gave-wrote : GaveOn g how a b words now → WroteText (text words) (text now) (told a) c (g.faults a) faults
+      gave-wrote h = let it = gave-adds h in record { more = it.0; adds = it.1; written = Appends-flushed (told a) (told b) c it.0 (held b) it.2 flushed; kept = still ∙ keeps h.more (h.follows a [] none) }
+
+      pub feeds-on : {X : Type 0} (r : Result X Fault) → Fed g how a b words now r → WritesText (text words) (text now) (record_refusal how now) (told a) c (g.faults a) faults r × OnOk r (Holds (trace b) (settled_before by how now))
+      feeds-on (Ok x) fed = ((fed.0, gave-wrote fed.1), gave-holds fed.1)
+      feeds-on (Err fault) fed = (
+        ⊎_elim
+            (λ (r : (record_refusal how now ≡ Some fault) × GaveOn g how a b words now). inl (r.0, gave-wrote r.1))
+            (λ (r : (fault ≡ WriteFault) × BrokeOn g how a b words now).
+            let it = broke-adds r.1 in
+            let rose = r.1.rose in
+            inr (r.0, record { more = it.0; adds = it.1; cut = AppendsShort-kept (told a) (told b) c it.0 it.2 (Keeps-from_none (told b) c (rw it.3 at flushed)); rose = omega (arith, rose, still) }))
+            fed,
+        tt,
+      )
 
     -- What it wrote where the flush failed.
-    cut-on : (X : Type 0) → GaveOn g how a b words now → AppendsShort (told b) c (held b) → Rose (g.faults a) faults → WritesText {X = X} text how (told a) c (g.faults a) faults words now (Err WriteFault)
+    cut-on : (X : Type 0) → GaveOn g how a b words now → AppendsShort (told b) c (held b) → Rose (g.faults a) faults → WritesText {X = X} (text words) (text now) (record_refusal how now) (told a) c (g.faults a) faults (Err WriteFault)
     cut-on X h short rose = let it = gave-adds h in inr (refl, record { more = it.0; adds = it.1; cut = AppendsShort-flushed (told a) (told b) c it.0 (held b) it.2 short; rose = rose })
 
-    pub feeds-cut : {X : Type 0} (r : Result X Fault) → AppendsShort (told b) c (held b) → Rose (g.faults a) faults → Fed g how a b words now r → WritesText {X = X} text how (told a) c (g.faults a) faults words now (Err WriteFault)
+    pub feeds-cut : {X : Type 0} (r : Result X Fault) → AppendsShort (told b) c (held b) → Rose (g.faults a) faults → Fed g how a b words now r → WritesText {X = X} (text words) (text now) (record_refusal how now) (told a) c (g.faults a) faults (Err WriteFault)
     feeds-cut {X} (Ok x) short rose fed = cut-on X fed.1 short rose
     feeds-cut {X} (Err fault) short rose fed =
         ⊎_elim

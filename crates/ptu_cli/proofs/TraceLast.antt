@@ -13,7 +13,7 @@ use Rattle.bench_io.specs.declared.sink.Sink.{Ghosts}
 use Rattle.bench_io.proofs.Bytes.{Appends-trans, AppendsShort-behind, AppendsShort-more}
 use Rattle.ptu_definitions.specs.declared.records.Summary.{Summary}
 use Rattle.ptu_definitions.specs.Words.{words_of}
-use Rattle.ptu_definitions.specs.Streams.{Reading, streamed}
+use Rattle.ptu_definitions.specs.Streams.{Reading, record_refusal, streamed}
 use Rattle.gate_plan.specs.Shifting.{Sorting}
 use Rattle.tally_engine.specs.Histories.{history}
 use Rattle.long_trace.specs.declared.trace.LongTrace.{LongTrace}
@@ -24,7 +24,9 @@ use Rattle.long_trace.proofs.Rising.{whole-front}
 use Rattle.ptu_cli.specs.Outcomes.{Outcome, written}
 use Rattle.ptu_cli.specs.TraceOutcomes.{words_traced, traced, records_traced}
 use Rattle.ptu_cli.specs.TracePieces.{WroteLast, WritesLast}
-use Rattle.ptu_cli.specs.TraceRuns.{WritesEnd}
+use Rattle.ptu_cli.specs.Once.{OutOnce}
+use Rattle.ptu_cli.specs.TextRuns.{WritesEnd}
+use Rattle.ptu_cli.proofs.Once.{once-inside}
 
 Keeps-append : (a b : Option (List ℕ)) → Keeps a b → Appends a b []
 Keeps-append None b k = tt
@@ -62,24 +64,29 @@ module _ {O : Type 0} (o : Ghosts O) (by : Sorting) (how : Reading) (trace now :
       by_answer (Ok summary) e = cc
       by_answer (Err own) e = ap (end_with (text (words_of bytes))) e
 
+  abbrev refuses : List ℕ → Option Fault
+  refuses = record_refusal how
+
   -- The lines of what was kept back were not all written.
-  pub last-refused : (old new : O) (fault : Fault) → WritesLast o by how trace now old new bytes (Err fault) → WritesEnd text ends how (o.written old) (o.written new) (o.faults old) (o.faults new) bytes (Err fault)
-  last-refused old new fault (inl h) =
+  pub last-refused : (old new : O) (fault : Fault) → OutOnce (Some fault) (o.faults old) (o.faults new) → WritesLast o by how trace now old new bytes (Err fault) → WritesEnd text ends refuses (o.written old) (o.written new) (o.faults old) (o.faults new) bytes (Err fault)
+  last-refused old new fault once (inl h) =
+      let is = ends-refused fault h.1 in
+      inl (
+        ap (λ (end : Outcome). end.fault) is,
+        record {
+          more = [];
+          adds = ap (λ (end : Outcome). end.text) is ∙ sym (append-nil (text (words_of bytes)));
+          written = Keeps-append (o.written old) (o.written new) h.2;
+          kept = once-inside fault (o.faults old) (o.faults new) h.0 once;
+        },
+      )
+  last-refused old new fault once (inr h) =
+      let front = whole-front set all in
       inr (
         h.0,
         record {
-          more = [];
-          is = ends-refused fault h.1 ∙ ap (λ l. end_with l (Some fault)) (sym (append-nil (text (words_of bytes))));
-          written = Keeps-append (o.written old) (o.written new) h.2;
-        },
-      )
-  last-refused old new fault (inr h) =
-      let front = whole-front set all in
-      inl (
-        h.0,
-        record {
           more = h.1.more ++ front.0;
-          is = ends-whole h.1.clear ∙ ap (λ l. end_with l None) (front.1 ∙ ap (λ l. l ++ front.0) h.1.adds ∙ append_assoc (text (words_of bytes)) h.1.more front.0);
+          adds = ap (λ (end : Outcome). end.text) (ends-whole h.1.clear) ∙ front.1 ∙ ap (λ l. l ++ front.0) h.1.adds ∙ append_assoc (text (words_of bytes)) h.1.more front.0;
           cut = AppendsShort-more (o.written old) (o.written new) h.1.more front.0 h.1.cut;
           rose = h.1.rose;
         },
@@ -89,21 +96,25 @@ module _ {O : Type 0} (o : Ghosts O) (by : Sorting) (how : Reading) (trace now :
   pub last-ended : (old mid new : O) (r : Result (Unit {0}) Fault) → set_of now ≡ set_of trace → o.faults mid ≡ o.faults old → WroteLast o by how trace now old mid bytes
       → OnOk r (AppendsRest (o.written mid) (o.written new) (open_text (trace_view (set_of now)) all) (whole_text (trace_view (set_of now)) all))
       → OnErr r (CutsRest (o.written mid) (o.written new) (open_text (trace_view (set_of now)) all) (whole_text (trace_view (set_of now)) all))
-      → IfErr r (λ fault. fault ≡ WriteFault) → OnErr r (Rose (o.faults mid) (o.faults new)) → WritesEnd text ends how (o.written old) (o.written new) (o.faults old) (o.faults new) bytes r
-  last-ended old mid new (Ok done) same still h all_of cut write rose =
+      → IfErr r (λ fault. fault ≡ WriteFault) → OnErr r (Rose (o.faults mid) (o.faults new)) → OnOk r (o.faults new ≡ o.faults mid) → WritesEnd text ends refuses (o.written old) (o.written new) (o.faults old) (o.faults new) bytes r
+  last-ended old mid new (Ok done) same still h all_of cut write rose kept =
       let rest = rw same at all_of in
-      record {
-        more = h.more ++ rest.rest;
-        is = ends-whole h.clear ∙ ap (λ l. end_with l None) (rest.whole ∙ ap (λ l. l ++ rest.rest) h.adds ∙ append_assoc (text (words_of bytes)) h.more rest.rest);
-        written = Appends-trans (o.written old) (o.written mid) (o.written new) h.more rest.rest h.written rest.appended;
-      }
-  last-ended old mid new (Err fault) same still h all_of cut write rose =
+      let is = ends-whole h.clear in (
+        ap (λ (end : Outcome). end.fault) is,
+        record {
+          more = h.more ++ rest.rest;
+          adds = ap (λ (end : Outcome). end.text) is ∙ rest.whole ∙ ap (λ l. l ++ rest.rest) h.adds ∙ append_assoc (text (words_of bytes)) h.more rest.rest;
+          written = Appends-trans (o.written old) (o.written mid) (o.written new) h.more rest.rest h.written rest.appended;
+          kept = kept ∙ still;
+        },
+      )
+  last-ended old mid new (Err fault) same still h all_of cut write rose kept =
       let rest = rw same at cut in
-      inl (
+      inr (
         write,
         record {
           more = h.more ++ rest.rest;
-          is = ends-whole h.clear ∙ ap (λ l. end_with l None) (rest.whole ∙ ap (λ l. l ++ rest.rest) h.adds ∙ append_assoc (text (words_of bytes)) h.more rest.rest);
+          adds = ap (λ (end : Outcome). end.text) (ends-whole h.clear) ∙ rest.whole ∙ ap (λ l. l ++ rest.rest) h.adds ∙ append_assoc (text (words_of bytes)) h.more rest.rest;
           cut = AppendsShort-behind (o.written old) (o.written mid) (o.written new) h.more rest.rest h.written rest.cut;
           rose = rw still at rose;
         },

@@ -1,19 +1,19 @@
 -- The text of a trace of words, and of more of them.
 use Rattle.std.proofs.Common.{◌≡◌, ◌∙◌, ◌<◌, ℕ, List, [], ◌++◌, None, Some, Ok, Err, map, take, drop, length, refl, sym, ap, subst, append_assoc, append-nil, take-append-drop}
-use Rattle.std.specs.Prelude.{Result, ◌-◌, ◌==◌, if◌then◌else◌}
+use Rattle.std.specs.Prelude.{Result, ◌-◌, false}
 use Rattle.std.specs.declared.option.Option.{Option}
 use Rattle.tally_base.specs.declared.fault.Fault.{Fault}
-use Rattle.tally_base.specs.declared.fault.Fault.TheVariants.{TruncatedRecord}
+use Rattle.tally_base.specs.Faults.{is_outside, fault_in}
 use Rattle.tally_base.specs.Settings.{TraceView}
 use Rattle.ptu_definitions.specs.declared.records.Summary.{Summary}
 use Rattle.ptu_definitions.specs.Words.{words_of, rest_of}
 use Rattle.ptu_definitions.specs.Kept.{Marked}
 use Rattle.ptu_definitions.specs.Settled.{kept_by, not_marked}
 use Rattle.ptu_definitions.specs.Times.{events}
-use Rattle.ptu_definitions.specs.Streams.{Reading, or_refusal, summary as summary_in, unrefused_after, record_refusal, given, last_in, streamed}
+use Rattle.ptu_definitions.specs.Streams.{Reading, unrefused_after, record_refusal, given, last_in, streamed}
 use Rattle.ptu_definitions.proofs.DeliveredLaws.{delivered-settled, not_marked-append}
 use Rattle.ptu_definitions.specs.Firsts.{IsFirst}
-use Rattle.ptu_definitions.proofs.Firsts.{given-all, given-before}
+use Rattle.ptu_definitions.proofs.Firsts.{given-all, given-before, record_refusal-inside}
 use Rattle.ptu_definitions.proofs.StreamLemmas.{given-front, given-stays}
 use Rattle.ptu_definitions.proofs.WordsLemmas.{words_of-append}
 use Rattle.record_stream.proofs.Lasts.{streamed-shown}
@@ -24,15 +24,9 @@ use Rattle.tally_engine.proofs.Takes.{with_groups-more}
 use Rattle.long_trace.specs.Texts.{open_text, whole_text}
 use Rattle.long_trace.proofs.Rising.{RisesFrom, rises-parts, open-front, whole-front}
 use Rattle.ptu_cli.specs.TraceOutcomes.{open_by, settled_before, words_traced, traced, records_traced}
+use Rattle.photon_pick.proofs.Streams.{clear-from_ok, streamed-inside}
+use Rattle.ptu_cli.proofs.TextEnds.{IsText}
 use Rattle.ptu_cli.proofs.TraceOrder.{kept-rises}
-
-pub clear-from_ok : (how : Reading) (bytes : List ℕ) (summary : Summary) → streamed how bytes ≡ Ok summary → record_refusal how (words_of bytes) ≡ None
-unfolding streamed
-clear-from_ok how bytes summary is = by (record_refusal how (words_of bytes)) is
-  where
-    by : (o : Option Fault) → or_refusal o (if length (rest_of bytes) == 0 then Ok (summary_in how (words_of bytes)) else Err (TruncatedRecord (length (rest_of bytes)))) ≡ Ok summary → o ≡ None
-    by None e = refl
-    by (Some fault) e = cc
 
 module _ (by : Sorting) (how : Reading) where
   -- what is settled is what was given and isn't marked late
@@ -123,3 +117,20 @@ module _ (by : Sorting) (how : Reading) where
   refused-ends set bytes more fault refused =
       ap (traced set by how (bytes ++ more)) (streamed-shown how bytes fault refused more)
       ∙ ap (λ l. record { text = open_by set l; fault = Some fault }) (ap (settled_before by how) (words_of-append bytes more) ∙ settled-stays (words_of bytes) (words_of (rest_of bytes ++ more)) fault refused)
+
+  -- the fault of the end is that of the records
+  ends-fault : (set : Option TraceView) (bytes : List ℕ) → (records_traced set by how bytes).fault ≡ fault_in (streamed how bytes)
+  ends-fault set bytes = by_answer (streamed how bytes)
+    where
+      by_answer : (r : Result Summary Fault) → (traced set by how bytes r).fault ≡ fault_in r
+      by_answer (Ok summary) = refl
+      by_answer (Err fault) = refl
+
+  -- the text of a trace is one
+  pub is-text : (set : TraceView) → 0 < set.width → IsText (words_traced (Some set) by how) (records_traced (Some set) by how) (record_refusal how)
+  is-text set some = record {
+    refused = refused-ends (Some set);
+    front = text-front set some;
+    inside = record_refusal-inside how;
+    end_inside = λ bytes fault h. streamed-inside how bytes fault (sym (ends-fault (Some set) bytes) ∙ h);
+  }

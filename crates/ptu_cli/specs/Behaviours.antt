@@ -14,11 +14,12 @@ use Rattle.plan_text.specs.Plan.{PlanView}
 use Rattle.plan_text.specs.Fits.{fits}
 use Rattle.tally_engine.specs.Plans.{reading_by}
 use Rattle.table_out.specs.HeaderText.{header_text}
-use Rattle.ptu_cli.specs.Commands.{Request, Count, Header as HeaderOf, Events, Run, Trace, Demo}
+use Rattle.ptu_cli.specs.Commands.{Request, Count, Header as HeaderOf, Events, Run, Trace, Pick, Demo}
 use Rattle.ptu_cli.specs.Demo.{demo_report}
 use Rattle.ptu_cli.specs.Reports.{file_report}
 use Rattle.ptu_cli.specs.Outcomes.{Outcome, written, MayChange, IsCut, count_outcome, file_counts, header_outcome, events_outcome, listing, report_outcome}
 use Rattle.ptu_cli.specs.TraceOutcomes.{no_trace, trace_outcome, trace_so_far}
+use Rattle.ptu_cli.specs.PickOutcomes.{no_group, pick_outcome, pick_so_far, pick_goes_on, AllInTime}
 
 -- the bytes that one read of FILE takes at most
 abbrev pub piece_limit : ℕ
@@ -127,6 +128,14 @@ tracing plan = record {
   good = (reporting plan).good;
 }
 
+-- The photons of a group, in a file of their own: a good file for it has none that is too late.
+abbrev pub picking : ℕ → PlanView → Work
+picking group plan = record {
+  outcome = pick_outcome group plan;
+  goes_on = pick_goes_on group plan;
+  good = IsHeaded (λ header behind. (fits (mode_of header.record_type) plan ≡ Ok (tt {0})) × AreRead (reading_by plan header) behind × AllInTime group plan header behind);
+}
+
 abbrev pub behaviour : Option Request → Behaviour
 behaviour None = NoCommand
 behaviour (Some (Count file)) = OnFile file AtEnd counting
@@ -134,4 +143,5 @@ behaviour (Some (HeaderOf file)) = OnFile file (AsItReads header_text) printing
 behaviour (Some (Events file)) = OnFile file (AsItReads events_so_far) listing_all
 behaviour (Some (Run plan file)) = ByPlan plan file AtEnd ForTables any_plan reporting
 behaviour (Some (Trace plan file)) = ByPlan plan file (AsItReads trace_so_far) ForPlan no_trace tracing
+behaviour (Some (Pick plan group file)) = ByPlan plan file (AsItReads (pick_so_far group)) ForPlan (no_group group) (picking group)
 behaviour (Some (Demo seed count)) = Alone (written (demo_report seed count))

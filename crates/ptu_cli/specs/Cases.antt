@@ -1,11 +1,14 @@
 -- What a run of the program ends with, as a table of cases over whole lists: relations, plain counts and the texts of lines. No function is cited that finds an answer for the program (`header_answer`, `plan_answer`, `fits`, `counted`, `record_refusal`, `streamed`, `given`, `seen`).
-use Rattle.std.specs.Prelude.{ℕ, ◌≡◌, ◌≢◌, ◌⊎◌, ◌<◌, ◌≤◌, List, [], ◌∷◌, ◌++◌, length, take, get_or, map, flat_map, codes, decimal, nat_le, count_by, ◌+◌, ◌/◌, ◌==◌, None, Some, Result, Ok, Err}
+use Rattle.std.specs.Prelude.{ℕ, ◌≡◌, ◌≢◌, ◌⊎◌, ◌<◌, ◌≤◌, List, [], ◌∷◌, ◌++◌, length, take, get_or, map, flat_map, codes, decimal, nat_le, count_by, ◌+◌, ◌/◌, ◌==◌, true, None, Some, Result, Ok, Err}
+use Rattle.std.specs.List.{filter}
 use Rattle.std.specs.declared.option.Option.{Option}
 use Rattle.toml.specs.Data.{Members, table}
 use Rattle.tally_base.specs.declared.slot.Slot.TheVariants.{Plan, Data}
+use Rattle.tally_base.specs.declared.event.Event.{Event}
 use Rattle.tally_base.specs.declared.fault.Fault.{Fault}
-use Rattle.tally_base.specs.declared.fault.Fault.TheVariants.{Usage, OpenFault, OutOfMemory, RecordLimit, TruncatedRecord, NoTrace}
+use Rattle.tally_base.specs.declared.fault.Fault.TheVariants.{Usage, OpenFault, OutOfMemory, RecordLimit, TruncatedRecord, NoTrace, NoGroup, PickTime}
 use Rattle.tally_base.specs.declared.header.Header.{Header}
+use Rattle.tally_base.specs.declared.header.Mode.{Mode}
 use Rattle.tally_base.specs.Faults.{fault_in}
 use Rattle.tally_base.specs.RecordTypes.{mode_of}
 use Rattle.tally_base.specs.Settings.{PartSettings, StartStopView, TraceView}
@@ -20,6 +23,7 @@ use Rattle.ptu_definitions.specs.Layouts.{meaning_of}
 use Rattle.ptu_definitions.specs.Kinds.{counts_of}
 use Rattle.ptu_definitions.specs.Counted.{record_limit}
 use Rattle.ptu_definitions.specs.Prefixes.{each}
+use Rattle.ptu_definitions.specs.Settled.{kept_by, settled_by}
 use Rattle.ptu_definitions.specs.Times.{events}
 use Rattle.ptu_definitions.specs.Streams.{Reading, refusal, events_in, summary_of}
 use Rattle.ptu_definitions.specs.Firsts.{IsFirst}
@@ -39,11 +43,14 @@ use Rattle.table_out.specs.Report.{head_text, printed, same_kind, Table, with_ev
 use Rattle.ptu_made.specs.Generator.{made_words}
 use Rattle.ptu_made.specs.Records.{made_header}
 use Rattle.ptu_cli.specs.CountText.{counts_text}
-use Rattle.ptu_cli.specs.Commands.{Request, Count, Header as HeaderOf, Events, Run, Trace, Demo}
+use Rattle.ptu_cli.specs.Commands.{Request, Count, Header as HeaderOf, Events, Run, Trace, Pick, Demo}
+use Rattle.record_write.specs.Picked.{is_too_late, picked_file}
+use Rattle.photon_pick.specs.Late.{too_late}
 use Rattle.ptu_cli.specs.Demo.{demo_plan}
 use Rattle.long_trace.specs.Texts.{open_text, whole_text}
 use Rattle.ptu_cli.specs.Outcomes.{Outcome, refused, written, listing}
 use Rattle.ptu_cli.specs.TraceOutcomes.{trace_of}
+use Rattle.ptu_cli.specs.PickOutcomes.{chosen_by}
 
 -- ## Files, headers and records
 
@@ -212,6 +219,98 @@ TracePlanCase (Some text) data_file end =
     ((fault : Fault) × IsCalledFor text fault × (fault ≢ OutOfMemory) × (end ≡ refused fault))
     ⊎ ((ms : Members) × IsValid text × (document text ≡ Some ms) × PlannedTrace (plan (table ms)) data_file end)
 
+-- ## pick
+
+-- The groups of a plan are numbered from 1, and it has one of this number.
+abbrev pub HasGroup : ℕ → PlanView → Type 0
+HasGroup group view = (1 ≤ group) × (group ≤ length view.groups)
+
+-- the photons of the group in the settled list of these records: those that are written while more may come
+abbrev pub settled_photons : PlanView → ℕ → Header → List ℕ → List Event
+settled_photons view group header words =
+    let how = reading_by view header in
+    filter (chosen_by view group) (settled_by how.policy.settle how.mode (events (map how.meaning words)))
+
+-- the photons of the group in the kept list of these records: all that are written where no more come
+abbrev pub kept_photons : PlanView → ℕ → Header → List ℕ → List Event
+kept_photons view group header words =
+    let how = reading_by view header in
+    filter (chosen_by view group) (kept_by how.policy.settle how.mode (events (map how.meaning words)))
+
+-- One of these photons is too late to be written, and none before it.
+pub record FirstLate (mode : Mode) (photons : List Event) : Type 0 where
+  pub before : List Event
+  pub photon : Event
+  pub behind : List Event
+  pub parts : photons ≡ before ++ photon ∷ behind
+  pub none_before : too_late mode before ≡ []
+  pub late : is_too_late mode photon.time ≡ true
+
+-- A record settles a photon of the group that is too late. Neither this record nor one before it is refused, and no such photon is settled before.
+pub record LateAtRecord (view : PlanView) (group : ℕ) (header : Header) (words : List ℕ) : Type 0 where
+  pub front : List ℕ
+  pub word : ℕ
+  pub more : List ℕ
+  pub parts : words ≡ (front ++ word ∷ []) ++ more
+  pub unrefused : NoneRefused (reading_by view header) (front ++ word ∷ [])
+  pub none_settled : too_late (mode_of header.record_type) (settled_photons view group header front) ≡ []
+  pub first : FirstLate (mode_of header.record_type) (settled_photons view group header (front ++ word ∷ []))
+
+-- The data are read to their end, and a photon of the group is too late in the kept list, but none that is settled before the end.
+pub record LateAtEnd (view : PlanView) (group : ℕ) (header : Header) (behind : List ℕ) : Type 0 where
+  pub unrefused : NoneRefused (reading_by view header) (words_of behind)
+  pub whole : rest_of behind ≡ []
+  pub none_settled : too_late (mode_of header.record_type) (settled_photons view group header (words_of behind)) ≡ []
+  pub first : FirstLate (mode_of header.record_type) (kept_photons view group header (words_of behind))
+
+-- A record is refused, and no photon of the group is too late that is settled by those before it.
+pub record RefusedInTime (view : PlanView) (group : ℕ) (header : Header) (words : List ℕ) (fault : Fault) : Type 0 where
+  pub least : IsFirst (reading_by view header) fault [] words
+  pub in_time : too_late (mode_of header.record_type) (settled_photons view group header least.front) ≡ []
+
+-- A record is cut behind some of which none is refused, and no photon of the group is too late that is settled by these.
+pub record CutInTime (view : PlanView) (group : ℕ) (header : Header) (behind : List ℕ) : Type 0 where
+  pub unrefused : NoneRefused (reading_by view header) (words_of behind)
+  pub cut : rest_of behind ≢ []
+  pub in_time : too_late (mode_of header.record_type) (settled_photons view group header (words_of behind)) ≡ []
+
+-- The data are read to their end, and no photon of the group is too late.
+pub record AllPicked (view : PlanView) (group : ℕ) (header : Header) (behind : List ℕ) : Type 0 where
+  pub unrefused : NoneRefused (reading_by view header) (words_of behind)
+  pub whole : rest_of behind ≡ []
+  pub in_time : too_late (mode_of header.record_type) (kept_photons view group header (words_of behind)) ≡ []
+
+-- the file of some photons, and a fault
+abbrev pub pick_end : Header → List Event → Option Fault → Outcome
+pick_end header photons fault = record { text = picked_file (mode_of header.record_type) photons; fault = fault }
+
+-- The first photon that is too late is named, and those before it are written. At a record that is refused, or where the last one is cut, those are written that are settled by the records before. At a good end all are.
+abbrev pub PickedCase : PlanView → ℕ → Header → List ℕ → Outcome → Type 0
+PickedCase view group header behind end =
+    ((late : LateAtRecord view group header (words_of behind)) × (end ≡ pick_end header late.first.before (Some (PickTime late.first.photon.place))))
+    ⊎ (((fault : Fault) × (refusal : RefusedInTime view group header (words_of behind) fault) × (end ≡ pick_end header (settled_photons view group header refusal.least.front) (Some fault)))
+    ⊎ ((CutInTime view group header behind × (end ≡ pick_end header (settled_photons view group header (words_of behind)) (Some (TruncatedRecord (length (rest_of behind))))))
+    ⊎ (((late : LateAtEnd view group header behind) × (end ≡ pick_end header late.first.before (Some (PickTime late.first.photon.place))))
+    ⊎ (AllPicked view group header behind × (end ≡ pick_end header (kept_photons view group header (words_of behind)) None)))))
+
+-- The first part that does not suit the file's mode ends the run.
+abbrev pub PickCase : ℕ → PlanView → Header → List ℕ → Outcome → Type 0
+PickCase group view header behind end =
+    ((fault : Fault) × IsMisfit (mode_of header.record_type) view fault × (end ≡ refused fault))
+    ⊎ (((fault : Fault) → IsMisfit (mode_of header.record_type) view fault → ⊥) × PickedCase view group header behind end)
+
+-- A plan that has no group of this number is refused. Else the photons of the group are written.
+abbrev pub PlannedPick : ℕ → PlanView → File → Outcome → Type 0
+PlannedPick group view data_file end =
+    ((HasGroup group view → ⊥) × (end ≡ refused (NoGroup group)))
+    ⊎ (HasGroup group view × FileCase (HeaderCase (PickCase group view)) data_file end)
+
+abbrev pub PickPlanCase : ℕ → File → File → Outcome → Type 0
+PickPlanCase group None data_file end = end ≡ refused (OpenFault Plan)
+PickPlanCase group (Some text) data_file end =
+    ((fault : Fault) × IsCalledFor text fault × (fault ≢ OutOfMemory) × (end ≡ refused fault))
+    ⊎ ((ms : Members) × IsValid text × (document text ≡ Some ms) × PlannedPick group (plan (table ms)) data_file end)
+
 -- ## All commands
 
 -- The request ends so over these files of its words PLAN and FILE.
@@ -222,4 +321,5 @@ IsOutcome (Some (HeaderOf file)) plan_file data_file end = FileCase PrintCase da
 IsOutcome (Some (Events file)) plan_file data_file end = FileCase (HeaderCase ListCase) data_file end
 IsOutcome (Some (Run plan_name file)) plan_file data_file end = PlanCase plan_file data_file end
 IsOutcome (Some (Trace plan_name file)) plan_file data_file end = TracePlanCase plan_file data_file end
+IsOutcome (Some (Pick plan_name group file)) plan_file data_file end = PickPlanCase group plan_file data_file end
 IsOutcome (Some (Demo seed count)) plan_file data_file end = end ≡ written (words_report demo_plan made_header (made_words seed count))

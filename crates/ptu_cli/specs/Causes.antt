@@ -4,7 +4,7 @@ use Rattle.std.specs.declared.option.Option.{Option}
 use Rattle.toml.specs.Data.{Members, table}
 use Rattle.tally_base.specs.declared.slot.Slot.TheVariants.{Plan, Data}
 use Rattle.tally_base.specs.declared.fault.Fault.{Fault}
-use Rattle.tally_base.specs.declared.fault.Fault.TheVariants.{OpenFault, OutOfMemory, RecordLimit, TruncatedRecord, NoTrace}
+use Rattle.tally_base.specs.declared.fault.Fault.TheVariants.{OpenFault, OutOfMemory, RecordLimit, TruncatedRecord, NoTrace, NoGroup, PickTime}
 use Rattle.tally_base.specs.declared.header.Header.{Header}
 use Rattle.tally_base.specs.RecordTypes.{mode_of}
 use Rattle.tally_base.specs.Faults.{status_of}
@@ -18,12 +18,12 @@ use Rattle.plan_text.specs.Plan.{PlanView, plan}
 use Rattle.plan_text.specs.Reading.{document, IsValid, IsCalledFor}
 use Rattle.plan_text.specs.Fits.{IsMisfit}
 use Rattle.tally_engine.specs.Plans.{reading_by}
-use Rattle.ptu_cli.specs.Commands.{Request, Count, Events, Run, Trace, Demo}
+use Rattle.ptu_cli.specs.Commands.{Request, Count, Events, Run, Trace, Pick, Demo}
 use Rattle.ptu_cli.specs.Outcomes.{listing}
 use Rattle.ptu_cli.specs.TraceOutcomes.{no_trace}
 use Rattle.ptu_cli.specs.Behaviours.{behaviour}
 use Rattle.ptu_cli.specs.Endings.{outcome}
-use Rattle.ptu_cli.specs.Cases.{NoneRefused}
+use Rattle.ptu_cli.specs.Cases.{NoneRefused, HasGroup, LateAtRecord, LateAtEnd, RefusedInTime, CutInTime}
 
 -- The file is there, and its bytes are this plan.
 pub record IsValidPlan (plan_file : File) (view : PlanView) : Type 0 where
@@ -70,6 +70,10 @@ ByPlanIn calls plan_file data_file = (view : PlanView) × (header : Header) × (
 abbrev pub IsTraced : File → Type 0
 IsTraced plan_file = (view : PlanView) × IsValidPlan plan_file view × (no_trace view ≡ None)
 
+-- The file is there, and its bytes are a plan that has a group of this number.
+abbrev pub IsGrouped : ℕ → File → Type 0
+IsGrouped group plan_file = (view : PlanView) × IsValidPlan plan_file view × HasGroup group view
+
 -- 2: a file that a command comes to is not there
 abbrev pub Absent : Option Request → File → File → Fault → Type 0
 Absent None plan_file data_file fault = ⊥
@@ -77,6 +81,8 @@ Absent (Some (Run plan_name file)) plan_file data_file fault =
     ((plan_file ≡ None) × (fault ≡ OpenFault Plan)) ⊎ ((view : PlanView) × IsValidPlan plan_file view × (data_file ≡ None) × (fault ≡ OpenFault Data))
 Absent (Some (Trace plan_name file)) plan_file data_file fault =
     ((plan_file ≡ None) × (fault ≡ OpenFault Plan)) ⊎ (IsTraced plan_file × (data_file ≡ None) × (fault ≡ OpenFault Data))
+Absent (Some (Pick plan_name group file)) plan_file data_file fault =
+    ((plan_file ≡ None) × (fault ≡ OpenFault Plan)) ⊎ (IsGrouped group plan_file × (data_file ≡ None) × (fault ≡ OpenFault Data))
 Absent (Some (Demo seed count)) plan_file data_file fault = ⊥
 Absent (Some other) plan_file data_file fault = (data_file ≡ None) × (fault ≡ OpenFault Data)
 
@@ -84,12 +90,14 @@ Absent (Some other) plan_file data_file fault = (data_file ≡ None) × (fault �
 abbrev pub NoPlan : Option Request → File → Fault → Type 0
 NoPlan (Some (Run plan_name file)) plan_file fault = (text : List ℕ) × (plan_file ≡ Some text) × IsCalledFor text fault × (fault ≢ OutOfMemory)
 NoPlan (Some (Trace plan_name file)) plan_file fault = (text : List ℕ) × (plan_file ≡ Some text) × IsCalledFor text fault × (fault ≢ OutOfMemory)
+NoPlan (Some (Pick plan_name group file)) plan_file fault = (text : List ℕ) × (plan_file ≡ Some text) × IsCalledFor text fault × (fault ≢ OutOfMemory)
 NoPlan other plan_file fault = ⊥
 
 -- 9: a part of the plan doesn't suit FILE
 abbrev pub Misfits : Option Request → File → File → Fault → Type 0
 Misfits (Some (Run plan_name file)) plan_file data_file fault = ByPlanIn (λ view header behind. IsMisfit (mode_of header.record_type) view fault) plan_file data_file
 Misfits (Some (Trace plan_name file)) plan_file data_file fault = ByPlanIn (λ view header behind. (no_trace view ≡ None) × IsMisfit (mode_of header.record_type) view fault) plan_file data_file
+Misfits (Some (Pick plan_name group file)) plan_file data_file fault = ByPlanIn (λ view header behind. HasGroup group view × IsMisfit (mode_of header.record_type) view fault) plan_file data_file
 Misfits other plan_file data_file fault = ⊥
 
 -- 10 to 16: FILE is refused as a header
@@ -97,10 +105,11 @@ abbrev pub NoHeader : Option Request → File → File → Fault → Type 0
 NoHeader None plan_file data_file fault = ⊥
 NoHeader (Some (Run plan_name file)) plan_file data_file fault = (view : PlanView) × IsValidPlan plan_file view × Unheaded data_file fault
 NoHeader (Some (Trace plan_name file)) plan_file data_file fault = IsTraced plan_file × Unheaded data_file fault
+NoHeader (Some (Pick plan_name group file)) plan_file data_file fault = IsGrouped group plan_file × Unheaded data_file fault
 NoHeader (Some (Demo seed count)) plan_file data_file fault = ⊥
 NoHeader (Some other) plan_file data_file fault = Unheaded data_file fault
 
--- 17: FILE ends within a record
+-- 17: FILE ends within a record; for `pick` where no photon of the group is too late that is settled before
 abbrev pub Cut : Option Request → File → File → Fault → Type 0
 Cut (Some (Count file)) plan_file data_file fault = InRecords (λ header behind. CutBehind behind (length (words_of behind) ≤ record_limit) fault) data_file
 Cut (Some (Events file)) plan_file data_file fault = InRecords (λ header behind. CutBehind behind (NoneRefused (listing header) (words_of behind)) fault) data_file
@@ -108,20 +117,43 @@ Cut (Some (Run plan_name file)) plan_file data_file fault =
     ByPlanIn (λ view header behind. Suits view header × CutBehind behind (NoneRefused (reading_by view header) (words_of behind)) fault) plan_file data_file
 Cut (Some (Trace plan_name file)) plan_file data_file fault =
     ByPlanIn (λ view header behind. (no_trace view ≡ None) × Suits view header × CutBehind behind (NoneRefused (reading_by view header) (words_of behind)) fault) plan_file data_file
+Cut (Some (Pick plan_name group file)) plan_file data_file fault =
+    ByPlanIn (λ view header behind. HasGroup group view × Suits view header × CutInTime view group header behind × (fault ≡ TruncatedRecord (length (rest_of behind)))) plan_file data_file
 Cut other plan_file data_file fault = ⊥
 
--- 18 to 21: a record of FILE is refused
+-- 18 to 21: a record of FILE is refused; for `pick` where no photon of the group is too late that is settled before
 abbrev pub Refused : Option Request → File → File → Fault → Type 0
 Refused (Some (Count file)) plan_file data_file fault = InRecords (λ header behind. (record_limit < length (words_of behind)) × (fault ≡ RecordLimit record_limit)) data_file
 Refused (Some (Events file)) plan_file data_file fault = InRecords (λ header behind. RefusedIn (listing header) behind fault) data_file
 Refused (Some (Run plan_name file)) plan_file data_file fault = ByPlanIn (λ view header behind. Suits view header × RefusedIn (reading_by view header) behind fault) plan_file data_file
 Refused (Some (Trace plan_name file)) plan_file data_file fault = ByPlanIn (λ view header behind. (no_trace view ≡ None) × Suits view header × RefusedIn (reading_by view header) behind fault) plan_file data_file
+Refused (Some (Pick plan_name group file)) plan_file data_file fault = ByPlanIn (λ view header behind. HasGroup group view × Suits view header × RefusedInTime view group header (words_of behind) fault) plan_file data_file
 Refused other plan_file data_file fault = ⊥
 
 -- 22: the plan has no trace
 abbrev pub Untraced : Option Request → File → Fault → Type 0
 Untraced (Some (Trace plan_name file)) plan_file fault = (view : PlanView) × IsValidPlan plan_file view × (no_trace view ≡ Some NoTrace) × (fault ≡ NoTrace)
 Untraced other plan_file fault = ⊥
+
+-- 23: the plan has no group of the number
+abbrev pub Ungrouped : Option Request → File → Fault → Type 0
+Ungrouped (Some (Pick plan_name group file)) plan_file fault = (view : PlanView) × IsValidPlan plan_file view × (HasGroup group view → ⊥) × (fault ≡ NoGroup group)
+Ungrouped other plan_file fault = ⊥
+
+-- A photon of the group is too late to be written, at a record or at the end, and the fault names the first of these.
+abbrev pub NamesLate : ℕ → PlanView → Header → List ℕ → Fault → Type 0
+NamesLate group view header behind fault =
+    ((late : LateAtRecord view group header (words_of behind)) × (fault ≡ PickTime late.first.photon.place))
+    ⊎ ((late : LateAtEnd view group header behind) × (fault ≡ PickTime late.first.photon.place))
+
+-- 24: a photon of the group is too late to be written
+abbrev pub TooLate : Option Request → File → File → Fault → Type 0
+TooLate (Some (Pick plan_name group file)) plan_file data_file fault = ByPlanIn (λ view header behind. HasGroup group view × Suits view header × NamesLate group view header behind fault) plan_file data_file
+TooLate other plan_file data_file fault = ⊥
+
+-- The plan has the group and suits FILE, whose records are whole and of which none is refused.
+abbrev pub IsPickable : ℕ → File → File → Type 0
+IsPickable group = ByPlanIn (λ view header behind. HasGroup group view × Suits view header × NoneRefused (reading_by view header) (words_of behind) × (rest_of behind ≡ []))
 
 -- the command ends with this fault, where nothing outside fails
 abbrev pub EndsWithFault : Option Request → File → File → Fault → Type 0

@@ -12,6 +12,7 @@ pub data Request : Type 0 where
   Events : (file : List ℕ) → Request
   Run : (plan file : List ℕ) → Request
   Trace : (plan file : List ℕ) → Request
+  Pick : (plan : List ℕ) (group : ℕ) (file : List ℕ) → Request
   Demo : (seed count : ℕ) → Request
 
 -- one to twenty digits
@@ -27,6 +28,10 @@ demo_of (Some seed) (Some count) = Some (Demo seed count)
 demo_of (Some seed) None = None
 demo_of None count = None
 
+abbrev pub pick_of : List ℕ → Option ℕ → List ℕ → Option Request
+pick_of plan (Some group) file = Some (Pick plan group file)
+pick_of plan None file = None
+
 -- the words behind the program's name
 abbrev pub request_of : List (List ℕ) → Option Request
 request_of (word ∷ file ∷ []) =
@@ -38,5 +43,8 @@ request_of (word ∷ first ∷ second ∷ []) =
     if bytes_eq word (codes "run") then Some (Run first second)
     else if bytes_eq word (codes "trace") then Some (Trace first second)
     else if bytes_eq word (codes "demo") then demo_of (number_in (2 ^ 64 - 1) first) (number_in photon_limit second)
+    else None
+request_of (word ∷ plan ∷ group ∷ file ∷ []) =
+    if bytes_eq word (codes "pick") then pick_of plan (number_in (2 ^ 64 - 1) group) file
     else None
 request_of other = None

@@ -8,6 +8,7 @@ pub mod Reports
 pub mod Demo
 pub mod Outcomes
 pub mod TraceOutcomes
+pub mod PickOutcomes
 pub mod Behaviours
 pub mod Works
 pub mod Pieces
@@ -26,4 +27,5 @@ pub mod PlanPieces
 pub mod RunPieces
 pub mod TraceLines
 pub mod TracePieces
-pub mod TraceRuns
+pub mod TextRuns
+pub mod PickRuns

@@ -4,10 +4,10 @@ use Rattle.std.specs.declared.string.String.{String}
 use Rattle.std.specs.declared.alloc.Global.{Global}
 use Rattle.std.specs.declared.option.Option.{Option}
 use Rattle.ptu_made.specs.Generator.{photon_limit}
-use Rattle.ptu_cli.specs.Commands.{Request, Count as CountOf, Header as HeaderOf, Events as EventsOf, Run as RunOf, Trace as TraceOf, Demo as DemoOf, request_of}
+use Rattle.ptu_cli.specs.Commands.{Request, Count as CountOf, Header as HeaderOf, Events as EventsOf, Run as RunOf, Trace as TraceOf, Pick as PickOf, Demo as DemoOf, request_of}
 use Rattle.ptu_cli.specs.Behaviours.{Behaviour, behaviour}
 use Rattle.ptu_cli.specs.declared.words.Command.{Command}
-use Rattle.ptu_cli.specs.declared.words.Command.TheVariants.{Count, Header, Events, Run, Trace, Demo}
+use Rattle.ptu_cli.specs.declared.words.Command.TheVariants.{Count, Header, Events, Run, Trace, Pick, Demo}
 
 abbrev pub asked_for : Option Command → Option Request
 asked_for None = None
@@ -16,6 +16,7 @@ asked_for (Some (Header file)) = Some (HeaderOf file.now)
 asked_for (Some (Events file)) = Some (EventsOf file.now)
 asked_for (Some (Run plan file)) = Some (RunOf plan.now file.now)
 asked_for (Some (Trace plan file)) = Some (TraceOf plan.now file.now)
+asked_for (Some (Pick plan group file)) = Some (PickOf plan.now group file.now)
 asked_for (Some (Demo seed count)) = Some (DemoOf seed count)
 
 -- A command asks for no more photons than a made file may have.

@@ -9,6 +9,7 @@ use Rattle.tally_base.specs.Faults.{is_outside, fault_in}
 use Rattle.tally_base.specs.Settings.{trace_view}
 use Rattle.bench_io.specs.Sinks.{AppendsShort}
 use Rattle.bench_io.specs.declared.sink.Sink.{Ghosts}
+use Rattle.told_text.specs.Texts.{WritesText}
 use Rattle.ptu_definitions.specs.Words.{words_of}
 use Rattle.ptu_definitions.specs.Streams.{Reading, record_refusal, streamed}
 use Rattle.gate_plan.specs.Shifting.{Sorting}
@@ -21,24 +22,6 @@ use Rattle.long_trace.specs.Texts.{open_text}
 use Rattle.ptu_cli.specs.Once.{OutOnce}
 use Rattle.ptu_cli.specs.TraceOutcomes.{settled_before, words_traced}
 
--- The rest of the text of more words was written.
-pub record WroteText (text : List ℕ → List ℕ) (old new : Option (List ℕ)) (words now : List ℕ) : Type 0 where
-  pub more : List ℕ
-  pub adds : text now ≡ text words ++ more
-  pub written : Appends old new more
-
--- It was cut short, since a write failed.
-pub record CutText (text : List ℕ → List ℕ) (old new : Option (List ℕ)) (before after : ℕ) (words now : List ℕ) : Type 0 where
-  pub more : List ℕ
-  pub adds : text now ≡ text words ++ more
-  pub cut : AppendsShort old new more
-  pub rose : Rose before after
-
--- what words wrote that came behind others, by the answer
-abbrev pub WritesText : {X : Type 0} → (List ℕ → List ℕ) → Reading → Option (List ℕ) → Option (List ℕ) → ℕ → ℕ → List ℕ → List ℕ → Result X Fault → Type 0
-WritesText text how old new before after words now (Ok x) = (record_refusal how now ≡ None) × WroteText text old new words now
-WritesText text how old new before after words now (Err fault) = ((record_refusal how now ≡ Some fault) × WroteText text old new words now) ⊎ ((fault ≡ WriteFault) × CutText text old new before after words now)
-
 -- The trace is no further on than the stream.
 pub record IsBehindStream (stream : RecordStream) (trace : LongTrace) : Type 0 where
   pub few : taken_of trace ≤ given_by stream
@@ -48,12 +31,16 @@ pub record IsBehindStream (stream : RecordStream) (trace : LongTrace) : Type 0 w
 abbrev pub TracesBytes : Sorting → Reading → LongTrace → List ℕ → Type 0
 TracesBytes by how trace bytes = Holds trace (settled_before by how (words_of bytes))
 
--- what feeding a piece to a stream that has refused nothing wrote on an output, with a trace that stands for what came before
+-- What feeding a piece behind these bytes wrote on an output, and that the trace then stands for them with the piece.
+pub record TracedPiece {O X : Type 0} (o : Ghosts O) (by : Sorting) (stream : RecordStream) (trace now : LongTrace) (bytes piece : List ℕ) (old new : O) (result : Result X Fault) : Type 0 where
+  pub writes : WritesText (words_traced (Some (trace_view (set_of trace))) by (how_of stream) (words_of bytes)) (words_traced (Some (trace_view (set_of trace))) by (how_of stream) (words_of (bytes ++ piece))) (record_refusal (how_of stream) (words_of (bytes ++ piece)))
+      (o.written old) (o.written new) (o.faults old) (o.faults new) result
+  pub stands : OnOk result (TracesBytes by (how_of stream) now (bytes ++ piece))
+
+-- the same of a stream that has refused nothing, with a trace that stands for what came before
 abbrev pub TracesPiece : {O X : Type 0} → Ghosts O → Sorting → RecordStream → LongTrace → LongTrace → List ℕ → O → O → Result X Fault → Type 0
 TracesPiece o by stream trace now piece old new result =
-    refused_with stream ≡ None → (bytes : List ℕ) → HasStreamed stream bytes → TracesBytes by (how_of stream) trace bytes
-    → WritesText (words_traced (Some (trace_view (set_of trace))) by (how_of stream)) (how_of stream) (o.written old) (o.written new) (o.faults old) (o.faults new) (words_of bytes) (words_of (bytes ++ piece)) result
-    × OnOk result (TracesBytes by (how_of stream) now (bytes ++ piece))
+    refused_with stream ≡ None → (bytes : List ℕ) → HasStreamed stream bytes → TracesBytes by (how_of stream) trace bytes → TracedPiece o by stream trace now bytes piece old new result
 
 -- feeding it tried no write again that failed
 abbrev pub TracesOnce : {O X : Type 0} → Ghosts O → RecordStream → O → O → Result X Fault → Type 0

@@ -1,15 +1,18 @@
 // The commands on FILE.
-ghost use Rattle.std.specs.Prelude.{◌≡◌, None, option_map};
+ghost use Rattle.std.specs.Prelude.{◌≡◌, None, Some, IfSome, option_map};
+ghost use Rattle.tally_base.specs.declared.fault.Fault.TheVariants.{NoGroup};
 ghost use Rattle.tally_base.specs.Settings.{trace_view};
 ghost use Rattle.plan_text.specs.Reading.{plan_view};
 ghost use Rattle.table_out.specs.HeaderText.{header_text};
-ghost use Rattle.ptu_cli.specs.Behaviours.{AtEnd, AsItReads, ForPlan, ForTables, any_plan, counting, printing, events_so_far, listing_all, reporting, tracing};
+ghost use Rattle.ptu_cli.specs.Behaviours.{AtEnd, AsItReads, ForPlan, ForTables, any_plan, counting, printing, events_so_far, listing_all, reporting, tracing, picking};
+ghost use Rattle.ptu_cli.specs.PickOutcomes.{no_group, pick_so_far};
 ghost use Rattle.ptu_cli.specs.TraceOutcomes.{no_trace, trace_of, trace_so_far};
 
 use crate::by_plan::PlanWork;
 use crate::counts::write_counts;
 use crate::data::{count_data, list_data, print_data};
 use crate::on_file::FileWork;
+use crate::picking::pick_data;
 use crate::run::run_data;
 use crate::tracing::trace_data;
 use bench_io::{Inputs, Sink};
@@ -134,5 +137,55 @@ fn first_trace(plan: &Plan) -> Option<TraceSet>
     match plan.traces.as_slice().first() {
         Some(set) => Some(*set),
         None => None,
+    }
+}
+
+/// Writes the photons of the plan's group of this number to a file of their own, while a file is read. The tables
+/// of the plan count nothing.
+#[derive(Clone, Copy, Debug)]
+pub(crate) struct Picking {
+    /// The number of the group, from 1 on. A plan may have no such group.
+    pub(crate) group: u64,
+}
+
+impl PlanWork for Picking {
+    ghost lacking = { λ it. no_group it.group };
+
+    ghost work = { λ it. picking it.group };
+
+    ghost writing = { λ it. AsItReads (pick_so_far it.group) };
+
+    ghost memory = { ForPlan };
+
+    fn lacks(&self, plan: &Plan) -> Option<Fault> {
+        match group_in(plan, self.group) {
+            Some(_group) => None,
+            None => Some(Fault::NoGroup { group: self.group }),
+        }
+    }
+
+    fn read<I: Inputs, O: Sink>(
+        &self,
+        _alloc: Global,
+        inputs: &mut I,
+        out: &mut O,
+        plan: &Plan,
+    ) -> Result<(), Fault> {
+        match group_in(plan, self.group) {
+            Some(group) => pick_data(inputs, out, plan, group),
+            None => Err(Fault::NoGroup { group: self.group }),
+        }
+    }
+}
+
+/// The number of a group, where the plan has it.
+fn group_in(plan: &Plan, group: u64) -> Option<u8>
+    ensures some { IfSome result (λ number. (number ≡ group) × (no_group group (plan_view plan.now) ≡ None)) }
+    ensures none { result ≡ None → no_group group (plan_view plan.now) ≡ Some (NoGroup group) }
+{
+    if 1 <= group && group <= plan.groups.len() as u64 {
+        Some(group as u8)
+    } else {
+        None
     }
 }

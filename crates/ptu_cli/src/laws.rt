@@ -11,14 +11,14 @@ ghost use Rattle.tally_base.specs.declared.event.Event.{Event};
 ghost use Rattle.tally_base.specs.declared.header.Mode.{Mode};
 ghost use Rattle.tally_base.specs.declared.fault.Fault.{Fault};
 ghost use Rattle.tally_base.specs.declared.fault.Fault.TheVariants.{Usage};
-ghost use Rattle.ptu_cli.specs.Commands.{Request, Count, Header, Events, Run, Trace, Demo};
+ghost use Rattle.ptu_cli.specs.Commands.{Request, Count, Header, Events, Run, Trace, Pick, Demo};
 ghost use Rattle.ptu_cli.specs.Outcomes.{Outcome, written};
 ghost use Rattle.ptu_cli.specs.Cases.{IsOutcome};
 ghost use Rattle.ptu_cli.specs.Runs.{Around, Runs};
-ghost use Rattle.ptu_cli.specs.Causes.{EndsWithFault, IsIn, StatusIn, Absent, NoPlan, Misfits, NoHeader, Cut, Refused, Untraced};
+ghost use Rattle.ptu_cli.specs.Causes.{EndsWithFault, IsIn, StatusIn, Absent, NoPlan, Misfits, NoHeader, Cut, Refused, Untraced, Ungrouped, TooLate, IsPickable};
 ghost use Rattle.ptu_cli.specs.Demo.{demo_text};
 ghost use Rattle.plan_text.specs.Plan.{PlanView};
-ghost use Rattle.ptu_cli.specs.Behaviours.{GoesOnOrShows, behaviour, counting, printing, listing_all, reporting, tracing};
+ghost use Rattle.ptu_cli.specs.Behaviours.{GoesOnOrShows, behaviour, counting, printing, listing_all, reporting, tracing, picking};
 ghost use Rattle.ptu_cli.specs.Endings.{outcome};
 
 /// A `demo` ends as `run` does on the text of its plan and the made file.
@@ -47,8 +47,9 @@ pub fn one_outcome()
 
 /// A command ends with a fault exactly where its cause is: with status 1 where the words are no command,
 /// with 2 where a file is not there, 6 to 8 where PLAN is no plan, 9 where a part of it doesn't suit, 10 to
-/// 16 where FILE is refused as a header, 17 where it ends within a record, 18 to 21 where a record is refused, and 22 where
-/// the plan has no trace.
+/// 16 where FILE is refused as a header, 17 where it ends within a record, 18 to 21 where a record is refused, 22 where
+/// the plan has no trace, 23 where it has no group of the number, and 24 where a photon of the group is too late to be
+/// written.
 pub fn exactly_where()
     ensures words { (request : Option Request) (plan_file data_file : File)
         → EndsWithFault request plan_file data_file Usage ↔ (request ≡ None) }
@@ -73,6 +74,22 @@ pub fn exactly_where()
     ensures untraced { (request : Option Request) (plan_file data_file : File) (fault : Fault)
         → StatusIn 22 22 fault → EndsWithFault request plan_file data_file fault
         ↔ Untraced request plan_file fault }
+    ensures ungrouped { (request : Option Request) (plan_file data_file : File) (fault : Fault)
+        → StatusIn 23 23 fault → EndsWithFault request plan_file data_file fault
+        ↔ Ungrouped request plan_file fault }
+    ensures late { (request : Option Request) (plan_file data_file : File) (fault : Fault)
+        → StatusIn 24 24 fault → EndsWithFault request plan_file data_file fault
+        ↔ TooLate request plan_file data_file fault }
+{}
+
+/// `pick` ends well by a plan that has the group, over a file that suits it and whose records are whole and not refused,
+/// or with the fault that names a photon of the group that is too late to be written.
+pub fn pick_ends_well_or_late()
+    ensures { (plan_name : List ℕ) (group : ℕ) (file : List ℕ) (plan_file data_file : File)
+        → IsPickable group plan_file data_file
+        → ((outcome (behaviour (Some (Pick plan_name group file))) plan_file data_file).fault ≡ None)
+        ⊎ ((fault : Fault) × EndsWithFault (Some (Pick plan_name group file)) plan_file data_file fault
+        × TooLate (Some (Pick plan_name group file)) plan_file data_file fault) }
 {}
 
 /// The faults that the words and files of each command may call for, by their statuses. Beside these a run
@@ -95,18 +112,23 @@ pub fn statuses_of_commands()
     ensures trace { (plan_name file : List ℕ) (plan_file data_file : File) (fault : Fault)
         → EndsWithFault (Some (Trace plan_name file)) plan_file data_file fault
         → StatusIn 2 2 fault ⊎ StatusIn 6 22 fault }
+    ensures pick { (plan_name : List ℕ) (group : ℕ) (file : List ℕ) (plan_file data_file : File) (fault : Fault)
+        → EndsWithFault (Some (Pick plan_name group file)) plan_file data_file fault
+        → StatusIn 2 2 fault ⊎ (StatusIn 6 21 fault ⊎ StatusIn 23 24 fault) }
     ensures demo { (seed count : ℕ) (plan_file data_file : File) (fault : Fault)
         → EndsWithFault (Some (Demo seed count)) plan_file data_file fault → ⊥ }
 {}
 
 /// Bytes of FILE call for no end by themselves, or the run ends as they say whatever comes behind them: a
-/// refusal of a header, also a whole header for `header`, a plan that doesn't suit it, and a refused record.
+/// refusal of a header, also a whole header for `header`, a plan that doesn't suit it, a refused record, and for `pick` a
+/// photon that is settled and too late.
 pub fn an_end_that_is_shown_stays()
     ensures count { (bytes : List ℕ) → GoesOnOrShows counting bytes }
     ensures header { (bytes : List ℕ) → GoesOnOrShows printing bytes }
     ensures events { (bytes : List ℕ) → GoesOnOrShows listing_all bytes }
     ensures run { (plan : PlanView) (bytes : List ℕ) → GoesOnOrShows (reporting plan) bytes }
     ensures trace { (plan : PlanView) (bytes : List ℕ) → GoesOnOrShows (tracing plan) bytes }
+    ensures pick { (group : ℕ) (plan : PlanView) (bytes : List ℕ) → GoesOnOrShows (picking group plan) bytes }
 {}
 
 /// The statuses that a run of each command may end with, whatever fails.
@@ -125,6 +147,9 @@ pub fn statuses_of_runs()
         → Runs (Some (Run plan_name file)) run result → (result ≡ 0) ⊎ IsIn 2 21 result }
     ensures trace { (plan_name file : List ℕ) (run : Around) (result : ℕ)
         → Runs (Some (Trace plan_name file)) run result → (result ≡ 0) ⊎ IsIn 2 22 result }
+    ensures pick { (plan_name : List ℕ) (group : ℕ) (file : List ℕ) (run : Around) (result : ℕ)
+        → Runs (Some (Pick plan_name group file)) run result
+        → (result ≡ 0) ⊎ (IsIn 2 21 result ⊎ IsIn 23 24 result) }
     ensures demo { (seed count : ℕ) (run : Around) (result : ℕ)
         → Runs (Some (Demo seed count)) run result → (result ≡ 0) ⊎ IsIn 4 5 result }
 {}

@@ -11,6 +11,7 @@ mod events;
 mod header;
 pub mod laws;
 mod on_file;
+mod picking;
 mod plan;
 mod print;
 mod run;

@@ -6,7 +6,7 @@ ghost use Rattle.ptu_cli.specs.Requests.{request_in, behaviour_of};
 ghost use Rattle.ptu_cli.specs.Runs.{Runs, around};
 
 use crate::by_plan::by_plan;
-use crate::command::{Counting, Listing, Printing, Reporting, Tracing};
+use crate::command::{Counting, Listing, Picking, Printing, Reporting, Tracing};
 use crate::demo::demo;
 use crate::on_file::on_file;
 use crate::words::{Command, read_words};
@@ -38,6 +38,14 @@ fn obey<I: Inputs, O: Sink>(
         Command::Events { file } => on_file(&Listing, inputs, out, file),
         Command::Run { plan, file } => by_plan(&Reporting, alloc, inputs, out, plan, file),
         Command::Trace { plan, file } => by_plan(&Tracing, alloc, inputs, out, plan, file),
+        Command::Pick { plan, group, file } => by_plan(
+            &Picking { group },
+            alloc,
+            inputs,
+            out,
+            plan,
+            file,
+        ),
         Command::Demo { seed, count } => demo(alloc, out, seed, count),
     }
 }
@@ -56,7 +64,7 @@ pub fn tell<E: Sink>(fault: &Fault, err: &mut E)
 /// line is written to `err`. The words are those behind the program's name.
 ///
 /// What a command does is told by its shape (`behaviour`): `demo` stands alone, `count`, `header`
-/// and `events` are on FILE, and `run` and `trace` are by a plan. `outcome` is the end that the contents of PLAN
+/// and `events` are on FILE, and `run`, `trace` and `pick` are by a plan. `outcome` is the end that the contents of PLAN
 /// and FILE call for, after PicoQuant's unified TTTR format: a text, and a fault or none.
 ///
 /// | Status | No command | Alone | On FILE | By a plan |
@@ -70,10 +78,12 @@ pub fn tell<E: Sink>(fault: &Fault, err: &mut E)
 /// | 6 to 8 | never | never | never | PLAN is no plan |
 /// | 9 | never | never | never | the plan does not suit FILE |
 /// | 10 to 21 | never | never | FILE is refused | FILE is refused |
-/// | 22 | never | never | never | the plan lacks what the command needs |
+/// | 22 | never | never | never | the plan has no trace |
+/// | 23 | never | never | never | the plan has no such group |
+/// | 24 | never | never | never | a photon is too late to be written |
 ///
 /// After 2 and 5 nothing is written. After 3 nothing is, or, where the text is written while FILE
-/// is read (`header`, `events`, `trace`), what the bytes read call for. After 4 the text is cut short; one
+/// is read (`header`, `events`, `trace`, `pick`), what the bytes read call for. After 4 the text is cut short; one
 /// that is written at the end is written only where the run would have ended with 0.
 ///
 /// All that is promised is `Runs`, a fact for each of these, with its name.

@@ -4,7 +4,7 @@ ghost use Rattle.tally_base.specs.declared.slot.Slot.TheVariants.{Data};
 ghost use Rattle.tally_base.specs.Faults.{fault_in};
 ghost use Rattle.tally_base.specs.Settings.{trace_view};
 ghost use Rattle.bench_io.specs.Inputs.{OnlyReads};
-ghost use Rattle.ptu_definitions.specs.Streams.{streamed};
+ghost use Rattle.ptu_definitions.specs.Streams.{record_refusal, streamed};
 ghost use Rattle.ptu_definitions.specs.Counted.{record_limit};
 ghost use Rattle.plan_text.specs.Reading.{plan_view};
 ghost use Rattle.record_stream.specs.Standing.{how_of, given_by, greatest_of, refused_with, HasStreamed};
@@ -17,7 +17,7 @@ ghost use Rattle.ptu_cli.specs.Pieces.{IsReady, MayChangeBehind};
 ghost use Rattle.ptu_cli.specs.TraceOutcomes.{trace_of, words_traced, records_traced, trace_so_far};
 ghost use Rattle.ptu_cli.specs.Behaviours.{AsItReads, tracing};
 ghost use Rattle.ptu_cli.specs.TracePieces.{IsBehindStream, TracesBytes, TracesPiece, TracesOnce, WritesLast, both_ended};
-ghost use Rattle.ptu_cli.specs.TraceRuns.{WritesEnd, AnswersTrace, TraceReason};
+ghost use Rattle.ptu_cli.specs.TextRuns.{WritesEnd, AnswersText, TextReason};
 ghost use Rattle.ptu_cli.specs.Works.{AnswersWork, TakesFew, WantsNone, WorkReason};
 
 use crate::data::{PIECE, READ_FAULT, read_header};
@@ -219,7 +219,7 @@ fn end_trace<O: Sink>(
         → TracesBytes (sorting_of gates.now) (how_of stream) trace bytes
         → WritesEnd (words_traced (Some (trace_view (set_of trace))) (sorting_of gates.now) (how_of stream))
         (records_traced (Some (trace_view (set_of trace))) (sorting_of gates.now) (how_of stream))
-        (how_of stream) (O.written out.old) (O.written out.new) (O.faults out.old)
+        (record_refusal (how_of stream)) (O.written out.old) (O.written out.new) (O.faults out.old)
         (O.faults out.new) bytes result }
     ensures once { (bytes : List ℕ) → HasStreamed stream bytes
         → OutOnce (fault_in result) (O.faults out.old) (O.faults out.new) }
@@ -277,16 +277,16 @@ fn trace_rest<I: Inputs, O: Sink>(
     ensures reads { OnlyReads Data (I.state inputs.old) (I.state inputs.new) }
     ensures answer { (bytes : List ℕ) → HasStreamed stream bytes
         → TracesBytes (sorting_of gates.now) (how_of stream) trace bytes
-        → AnswersTrace (words_traced (Some (trace_view (set_of trace))) (sorting_of gates.now) (how_of stream))
+        → AnswersText (words_traced (Some (trace_view (set_of trace))) (sorting_of gates.now) (how_of stream))
         (records_traced (Some (trace_view (set_of trace))) (sorting_of gates.now) (how_of stream))
-        (how_of stream) bytes ((I.state inputs.old).rest Data) ((I.state inputs.new).rest Data)
+        (record_refusal (how_of stream)) bytes ((I.state inputs.old).rest Data) ((I.state inputs.new).rest Data)
         (O.written out.old) (O.written out.new) result }
     ensures reason { (bytes : List ℕ) → HasStreamed stream bytes
         → TracesBytes (sorting_of gates.now) (how_of stream) trace bytes
-        → IfErr result (TraceReason
+        → IfErr result (TextReason
         (words_traced (Some (trace_view (set_of trace))) (sorting_of gates.now) (how_of stream))
         (records_traced (Some (trace_view (set_of trace))) (sorting_of gates.now) (how_of stream))
-        (how_of stream) bytes (span I.Inputs O.Sink inputs.old inputs.new out.old out.new)) }
+        (record_refusal (how_of stream)) bytes (span I.Inputs O.Sink inputs.old inputs.new out.old out.new)) }
     ensures once { (bytes : List ℕ) → HasStreamed stream bytes
         → Once (span I.Inputs O.Sink inputs.old inputs.new out.old out.new) (fault_in result) }
     ensures few { (bytes : List ℕ) → HasStreamed stream bytes

@@ -2,7 +2,7 @@
 ghost use Rattle.std.specs.Prelude.{◌≡◌, ◌≤◌, ◌-◌, ◌^◌, map, string_bytes, IfSome};
 ghost use Rattle.std.specs.Str.{all_ascii_digits};
 ghost use Rattle.ptu_made.specs.Generator.{photon_limit};
-ghost use Rattle.ptu_cli.specs.Commands.{demo_of, number_in, request_of};
+ghost use Rattle.ptu_cli.specs.Commands.{demo_of, number_in, pick_of, request_of};
 ghost use Rattle.ptu_cli.specs.Requests.{asked_for, AsksFew};
 
 use ptu_made::PHOTON_LIMIT;
@@ -11,18 +11,39 @@ use ptu_made::PHOTON_LIMIT;
 #[derive(Clone, Copy, Debug)]
 pub enum Command<'a> {
     /// Counts the records of a file by kind.
-    Count { file: &'a str },
+    Count {
+        file: &'a str,
+    },
     /// Prints the header of a file.
-    Header { file: &'a str },
+    Header {
+        file: &'a str,
+    },
     /// Lists the events of a file with their absolute times.
-    Events { file: &'a str },
+    Events {
+        file: &'a str,
+    },
     /// Counts what a plan asks for in a file, and prints the report.
-    Run { plan: &'a str, file: &'a str },
+    Run {
+        plan: &'a str,
+        file: &'a str,
+    },
     /// Prints a plan's first trace over a file without end, while the file is read.
-    Trace { plan: &'a str, file: &'a str },
+    Trace {
+        plan: &'a str,
+        file: &'a str,
+    },
+    /// Writes the photons of a plan's group, by its number, to a file of their own, while FILE is read.
+    Pick {
+        plan: &'a str,
+        group: u64,
+        file: &'a str,
+    },
     /// Counts the photons that a seed gives, and prints the report of a fixed plan. `read_words`
     /// gives at most 10,000,000 of them.
-    Demo { seed: u64, count: u64 },
+    Demo {
+        seed: u64,
+        count: u64,
+    },
 }
 
 /// Whether all bytes are digits.
@@ -62,9 +83,20 @@ fn demo_words(seed: &str, count: &str) -> Option<Command<'static>>
     Some(Command::Demo { seed, count })
 }
 
+/// The words behind `pick`.
+fn pick_words<'a>(plan: &'a str, group: &str, file: &'a str) -> Option<Command<'a>>
+    ensures request { asked_for result
+        ≡ pick_of plan.now (number_in (2 ^ 64 - 1) group.now) file.now }
+    ensures few { IfSome result AsksFew }
+{
+    let group = number(group, u64::MAX)?;
+    Some(Command::Pick { plan, group, file })
+}
+
 /// The command of the words behind the program's name: `count FILE`, `header FILE`, `events FILE`,
-/// `run PLAN FILE`, `trace PLAN FILE` or `demo SEED COUNT`. SEED and COUNT are one to twenty digits, SEED at most
-/// 2^64 - 1 and COUNT at most 10,000,000. None exactly where the words are none of these.
+/// `run PLAN FILE`, `trace PLAN FILE`, `pick PLAN GROUP FILE` or `demo SEED COUNT`. GROUP, SEED and COUNT are one to
+/// twenty digits, GROUP and SEED at most 2^64 - 1 and COUNT at most 10,000,000. None exactly where the words are none
+/// of these.
 pub fn read_words(words: &[String]) -> Option<Command<'_>>
     ensures request { asked_for result ≡ request_of (map (λ word. string_bytes word) words.now) }
     ensures few { IfSome result AsksFew }
@@ -95,6 +127,13 @@ pub fn read_words(words: &[String]) -> Option<Command<'_>>
                 })
             } else if word.as_str() == "demo" {
                 demo_words(first.as_str(), second.as_str())
+            } else {
+                None
+            }
+        }
+        [word, plan, group, file] => {
+            if word.as_str() == "pick" {
+                pick_words(plan.as_str(), group.as_str(), file.as_str())
             } else {
                 None
             }

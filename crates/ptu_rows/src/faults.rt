@@ -8,7 +8,7 @@ use whole_runs::bench::{BENCH_EVENTS, BENCH_PLAN, BENCH_REPORT, BENCH_TEXT};
 use whole_runs::files::{bench, short};
 use whole_runs::run::{Run, Wrong, words_of};
 
-const NO_COMMANDS: [&[&str]; 13] = [
+const NO_COMMANDS: [&[&str]; 23] = [
     &[],
     &["count"],
     &["events"],
@@ -22,6 +22,17 @@ const NO_COMMANDS: [&[&str]; 13] = [
     &["run", "f", "f", "f"],
     &["trace"],
     &["trace", "f"],
+    &["pick"],
+    &["pick", "p", "f"],
+    &["Pick", "p", "1", "f"],
+    &["pick", "p", "1", "f", "f"],
+    // GROUP is one to twenty digits, of a number up to 2^64 - 1.
+    &["pick", "p", "", "f"],
+    &["pick", "p", "x", "f"],
+    &["pick", "p", "-1", "f"],
+    &["pick", "p", "+1", "f"],
+    &["pick", "p", "000000000000000000001", "f"],
+    &["pick", "p", "18446744073709551616", "f"],
 ];
 
 #[test]
@@ -205,12 +216,13 @@ fn a_report_that_cannot_be_written(rt: HostRuntime) -> Result<(), Wrong> {
 fn a_failed_write_is_not_tried_again(rt: HostRuntime) -> Result<(), Wrong> {
     let alloc = rt.alloc();
     let file = bench(alloc)?;
-    let commands: [&[&str]; 6] = [
+    let commands: [&[&str]; 7] = [
         &["count", "f"],
         &["header", "f"],
         &["events", "f"],
         &["run", "p", "f"],
         &["trace", "p", "f"],
+        &["pick", "p", "1", "f"],
         &["demo", "0", "1"],
     ];
     for words in commands {
@@ -260,9 +272,10 @@ impl Inputs for Counted {
     }
 }
 
-/// How often a command reads the file `f` in such pieces, where its first write fails.
-fn reads_of(alloc: Global, command: &str, file: &[u8], size: usize) -> Result<u64, AllocError> {
+/// How often a command reads the bench plan `p` and the file `f` in such pieces, where its first write fails.
+fn reads_of(alloc: Global, words: &[&str], file: &[u8], size: usize) -> Result<u64, AllocError> {
     let mut files = Vec::new(alloc);
+    files.push(MemoryFile::new(String::from_str(alloc, "p")?, BENCH_PLAN.to_vec(alloc)?))?;
     files.push(MemoryFile::new(String::from_str(alloc, "f")?, file.to_vec(alloc)?))?;
     let pieces = Vec::from_array(alloc, [size])?;
     let mut inputs = Counted {
@@ -271,18 +284,24 @@ fn reads_of(alloc: Global, command: &str, file: &[u8], size: usize) -> Result<u6
     };
     let mut out = MemorySink::new(alloc, 4096, Vec::from_array(alloc, [1u64])?)?;
     let mut err = MemorySink::new(alloc, 96, Vec::new(alloc))?;
-    let line = words_of(alloc, &[command, "f"])?;
+    let line = words_of(alloc, words)?;
     let _ = ptu_main(alloc, line.as_slice(), &mut inputs, &mut out, &mut err);
     Ok(inputs.reads)
 }
 
 /// The first piece of 100 bytes has lines of the header, and that of 760 bytes has records: nothing is read behind it.
+/// The plan is a piece of its own, and its end a read.
 #[test]
 fn nothing_is_read_behind_a_failed_write(rt: HostRuntime) -> Result<(), Fail> {
     let alloc = rt.alloc();
     let file = bench(alloc)?;
-    for (command, size) in [("header", 100usize), ("events", 760)] {
-        if reads_of(alloc, command, file.as_slice(), size)? != 1 {
+    let rows: [(&[&str], usize, u64); 3] = [
+        (&["header", "f"], 100, 1),
+        (&["events", "f"], 760, 1),
+        (&["pick", "p", "1", "f"], 760, 3),
+    ];
+    for (words, size, reads) in rows {
+        if reads_of(alloc, words, file.as_slice(), size)? != reads {
             return Err(Fail::new("a read behind a failed write"));
         }
     }

@@ -1,4 +1,5 @@
 use Rattle.ptu_cli.proofs.Shown.{count-shows, print-shows, list-shows, report-shows, trace-shows}
+use Rattle.ptu_cli.proofs.PickShown.{pick-shows}
 use Rattle.ptu_cli.proofs.laws.an_end_that_is_shown_stays.Goals as goal
 
 pub returns-clause-count : goal.returns-clause-count
@@ -15,3 +16,6 @@ returns-clause-run c = report-shows
 
 pub returns-clause-trace : goal.returns-clause-trace
 returns-clause-trace c = trace-shows
+
+pub returns-clause-pick : goal.returns-clause-pick
+returns-clause-pick c = pick-shows

@@ -1,4 +1,4 @@
-use Rattle.ptu_cli.proofs.Causes.{exactly-words, exactly-absent, exactly-no_plan, exactly-misfits, exactly-no_header, exactly-cut, exactly-refused, exactly-untraced}
+use Rattle.ptu_cli.proofs.Causes.{exactly-words, exactly-absent, exactly-no_plan, exactly-misfits, exactly-no_header, exactly-cut, exactly-refused, exactly-untraced, exactly-ungrouped, exactly-late}
 use Rattle.ptu_cli.proofs.laws.exactly_where.Goals as goal
 
 pub returns-clause-words : goal.returns-clause-words
@@ -24,3 +24,9 @@ returns-clause-refused c = exactly-refused
 
 pub returns-clause-untraced : goal.returns-clause-untraced
 returns-clause-untraced c = exactly-untraced
+
+pub returns-clause-ungrouped : goal.returns-clause-ungrouped
+returns-clause-ungrouped c = exactly-ungrouped
+
+pub returns-clause-late : goal.returns-clause-late
+returns-clause-late c = exactly-late

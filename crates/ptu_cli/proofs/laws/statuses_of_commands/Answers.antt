@@ -1,4 +1,4 @@
-use Rattle.ptu_cli.proofs.Causes.{no_words-statuses, count-statuses, header-statuses, events-statuses, run-statuses, trace-statuses, demo-statuses}
+use Rattle.ptu_cli.proofs.Causes.{no_words-statuses, count-statuses, header-statuses, events-statuses, run-statuses, trace-statuses, pick-statuses, demo-statuses}
 use Rattle.ptu_cli.proofs.laws.statuses_of_commands.Goals as goal
 
 pub returns-clause-none : goal.returns-clause-none
@@ -21,3 +21,6 @@ returns-clause-demo c = demo-statuses
 
 pub returns-clause-trace : goal.returns-clause-trace
 returns-clause-trace c = trace-statuses
+
+pub returns-clause-pick : goal.returns-clause-pick
+returns-clause-pick c = pick-statuses

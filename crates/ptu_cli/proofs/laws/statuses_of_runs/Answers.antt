@@ -1,5 +1,5 @@
 use Rattle.std.proofs.Common.{refl}
-use Rattle.ptu_cli.proofs.Statuses.{count-runs, header-runs, events-runs, run-runs, trace-runs, demo-runs}
+use Rattle.ptu_cli.proofs.Statuses.{count-runs, header-runs, events-runs, run-runs, trace-runs, pick-runs, demo-runs}
 use Rattle.ptu_cli.proofs.laws.statuses_of_runs.Goals as goal
 
 pub returns-clause-none : goal.returns-clause-none
@@ -22,3 +22,6 @@ returns-clause-demo c = demo-runs
 
 pub returns-clause-trace : goal.returns-clause-trace
 returns-clause-trace c = trace-runs
+
+pub returns-clause-pick : goal.returns-clause-pick
+returns-clause-pick c = pick-runs

@@ -18,6 +18,9 @@ returns-in-Run-clause-does g c = does_as _ _ _ _ (rw c.in-Run.is at c.in-Some.en
 pub returns-in-Trace-clause-does : goal.returns-in-Trace-clause-does
 returns-in-Trace-clause-does g c = does_as _ _ _ _ (rw c.in-Trace.is at c.in-Some.ensures.request) c.by_plan-in-Trace.ensures
 
+pub returns-in-Pick-clause-does : goal.returns-in-Pick-clause-does
+returns-in-Pick-clause-does g c = does_as _ _ _ _ (rw c.in-Pick.is at c.in-Some.ensures.request) c.by_plan-in-Pick.ensures
+
 pub returns-in-Demo-clause-does : goal.returns-in-Demo-clause-does
 returns-in-Demo-clause-does g c =
     let state = g.I.Inputs.state c.args.inputs.now in

@@ -1,4 +1,4 @@
-use Rattle.std.proofs.Common.{◌≡◌, ◌∙◌, [], Some, refl, sym, ap, inl, ⊎_elim}
+use Rattle.std.proofs.Common.{◌≡◌, ◌∙◌, [], Some, Err, refl, sym, ap, inl, ⊎_elim}
 use Rattle.std.proofs.lemmas.Result.{IfErr-weaker, err_from_is_err_and}
 use Rattle.tally_base.proofs.Reasons.{HasReason-follows, HasReason-with, HasReason-inside}
 use Rattle.tally_base.specs.Settings.{trace_view}
@@ -12,8 +12,8 @@ use Rattle.ptu_cli.specs.Behaviours.{tracing}
 use Rattle.ptu_cli.proofs.EventReasons.{streamed-open}
 use Rattle.ptu_cli.proofs.Few.{few-map, few-behind}
 use Rattle.ptu_cli.proofs.Once.{stays-same, stays-behind, once-none, once-behind, Rose-kept}
-use Rattle.ptu_cli.proofs.TraceEnds.{piece-reason}
-use Rattle.ptu_cli.proofs.TraceTexts.{text-front, refused-ends}
+use Rattle.ptu_cli.proofs.TextEnds.{writes-reason}
+use Rattle.ptu_cli.proofs.TraceTexts.{text-front, refused-ends, is-text}
 use Rattle.ptu_cli.proofs.TraceComposed.{settled-none, first-text, first-cut, first-front, ends-may, misfit-inside, unheaded-answers, cut-reads, misfit-answers, traced-answers, traced-reads, traced-cuts, suited-may, first-answers, first-cuts}
 use Rattle.ptu_cli.proofs.tracing.trace_data.Goals as goal
 
@@ -93,12 +93,12 @@ returns-in_err-trace_piece-clause-answer g c =
     let suits = sym (rw c.mode-mode.ensures at c.in_ok-fits.ensures.answer) in
     let first = rw c.new-trace.ensures.set at c.in_ok-start.ensures.text in
     let same : set_of c.start.new.self ≡ c.args.set.now = ap set_of c.start.ensures.same ∙ c.new-trace.ensures.set in
-    let writes = rw (same, c.of-gates.ensures.sorting, c.new-stream.ensures.how) at (c.in_err-trace_piece.ensures.writes c.new-stream.ensures.unrefused [] c.new-stream.ensures.empty (rw (settled-none _ _, c.start.ensures.same) c.new-trace.ensures.empty)) in
+    let writes = rw (same, c.of-gates.ensures.sorting, c.new-stream.ensures.how) at (c.in_err-trace_piece.ensures.writes c.new-stream.ensures.unrefused [] c.new-stream.ensures.empty (rw (settled-none _ _, c.start.ensures.same) c.new-trace.ensures.empty)).writes in
     rw (p.1, p.2)
     (⊎_elim
-    (λ r. first-answers view header front.0 _ front.2 suits set c.requires.set _ _ _ _ c.in_err-trace_piece.field-0.0 front.1 r.0 (λ more. refused-ends (sorting view) (reading_by view header) (Some set) _ more c.in_err-trace_piece.field-0.0 r.0) (first-text set (sorting view) (reading_by view header) _ _ _ _ first r.1))
+    (λ r. first-answers view header front.0 _ front.2 suits set c.requires.set _ _ _ _ c.in_err-trace_piece.field-0.0 front.1 (λ more. refused-ends (sorting view) (reading_by view header) (Some set) _ more c.in_err-trace_piece.field-0.0 r.0) (first-text set (sorting view) (reading_by view header) _ _ _ _ _ _ first r.1))
     (λ r. inl (rw r.0 refl))
-    writes.0)
+    writes)
 
 pub returns-in_err-trace_piece-clause-reason : goal.returns-in_err-trace_piece-clause-reason
 returns-in_err-trace_piece-clause-reason g c =
@@ -111,9 +111,9 @@ returns-in_err-trace_piece-clause-reason g c =
     let suits = sym (rw c.mode-mode.ensures at c.in_ok-fits.ensures.answer) in
     let first = rw c.new-trace.ensures.set at c.in_ok-start.ensures.text in
     let same : set_of c.start.new.self ≡ c.args.set.now = ap set_of c.start.ensures.same ∙ c.new-trace.ensures.set in
-    let writes = rw (same, c.of-gates.ensures.sorting, c.new-stream.ensures.how) at (c.in_err-trace_piece.ensures.writes c.new-stream.ensures.unrefused [] c.new-stream.ensures.empty (rw (settled-none _ _, c.start.ensures.same) c.new-trace.ensures.empty)) in
+    let writes = rw (same, c.of-gates.ensures.sorting, c.new-stream.ensures.how) at (c.in_err-trace_piece.ensures.writes c.new-stream.ensures.unrefused [] c.new-stream.ensures.empty (rw (settled-none _ _, c.start.ensures.same) c.new-trace.ensures.empty)).writes in
     rw (p.1, p.2)
-    (piece-reason _ _ _ _ _ _ _ _ _ _ _ c.in_err-trace_piece.field-0.0 writes.0
+    (writes-reason _ _ _ _ _ _ _ _ _ _ (Err c.in_err-trace_piece.field-0.0) ((is-text (sorting view) (reading_by view header) set some).inside _) writes
     (λ short. (
       Rose-kept _ _ _ c.in_ok-start.ensures.cause.kept short.rose,
       first-cuts view header front.0 _ front.2 suits set c.requires.set _ _ _ _ _ front.1 (λ more. text-front (sorting view) (reading_by view header) set some _ more) (first-cut set (sorting view) (reading_by view header) _ _ _ _ _ _ first short),
@@ -137,9 +137,9 @@ returns-clause-answer g c =
     let first = rw c.new-trace.ensures.set at c.in_ok-start.ensures.text in
     let same : set_of c.start.new.self ≡ c.args.set.now = ap set_of c.start.ensures.same ∙ c.new-trace.ensures.set in
     let all = c.in_ok-trace_piece.ensures.writes c.new-stream.ensures.unrefused [] c.new-stream.ensures.empty (rw (settled-none _ _, c.start.ensures.same) c.new-trace.ensures.empty) in
-    let writes = rw (same, c.of-gates.ensures.sorting, c.new-stream.ensures.how) at all.0 in
-    let rest = rw (c.trace_piece.ensures.set, same, c.of-gates.ensures.sorting, c.trace_piece.ensures.fed.same_how, c.new-stream.ensures.how) at (c.trace_rest.ensures.answer _ (c.trace_piece.ensures.fed.taken [] c.new-stream.ensures.empty) (rw c.trace_piece.ensures.fed.same_how all.1)) in
-    traced-answers view header front.0 _ front.2 suits set c.requires.set _ _ _ _ _ _ c.trace_rest.result front.1 (first-text set (sorting view) (reading_by view header) _ _ _ _ first writes.1) rest
+    let writes = rw (same, c.of-gates.ensures.sorting, c.new-stream.ensures.how) at all.writes in
+    let rest = rw (c.trace_piece.ensures.set, same, c.of-gates.ensures.sorting, c.trace_piece.ensures.fed.same_how, c.new-stream.ensures.how) at (c.trace_rest.ensures.answer _ (c.trace_piece.ensures.fed.taken [] c.new-stream.ensures.empty) (rw c.trace_piece.ensures.fed.same_how all.stands)) in
+    traced-answers view header front.0 _ front.2 suits set c.requires.set _ _ _ _ _ _ c.trace_rest.result front.1 (first-text set (sorting view) (reading_by view header) _ _ _ _ _ _ first writes.1) rest
 
 pub returns-clause-reason : goal.returns-clause-reason
 returns-clause-reason g c =
@@ -151,9 +151,9 @@ returns-clause-reason g c =
     let first = rw c.new-trace.ensures.set at c.in_ok-start.ensures.text in
     let same : set_of c.start.new.self ≡ c.args.set.now = ap set_of c.start.ensures.same ∙ c.new-trace.ensures.set in
     let all = c.in_ok-trace_piece.ensures.writes c.new-stream.ensures.unrefused [] c.new-stream.ensures.empty (rw (settled-none _ _, c.start.ensures.same) c.new-trace.ensures.empty) in
-    let writes = rw (same, c.of-gates.ensures.sorting, c.new-stream.ensures.how) at all.0 in
-    let rest = rw (c.trace_piece.ensures.set, same, c.of-gates.ensures.sorting, c.trace_piece.ensures.fed.same_how, c.new-stream.ensures.how) at (c.trace_rest.ensures.reason _ (c.trace_piece.ensures.fed.taken [] c.new-stream.ensures.empty) (rw c.trace_piece.ensures.fed.same_how all.1)) in
-    let wrote = first-text set (sorting view) (reading_by view header) _ _ _ _ first writes.1 in
+    let writes = rw (same, c.of-gates.ensures.sorting, c.new-stream.ensures.how) at all.writes in
+    let rest = rw (c.trace_piece.ensures.set, same, c.of-gates.ensures.sorting, c.trace_piece.ensures.fed.same_how, c.new-stream.ensures.how) at (c.trace_rest.ensures.reason _ (c.trace_piece.ensures.fed.taken [] c.new-stream.ensures.empty) (rw c.trace_piece.ensures.fed.same_how all.stands)) in
+    let wrote = first-text set (sorting view) (reading_by view header) _ _ _ _ _ _ first writes.1 in
     let kept = c.in_ok-trace_piece.ensures.once c.new-stream.ensures.unrefused [] c.new-stream.ensures.empty ∙ c.in_ok-start.ensures.cause.kept in
     IfErr-weaker c.trace_rest.result _ _
     (λ fault h.

@@ -1,4 +1,4 @@
-use Rattle.std.proofs.Common.{◌≡◌, [], refl, ◌∙◌, append-nil, arith, ◌++◌, take, append_assoc}
+use Rattle.std.proofs.Common.{◌≡◌, [], Err, refl, ◌∙◌, append-nil, arith, ◌++◌, take, append_assoc}
 use Rattle.std.proofs.lemmas.Result.{err_from_is_err_and}
 use Rattle.bench_io.proofs.Bytes.{Consumes-nil, Consumes-kept, Consumes-trans}
 use Rattle.bench_io.proofs.Rises.{Rose-behind}
@@ -6,12 +6,16 @@ use Rattle.bench_io.proofs.States.{OnlyReads-refl, OnlyReads-trans}
 use Rattle.ptu_definitions.specs.Words.{words_of}
 use Rattle.tally_base.specs.declared.slot.Slot.TheVariants.{Data}
 use Rattle.tally_base.specs.Settings.{trace_view}
+use Rattle.gate_plan.specs.Groups.{sorting_of}
+use Rattle.record_stream.specs.Standing.{how_of}
 use Rattle.long_trace.specs.LongTrace.{set_of}
 use Rattle.ptu_cli.proofs.EventEnds.{streamed-clear}
 use Rattle.ptu_cli.proofs.EventReasons.{streamed-open}
 use Rattle.ptu_cli.proofs.Few.{few-none, few-piece}
 use Rattle.ptu_cli.proofs.Once.{stays-behind, once-refl, once-none, once-read, once-unread, Rose-kept}
-use Rattle.ptu_cli.proofs.TraceEnds.{WroteText-none, WroteText-trans, piece-answers, piece-cuts, end-answers, end-cuts, piece-reason, end-reason, is-text}
+use Rattle.told_text.proofs.Texts.{WroteText-none, WroteText-trans}
+use Rattle.ptu_cli.proofs.TextEnds.{piece-answers, piece-cuts, end-answers, end-cuts, writes-reason}
+use Rattle.ptu_cli.proofs.TraceTexts.{is-text}
 use Rattle.ptu_cli.proofs.tracing.trace_rest.Goals as goal
 
 pub pieces-init : goal.pieces-init
@@ -22,7 +26,7 @@ pieces-init g c = record {
   set = refl;
   going = c.requires.going;
   behind = c.requires.behind;
-  taken = ([], Consumes-nil _, (λ bytes h. rw append-nil h), λ bytes h holds. rw append-nil (holds, WroteText-none _ _ (words_of bytes)));
+  taken = ([], Consumes-nil _, (λ bytes h. rw append-nil h), λ bytes h holds. rw append-nil (holds, WroteText-none _ _ _));
   kept = λ bytes h. refl;
 }
 
@@ -44,8 +48,9 @@ pieces-preserved g c =
         (λ bytes h. rw (← append_assoc bytes so_far.0 piece) (c.trace_piece.ensures.fed.taken (bytes ++ so_far.0) (so_far.2 bytes h))),
         λ bytes h holds.
             let at = so_far.3 bytes h holds in
-            let writes = rw (inv.how, inv.set) at (c.in_ok-trace_piece.ensures.writes inv.going (bytes ++ so_far.0) (so_far.2 bytes h) (rw inv.how at.0)) in
-            rw (← append_assoc bytes so_far.0 piece) (writes.1, WroteText-trans _ _ _ _ _ _ _ at.1 writes.0.1),
+            let all = c.in_ok-trace_piece.ensures.writes inv.going (bytes ++ so_far.0) (so_far.2 bytes h) (rw inv.how at.0) in
+            let writes = rw (inv.how, inv.set) at all.writes in
+            rw (← append_assoc bytes so_far.0 piece) (rw inv.how at all.stands, WroteText-trans _ _ _ _ _ _ _ _ _ at.1 writes.1),
       );
       kept = λ bytes h. c.in_ok-trace_piece.ensures.once inv.going (bytes ++ so_far.0) (so_far.2 bytes h) ∙ inv.kept bytes h;
     }
@@ -73,9 +78,10 @@ returns-in_err-trace_piece-clause-answer g c = λ bytes h holds.
     let so_far = inv.taken in
     let at = so_far.3 bytes h holds in
     let p = err_from_is_err_and c.from_residual.result c.from_residual.ensures.1 in
-    let writes = rw (inv.how, inv.set) at (c.in_err-trace_piece.ensures.writes inv.going (bytes ++ so_far.0) (so_far.2 bytes h) (rw inv.how at.0)) in
+    let all = c.in_err-trace_piece.ensures.writes inv.going (bytes ++ so_far.0) (so_far.2 bytes h) (rw inv.how at.0) in
+    let writes = rw (inv.how, inv.set) at all.writes in
     rw (p.1, p.2)
-    (piece-answers _ _ _ (is-text (trace_view (set_of c.args.trace)) c.args.trace.set.some_width.0 _ _) bytes so_far.0 _ _ _ _ _ _ _ _ _ (Consumes-trans _ _ _ so_far.0 _ so_far.1 c.in-Ok.ensures.bytes.0) at.1 writes.0)
+    (piece-answers _ _ _ (is-text (sorting_of c.args.gates.now) (how_of c.args.stream) (trace_view (set_of c.args.trace)) c.args.trace.set.some_width.0) bytes so_far.0 _ _ _ _ _ _ _ _ _ at.1 _ (Consumes-trans _ _ _ so_far.0 _ so_far.1 c.in-Ok.ensures.bytes.0) writes)
 
 pub returns-in_err-trace_piece-clause-reason : goal.returns-in_err-trace_piece-clause-reason
 returns-in_err-trace_piece-clause-reason g c = λ bytes h holds.
@@ -83,10 +89,12 @@ returns-in_err-trace_piece-clause-reason g c = λ bytes h holds.
     let so_far = inv.taken in
     let at = so_far.3 bytes h holds in
     let p = err_from_is_err_and c.from_residual.result c.from_residual.ensures.1 in
-    let writes = rw (inv.how, inv.set) at (c.in_err-trace_piece.ensures.writes inv.going (bytes ++ so_far.0) (so_far.2 bytes h) (rw inv.how at.0)) in
+    let all = c.in_err-trace_piece.ensures.writes inv.going (bytes ++ so_far.0) (so_far.2 bytes h) (rw inv.how at.0) in
+    let writes = rw (inv.how, inv.set) at all.writes in
     rw (p.1, p.2)
-    (piece-reason _ _ _ _ _ _ _ _ _ _ _ _ writes.0
-    (λ short. (Rose-kept _ _ _ (inv.kept bytes h) short.rose, piece-cuts _ _ _ (is-text (trace_view (set_of c.args.trace)) c.args.trace.set.some_width.0 _ _) bytes so_far.0 _ _ _ _ _ _ _ _ (Consumes-trans _ _ _ so_far.0 _ so_far.1 c.in-Ok.ensures.bytes.0) at.1 short)))
+    (let is = is-text (sorting_of c.args.gates.now) (how_of c.args.stream) (trace_view (set_of c.args.trace)) c.args.trace.set.some_width.0 in
+    writes-reason _ _ _ _ _ _ _ _ _ _ (Err c.in_err-trace_piece.field-0.0) (is.inside _) writes
+    (λ short. (Rose-kept _ _ _ at.1.kept short.rose, piece-cuts _ _ _ is bytes so_far.0 _ _ _ _ _ _ _ _ _ at.1 (Consumes-trans _ _ _ so_far.0 _ so_far.1 c.in-Ok.ensures.bytes.0) short)))
 
 pub returns-then-len-eq0-clause-answer : goal.returns-then-len-eq0-clause-answer
 returns-then-len-eq0-clause-answer g c = λ bytes h holds.
@@ -97,7 +105,7 @@ returns-then-len-eq0-clause-answer g c = λ bytes h holds.
     let consumes = rw (none, append-nil) at (Consumes-trans _ _ _ so_far.0 _ so_far.1 c.in-Ok.ensures.bytes.0) in
     let end = c.in-Ok.ensures.bytes.1 c.if-len-eq0.true (omega (arith, c.requires.ready.room, c.pieces.auto.buffer, c.read.auto.into)) in
     let writes = rw (inv.how, inv.set) at (c.end_trace.ensures.writes (bytes ++ so_far.0) (so_far.2 bytes h) (rw inv.how at.0)) in
-    end-answers _ _ _ (is-text (trace_view (set_of c.args.trace)) c.args.trace.set.some_width.0 _ _) bytes so_far.0 [] _ _ _ _ _ _ _ c.end_trace.result consumes end at.1 writes
+    end-answers _ _ _ (is-text (sorting_of c.args.gates.now) (how_of c.args.stream) (trace_view (set_of c.args.trace)) c.args.trace.set.some_width.0) bytes so_far.0 [] _ _ _ _ _ _ _ _ at.1 c.end_trace.result consumes end writes
 
 pub returns-then-len-eq0-clause-reason : goal.returns-then-len-eq0-clause-reason
 returns-then-len-eq0-clause-reason g c = λ bytes h holds.
@@ -108,8 +116,9 @@ returns-then-len-eq0-clause-reason g c = λ bytes h holds.
     let consumes = rw (none, append-nil) at (Consumes-trans _ _ _ so_far.0 _ so_far.1 c.in-Ok.ensures.bytes.0) in
     let end = c.in-Ok.ensures.bytes.1 c.if-len-eq0.true (omega (arith, c.requires.ready.room, c.pieces.auto.buffer, c.read.auto.into)) in
     let writes = rw (inv.how, inv.set) at (c.end_trace.ensures.writes (bytes ++ so_far.0) (so_far.2 bytes h) (rw inv.how at.0)) in
-    end-reason _ _ _ _ _ _ _ _ _ _ _ c.end_trace.result writes
-    (λ short. (Rose-kept _ _ _ (inv.kept bytes h) short.rose, end-cuts _ _ _ (is-text (trace_view (set_of c.args.trace)) c.args.trace.set.some_width.0 _ _) bytes so_far.0 [] _ _ _ _ _ _ _ consumes end at.1 short))
+    let is = is-text (sorting_of c.args.gates.now) (how_of c.args.stream) (trace_view (set_of c.args.trace)) c.args.trace.set.some_width.0 in
+    writes-reason _ _ _ _ _ _ _ _ _ _ c.end_trace.result (is.end_inside _) writes
+    (λ short. (Rose-kept _ _ _ at.1.kept short.rose, end-cuts _ _ _ is bytes so_far.0 [] _ _ _ _ _ _ _ _ at.1 consumes end short))
 
 pub returns-in_default-clause-few : goal.returns-in_default-clause-few
 returns-in_default-clause-few g c = λ bytes h.

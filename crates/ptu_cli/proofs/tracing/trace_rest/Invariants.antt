@@ -9,7 +9,8 @@ use Rattle.gate_plan.specs.Groups.{sorting_of}
 use Rattle.record_stream.specs.Standing.{how_of, refused_with, bytes_in, HasStreamed}
 use Rattle.long_trace.specs.LongTrace.{set_of}
 use Rattle.ptu_cli.specs.TraceOutcomes.{words_traced}
-use Rattle.ptu_cli.specs.TracePieces.{WroteText, IsBehindStream, TracesBytes}
+use Rattle.told_text.specs.Texts.{WroteText}
+use Rattle.ptu_cli.specs.TracePieces.{IsBehindStream, TracesBytes}
 use Rattle.ptu_cli.specs.Once.{InputsOnce}
 use Rattle.ptu_cli.proofs.tracing.trace_rest.Given as goal
 
@@ -20,6 +21,7 @@ invariant-pieces g l =
     let written = g.O.Sink.written in
     let by = sorting_of l.gates in
     let reading = how_of l.initial.stream in
+    let text = words_traced (Some (trace_view (set_of l.initial.trace))) by reading in
     record {
       reads : OnlyReads Data (state l.initial.inputs) (state l.inputs);
       once : InputsOnce (state l.initial.inputs) (state l.inputs) None;
@@ -30,7 +32,7 @@ invariant-pieces g l =
       taken : (taken : List ℕ) × Consumes ((state l.initial.inputs).rest Data) ((state l.inputs).rest Data) taken
           × ((bytes : List ℕ) → HasStreamed l.initial.stream bytes → HasStreamed l.stream (bytes ++ taken))
           × ((bytes : List ℕ) → HasStreamed l.initial.stream bytes → TracesBytes by reading l.initial.trace bytes
-          → TracesBytes by reading l.trace (bytes ++ taken) × WroteText (words_traced (Some (trace_view (set_of l.initial.trace))) by reading) (written l.initial.out) (written l.out) (words_of bytes) (words_of (bytes ++ taken)));
+          → TracesBytes by reading l.trace (bytes ++ taken) × WroteText (text (words_of bytes)) (text (words_of (bytes ++ taken))) (written l.initial.out) (written l.out) (g.O.Sink.faults l.initial.out) (g.O.Sink.faults l.out));
       kept : (bytes : List ℕ) → HasStreamed l.initial.stream bytes → g.O.Sink.faults l.out ≡ g.O.Sink.faults l.initial.out;
     }
 
