@@ -1,6 +1,7 @@
 #!/usr/bin/env python3
-"""All commands of ptu by brute force: brute.py count FILE, header FILE, events FILE, run PLAN FILE, trace PLAN FILE,
-demo SEED COUNT
+"""All commands of ptu by brute force
+
+  brute.py count FILE | header FILE | events FILE | run PLAN FILE | trace PLAN FILE | pick PLAN GROUP FILE | demo SEED COUNT
 
 It says what ptu says, on standard output and standard error, and ends with its status. It should be given a few
 thousand records at most: whatever can be counted by looking at everything is counted so. All pairs of photons are
@@ -642,13 +643,24 @@ def policy_of(plan):
     return policy | {"records": plan.get("limits", {}).get("records", 2**40)}
 
 
-def kept_list(plan, taken, mode):
-    """The events that aren't late, each photon with its shifted dtime."""
+def in_place(plan, taken, mode):
+    """The events that aren't late, in the order in which tables are told of them."""
     on_time = [event for event, is_late in taken if not is_late]
     if plan.get("settle", 0):
         # Events that were overtaken are put in their places, and those without an order are left out.
         on_time = sorted((event for event in on_time if event.is_photon or mode == 3), key=lambda event: event.time)
-    return [shifted(event, plan) for event in on_time]
+    return on_time
+
+
+def settled_list(plan, taken, mode):
+    """Those of them whose place no event behind these can change."""
+    events = in_place(plan, taken, mode)
+    return events[: max(0, len(events) - plan.get("settle", 0))]
+
+
+def kept_list(plan, taken, mode):
+    """The events that aren't late, each photon with its shifted dtime."""
+    return [shifted(event, plan) for event in in_place(plan, taken, mode)]
 
 
 def report(plan, data, out):
@@ -689,8 +701,7 @@ def endless(plan, data, out):
         read_records(record_type, words_of(data, start), policy_of(plan), lambda event, is_late: taken.append((event, is_late)))
         left_over(data, start)
     except Refused:
-        kept = kept_list(plan, taken, record_type[2])
-        cells, _ = bins_met(plan, table, kept[: max(0, len(kept) - plan.get("settle", 0))])
+        cells, _ = bins_met(plan, table, [shifted(event, plan) for event in settled_list(plan, taken, record_type[2])])
         out.extend(f"{cell} {cells[cell]}\n" for cell in sorted(cells)[:-1])
         raise
     cells, before = bins_met(plan, table, kept_list(plan, taken, record_type[2]))
@@ -700,6 +711,54 @@ def endless(plan, data, out):
     out.append(f"before {before}\n")
     out.extend(f"frequency {often} {frequencies[often]}\n" for often in range(1024) if frequencies[often])
     out.append(f"above {sum(bins for often, bins in frequencies.items() if often >= 1024)}\n")
+
+
+def picked_words(photons, mode):
+    """The records of a file of these photons."""
+    unit, words, units = 2**25 if mode == 2 else 1024, [], 0
+    for photon in photons:
+        more, units = photon.time // unit - units, photon.time // unit
+        while more > 0:
+            words.append(0xFE000000 + min(more, unit - 1))
+            more -= min(more, unit - 1)
+        if mode == 3:
+            words.append(photon.number * 2**25 + photon.dtime * 1024 + photon.time % unit)
+        else:
+            words.append((2**31 if photon.number == 0 else (photon.number - 1) * 2**25) + photon.time % unit)
+    return words
+
+
+def pick(plan, group, data, out):
+    """A file of the photons of a group."""
+    tags, start = read_header(data, [])
+    record_type = type_of(tags)
+    mode = record_type[2]
+    fits(plan, mode)
+    taken = []
+
+    def write(photons):
+        out.append(short_file(0x01010204 if mode == 2 else 0x01010304, picked_words(photons, mode)).decode("latin-1"))
+
+    def chosen(events):
+        """The photons of the group before the first that is too late to be written, and that one, if there is one."""
+        photons = [event for event in events if takes(group, shifted(event, plan))]
+        late = [at for at, photon in enumerate(photons) if photon.time - photon.time % (2**25 if mode == 2 else 1024) > 2**62]
+        return (photons[: late[0]], photons[late[0]]) if late else (photons, None)
+
+    def write_chosen(events):
+        """Writes them, and refuses the one that is too late."""
+        photons, late = chosen(events)
+        write(photons)
+        if late:
+            raise Refused(24, f"record {late.place} is too late to write")
+
+    try:
+        read_records(record_type, words_of(data, start), policy_of(plan), lambda event, is_late: taken.append((event, is_late)))
+        left_over(data, start)
+    except Refused:
+        write_chosen(settled_list(plan, taken, mode))
+        raise
+    write_chosen(in_place(plan, taken, mode))
 
 
 def short_file(code, words, more=b""):
@@ -754,6 +813,11 @@ def answer_words(words, out):
         if not plan.get("trace"):
             raise Refused(22, "plan has no trace")
         endless(plan, contents(words[2], "data"), out)
+    elif len(words) == 4 and what == b"pick" and is_number(words[2], 2**64 - 1):
+        plan, number = read_plan(contents(words[1], "plan")), int(words[2])
+        if not 1 <= number <= len(plan.get("group", [])):
+            raise Refused(23, f"plan has no group {number}")
+        pick(plan, plan["group"][number - 1], contents(words[3], "data"), out)
     elif len(words) == 3 and what == b"demo" and is_number(words[1], 2**64 - 1) and is_number(words[2], 10_000_000):
         demo(int(words[1]), int(words[2]), out)
     else:
@@ -774,7 +838,7 @@ def answer(words):
     try:
         answer_words(words, out)
     except Refused as refused:
-        text = "".join(out) if words[:1] in ([b"header"], [b"events"], [b"trace"]) else ""
+        text = "".join(out) if words[:1] in ([b"header"], [b"events"], [b"trace"], [b"pick"]) else ""
         return refused.status, text.encode("latin-1"), f"ptu: {refused.line}\n".encode()
     return 0, "".join(out).encode("latin-1"), b""
 

@@ -7,7 +7,8 @@ Each case is one run of PROGRAM. Its status, its standard output and its standar
 byte by byte. The cases are CASES from number FIRST on, 1000000 and 0 by default; a case is made by its number and
 SEED alone. A case that differs is kept in FOLDER, /tmp/ptu_fuzz by default: its words, its files, and what both
 said. At the end it prints how often each status came, and how many cases were not compared. Ends with status 1
-where a case differs, or where one of the statuses 0 to 21 never came in 100000 cases or more.
+where a case differs, or where one of the statuses 0 to 23 never came in 100000 cases or more. (24 takes more than
+2^34 records.)
 
 Not compared but for ending with a status of ptu: plans that python's reader of TOML refuses, which reads TOML 1.0,
 and that have something that TOML 1.1 allows anew; and documents that nest deeper than 80, which is as deep as ptu
@@ -544,10 +545,12 @@ def pieces_of(rng, data):
 def word_case(rng):
     number = lambda: rng.choice([b"0", b"1", b"18446744073709551615", b"18446744073709551616", b"10000000", b"10000001", b"-5", b"+1", b"1 ",
                                  b"00000000000000000007", b"000000000000000000007", b"", b"0x1", "\u0661".encode(), b"9" * 20])
-    word = lambda: rng.choice([b"count", b"header", b"events", b"run", b"trace", b"demo", b"Count", b"", b"--help", b"/none", b"\xff", b"-", "\u00e9".encode(), number()])
-    words = [word() for _ in range(rng.randrange(5))]
+    word = lambda: rng.choice([b"count", b"header", b"events", b"run", b"trace", b"pick", b"demo", b"Count", b"", b"--help", b"/none", b"\xff", b"-", "\u00e9".encode(), number()])
+    words = [word() for _ in range(rng.randrange(6))]
     if rng.randrange(2):
-        words = [b"demo", number(), number()] if rng.randrange(2) else [rng.choice([b"count", b"run", b"trace", b"events"]), *words[:2]]
+        words = [b"demo", number(), number()] if rng.randrange(2) else [rng.choice([b"count", b"run", b"events", b"trace"]), *words[:2]]
+    if rng.randrange(8) == 0:
+        words = [b"pick", b"/none", number(), b"/none"] + [word()] * (rng.randrange(4) == 0)
     if words[:1] == [b"demo"] and len(words) == 3 and words[2] == b"10000000":
         words[2] = b"10000001"
     return Case(words)
@@ -556,7 +559,10 @@ def word_case(rng):
 def name_case(rng):
     """Names that can't be opened, or not read."""
     name = lambda: rng.choice([b"/none", b"", b"/dev", b"/", b"/dev/null", b"FILE", b"/dev/null/a", b"n" * 300])
-    case = Case([rng.choice([b"run", b"trace"]), name().replace(b"FILE", b"PLAN"), name()] if rng.randrange(2) else [rng.choice([b"count", b"header", b"events"]), name()])
+    by_a_plan = [rng.choice([b"run", b"trace", b"pick"]), name().replace(b"FILE", b"PLAN"), name()]
+    if by_a_plan[0] == b"pick":
+        by_a_plan.insert(2, b"1")
+    case = Case(by_a_plan if rng.randrange(2) else [rng.choice([b"count", b"header", b"events"]), name()])
     case.plan, case.data = b"version = 1\n", brute.short_file(0x01010304, [1, 2])
     return case
 
@@ -570,6 +576,13 @@ def large_case(rng):
     return Case([rng.choice([b"count", b"events"]), b"FILE"], data=data)
 
 
+def by_plan(rng, mode, data):
+    """One of the commands that have a plan."""
+    what = rng.choice([b"run", b"run", b"run", b"trace", b"pick"])
+    group = [rng.choice([b"1", b"1", b"1", b"2", b"01", str(rng.randrange(70)).encode()])] if what == b"pick" else []
+    return Case([what, b"PLAN", *group, b"FILE"], a_plan_text(rng, mode), data)
+
+
 def case_of(rng):
     kind = rng.randrange(2000)
     code = rng.choice(list(TYPES))
@@ -580,6 +593,10 @@ def case_of(rng):
         case = Case([b"run", b"PLAN", b"FILE"], plan_text(rng, {"group": [{"inputs": [0]}], "trace": [{"group": 1, "width": 1, "bins": 2**20}] * 20}).encode(), a_file(rng, code))
         case.memory = 60000
         return case
+    if kind < 12 and rng.randrange(3) == 0:
+        case = by_plan(rng, mode, a_long_file(rng, code))
+        case.plan = plan_text(rng, a_plan(rng, mode)).encode()
+        return case
     if kind < 12:
         return Case([rng.choice([b"count", b"events", b"run"]), b"FILE"], data=a_long_file(rng, code)) if rng.randrange(2) else Case([b"demo", str(rng.randrange(2**64)).encode(), str(rng.randrange(150)).encode()])
     if kind < 60:
@@ -588,8 +605,7 @@ def case_of(rng):
         return name_case(rng)
     what = rng.choice([b"count", b"header", b"header", b"events", b"events", b"run", b"run", b"run", b"run", b"run", b"run"])
     if what == b"run":
-        data = a_file(rng, code) if rng.randrange(30) else a_hostile_file(rng)
-        return Case([rng.choice([b"run", b"run", b"run", b"trace"]), b"PLAN", b"FILE"], a_plan_text(rng, mode), data)
+        return by_plan(rng, mode, a_file(rng, code) if rng.randrange(30) else a_hostile_file(rng))
     return Case([what, b"FILE"], data=a_hostile_file(rng) if rng.randrange(2) else a_file(rng, code))
 
 
@@ -705,7 +721,7 @@ def work(program, seed, numbers, folder, told):
         came[got[0]] += 1
         if want is None:
             skipped += 1
-            want = (got[0] if 0 <= got[0] <= 22 else "a status", got[1], got[2])
+            want = (got[0] if 0 <= got[0] <= 24 else "a status", got[1], got[2])
         if got != want:
             differ += 1
             keep(folder, seed, number, case, want, got)
@@ -759,7 +775,7 @@ def main():
     came, run = totals["came"], sum(totals["came"].values())
     print(f"seed {seed}, from case {first} on: {run} run, {totals['differ']} differ, {totals['skipped']} not compared, {time.time() - began:.0f} s")
     print("by status: " + ", ".join(f"{status}: {came[status]}" for status in sorted(came)))
-    missing = [status for status in range(23) if came[status] == 0]
+    missing = [status for status in range(24) if came[status] == 0]
     if missing:
         print(f"never came: {missing}")
     sys.exit(1 if totals["differ"] or run < cases or (missing and cases >= 100_000) else 0)

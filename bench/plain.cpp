@@ -1,6 +1,7 @@
-// What 'ptu trace' and 'ptu run' with folds print, by a plain C++ program to compare with:
+// What 'ptu trace', 'ptu pick' and 'ptu run' with folds print, by a plain C++ program to compare with:
 //
 //   plain trace PLAN FILE
+//   plain pick PLAN GROUP FILE
 //   plain run PLAN FILE
 //
 // It reads the files of types HydraHarp2T2 and HydraHarp2T3 that the programs of this folder make, whose header has
@@ -126,6 +127,12 @@ class Text {
         length = static_cast<size_t>(end - bytes.data());
     }
 
+    void put_word(uint32_t word) {
+        make_room(4);
+        for (int at = 0; at < 4; at++)
+            bytes[length++] = static_cast<char>(word >> (8 * at));
+    }
+
     void put_line(const char *word, uint64_t number) {
         put(word);
         put(number, '\n');
@@ -244,6 +251,31 @@ static void trace(const Plan &plan, std::FILE *file, bool t3, Text &out) {
     out.put_line("above ", above);
 }
 
+// ## pick
+
+static void pick(const Plan &plan, uint64_t group, std::FILE *file, bool t3, Text &out) {
+    const uint64_t inputs = plan.groups.at(group - 1).inputs;
+    for (unsigned char byte : header(*type_of(t3 ? "HydraHarp2T3" : "HydraHarp2T2")))
+        std::fputc(byte, stdout);
+    const uint64_t unit = t3 ? 1024 : 33554432;
+    uint64_t units = 0;
+    each_photon(file, t3, [&](const Photon &photon) {
+        if (!(inputs >> photon.input & 1))
+            return;
+        uint64_t more = photon.time / unit - units;
+        units += more;
+        for (; more > unit - 1; more -= unit - 1)
+            out.put_word(0xFE000000u + static_cast<uint32_t>(unit - 1));
+        if (more > 0)
+            out.put_word(0xFE000000u + static_cast<uint32_t>(more));
+        const uint32_t low = static_cast<uint32_t>(photon.time % unit);
+        if (t3)
+            out.put_word(photon.input << 25 | photon.dtime << 10 | low);
+        else
+            out.put_word(photon.input == 0 ? 0x80000000u | low : (photon.input - 1) << 25 | low);
+    });
+}
+
 // ## folds
 
 class Fold {
@@ -330,21 +362,27 @@ static void run(const Plan &plan, std::FILE *file, bool t3, Text &out) {
 }
 
 int main(int argc, char **argv) {
-    const std::string command = argc == 4 ? argv[1] : "";
-    if (command != "trace" && command != "run")
-        give_up("usage: plain trace PLAN FILE, or plain run PLAN FILE");
+    const std::string command = argc > 1 ? argv[1] : "";
+    const bool picks = command == "pick";
+    if (!(picks ? argc == 5 : (command == "trace" || command == "run") && argc == 4))
+        give_up("usage: plain trace PLAN FILE, plain pick PLAN GROUP FILE, or plain run PLAN FILE");
     const Plan plan = read_plan(argv[2]);
-    std::FILE *file = std::fopen(argv[3], "rb");
+    std::FILE *file = std::fopen(argv[argc - 1], "rb");
     unsigned char head[112];
     if (file == nullptr || std::fread(head, 1, sizeof head, file) != sizeof head)
         give_up("cannot read the file");
     uint32_t code = 0;
     std::memcpy(&code, head + 56, 4);
-    const bool t3 = code == type_of("HydraHarp2T3")->code;
-    if (!t3 && code != type_of("HydraHarp2T2")->code)
+    if (code != type_of("HydraHarp2T3")->code && code != type_of("HydraHarp2T2")->code)
         give_up("not a file that this program reads");
+    const bool t3 = code == type_of("HydraHarp2T3")->code;
     Text out;
-    if (command == "trace")
+    uint64_t group = 0;
+    if (picks && !read_number(argv[3], group))
+        give_up("not the number of a group");
+    if (picks)
+        pick(plan, group, file, t3, out);
+    else if (command == "trace")
         trace(plan, file, t3, out);
     else
         run(plan, file, t3, out);
