@@ -11,7 +11,7 @@ import re
 import sys
 
 DOCS = os.path.dirname(os.path.abspath(__file__))
-COMMANDS = ["count", "header", "events", "run", "trace", "demo"]  # the columns behind a status, its line and when it comes
+COMMANDS = ["count", "header", "events", "run", "trace", "pick", "demo"]  # the columns behind a status, its line and when it comes
 
 
 def read(name):
