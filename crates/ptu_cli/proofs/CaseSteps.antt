@@ -1,6 +1,7 @@
 -- Steps that the tables of cases of all commands share.
-use Rattle.std.proofs.Common.{◌≡◌, ◌≢◌, ◌<◌, ◌≤◌, ℕ, List, [], ◌∷◌, length, Bool, true, false, None, Some, Ok, Err, refl, sym, ap, ◌∙◌, inl, inr, arith}
+use Rattle.std.proofs.Common.{◌≡◌, ℕ, List, [], ◌∷◌, length, Bool, true, false, None, Some, Ok, Err, refl, sym, ap, ◌∙◌, inl, inr, ◌≢◌, ◌<◌, ◌≤◌, arith}
 use Rattle.std.specs.Prelude.{◌==◌, Result, nat_lt, if◌then◌else◌}
+use Rattle.std.specs.declared.option.Option.{Option}
 use Rattle.std.proofs.lemmas.Bool.Decides.{nat_tests}
 use Rattle.tally_base.specs.declared.fault.Fault.{Fault}
 use Rattle.tally_base.specs.declared.fault.Fault.TheVariants.{TruncatedRecord}
@@ -8,12 +9,12 @@ use Rattle.tally_base.specs.declared.header.Header.{Header}
 use Rattle.bench_io.specs.Inputs.{File}
 use Rattle.ptu_definitions.specs.declared.records.Summary.{Summary}
 use Rattle.ptu_definitions.specs.Headers.{header_answer}
-use Rattle.ptu_definitions.specs.Streams.{Reading, record_refusal, or_refusal, summary, streamed}
 use Rattle.ptu_definitions.specs.Words.{words_of, rest_of}
+use Rattle.ptu_definitions.specs.Streams.{Reading, record_refusal, summary, streamed, or_refusal}
 use Rattle.ptu_definitions.proofs.Sound.{one_answer}
+use Rattle.ptu_cli.specs.Endings.{on_file}
 use Rattle.ptu_cli.specs.Outcomes.{Outcome, refused}
 use Rattle.ptu_cli.specs.Behaviours.{Work}
-use Rattle.ptu_cli.specs.Endings.{on_file}
 use Rattle.ptu_cli.specs.Cases.{FileCase, HeaderCase}
 
 -- ## Tests
@@ -85,3 +86,11 @@ fit = Ok tt
 
 pub not_fit : (fault : Fault) → fit ≡ Err fault → ⊥
 not_fit fault e = cc
+
+-- ## Outcomes
+
+abbrev pub end_with : List ℕ → Option Fault → Outcome
+end_with text fault = record { text = text; fault = fault }
+
+pub same-end : (a b : List ℕ) (f g : Option Fault) → a ≡ b → f ≡ g → end_with a f ≡ end_with b g
+same-end a b f g p q = rw (p, q) refl

@@ -1,22 +1,15 @@
--- The outcome of a command is the one that the table of cases calls for.
-use Rattle.std.proofs.Common.{◌≡◌, ℕ, zero, suc, List, [], ◌∷◌, ◌++◌, length, Bool, true, false, None, Some, Ok, Err, refl, sym, ap, ◌∙◌, subst, inl, inr}
-use Rattle.std.specs.Prelude.{◌⊎◌, ◌↔◌, ◌==◌, ◌/◌, Result, nat_lt, nat_le, codes, decimal, map, flat_map, if◌then◌else◌}
+-- What `count`, `events`, `run`, `trace` and `demo` end with is what the table of cases calls for.
+use Rattle.std.proofs.Common.{◌≡◌, ℕ, zero, suc, List, [], ◌∷◌, ◌++◌, length, Bool, true, false, None, Some, Ok, Err, refl, sym, ap, ◌∙◌, subst, inl, inr, arith}
+use Rattle.std.specs.Prelude.{◌==◌, ◌/◌, Result, nat_lt, nat_le, codes, decimal, map, if◌then◌else◌}
 use Rattle.std.specs.declared.option.Option.{Option}
-use Rattle.toml.specs.Data.{table}
 use Rattle.tally_base.specs.declared.fault.Fault.{Fault}
-use Rattle.tally_base.specs.declared.fault.Fault.TheVariants.{RecordLimit, TruncatedRecord}
+use Rattle.tally_base.specs.declared.fault.Fault.TheVariants.{RecordLimit, TruncatedRecord, NoTrace}
 use Rattle.tally_base.specs.declared.header.Header.{Header}
 use Rattle.tally_base.specs.Faults.{fault_in}
-use Rattle.tally_base.specs.RecordTypes.{mode_of}
 use Rattle.tally_base.specs.Settings.{PartSettings, StartStopView, TraceView}
 use Rattle.tally_base.specs.Settings.PartSettings.{StartStopSettings}
 use Rattle.tally_base.specs.Tally.{History}
-use Rattle.bench_io.specs.Inputs.{File}
 use Rattle.ptu_definitions.specs.declared.records.Summary.{Summary}
-use Rattle.ptu_definitions.specs.TagList.{Item}
-use Rattle.ptu_definitions.specs.Endings.{HasHeader}
-use Rattle.ptu_definitions.specs.Headers.{header_answer, head_of}
-use Rattle.ptu_definitions.specs.Seen.{seen, seen_preamble, HasNoFront, HasLongestFront}
 use Rattle.ptu_definitions.specs.Words.{words_of, rest_of}
 use Rattle.ptu_definitions.specs.Layouts.{meaning_of}
 use Rattle.ptu_definitions.specs.Kinds.{counts_of}
@@ -24,23 +17,14 @@ use Rattle.ptu_definitions.specs.Counted.{record_limit, records_of, counted}
 use Rattle.ptu_definitions.specs.Prefixes.{each_after}
 use Rattle.ptu_definitions.specs.Firsts.{IsFirst}
 use Rattle.ptu_definitions.specs.Times.{events}
-use Rattle.ptu_definitions.specs.Streams.{Reading, record_refusal, summary, summary_of, streamed}
-use Rattle.ptu_definitions.proofs.Sound.{one_answer}
-use Rattle.ptu_definitions.proofs.SeenLemmas.{seen-header, seen_preamble-header}
-use Rattle.ptu_definitions.proofs.SeenLaws.{seen-longest, seen-none}
-use Rattle.ptu_definitions.proofs.Longest.{some-longest}
+use Rattle.ptu_definitions.specs.Streams.{Reading, record_refusal, summary, summary_of, streamed, events_in}
 use Rattle.ptu_definitions.proofs.Firsts.{first-refusal, refused-first, none-refused, given-before, given-all}
 use Rattle.record_stream.proofs.Lasts.{streamed-refused}
-use Rattle.plan_text.specs.Plan.{PlanView, plan, parts_of}
-use Rattle.plan_text.specs.Reading.{plan_answer}
-use Rattle.plan_text.specs.Fits.{fits}
-use Rattle.plan_text.proofs.Called.{called, valid, answers, plans}
-use Rattle.plan_text.proofs.Misfits.{misfit_named, is_first}
+use Rattle.plan_text.specs.Plan.{PlanView, parts_of}
 use Rattle.coincidence.proofs.Places.{intervals-are-pairs}
 use Rattle.gate_plan.specs.Shifting.{sorting}
 use Rattle.tally_engine.specs.Histories.{history, settled_history}
 use Rattle.tally_engine.specs.Plans.{reading_by}
-use Rattle.table_out.specs.HeaderText.{preamble_part, item_text, shown_text, header_text}
 use Rattle.table_out.specs.EventText.{events_text}
 use Rattle.table_out.specs.Lines.{line}
 use Rattle.table_out.specs.Printed.{texts, cell_line, cell_lines, first_line, table_lines}
@@ -48,25 +32,19 @@ use Rattle.table_out.specs.StartStop.{startstop_printed}
 use Rattle.table_out.specs.Report.{head_text, printed, Table, table_text, report, with_events}
 use Rattle.ptu_made.specs.Generator.{made_words}
 use Rattle.ptu_made.specs.Records.{made_header}
-use Rattle.ptu_cli.specs.Demo.{demo_plan, demo_report}
-use Rattle.ptu_cli.specs.CountText.{counts_text}
-use Rattle.ptu_cli.specs.Commands.{Request, Count, Header as HeaderOf, Events, Run, Trace, Pick, Demo}
-use Rattle.ptu_cli.specs.Reports.{report_of, if_fits, report_behind}
-use Rattle.ptu_cli.specs.Outcomes.{Outcome, refused, written, with_counts, counts_behind, count_outcome, header_outcome, listing, listed, events_behind, report_outcome}
-use Rattle.ptu_cli.specs.Behaviours.{counting, printing, listing_all, reporting, tracing, any_plan, behaviour}
-use Rattle.ptu_cli.specs.Endings.{on_file, unless, by_plan, outcome}
-use Rattle.ptu_cli.specs.Cases.{FileCase, HeaderCase, WholeCase, CountCase, Prints, PrintCase, LeftOver, ListCase, startstop_by_places, by_places, placed_text, report_by_places, words_report, StreamCase, ReportCase, PlanCase, WholeTrace, RecordsCase, TraceCase, PlannedTrace, TracePlanCase, IsOutcome}
 use Rattle.long_trace.specs.Texts.{open_text}
-use Rattle.ptu_cli.specs.TraceOutcomes.{no_trace, unless_traced, trace_of, traced, records_traced, traced_if_fits, traced_behind}
-use Rattle.ptu_cli.proofs.TraceTexts.{settled-first, settled-whole}
-use Rattle.ptu_cli.proofs.CaseSteps.{lt-true, lt-false, true-lt, false-lt, empty-true, empty-false, true-empty, false-empty, file-holds, file-only, header-holds, header-only, whole_answer, streamed-clear, not_fit}
-use Rattle.ptu_cli.proofs.PickCases.{pick_plan-holds, pick_plan-only}
-
-abbrev end_with : List ℕ → Option Fault → Outcome
-end_with text fault = record { text = text; fault = fault }
-
-same-end : (a b : List ℕ) (f g : Option Fault) → a ≡ b → f ≡ g → end_with a f ≡ end_with b g
-same-end a b f g p q = rw (p, q) refl
+use Rattle.ptu_cli.specs.Reports.{report_of, if_fits, report_behind}
+use Rattle.ptu_cli.specs.CountText.{counts_text}
+use Rattle.ptu_cli.specs.TraceOutcomes.{trace_of, unless_traced, no_trace, traced, records_traced, traced_if_fits, traced_behind}
+use Rattle.ptu_cli.specs.Demo.{demo_plan, demo_report}
+use Rattle.ptu_cli.specs.Outcomes.{Outcome, refused, written, with_counts, counts_behind, count_outcome, listing, listed, events_behind, report_outcome}
+use Rattle.ptu_cli.specs.Behaviours.{any_plan, counting, listing_all, reporting, tracing}
+use Rattle.ptu_cli.specs.Cases.{WholeCase, NoneRefused, CountCase, LeftOver, ListCase, startstop_by_places, by_places, placed_text, report_by_places, words_report, StreamCase, WholeTrace, RecordsCase, HasTrace, TracedCase}
+use Rattle.ptu_cli.specs.CommandCases.{IsIn, count_cases, events_cases, run_cases, trace_cases, Lacks, NeedsNothing, Needs}
+use Rattle.ptu_cli.proofs.FaultStatuses.{some-same, of-refused, of-written, of-end, whole-cause, range-as, wider, least-status, listed-status}
+use Rattle.ptu_cli.proofs.CaseSteps.{end_with, same-end, lt-true, lt-false, true-lt, false-lt, empty-true, empty-false, true-empty, false-empty, whole_answer, streamed-clear}
+use Rattle.ptu_cli.proofs.CaseShapes.{RecordCause, FileTold, NeedTold, PlanTold}
+use Rattle.ptu_cli.proofs.TraceTexts.{settled-whole, settled-first}
 
 -- ## A report by places
 
@@ -148,52 +126,29 @@ count-only : (header : Header) (behind : List ℕ) (end : Outcome) → CountCase
 count-only header behind end (inl h) = count-steps header behind ∙ ap (count_end header behind) (true-lt _ _ h.0) ∙ sym h.1
 count-only header behind end (inr h) = count-steps header behind ∙ ap (count_end header behind) (false-lt _ _ h.0) ∙ whole-only behind (count_text header behind) end h.1
 
--- ## header
+count-cause : (header : Header) (behind : List ℕ) (end : Outcome) (fault : Fault) → CountCase header behind end → end.fault ≡ Some fault → RecordCause count_cases header behind fault
+count-cause header behind end fault (inl h) e = inr (inl (h.0, of-refused end _ fault h.1 e))
+count-cause header behind end fault (inr h) e = let cut = whole-cause behind _ end fault h.1 e in inl (h.0, cut.0, cut.1)
 
-shown-at : (bytes : List ℕ) (start : Option (List ℕ)) (items : List Item) → seen_preamble bytes ≡ start → seen bytes ≡ items → shown_text bytes ≡ preamble_part start ++ flat_map item_text items
-unfolding shown_text
-shown-at bytes start items p q = rw (p, q) refl
+count-ends : (header : Header) (behind : List ℕ) (fault : Fault) → RecordCause count_cases header behind fault → (end : Outcome) × CountCase header behind end × (end.fault ≡ Some fault)
+count-ends header behind fault (inl cut) = (refused fault, inr (cut.0, inl (cut.1, ap refused cut.2)), refl)
+count-ends header behind fault (inr (inl many)) = (refused fault, inl (many.0, ap refused many.1), refl)
+count-ends header behind fault (inr (inr never)) = absurd never
 
-head-text : (bytes : List ℕ) → header_text bytes ≡ shown_text (head_of bytes)
-unfolding header_text
-head-text bytes = refl
-
-shown-header : (bytes : List ℕ) (items : List Item) (h : HasHeader bytes items) → shown_text bytes ≡ preamble_part (Some h.start) ++ flat_map item_text (h.inner ++ h.last ∷ [])
-shown-header bytes items h =
-    shown-at bytes (Some h.start) (h.inner ++ h.last ∷ []) (ap seen_preamble h.bytes_are ∙ seen_preamble-header h.start h.inner h.last h.header h.rest h.is_header)
-    (ap seen h.bytes_are ∙ seen-header h.start h.inner h.last h.header h.rest h.is_header)
-
-prints-holds : (bytes : List ℕ) → Prints bytes (shown_text bytes)
-prints-holds bytes = by (some-longest bytes)
-  where
-    by : HasNoFront bytes ⊎ (HasLongestFront bytes ⊎ ((items : List Item) × HasHeader bytes items)) → Prints bytes (shown_text bytes)
-    by (inl none) = let shown = seen-none bytes none in inl (none, shown-at bytes None [] shown.0 shown.1)
-    by (inr (inl h)) =
-        let shown = seen-longest bytes h.0 h.1 h.2 h.3 h.4 in
-        inr (inl (record { start = h.0; items = h.1; front = h.2; rest = h.3; longest = h.4; text_is = shown-at bytes (Some h.0) _ shown.0 shown.1 }))
-    by (inr (inr h)) =
-        let it = h.1 in
-        inr (inr (record { start = it.start; inner = it.inner; last = it.last; header = it.header; rest = it.rest; is_header = it.is_header; bytes_are = it.bytes_are; text_is = shown-header bytes h.0 it }))
-
-prints-only : (bytes text : List ℕ) → Prints bytes text → shown_text bytes ≡ text
-prints-only bytes text (inl h) = let shown = seen-none bytes h.0 in shown-at bytes None [] shown.0 shown.1 ∙ sym h.1
-prints-only bytes text (inr (inl h)) = let shown = seen-longest bytes h.start h.items h.front h.rest h.longest in shown-at bytes (Some h.start) _ shown.0 shown.1 ∙ sym h.text_is
-prints-only bytes text (inr (inr h)) =
-    shown-header bytes (h.inner ++ h.last ∷ []) (record { start = h.start; inner = h.inner; last = h.last; header = h.header; rest = h.rest; is_header = h.is_header; items_are = refl; bytes_are = h.bytes_are })
-    ∙ sym h.text_is
-
-print-holds : (bytes : List ℕ) → PrintCase bytes (header_outcome bytes)
-print-holds bytes = record {
-  answer = header_answer bytes;
-  is_answer = (one_answer bytes (header_answer bytes)).1 refl;
-  fault_is = refl;
-  prints = subst (Prints (head_of bytes)) (sym (head-text bytes)) (prints-holds (head_of bytes));
+pub count-told : FileTold (IsIn 20 20) count_cases counting
+count-told = record {
+  end_of = λ r. count_outcome (counts_behind r);
+  is = λ bytes. refl;
+  fails = λ fault. refl;
+  told = record {
+    holds = count-holds;
+    only = count-only;
+    cause = count-cause;
+    ends = count-ends;
+    refuses_status = λ header behind fault h. (range-as 18 21 fault _ h.1 (omega arith, omega arith), range-as 20 20 fault _ h.1 (omega arith, omega arith));
+    late_status = λ header behind fault never. absurd never;
+  };
 }
-
-print-only : (bytes : List ℕ) (end : Outcome) → PrintCase bytes end → header_outcome bytes ≡ end
-print-only bytes end h =
-    same-end (header_text bytes) end.text (fault_in (header_answer bytes)) end.fault (head-text bytes ∙ prints-only (head_of bytes) end.text h.prints)
-    (ap fault_in ((one_answer bytes h.answer).0 h.is_answer) ∙ sym h.fault_is)
 
 -- ## events
 
@@ -231,6 +186,36 @@ list-only header behind end (inr h) =
     same-end _ end.text _ end.fault (ap events_text (given-all (listing header) (words_of behind) none) ∙ sym h.1)
     (ap fault_in (streamed-clear (listing header) behind none) ∙ left-only (listing header) behind end.fault h.2)
 
+list-cause : (header : Header) (behind : List ℕ) (end : Outcome) (fault : Fault) → ListCase header behind end → end.fault ≡ Some fault → RecordCause events_cases header behind fault
+list-cause header behind end fault (inl h) e =
+    inr (inl (subst (λ (f : Fault). IsFirst (listing header) f [] (words_of behind)) (some-same h.fault fault (sym (ap (λ (o : Outcome). o.fault) h.end_is) ∙ e)) h.least))
+list-cause header behind end fault (inr h) e = by h.2
+  where
+    by : LeftOver (rest_of behind) end.fault → RecordCause events_cases header behind fault
+    by (inl left) = inl (h.0, left.0, some-same fault _ (sym e ∙ left.1))
+    by (inr left) = let none = left.1 in absurd cc
+
+list-ends : (header : Header) (behind : List ℕ) (fault : Fault) → RecordCause events_cases header behind fault → (end : Outcome) × ListCase header behind end × (end.fault ≡ Some fault)
+list-ends header behind fault (inl cut) = (end_with (events_text (events_in (listing header) (words_of behind))) (Some fault), inr (cut.0, refl, inl (cut.1, ap Some cut.2)), refl)
+list-ends header behind fault (inr (inl least)) =
+    (end_with (events_text (events_in (listing header) least.front)) (Some fault), inl (record { fault = fault; least = least; end_is = refl }), refl)
+list-ends header behind fault (inr (inr never)) = absurd never
+
+pub events-told : FileTold (IsIn 20 21) events_cases listing_all
+events-told = record {
+  end_of = events_behind;
+  is = λ bytes. refl;
+  fails = λ fault. refl;
+  told = record {
+    holds = list-holds;
+    only = list-only;
+    cause = list-cause;
+    ends = list-ends;
+    refuses_status = λ header behind fault h. (least-status (listing header) behind fault h, listed-status header behind fault h);
+    late_status = λ header behind fault never. absurd never;
+  };
+}
+
 -- ## run
 
 abbrev stream_end : PlanView → Header → List ℕ → Result Summary Fault → Outcome
@@ -264,53 +249,41 @@ stream-only view header behind end (inl h) =
 stream-only view header behind end (inr h) =
     stream-steps view header behind ((none-refused (reading_by view header) (words_of behind)).1 h.0) ∙ whole-only behind (words_report view header (words_of behind)) end h.1
 
-abbrev fit_end : PlanView → Header → List ℕ → Result (Unit {0}) Fault → Outcome
-fit_end view header behind r = report_outcome (if_fits view header behind r)
+stream-cause : (view : PlanView) (header : Header) (behind : List ℕ) (end : Outcome) (fault : Fault) → StreamCase view header behind end → end.fault ≡ Some fault → RecordCause (run_cases view) header behind fault
+stream-cause view header behind end fault (inl h) e = inr (inl (subst (λ (f : Fault). IsFirst (reading_by view header) f [] (words_of behind)) (sym (of-refused end h.0 fault h.2 e)) h.1))
+stream-cause view header behind end fault (inr h) e = let cut = whole-cause behind (words_report view header (words_of behind)) end fault h.1 e in inl (h.0, cut.0, cut.1)
 
-report-holds : (view : PlanView) (header : Header) (behind : List ℕ) → ReportCase view header behind (fit_end view header behind (fits (mode_of header.record_type) view))
-report-holds view header behind = by (fits (mode_of header.record_type) view) refl
-  where
-    by : (r : Result (Unit {0}) Fault) → fits (mode_of header.record_type) view ≡ r → ReportCase view header behind (fit_end view header behind r)
-    by (Err fault) e = inl (fault, misfit_named (mode_of header.record_type) view fault e, refl)
-    by (Ok done) e = inr (λ fault misfit. not_fit fault (sym e ∙ is_first (mode_of header.record_type) view fault misfit), stream-holds view header behind)
+stream-ends : (view : PlanView) (header : Header) (behind : List ℕ) (fault : Fault) → RecordCause (run_cases view) header behind fault → (end : Outcome) × StreamCase view header behind end × (end.fault ≡ Some fault)
+stream-ends view header behind fault (inl cut) = (refused fault, inr (cut.0, inl (cut.1, ap refused cut.2)), refl)
+stream-ends view header behind fault (inr (inl least)) = (refused fault, inl (fault, least, refl), refl)
+stream-ends view header behind fault (inr (inr never)) = absurd never
 
-report-only : (view : PlanView) (header : Header) (behind : List ℕ) (end : Outcome) → ReportCase view header behind end → fit_end view header behind (fits (mode_of header.record_type) view) ≡ end
-report-only view header behind end (inl h) = ap (fit_end view header behind) (is_first (mode_of header.record_type) view h.0 h.1) ∙ sym h.2
-report-only view header behind end (inr h) = by (fits (mode_of header.record_type) view) refl
-  where
-    by : (r : Result (Unit {0}) Fault) → fits (mode_of header.record_type) view ≡ r → fit_end view header behind r ≡ end
-    by (Err fault) e = absurd (h.0 fault (misfit_named (mode_of header.record_type) view fault e))
-    by (Ok done) e = stream-only view header behind end h.1
-
-run-holds : (view : PlanView) (bytes : List ℕ) → HeaderCase (ReportCase view) bytes ((reporting view).outcome bytes)
-run-holds view bytes = header-holds (λ r. report_outcome (report_behind view r)) (ReportCase view) (λ fault. refl) (report-holds view) bytes
-
-run-only : (view : PlanView) (bytes : List ℕ) (end : Outcome) → HeaderCase (ReportCase view) bytes end → (reporting view).outcome bytes ≡ end
-run-only view bytes end h = header-only (λ r. report_outcome (report_behind view r)) (ReportCase view) (λ fault. refl) (report-only view) bytes end h
-
-abbrev plan_end : File → Result PlanView Fault → Outcome
-plan_end data_file r = by_plan any_plan reporting r data_file
-
-plan-holds : (text : List ℕ) (data_file : File) → PlanCase (Some text) data_file (plan_end data_file (plan_answer text))
-plan-holds text data_file = by (plan_answer text) refl
-  where
-    by : (r : Result PlanView Fault) → plan_answer text ≡ r → PlanCase (Some text) data_file (plan_end data_file (plan_answer text))
-    by (Err fault) e = let calls = called text fault e in inl (fault, calls.0, calls.1, ap (plan_end data_file) e)
-    by (Ok view) e =
-        let good = valid text view e in
-        let same = plans text good.1 good good.2 in
-        inr (
-          good.1,
-          good,
-          good.2,
-          subst (λ r. FileCase (HeaderCase (ReportCase (plan (table good.1)))) data_file (plan_end data_file r)) (sym same)
-              (file-holds (reporting (plan (table good.1))) (HeaderCase (ReportCase (plan (table good.1)))) (run-holds (plan (table good.1))) data_file),
-        )
-
-plan-only : (text : List ℕ) (data_file : File) (end : Outcome) → PlanCase (Some text) data_file end → plan_end data_file (plan_answer text) ≡ end
-plan-only text data_file end (inl h) = ap (plan_end data_file) (answers text h.0 (h.1, h.2)) ∙ sym h.3
-plan-only text data_file end (inr h) =
-    ap (plan_end data_file) (plans text h.0 h.1 h.2) ∙ file-only (reporting (plan (table h.0))) (HeaderCase (ReportCase (plan (table h.0)))) (run-only (plan (table h.0))) data_file end h.3
+pub run-told : PlanTold (IsIn 18 21) NeedsNothing run_cases any_plan reporting
+run-told = record {
+  needs = record {
+    has = λ view none. tt;
+    none = λ view has. refl;
+    lack = λ view fault e. cc;
+    some = λ view fault never. absurd never;
+    status = λ view fault never. absurd never;
+  };
+  works = λ view has. record {
+    end_of = λ r. report_outcome (report_behind view r);
+    fit_of = λ header behind r. report_outcome (if_fits view header behind r);
+    is = λ bytes. refl;
+    fails = λ fault. refl;
+    headed = λ header behind. refl;
+    misfit = λ header behind fault. refl;
+    told = record {
+      holds = stream-holds view;
+      only = stream-only view;
+      cause = stream-cause view;
+      ends = stream-ends view;
+      refuses_status = λ header behind fault h. let s = least-status (reading_by view header) behind fault h in (s, s);
+      late_status = λ header behind fault never. absurd never;
+    };
+  };
+}
 
 -- ## trace
 
@@ -357,91 +330,76 @@ module _ (set : TraceView) (view : PlanView) (is : trace_of view ≡ Some set) w
   same-trace : (header : Header) (behind : List ℕ) → records_traced (trace_of view) (sorting view) (reading_by view header) behind ≡ records_traced (Some set) (sorting view) (reading_by view header) behind
   same-trace header behind = ap (λ o. records_traced o (sorting view) (reading_by view header) behind) is
 
-  trace-holds : (header : Header) (behind : List ℕ) → TraceCase set view header behind (traced_if_fits view header behind (fits (mode_of header.record_type) view))
-  trace-holds header behind = by (fits (mode_of header.record_type) view) refl
-    where
-      by : (r : Result (Unit {0}) Fault) → fits (mode_of header.record_type) view ≡ r → TraceCase set view header behind (traced_if_fits view header behind r)
-      by (Err fault) e = inl (fault, misfit_named (mode_of header.record_type) view fault e, refl)
-      by (Ok done) e = inr (λ fault misfit. not_fit fault (sym e ∙ is_first (mode_of header.record_type) view fault misfit), subst (RecordsCase set view header behind) (sym (same-trace header behind)) (records-hold set view header behind))
+traced-holds : (view : PlanView) → HasTrace view → (header : Header) (behind : List ℕ) → TracedCase view header behind (records_traced (trace_of view) (sorting view) (reading_by view header) behind)
+traced-holds view has header behind = (has.0, has.1, subst (RecordsCase has.0 view header behind) (sym (same-trace has.0 view has.1 header behind)) (records-hold has.0 view header behind))
 
-  trace-only : (header : Header) (behind : List ℕ) (end : Outcome) → TraceCase set view header behind end → traced_if_fits view header behind (fits (mode_of header.record_type) view) ≡ end
-  trace-only header behind end (inl h) = ap (traced_if_fits view header behind) (is_first (mode_of header.record_type) view h.0 h.1) ∙ sym h.2
-  trace-only header behind end (inr h) = by (fits (mode_of header.record_type) view) refl
-    where
-      by : (r : Result (Unit {0}) Fault) → fits (mode_of header.record_type) view ≡ r → traced_if_fits view header behind r ≡ end
-      by (Err fault) e = absurd (h.0 fault (misfit_named (mode_of header.record_type) view fault e))
-      by (Ok done) e = same-trace header behind ∙ records-only set view header behind end h.1
+traced-only : (view : PlanView) (header : Header) (behind : List ℕ) (end : Outcome) → TracedCase view header behind end → records_traced (trace_of view) (sorting view) (reading_by view header) behind ≡ end
+traced-only view header behind end h = same-trace h.0 view h.1 header behind ∙ records-only h.0 view header behind end h.2
 
-  file-trace : (data_file : File) → FileCase (HeaderCase (TraceCase set view)) data_file (on_file (tracing view) data_file)
-  file-trace data_file = file-holds (tracing view) (HeaderCase (TraceCase set view)) (header-holds (traced_behind view) (TraceCase set view) (λ fault. refl) trace-holds) data_file
-
-  file-traced : (data_file : File) (end : Outcome) → FileCase (HeaderCase (TraceCase set view)) data_file end → on_file (tracing view) data_file ≡ end
-  file-traced data_file end h = file-only (tracing view) (HeaderCase (TraceCase set view)) (header-only (traced_behind view) (TraceCase set view) (λ fault. refl) trace-only) data_file end h
-
-abbrev traced_end : PlanView → File → Option TraceView → Outcome
-traced_end view data_file set = unless (unless_traced set) (on_file (tracing view) data_file)
-
-planned-holds : (view : PlanView) (data_file : File) → PlannedTrace view data_file (traced_end view data_file (trace_of view))
-planned-holds view data_file = by (trace_of view) refl
+records-cause : (view : PlanView) (header : Header) (behind : List ℕ) (end : Outcome) (fault : Fault) → TracedCase view header behind end → end.fault ≡ Some fault → RecordCause (trace_cases view) header behind fault
+records-cause view header behind end fault traced e = by traced.2
   where
-    by : (set : Option TraceView) → trace_of view ≡ set → PlannedTrace view data_file (traced_end view data_file set)
-    by None e = inl (e, refl)
-    by (Some set) e = inr (set, e, file-trace set view e data_file)
+    left : NoneRefused (reading_by view header) (words_of behind) → WholeTrace traced.0 view header behind end → RecordCause (trace_cases view) header behind fault
+    left none (inl h) = inl (none, h.0, of-end end _ _ fault h.1 e)
+    left none (inr h) = absurd (of-written end _ fault h.1 e)
 
-planned-only : (view : PlanView) (data_file : File) (end : Outcome) → PlannedTrace view data_file end → traced_end view data_file (trace_of view) ≡ end
-planned-only view data_file end (inl h) = ap (traced_end view data_file) h.0 ∙ sym h.1
-planned-only view data_file end (inr h) = ap (traced_end view data_file) h.1 ∙ file-traced h.0 view h.1 data_file end h.2
+    by : RecordsCase traced.0 view header behind end → RecordCause (trace_cases view) header behind fault
+    by (inl h) = inr (inl (subst (λ (f : Fault). IsFirst (reading_by view header) f [] (words_of behind)) (sym (of-end end _ h.fault fault h.end_is e)) h.least))
+    by (inr h) = left h.0 h.1
 
-abbrev trace_plan_end : File → Result PlanView Fault → Outcome
-trace_plan_end data_file r = by_plan no_trace tracing r data_file
+traced-ends : (view : PlanView) → HasTrace view → (header : Header) (behind : List ℕ) (fault : Fault) → RecordCause (trace_cases view) header behind fault → (end : Outcome) × TracedCase view header behind end × (end.fault ≡ Some fault)
+traced-ends view has header behind fault (inl cut) =
+    let text = open_text has.0 (settled_history (sorting view) (reading_by view header) (words_of behind)) in
+    (end_with text (Some fault), (has.0, has.1, inr (cut.0, inl (cut.1, ap (λ f. end_with text (Some f)) cut.2))), refl)
+traced-ends view has header behind fault (inr (inl least)) =
+    let text = open_text has.0 (settled_history (sorting view) (reading_by view header) least.front) in
+    (end_with text (Some fault), (has.0, has.1, inl (record { fault = fault; least = least; end_is = refl })), refl)
+traced-ends view has header behind fault (inr (inr never)) = absurd never
 
-trace_plan-holds : (text : List ℕ) (data_file : File) → TracePlanCase (Some text) data_file (trace_plan_end data_file (plan_answer text))
-trace_plan-holds text data_file = by (plan_answer text) refl
+trace-needs : NeedTold (IsIn 18 22) (Needs HasTrace NoTrace) no_trace
+trace-needs = record {
+  has = λ view none. found view (trace_of view) refl none;
+  none = λ view has. ap unless_traced has.1;
+  lack = λ view fault e. lacking view fault (trace_of view) refl e;
+  some = λ view fault h. missing view fault h (trace_of view) refl;
+  status = λ view fault h. (range-as 22 23 fault NoTrace h.1 (omega arith, omega arith), range-as 18 22 fault NoTrace h.1 (omega arith, omega arith));
+}
   where
-    by : (r : Result PlanView Fault) → plan_answer text ≡ r → TracePlanCase (Some text) data_file (trace_plan_end data_file (plan_answer text))
-    by (Err fault) e = let calls = called text fault e in inl (fault, calls.0, calls.1, ap (trace_plan_end data_file) e)
-    by (Ok view) e =
-        let good = valid text view e in
-        let same = plans text good.1 good good.2 in
-        inr (good.1, good, good.2, subst (λ r. PlannedTrace (plan (table good.1)) data_file (trace_plan_end data_file r)) (sym same) (planned-holds (plan (table good.1)) data_file))
+    found : (view : PlanView) (o : Option TraceView) → trace_of view ≡ o → unless_traced o ≡ None → HasTrace view
+    found view None is none = cc
+    found view (Some set) is none = (set, is)
 
-trace_plan-only : (text : List ℕ) (data_file : File) (end : Outcome) → TracePlanCase (Some text) data_file end → trace_plan_end data_file (plan_answer text) ≡ end
-trace_plan-only text data_file end (inl h) = ap (trace_plan_end data_file) (answers text h.0 (h.1, h.2)) ∙ sym h.3
-trace_plan-only text data_file end (inr h) = ap (trace_plan_end data_file) (plans text h.0 h.1 h.2) ∙ planned-only (plan (table h.0)) data_file end h.3
+    lacking : (view : PlanView) (fault : Fault) (o : Option TraceView) → trace_of view ≡ o → unless_traced o ≡ Some fault → Lacks (Needs HasTrace NoTrace) view fault
+    lacking view fault None is e = (λ has. let other = has.1 in cc, some-same fault NoTrace (sym e))
+    lacking view fault (Some set) is e = cc
 
--- ## All commands
+    missing : (view : PlanView) (fault : Fault) → Lacks (Needs HasTrace NoTrace) view fault → (o : Option TraceView) → trace_of view ≡ o → no_trace view ≡ Some fault
+    missing view fault h None is = ap unless_traced is ∙ ap Some (sym h.1)
+    missing view fault h (Some set) is = absurd (h.0 (set, is))
 
-demo-same : (seed count : ℕ) → demo_report seed count ≡ words_report demo_plan made_header (made_words seed count)
+pub trace-told : PlanTold (IsIn 18 22) (Needs HasTrace NoTrace) trace_cases no_trace tracing
+trace-told = record {
+  needs = trace-needs;
+  works = λ view has. record {
+    end_of = traced_behind view;
+    fit_of = traced_if_fits view;
+    is = λ bytes. refl;
+    fails = λ fault. refl;
+    headed = λ header behind. refl;
+    misfit = λ header behind fault. refl;
+    told = record {
+      holds = traced-holds view has;
+      only = traced-only view;
+      cause = records-cause view;
+      ends = traced-ends view has;
+      refuses_status = λ header behind fault h. let s = least-status (reading_by view header) behind fault h in (s, wider 18 21 18 22 fault s (omega arith) (omega arith));
+      late_status = λ header behind fault never. absurd never;
+    };
+  };
+}
+
+-- ## demo
+
+pub demo-same : (seed count : ℕ) → demo_report seed count ≡ words_report demo_plan made_header (made_words seed count)
 unfolding demo_report
 demo-same seed count = words-same demo_plan made_header (made_words seed count)
-
-outcome-holds : (request : Option Request) (plan_file data_file : File) → IsOutcome request plan_file data_file (outcome (behaviour request) plan_file data_file)
-unfolding outcome
-outcome-holds None plan_file data_file = refl
-outcome-holds (Some (Count file)) plan_file data_file = file-holds counting (HeaderCase CountCase) (header-holds (λ r. count_outcome (counts_behind r)) CountCase (λ fault. refl) count-holds) data_file
-outcome-holds (Some (HeaderOf file)) plan_file data_file = file-holds printing PrintCase print-holds data_file
-outcome-holds (Some (Events file)) plan_file data_file = file-holds listing_all (HeaderCase ListCase) (header-holds events_behind ListCase (λ fault. refl) list-holds) data_file
-outcome-holds (Some (Run plan_name file)) None data_file = refl
-outcome-holds (Some (Run plan_name file)) (Some text) data_file = plan-holds text data_file
-outcome-holds (Some (Trace plan_name file)) None data_file = refl
-outcome-holds (Some (Trace plan_name file)) (Some text) data_file = trace_plan-holds text data_file
-outcome-holds (Some (Pick plan_name group file)) None data_file = refl
-outcome-holds (Some (Pick plan_name group file)) (Some text) data_file = pick_plan-holds group text data_file
-outcome-holds (Some (Demo seed count)) plan_file data_file = ap (λ text. written text) (demo-same seed count)
-
-outcome-only : (request : Option Request) (plan_file data_file : File) (end : Outcome) → IsOutcome request plan_file data_file end → outcome (behaviour request) plan_file data_file ≡ end
-unfolding outcome
-outcome-only None plan_file data_file end h = sym h
-outcome-only (Some (Count file)) plan_file data_file end h = file-only counting (HeaderCase CountCase) (header-only (λ r. count_outcome (counts_behind r)) CountCase (λ fault. refl) count-only) data_file end h
-outcome-only (Some (HeaderOf file)) plan_file data_file end h = file-only printing PrintCase print-only data_file end h
-outcome-only (Some (Events file)) plan_file data_file end h = file-only listing_all (HeaderCase ListCase) (header-only events_behind ListCase (λ fault. refl) list-only) data_file end h
-outcome-only (Some (Run plan_name file)) None data_file end h = sym h
-outcome-only (Some (Run plan_name file)) (Some text) data_file end h = plan-only text data_file end h
-outcome-only (Some (Trace plan_name file)) None data_file end h = sym h
-outcome-only (Some (Trace plan_name file)) (Some text) data_file end h = trace_plan-only text data_file end h
-outcome-only (Some (Pick plan_name group file)) None data_file end h = sym h
-outcome-only (Some (Pick plan_name group file)) (Some text) data_file end h = pick_plan-only group text data_file end h
-outcome-only (Some (Demo seed count)) plan_file data_file end h = ap (λ text. written text) (demo-same seed count) ∙ sym h
-
-pub one-outcome : (request : Option Request) (plan_file data_file : File) (end : Outcome) → IsOutcome request plan_file data_file end ↔ (outcome (behaviour request) plan_file data_file ≡ end)
-one-outcome request plan_file data_file end = (outcome-only request plan_file data_file end, λ e. subst (IsOutcome request plan_file data_file) e (outcome-holds request plan_file data_file))

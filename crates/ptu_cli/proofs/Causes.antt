@@ -1,71 +1,56 @@
--- Each fault of a command has its cause, and each cause its fault.
-use Rattle.std.proofs.Common.{◌≡◌, ◌≢◌, ◌+◌, ◌<◌, ◌≤◌, ℕ, List, [], ◌∷◌, length, Bool, true, false, None, Some, Ok, Err, refl, sym, ap, ◌∙◌, subst, inl, inr, append-nil, arith}
-use Rattle.std.specs.Prelude.{◌⊎◌, ◌↔◌, ◌==◌, ◌&&◌, Result, nat_le, map, if◌then◌else◌}
+-- Each fault of a command has its cause, and each cause its fault, by the shape of the command.
+use Rattle.std.proofs.Common.{◌≡◌, ℕ, List, [], None, Some, Ok, Err, refl, sym, ap, ◌∙◌, subst, inl, inr, ◌<◌, append-nil, arith}
+use Rattle.std.specs.Prelude.{◌⊎◌, ◌↔◌, Result}
 use Rattle.std.specs.declared.option.Option.{Option}
+use Rattle.toml.specs.Data.{table}
+use Rattle.tally_base.specs.declared.fault.Fault.{Fault}
+use Rattle.tally_base.specs.declared.header.Header.{Header}
+use Rattle.tally_base.specs.Faults.{fault_in, status_of}
+use Rattle.tally_base.specs.RecordTypes.{mode_of}
 use Rattle.tally_base.specs.declared.slot.Slot.{Slot}
 use Rattle.tally_base.specs.declared.slot.Slot.TheVariants.{Plan, Data}
-use Rattle.tally_base.specs.declared.event.Event.{Event}
-use Rattle.tally_base.specs.declared.fault.Fault.{Fault}
-use Rattle.tally_base.specs.declared.fault.Fault.TheVariants.{Usage, OpenFault, OutOfMemory, PlanTooLong, PlanSyntax, PlanRule, HeaderLimit, TruncatedHeader, RecordLimit, TruncatedRecord, ReservedRecord, TimeLimit, BackwardTime, NoTrace, NoGroup, PickTime}
-use Rattle.tally_base.specs.declared.header.Header.{Header}
-use Rattle.tally_base.specs.declared.header.Mode.{Mode}
-use Rattle.tally_base.specs.declared.header.RecordType.{RecordType}
-use Rattle.tally_base.specs.RecordTypes.{mode_of}
-use Rattle.tally_base.specs.Faults.{fault_in}
-use Rattle.tally_base.specs.Events.{stops_late, stops_reserved}
+use Rattle.tally_base.specs.declared.fault.Fault.TheVariants.{Usage, OpenFault, NoGroup, PickTime}
 use Rattle.bench_io.specs.Inputs.{File}
-use Rattle.ptu_definitions.specs.declared.found.Found.{Found}
-use Rattle.ptu_definitions.specs.Endings.{Ending, OtherFile, BadType, BadLength, Whole, Open}
-use Rattle.ptu_definitions.specs.Fields.{found_in, header_of, version_in, with_type, with_value}
-use Rattle.ptu_definitions.specs.Headers.{HasAnswer, head_of, answer_as, with_rest, header_limit}
-use Rattle.ptu_definitions.specs.Words.{words_of, rest_of}
-use Rattle.ptu_definitions.specs.Counted.{record_limit}
-use Rattle.ptu_definitions.specs.Kinds.{is_reserved}
-use Rattle.ptu_definitions.specs.Times.{events, event_after, passes}
-use Rattle.ptu_definitions.specs.Kept.{greatest}
-use Rattle.ptu_definitions.specs.Settled.{is_late_by}
-use Rattle.ptu_definitions.specs.Streams.{Reading, late_refusal, refusal, events_in}
-use Rattle.ptu_definitions.specs.Firsts.{IsFirst}
+use Rattle.ptu_definitions.specs.Words.{words_of}
 use Rattle.ptu_definitions.proofs.Sound.{one_answer}
-use Rattle.toml.specs.Data.{table}
 use Rattle.plan_text.specs.Plan.{PlanView, plan}
+use Rattle.plan_text.proofs.Called.{valid}
+use Rattle.ptu_definitions.specs.Headers.{HasAnswer}
+use Rattle.ptu_definitions.specs.Streams.{refusal}
 use Rattle.plan_text.specs.Reading.{IsCalledFor}
 use Rattle.plan_text.specs.Fits.{IsMisfit}
-use Rattle.plan_text.proofs.Misfits.{names_part}
-use Rattle.tally_engine.specs.Plans.{reading_by}
-use Rattle.table_out.specs.EventText.{events_text}
-use Rattle.ptu_cli.specs.Commands.{Request, Count, Header as HeaderOf, Events, Run, Trace, Pick, Demo}
-use Rattle.ptu_cli.specs.Outcomes.{Outcome, refused, written, listing}
-use Rattle.ptu_cli.specs.Behaviours.{behaviour}
-use Rattle.ptu_cli.specs.Endings.{outcome}
-use Rattle.ptu_cli.specs.Cases.{FileCase, HeaderCase, WholeCase, NoneRefused, CountCase, PrintCase, ListCase, words_report, StreamCase, ReportCase, PlanCase, WholeTrace, RecordsCase, TraceCase, PlannedTrace, TracePlanCase, HasGroup, settled_photons, kept_photons, FirstLate, LateAtEnd, RefusedInTime, CutInTime, AllPicked, pick_end, PickedCase, PickCase, PlannedPick, PickPlanCase, IsOutcome}
-use Rattle.ptu_cli.specs.Causes.{IsValidPlan, Headed, Unheaded, Suits, CutBehind, RefusedIn, Absent, NoPlan, Misfits, NoHeader, Cut, Refused, IsTraced, Untraced, Ungrouped, NamesLate, TooLate, IsPickable, EndsWithFault, StatusIn}
-use Rattle.tally_base.specs.Settings.{TraceView}
-use Rattle.long_trace.specs.Texts.{open_text}
-use Rattle.gate_plan.specs.Shifting.{sorting}
-use Rattle.tally_engine.specs.Histories.{settled_history}
-use Rattle.ptu_cli.specs.TraceOutcomes.{unless_traced, trace_of, no_trace}
 use Rattle.photon_pick.specs.Late.{too_late}
-use Rattle.ptu_cli.proofs.Cases.{one-outcome}
+use Rattle.ptu_cli.specs.Endings.{outcome}
+use Rattle.ptu_cli.specs.Causes.{IsValidPlan, Headed, Unheaded, IsUsable, Absent, NoPlan, Misfits, NoHeader, Cut, Refused, Lacking, TooLate, IsPickable, EndsWithFault, StatusIn, MayCallFor}
+use Rattle.ptu_cli.specs.Outcomes.{Outcome, refused, header_outcome}
+use Rattle.ptu_cli.specs.Behaviours.{Work, Behaviour, behaviour, NoCommand, Alone, OnFile, ByPlan}
+use Rattle.ptu_cli.specs.Commands.{Request, Pick}
+use Rattle.ptu_cli.specs.Cases.{FileCase, HeaderCase, PrintCase, HasGroup, settled_photons, kept_photons, FirstLate, LateAtEnd, AllPicked, pick_end}
+use Rattle.ptu_cli.specs.CommandCases.{RecordCases, Need, CommandCases, NamesLate, pick_cases, cases, Lacks, Suits, SuitCase, NeedCase, PlanCase, EndsAs, IsOutcome, Needs, NoWords, Writes, OfHeader, OfRecords, OfPlan}
+use Rattle.ptu_cli.proofs.FaultStatuses.{some-same, of-refused, of-written, range-as, wider, called-status, misfit-status, unheaded-status, cut_behind-status}
+use Rattle.ptu_cli.proofs.CaseShapes.{RecordCause, RecordsTold, PlanTold, IsTold}
+use Rattle.ptu_cli.proofs.Prints.{print-holds}
 use Rattle.ptu_cli.proofs.PickPhotons.{none-or-late}
-use Rattle.ptu_cli.proofs.PickCases.{first-settled}
-
--- ## The fault of an outcome
-
-some-same : (a b : Fault) → Some a ≡ Some b → a ≡ b
-some-same a b e = cc
-
-of-refused : (end : Outcome) (own fault : Fault) → end ≡ refused own → end.fault ≡ Some fault → fault ≡ own
-of-refused end own fault e h = some-same fault own (sym h ∙ ap (λ (o : Outcome). o.fault) e)
-
-of-written : (end : Outcome) (text : List ℕ) (fault : Fault) → end ≡ written text → end.fault ≡ Some fault → ⊥
-of-written end text fault e h = let none : end.fault ≡ None = ap (λ (o : Outcome). o.fault) e in cc
+use Rattle.ptu_cli.proofs.PickCases.{PickStatus, first-settled}
+use Rattle.ptu_cli.proofs.Proved.{proved, one-outcome}
 
 -- ## From an outcome to its cause
 
-whole-cause : (behind text : List ℕ) (end : Outcome) (fault : Fault) → WholeCase behind text end → end.fault ≡ Some fault → (rest_of behind ≢ []) × (fault ≡ TruncatedRecord (length (rest_of behind)))
-whole-cause behind text end fault (inl h) e = (h.0, of-refused end _ fault h.1 e)
-whole-cause behind text end fault (inr h) e = absurd (of-written end text fault h.1 e)
+abbrev IsNoCommand : CommandCases → Type 0
+IsNoCommand NoWords = Unit {0}
+IsNoCommand other = ⊥
+
+-- why a command ends with a fault that its words and files call for
+data Cause (of : CommandCases) (plan_file data_file : File) (fault : Fault) : Type 0 where
+  IsUsage : IsNoCommand of → fault ≡ Usage → Cause of plan_file data_file fault
+  IsAbsent : Absent of plan_file data_file fault → Cause of plan_file data_file fault
+  IsNoPlan : NoPlan of plan_file fault → Cause of plan_file data_file fault
+  IsLacking : Lacking of plan_file fault → Cause of plan_file data_file fault
+  HasMisfit : Misfits of plan_file data_file fault → Cause of plan_file data_file fault
+  IsNoHeader : NoHeader of plan_file data_file fault → Cause of plan_file data_file fault
+  IsCut : Cut of plan_file data_file fault → Cause of plan_file data_file fault
+  IsRefused : Refused of plan_file data_file fault → Cause of plan_file data_file fault
+  IsLate : TooLate of plan_file data_file fault → Cause of plan_file data_file fault
 
 file-cause : (case : List ℕ → Outcome → Type 0) (data_file : File) (end : Outcome) (fault : Fault) → FileCase case data_file end → end.fault ≡ Some fault
     → ((data_file ≡ None) × (fault ≡ OpenFault Data)) ⊎ ((bytes : List ℕ) × (data_file ≡ Some bytes) × case bytes end)
@@ -78,862 +63,555 @@ header-cause case data_file bytes end fault present (inl h) e =
     inl (record { bytes = bytes; present = present; is_refused = subst (λ (f : Fault). HasAnswer bytes (Err f)) (sym (of-refused end h.0 fault h.2 e)) h.1 })
 header-cause case data_file bytes end fault present (inr h) e = inr (h.0, h.1, record { bytes = bytes; present = present; is_header = h.2 }, h.3)
 
-count-cause : (header : Header) (behind : List ℕ) (end : Outcome) (fault : Fault) → CountCase header behind end → end.fault ≡ Some fault
-    → CutBehind behind (length (words_of behind) ≤ record_limit) fault ⊎ ((record_limit < length (words_of behind)) × (fault ≡ RecordLimit record_limit))
-count-cause header behind end fault (inl h) e = inr (h.0, of-refused end _ fault h.1 e)
-count-cause header behind end fault (inr h) e = let cut = whole-cause behind _ end fault h.1 e in inl (h.0, cut.0, cut.1)
-
-list-cause : (header : Header) (behind : List ℕ) (end : Outcome) (fault : Fault) → ListCase header behind end → end.fault ≡ Some fault
-    → CutBehind behind (NoneRefused (listing header) (words_of behind)) fault ⊎ RefusedIn (listing header) behind fault
-list-cause header behind end fault (inl h) e =
-    inr (subst (λ (f : Fault). IsFirst (listing header) f [] (words_of behind)) (some-same h.fault fault (sym (ap (λ (o : Outcome). o.fault) h.end_is) ∙ e)) h.least)
-list-cause header behind end fault (inr h) e = by h.2
-  where
-    by : ((rest_of behind ≢ []) × (end.fault ≡ Some (TruncatedRecord (length (rest_of behind))))) ⊎ ((rest_of behind ≡ []) × (end.fault ≡ None))
-        → CutBehind behind (NoneRefused (listing header) (words_of behind)) fault ⊎ RefusedIn (listing header) behind fault
-    by (inl left) = inl (h.0, left.0, some-same fault _ (sym e ∙ left.1))
-    by (inr left) = let none = left.1 in absurd cc
-
-stream-cause : (view : PlanView) (header : Header) (behind : List ℕ) (end : Outcome) (fault : Fault) → StreamCase view header behind end → end.fault ≡ Some fault
-    → CutBehind behind (NoneRefused (reading_by view header) (words_of behind)) fault ⊎ RefusedIn (reading_by view header) behind fault
-stream-cause view header behind end fault (inl h) e = inr (subst (λ (f : Fault). IsFirst (reading_by view header) f [] (words_of behind)) (sym (of-refused end h.0 fault h.2 e)) h.1)
-stream-cause view header behind end fault (inr h) e = let cut = whole-cause behind (words_report view header (words_of behind)) end fault h.1 e in inl (h.0, cut.0, cut.1)
-
--- each cause, in the order of the statuses
-abbrev pub Cause : Option Request → File → File → Fault → Type 0
-Cause request plan_file data_file fault =
-    ((request ≡ None) × (fault ≡ Usage))
-    ⊎ (Absent request plan_file data_file fault
-    ⊎ (NoPlan request plan_file fault ⊎ (Misfits request plan_file data_file fault ⊎ (NoHeader request plan_file data_file fault ⊎ (Cut request plan_file data_file fault ⊎ Refused request plan_file data_file fault)))))
-
--- each cause that one command alone has
-abbrev pub OwnCause : Option Request → File → File → Fault → Type 0
-OwnCause request plan_file data_file fault = Untraced request plan_file fault ⊎ (Ungrouped request plan_file fault ⊎ TooLate request plan_file data_file fault)
-
-abbrev pub AnyCause : Option Request → File → File → Fault → Type 0
-AnyCause request plan_file data_file fault = Cause request plan_file data_file fault ⊎ OwnCause request plan_file data_file fault
-
 module _ (plan_file data_file : File) (end : Outcome) (fault : Fault) (ends : end.fault ≡ Some fault) where
-  count-causes : (file : List ℕ) → FileCase (HeaderCase CountCase) data_file end → Cause (Some (Count file)) plan_file data_file fault
-  count-causes file h = at (file-cause (HeaderCase CountCase) data_file end fault h ends)
+  print-causes : FileCase PrintCase data_file end → Cause OfHeader plan_file data_file fault
+  print-causes h = at (file-cause PrintCase data_file end fault h ends)
     where
-      last : (header : Header) (behind : List ℕ) → Headed data_file header behind
-          → CutBehind behind (length (words_of behind) ≤ record_limit) fault ⊎ ((record_limit < length (words_of behind)) × (fault ≡ RecordLimit record_limit)) → Cause (Some (Count file)) plan_file data_file fault
-      last header behind headed (inl cut) = inr (inr (inr (inr (inr (inl (header, behind, headed, cut))))))
-      last header behind headed (inr many) = inr (inr (inr (inr (inr (inr (header, behind, headed, many))))))
-
-      next : Unheaded data_file fault ⊎ ((header : Header) × (behind : List ℕ) × Headed data_file header behind × CountCase header behind end) → Cause (Some (Count file)) plan_file data_file fault
-      next (inl refusal) = inr (inr (inr (inr (inl refusal))))
-      next (inr it) = last it.0 it.1 it.2 (count-cause it.0 it.1 end fault it.3 ends)
-
-      at : ((data_file ≡ None) × (fault ≡ OpenFault Data)) ⊎ ((bytes : List ℕ) × (data_file ≡ Some bytes) × HeaderCase CountCase bytes end) → Cause (Some (Count file)) plan_file data_file fault
-      at (inl absent) = inr (inl absent)
-      at (inr there) = next (header-cause CountCase data_file there.0 end fault there.1 there.2 ends)
-
-  print-causes : (file : List ℕ) → FileCase PrintCase data_file end → Cause (Some (HeaderOf file)) plan_file data_file fault
-  print-causes file h = at (file-cause PrintCase data_file end fault h ends)
-    where
-      next : (bytes : List ℕ) (answer : Result (Header × List ℕ) Fault) → data_file ≡ Some bytes → HasAnswer bytes answer → end.fault ≡ fault_in answer → Cause (Some (HeaderOf file)) plan_file data_file fault
+      next : (bytes : List ℕ) (answer : Result (Header × List ℕ) Fault) → data_file ≡ Some bytes → HasAnswer bytes answer → end.fault ≡ fault_in answer → Cause OfHeader plan_file data_file fault
       next bytes (Ok found) present has e = absurd cc
-      next bytes (Err own) present has e =
-          inr (inr (inr (inr (inl (record { bytes = bytes; present = present; is_refused = subst (λ (f : Fault). HasAnswer bytes (Err f)) (some-same own fault (sym e ∙ ends)) has })))))
+      next bytes (Err own) present has e = IsNoHeader (record { bytes = bytes; present = present; is_refused = subst (λ (f : Fault). HasAnswer bytes (Err f)) (some-same own fault (sym e ∙ ends)) has })
 
-      at : ((data_file ≡ None) × (fault ≡ OpenFault Data)) ⊎ ((bytes : List ℕ) × (data_file ≡ Some bytes) × PrintCase bytes end) → Cause (Some (HeaderOf file)) plan_file data_file fault
-      at (inl absent) = inr (inl absent)
+      at : ((data_file ≡ None) × (fault ≡ OpenFault Data)) ⊎ ((bytes : List ℕ) × (data_file ≡ Some bytes) × PrintCase bytes end) → Cause OfHeader plan_file data_file fault
+      at (inl absent) = IsAbsent absent
       at (inr there) = next there.0 there.2.answer there.1 there.2.is_answer there.2.fault_is
 
-  list-causes : (file : List ℕ) → FileCase (HeaderCase ListCase) data_file end → Cause (Some (Events file)) plan_file data_file fault
-  list-causes file h = at (file-cause (HeaderCase ListCase) data_file end fault h ends)
+  record-causes : (own : ℕ → Type 0) (records : RecordCases) (end_of : Header → List ℕ → Outcome) → RecordsTold own records end_of → FileCase (HeaderCase records.ends) data_file end → Cause (OfRecords own records) plan_file data_file fault
+  record-causes own records end_of told h = at (file-cause (HeaderCase records.ends) data_file end fault h ends)
     where
-      last : (header : Header) (behind : List ℕ) → Headed data_file header behind
-          → CutBehind behind (NoneRefused (listing header) (words_of behind)) fault ⊎ RefusedIn (listing header) behind fault → Cause (Some (Events file)) plan_file data_file fault
-      last header behind headed (inl cut) = inr (inr (inr (inr (inr (inl (header, behind, headed, cut))))))
-      last header behind headed (inr least) = inr (inr (inr (inr (inr (inr (header, behind, headed, least))))))
+      last : (header : Header) (behind : List ℕ) → Headed data_file header behind → RecordCause records header behind fault → Cause (OfRecords own records) plan_file data_file fault
+      last header behind headed (inl cut) = IsCut (header, behind, headed, cut)
+      last header behind headed (inr (inl refusal)) = IsRefused (header, behind, headed, refusal)
+      last header behind headed (inr (inr late)) = IsLate (header, behind, headed, late)
 
-      next : Unheaded data_file fault ⊎ ((header : Header) × (behind : List ℕ) × Headed data_file header behind × ListCase header behind end) → Cause (Some (Events file)) plan_file data_file fault
-      next (inl refusal) = inr (inr (inr (inr (inl refusal))))
-      next (inr it) = last it.0 it.1 it.2 (list-cause it.0 it.1 end fault it.3 ends)
+      next : Unheaded data_file fault ⊎ ((header : Header) × (behind : List ℕ) × Headed data_file header behind × records.ends header behind end) → Cause (OfRecords own records) plan_file data_file fault
+      next (inl refusal) = IsNoHeader refusal
+      next (inr it) = last it.0 it.1 it.2 (told.cause it.0 it.1 end fault it.3 ends)
 
-      at : ((data_file ≡ None) × (fault ≡ OpenFault Data)) ⊎ ((bytes : List ℕ) × (data_file ≡ Some bytes) × HeaderCase ListCase bytes end) → Cause (Some (Events file)) plan_file data_file fault
-      at (inl absent) = inr (inl absent)
-      at (inr there) = next (header-cause ListCase data_file there.0 end fault there.1 there.2 ends)
+      at : ((data_file ≡ None) × (fault ≡ OpenFault Data)) ⊎ ((bytes : List ℕ) × (data_file ≡ Some bytes) × HeaderCase records.ends bytes end) → Cause (OfRecords own records) plan_file data_file fault
+      at (inl absent) = IsAbsent absent
+      at (inr there) = next (header-cause records.ends data_file there.0 end fault there.1 there.2 ends)
 
-  report-causes : (plan_name file : List ℕ) (view : PlanView) → IsValidPlan plan_file view → FileCase (HeaderCase (ReportCase view)) data_file end → Cause (Some (Run plan_name file)) plan_file data_file fault
-  report-causes plan_name file view is h = at (file-cause (HeaderCase (ReportCase view)) data_file end fault h ends)
+  suit-causes : (own : ℕ → Type 0) (need : Need) (records : PlanView → RecordCases) (view : PlanView) (end_of : Header → List ℕ → Outcome) → RecordsTold own (records view) end_of → IsUsable need plan_file view
+      → FileCase (HeaderCase (SuitCase view (records view).ends)) data_file end → Cause (OfPlan own need records) plan_file data_file fault
+  suit-causes own need records view end_of told is h = at (file-cause (HeaderCase case) data_file end fault h ends)
     where
-      deep : (header : Header) (behind : List ℕ) → Headed data_file header behind → Suits view header
-          → CutBehind behind (NoneRefused (reading_by view header) (words_of behind)) fault ⊎ RefusedIn (reading_by view header) behind fault → Cause (Some (Run plan_name file)) plan_file data_file fault
-      deep header behind headed suits (inl cut) = inr (inr (inr (inr (inr (inl (view, header, behind, is, headed, (suits, cut)))))))
-      deep header behind headed suits (inr least) = inr (inr (inr (inr (inr (inr (view, header, behind, is, headed, (suits, least)))))))
+      case : Header → List ℕ → Outcome → Type 0
+      case = SuitCase view (records view).ends
 
-      last : (header : Header) (behind : List ℕ) → Headed data_file header behind → ReportCase view header behind end → Cause (Some (Run plan_name file)) plan_file data_file fault
-      last header behind headed (inl misfit) =
-          inr (inr (inr (inl (view, header, behind, is, headed, subst (IsMisfit (mode_of header.record_type) view) (sym (of-refused end misfit.0 fault misfit.2 ends)) misfit.1))))
-      last header behind headed (inr fits) = deep header behind headed fits.0 (stream-cause view header behind end fault fits.1 ends)
+      last : (header : Header) (behind : List ℕ) → Headed data_file header behind → Suits view header → RecordCause (records view) header behind fault → Cause (OfPlan own need records) plan_file data_file fault
+      last header behind headed suits (inl cut) = IsCut (view, header, behind, is, headed, (suits, cut))
+      last header behind headed suits (inr (inl refusal)) = IsRefused (view, header, behind, is, headed, (suits, refusal))
+      last header behind headed suits (inr (inr late)) = IsLate (view, header, behind, is, headed, (suits, late))
 
-      next : Unheaded data_file fault ⊎ ((header : Header) × (behind : List ℕ) × Headed data_file header behind × ReportCase view header behind end) → Cause (Some (Run plan_name file)) plan_file data_file fault
-      next (inl refusal) = inr (inr (inr (inr (inl (view, is, refusal)))))
-      next (inr it) = last it.0 it.1 it.2 it.3
+      suited : (header : Header) (behind : List ℕ) → Headed data_file header behind → SuitCase view (records view).ends header behind end → Cause (OfPlan own need records) plan_file data_file fault
+      suited header behind headed (inl misfit) =
+          HasMisfit (view, header, behind, is, headed, subst (λ (f : Fault). IsMisfit (mode_of header.record_type) view f) (sym (of-refused end misfit.0 fault misfit.2 ends)) misfit.1)
+      suited header behind headed (inr suits) = last header behind headed suits.0 (told.cause header behind end fault suits.1 ends)
 
-      at : ((data_file ≡ None) × (fault ≡ OpenFault Data)) ⊎ ((bytes : List ℕ) × (data_file ≡ Some bytes) × HeaderCase (ReportCase view) bytes end) → Cause (Some (Run plan_name file)) plan_file data_file fault
-      at (inl absent) = inr (inl (inr (view, is, absent.0, absent.1)))
-      at (inr there) = next (header-cause (ReportCase view) data_file there.0 end fault there.1 there.2 ends)
+      next : Unheaded data_file fault ⊎ ((header : Header) × (behind : List ℕ) × Headed data_file header behind × SuitCase view (records view).ends header behind end) → Cause (OfPlan own need records) plan_file data_file fault
+      next (inl refusal) = IsNoHeader (view, is, refusal)
+      next (inr it) = suited it.0 it.1 it.2 it.3
 
-run-causes : (plan_name file : List ℕ) (plan_file data_file : File) (end : Outcome) (fault : Fault) → end.fault ≡ Some fault → PlanCase plan_file data_file end → Cause (Some (Run plan_name file)) plan_file data_file fault
-run-causes plan_name file None data_file end fault ends h = inr (inl (inl (refl, of-refused end _ fault h ends)))
-run-causes plan_name file (Some text) data_file end fault ends (inl h) =
+      at : ((data_file ≡ None) × (fault ≡ OpenFault Data)) ⊎ ((bytes : List ℕ) × (data_file ≡ Some bytes) × HeaderCase (SuitCase view (records view).ends) bytes end) → Cause (OfPlan own need records) plan_file data_file fault
+      at (inl absent) = IsAbsent (inr (view, is, absent.0, absent.1))
+      at (inr there) = next (header-cause (SuitCase view (records view).ends) data_file there.0 end fault there.1 there.2 ends)
+
+  need-causes : (own : ℕ → Type 0) (need : Need) (records : PlanView → RecordCases) (lacks : PlanView → Option Fault) (work : PlanView → Work) → PlanTold own need records lacks work → (view : PlanView) → IsValidPlan plan_file view
+      → NeedCase need (records view) view data_file end → Cause (OfPlan own need records) plan_file data_file fault
+  need-causes own need records lacks work told view is (inl h) = IsLacking (view, is, subst (Lacks need view) (sym (of-refused end h.0 fault h.2 ends)) h.1)
+  need-causes own need records lacks work told view is (inr h) = let works = told.works view h.0 in suit-causes own need records view _ works.told (is, h.0) h.1
+
+plan-causes : (own : ℕ → Type 0) (need : Need) (records : PlanView → RecordCases) (lacks : PlanView → Option Fault) (work : PlanView → Work) → PlanTold own need records lacks work
+    → (plan_file data_file : File) (end : Outcome) (fault : Fault) → end.fault ≡ Some fault → PlanCase need records plan_file data_file end → Cause (OfPlan own need records) plan_file data_file fault
+plan-causes own need records lacks work told None data_file end fault ends h = IsAbsent (inl (refl, of-refused end _ fault h ends))
+plan-causes own need records lacks work told (Some text) data_file end fault ends (inl h) =
     let same = of-refused end h.0 fault h.3 ends in
-    inr (inr (inl (text, refl, subst (IsCalledFor text) (sym same) h.1, λ e. h.2 (sym same ∙ e))))
-run-causes plan_name file (Some text) data_file end fault ends (inr h) =
-    report-causes (Some text) data_file end fault ends plan_name file _ (record { text = text; ms = h.0; present = refl; is_valid = h.1; document_is = h.2; view_is = refl }) h.3
+    IsNoPlan (text, refl, subst (IsCalledFor text) (sym same) h.1, λ e. h.2 (sym same ∙ e))
+plan-causes own need records lacks work told (Some text) data_file end fault ends (inr h) =
+    need-causes (Some text) data_file end fault ends own need records lacks work told (plan (table h.0)) (record { text = text; ms = h.0; present = refl; is_valid = h.1; document_is = h.2; view_is = refl }) h.3
 
--- a trace
-of-end : (end : Outcome) (text : List ℕ) (own fault : Fault) → end ≡ record { text = text; fault = Some own } → end.fault ≡ Some fault → fault ≡ own
-of-end end text own fault e h = some-same fault own (sym h ∙ ap (λ (o : Outcome). o.fault) e)
+case-causes : (does : Behaviour) (of : CommandCases) → IsTold does of → (plan_file data_file : File) (end : Outcome) (fault : Fault) → end.fault ≡ Some fault → EndsAs of plan_file data_file end → Cause of plan_file data_file fault
+case-causes (Alone whole) (Writes text) told plan_file data_file end fault ends h = absurd (of-written end text fault h ends)
+case-causes (OnFile file writing work) OfHeader told plan_file data_file end fault ends h = print-causes plan_file data_file end fault ends h
+case-causes (OnFile file writing work) (OfRecords own records) told plan_file data_file end fault ends h = record-causes plan_file data_file end fault ends own records _ told.told h
+case-causes (ByPlan plan_name file writing memory lacks work) (OfPlan own need records) told plan_file data_file end fault ends h = plan-causes own need records lacks work told plan_file data_file end fault ends h
+case-causes does other told plan_file data_file end fault ends h = absurd told
 
-records-cause : (set : TraceView) (view : PlanView) (header : Header) (behind : List ℕ) (end : Outcome) (fault : Fault) → RecordsCase set view header behind end → end.fault ≡ Some fault
-    → CutBehind behind (NoneRefused (reading_by view header) (words_of behind)) fault ⊎ RefusedIn (reading_by view header) behind fault
-records-cause set view header behind end fault (inl h) e = inr (subst (λ (f : Fault). IsFirst (reading_by view header) f [] (words_of behind)) (sym (of-end end _ h.fault fault h.end_is e)) h.least)
-records-cause set view header behind end fault (inr h) e = by h.1
+fault-cause : (request : Option Request) (plan_file data_file : File) (fault : Fault) → EndsWithFault request plan_file data_file fault → Cause (cases request) plan_file data_file fault
+fault-cause request plan_file data_file fault ends = by request (outcome (behaviour request) plan_file data_file) ends ((one-outcome request plan_file data_file (outcome (behaviour request) plan_file data_file)).1 refl)
   where
-    by : WholeTrace set view header behind end → CutBehind behind (NoneRefused (reading_by view header) (words_of behind)) fault ⊎ RefusedIn (reading_by view header) behind fault
-    by (inl left) = inl (h.0, left.0, of-end end _ _ fault left.1 e)
-    by (inr whole) = absurd (of-written end _ fault whole.1 e)
-
-trace-causes : (plan_name file : List ℕ) (plan_file data_file : File) (set : TraceView) (view : PlanView) (end : Outcome) (fault : Fault) → end.fault ≡ Some fault → IsValidPlan plan_file view → trace_of view ≡ Some set → FileCase (HeaderCase (TraceCase set view)) data_file end
-    → Cause (Some (Trace plan_name file)) plan_file data_file fault
-trace-causes plan_name file plan_file data_file set view end fault ends is has h = at (file-cause (HeaderCase (TraceCase set view)) data_file end fault h ends)
-  where
-    traces : IsTraced plan_file
-    traces = (view, is, ap unless_traced has)
-
-    deep : (header : Header) (behind : List ℕ) → Headed data_file header behind → Suits view header
-        → CutBehind behind (NoneRefused (reading_by view header) (words_of behind)) fault ⊎ RefusedIn (reading_by view header) behind fault → Cause (Some (Trace plan_name file)) plan_file data_file fault
-    deep header behind headed suits (inl cut) = inr (inr (inr (inr (inr (inl (view, header, behind, is, headed, (traces.2, suits, cut)))))))
-    deep header behind headed suits (inr least) = inr (inr (inr (inr (inr (inr (view, header, behind, is, headed, (traces.2, suits, least)))))))
-
-    last : (header : Header) (behind : List ℕ) → Headed data_file header behind → TraceCase set view header behind end → Cause (Some (Trace plan_name file)) plan_file data_file fault
-    last header behind headed (inl misfit) =
-        inr (inr (inr (inl (view, header, behind, is, headed, (traces.2, subst (IsMisfit (mode_of header.record_type) view) (sym (of-refused end misfit.0 fault misfit.2 ends)) misfit.1)))))
-    last header behind headed (inr fits) = deep header behind headed fits.0 (records-cause set view header behind end fault fits.1 ends)
-
-    next : Unheaded data_file fault ⊎ ((header : Header) × (behind : List ℕ) × Headed data_file header behind × TraceCase set view header behind end) → Cause (Some (Trace plan_name file)) plan_file data_file fault
-    next (inl refusal) = inr (inr (inr (inr (inl (traces, refusal)))))
-    next (inr it) = last it.0 it.1 it.2 it.3
-
-    at : ((data_file ≡ None) × (fault ≡ OpenFault Data)) ⊎ ((bytes : List ℕ) × (data_file ≡ Some bytes) × HeaderCase (TraceCase set view) bytes end) → Cause (Some (Trace plan_name file)) plan_file data_file fault
-    at (inl absent) = inr (inl (inr (traces, absent.0, absent.1)))
-    at (inr there) = next (header-cause (TraceCase set view) data_file there.0 end fault there.1 there.2 ends)
-
-printed-causes : (plan_name file : List ℕ) (plan_file data_file : File) (view : PlanView) (end : Outcome) (fault : Fault) → end.fault ≡ Some fault → IsValidPlan plan_file view → PlannedTrace view data_file end
-    → AnyCause (Some (Trace plan_name file)) plan_file data_file fault
-printed-causes plan_name file plan_file data_file view end fault ends is (inl none) = inr (inl (view, is, ap unless_traced none.0, of-refused end NoTrace fault none.1 ends))
-printed-causes plan_name file plan_file data_file view end fault ends is (inr some) = inl (trace-causes plan_name file plan_file data_file some.0 view end fault ends is some.1 some.2)
-
-planned-causes : (plan_name file : List ℕ) (plan_file data_file : File) (end : Outcome) (fault : Fault) → end.fault ≡ Some fault → TracePlanCase plan_file data_file end
-    → AnyCause (Some (Trace plan_name file)) plan_file data_file fault
-planned-causes plan_name file None data_file end fault ends h = inl (inr (inl (inl (refl, of-refused end _ fault h ends))))
-planned-causes plan_name file (Some text) data_file end fault ends (inl h) =
-    let same = of-refused end h.0 fault h.3 ends in
-    inl (inr (inr (inl (text, refl, subst (IsCalledFor text) (sym same) h.1, λ e. h.2 (sym same ∙ e)))))
-planned-causes plan_name file (Some text) data_file end fault ends (inr h) =
-    printed-causes plan_name file (Some text) data_file (plan (table h.0)) end fault ends (record { text = text; ms = h.0; present = refl; is_valid = h.1; document_is = h.2; view_is = refl }) h.3
-
--- photons that are picked
-picked-cause : (group : ℕ) (view : PlanView) (header : Header) (behind : List ℕ) (end : Outcome) (fault : Fault) → PickedCase view group header behind end → end.fault ≡ Some fault
-    → (CutInTime view group header behind × (fault ≡ TruncatedRecord (length (rest_of behind)))) ⊎ (RefusedInTime view group header (words_of behind) fault ⊎ NamesLate group view header behind fault)
-picked-cause group view header behind end fault (inl h) e = inr (inr (inl (h.0, of-end end _ _ fault h.1 e)))
-picked-cause group view header behind end fault (inr (inl h)) e = inr (inl (subst (RefusedInTime view group header (words_of behind)) (sym (of-end end _ h.0 fault h.2 e)) h.1))
-picked-cause group view header behind end fault (inr (inr (inl h))) e = inl (h.0, of-end end _ _ fault h.1 e)
-picked-cause group view header behind end fault (inr (inr (inr (inl h)))) e = inr (inr (inr (h.0, of-end end _ _ fault h.1 e)))
-picked-cause group view header behind end fault (inr (inr (inr (inr h)))) e = absurd (of-written end _ fault h.1 e)
-
-grouped-causes : (plan_name : List ℕ) (group : ℕ) (file : List ℕ) (plan_file data_file : File) (view : PlanView) (end : Outcome) (fault : Fault) → end.fault ≡ Some fault → IsValidPlan plan_file view → HasGroup group view → FileCase (HeaderCase (PickCase group view)) data_file end
-    → AnyCause (Some (Pick plan_name group file)) plan_file data_file fault
-grouped-causes plan_name group file plan_file data_file view end fault ends is has h = at (file-cause (HeaderCase (PickCase group view)) data_file end fault h ends)
-  where
-    deep : (header : Header) (behind : List ℕ) → Headed data_file header behind → Suits view header
-        → (CutInTime view group header behind × (fault ≡ TruncatedRecord (length (rest_of behind)))) ⊎ (RefusedInTime view group header (words_of behind) fault ⊎ NamesLate group view header behind fault) → AnyCause (Some (Pick plan_name group file)) plan_file data_file fault
-    deep header behind headed suits (inl cut) = inl (inr (inr (inr (inr (inr (inl (view, header, behind, is, headed, (has, suits, cut.0, cut.1))))))))
-    deep header behind headed suits (inr (inl least)) = inl (inr (inr (inr (inr (inr (inr (view, header, behind, is, headed, (has, suits, least))))))))
-    deep header behind headed suits (inr (inr late)) = inr (inr (inr (view, header, behind, is, headed, (has, suits, late))))
-
-    last : (header : Header) (behind : List ℕ) → Headed data_file header behind → PickCase group view header behind end → AnyCause (Some (Pick plan_name group file)) plan_file data_file fault
-    last header behind headed (inl misfit) =
-        inl (inr (inr (inr (inl (view, header, behind, is, headed, (has, subst (IsMisfit (mode_of header.record_type) view) (sym (of-refused end misfit.0 fault misfit.2 ends)) misfit.1))))))
-    last header behind headed (inr fits) = deep header behind headed fits.0 (picked-cause group view header behind end fault fits.1 ends)
-
-    next : Unheaded data_file fault ⊎ ((header : Header) × (behind : List ℕ) × Headed data_file header behind × PickCase group view header behind end) → AnyCause (Some (Pick plan_name group file)) plan_file data_file fault
-    next (inl refusal) = inl (inr (inr (inr (inr (inl ((view, is, has), refusal))))))
-    next (inr it) = last it.0 it.1 it.2 it.3
-
-    at : ((data_file ≡ None) × (fault ≡ OpenFault Data)) ⊎ ((bytes : List ℕ) × (data_file ≡ Some bytes) × HeaderCase (PickCase group view) bytes end) → AnyCause (Some (Pick plan_name group file)) plan_file data_file fault
-    at (inl absent) = inl (inr (inl (inr ((view, is, has), absent.0, absent.1))))
-    at (inr there) = next (header-cause (PickCase group view) data_file there.0 end fault there.1 there.2 ends)
-
-pick-causes : (plan_name : List ℕ) (group : ℕ) (file : List ℕ) (plan_file data_file : File) (end : Outcome) (fault : Fault) → end.fault ≡ Some fault → PickPlanCase group plan_file data_file end
-    → AnyCause (Some (Pick plan_name group file)) plan_file data_file fault
-pick-causes plan_name group file None data_file end fault ends h = inl (inr (inl (inl (refl, of-refused end _ fault h ends))))
-pick-causes plan_name group file (Some text) data_file end fault ends (inl h) =
-    let same = of-refused end h.0 fault h.3 ends in
-    inl (inr (inr (inl (text, refl, subst (IsCalledFor text) (sym same) h.1, λ e. h.2 (sym same ∙ e)))))
-pick-causes plan_name group file (Some text) data_file end fault ends (inr h) = by h.3
-  where
-    view : PlanView
-    view = plan (table h.0)
-
-    is : IsValidPlan (Some text) view
-    is = record { text = text; ms = h.0; present = refl; is_valid = h.1; document_is = h.2; view_is = refl }
-
-    by : PlannedPick group view data_file end → AnyCause (Some (Pick plan_name group file)) (Some text) data_file fault
-    by (inl none) = inr (inr (inl (view, is, none.0, of-refused end (NoGroup group) fault none.1 ends)))
-    by (inr some) = grouped-causes plan_name group file (Some text) data_file view end fault ends is some.0 some.1
-
-causes : (request : Option Request) (plan_file data_file : File) (end : Outcome) (fault : Fault) → end.fault ≡ Some fault → IsOutcome request plan_file data_file end → AnyCause request plan_file data_file fault
-causes None plan_file data_file end fault e h = inl (inl (refl, of-refused end _ fault h e))
-causes (Some (Count file)) plan_file data_file end fault e h = inl (count-causes plan_file data_file end fault e file h)
-causes (Some (HeaderOf file)) plan_file data_file end fault e h = inl (print-causes plan_file data_file end fault e file h)
-causes (Some (Events file)) plan_file data_file end fault e h = inl (list-causes plan_file data_file end fault e file h)
-causes (Some (Run plan_name file)) plan_file data_file end fault e h = inl (run-causes plan_name file plan_file data_file end fault e h)
-causes (Some (Trace plan_name file)) plan_file data_file end fault e h = planned-causes plan_name file plan_file data_file end fault e h
-causes (Some (Pick plan_name group file)) plan_file data_file end fault e h = pick-causes plan_name group file plan_file data_file end fault e h
-causes (Some (Demo seed count)) plan_file data_file end fault e h = absurd (of-written end _ fault h e)
-
-any-cause : (request : Option Request) (plan_file data_file : File) (fault : Fault) → EndsWithFault request plan_file data_file fault → AnyCause request plan_file data_file fault
-any-cause request plan_file data_file fault e =
-    let end = outcome (behaviour request) plan_file data_file in
-    causes request plan_file data_file end fault e ((one-outcome request plan_file data_file end).1 refl)
-
--- but those that one command alone has
-pub fault-cause : (request : Option Request) (plan_file data_file : File) (fault : Fault) → (OwnCause request plan_file data_file fault → ⊥) → EndsWithFault request plan_file data_file fault → Cause request plan_file data_file fault
-fault-cause request plan_file data_file fault never e = by (any-cause request plan_file data_file fault e)
-  where
-    by : AnyCause request plan_file data_file fault → Cause request plan_file data_file fault
-    by (inl cause) = cause
-    by (inr own) = absurd (never own)
+    by : (request : Option Request) (end : Outcome) → end.fault ≡ Some fault → IsOutcome request plan_file data_file end → Cause (cases request) plan_file data_file fault
+    by None end e h = IsUsage tt (of-refused end Usage fault h e)
+    by (Some request) end e h = case-causes (behaviour (Some request)) (cases (Some request)) (proved request).1 plan_file data_file end fault e h
 
 -- ## From a cause to its fault
 
-ends-by : (request : Option Request) (plan_file data_file : File) (end : Outcome) (fault : Fault) → IsOutcome request plan_file data_file end → end.fault ≡ Some fault → EndsWithFault request plan_file data_file fault
-ends-by request plan_file data_file end fault h e = ap (λ (o : Outcome). o.fault) ((one-outcome request plan_file data_file end).0 h) ∙ e
+-- the cases of a command have an end with this fault
+abbrev HasEnd : CommandCases → File → File → Fault → Type 0
+HasEnd of plan_file data_file fault = (end : Outcome) × EndsAs of plan_file data_file end × (end.fault ≡ Some fault)
 
-file-absent : (case : List ℕ → Outcome → Type 0) (data_file : File) → data_file ≡ None → FileCase case data_file (refused (OpenFault Data))
-file-absent case data_file none = subst (λ (f : File). FileCase case f (refused (OpenFault Data))) (sym none) refl
+there : (case : List ℕ → Outcome → Type 0) (data_file : File) (bytes : List ℕ) (end : Outcome) → data_file ≡ Some bytes → case bytes end → FileCase case data_file end
+there case data_file bytes end present h = subst (λ (f : File). FileCase case f end) (sym present) h
 
-file-there : (case : List ℕ → Outcome → Type 0) (data_file : File) (bytes : List ℕ) (end : Outcome) → data_file ≡ Some bytes → case bytes end → FileCase case data_file end
-file-there case data_file bytes end present h = subst (λ (f : File). FileCase case f end) (sym present) h
+absent-file : (case : List ℕ → Outcome → Type 0) (data_file : File) → data_file ≡ None → FileCase case data_file (refused (OpenFault Data))
+absent-file case data_file none = subst (λ (f : File). FileCase case f (refused (OpenFault Data))) (sym none) refl
 
 headed-there : (case : Header → List ℕ → Outcome → Type 0) (data_file : File) (header : Header) (behind : List ℕ) (end : Outcome) → Headed data_file header behind → case header behind end → FileCase (HeaderCase case) data_file end
-headed-there case data_file header behind end h c = file-there (HeaderCase case) data_file h.bytes end h.present (inr (header, behind, h.is_header, c))
+headed-there case data_file header behind end h c = there (HeaderCase case) data_file h.bytes end h.present (inr (header, behind, h.is_header, c))
 
 unheaded-there : (case : Header → List ℕ → Outcome → Type 0) (data_file : File) (fault : Fault) → Unheaded data_file fault → FileCase (HeaderCase case) data_file (refused fault)
-unheaded-there case data_file fault h = file-there (HeaderCase case) data_file h.bytes (refused fault) h.present (inl (fault, h.is_refused, refl))
+unheaded-there case data_file fault h = there (HeaderCase case) data_file h.bytes (refused fault) h.present (inl (fault, h.is_refused, refl))
 
-plan-there : (plan_file data_file : File) (view : PlanView) (end : Outcome) → IsValidPlan plan_file view → FileCase (HeaderCase (ReportCase view)) data_file end → PlanCase plan_file data_file end
-plan-there plan_file data_file view end is h =
-    subst (λ (f : File). PlanCase f data_file end) (sym is.present) (inr (is.ms, is.is_valid, is.document_is, subst (λ (v : PlanView). FileCase (HeaderCase (ReportCase v)) data_file end) is.view_is h))
+pub plan-there : (own : ℕ → Type 0) (need : Need) (records : PlanView → RecordCases) (plan_file data_file : File) (view : PlanView) (end : Outcome) → IsUsable need plan_file view
+    → FileCase (HeaderCase (SuitCase view (records view).ends)) data_file end → PlanCase need records plan_file data_file end
+plan-there own need records plan_file data_file view end is h =
+    let valid = is.0 in
+    subst (λ (f : File). PlanCase need records f data_file end) (sym valid.present)
+    (inr (valid.ms, valid.is_valid, valid.document_is, subst (λ (v : PlanView). NeedCase need (records v) v data_file end) valid.view_is (inr (is.1, h))))
 
-traced-there : (plan_file data_file : File) (traces : IsTraced plan_file) (end : Outcome) → ((set : TraceView) → trace_of traces.0 ≡ Some set → FileCase (HeaderCase (TraceCase set traces.0)) data_file end) → TracePlanCase plan_file data_file end
-traced-there plan_file data_file traces end h =
-    subst (λ (f : File). TracePlanCase f data_file end) (sym traces.1.present) (inr (traces.1.ms, traces.1.is_valid, traces.1.document_is, subst (λ (v : PlanView). PlannedTrace v data_file end) traces.1.view_is (by (trace_of traces.0) refl traces.2)))
+lacking-there : (need : Need) (records : PlanView → RecordCases) (plan_file data_file : File) (view : PlanView) (fault : Fault) → IsValidPlan plan_file view → Lacks need view fault → PlanCase need records plan_file data_file (refused fault)
+lacking-there need records plan_file data_file view fault valid h =
+    subst (λ (f : File). PlanCase need records f data_file (refused fault)) (sym valid.present)
+    (inr (valid.ms, valid.is_valid, valid.document_is, subst (λ (v : PlanView). NeedCase need (records v) v data_file (refused fault)) valid.view_is (inl (fault, h, refl))))
+
+pub suited-there : (own : ℕ → Type 0) (need : Need) (records : PlanView → RecordCases) (plan_file data_file : File) (view : PlanView) (header : Header) (behind : List ℕ) (end : Outcome)
+    → IsUsable need plan_file view → Headed data_file header behind → Suits view header → (records view).ends header behind end → PlanCase need records plan_file data_file end
+suited-there own need records plan_file data_file view header behind end is headed suits h =
+    plan-there own need records plan_file data_file view end is (headed-there (SuitCase view (records view).ends) data_file header behind end headed (inr (suits, h)))
+
+plan-absent : (need : Need) (records : PlanView → RecordCases) (plan_file data_file : File) → plan_file ≡ None → PlanCase need records plan_file data_file (refused (OpenFault Plan))
+plan-absent need records plan_file data_file none = subst (λ (f : File). PlanCase need records f data_file (refused (OpenFault Plan))) (sym none) refl
+
+module _ (plan_file data_file : File) (fault : Fault) where
+  absent-end : (of : CommandCases) → Absent of plan_file data_file fault → HasEnd of plan_file data_file fault
+  absent-end NoWords h = absurd h
+  absent-end (Writes text) h = absurd h
+  absent-end OfHeader h = (refused (OpenFault Data), absent-file PrintCase data_file h.0, ap Some (sym h.1))
+  absent-end (OfRecords own records) h = (refused (OpenFault Data), absent-file (HeaderCase records.ends) data_file h.0, ap Some (sym h.1))
+  absent-end (OfPlan own need records) (inl h) = (refused (OpenFault Plan), plan-absent need records plan_file data_file h.0, ap Some (sym h.1))
+  absent-end (OfPlan own need records) (inr h) =
+      (refused (OpenFault Data), plan-there own need records plan_file data_file h.0 (refused (OpenFault Data)) h.1 (absent-file (HeaderCase (SuitCase h.0 (records h.0).ends)) data_file h.2), ap Some (sym h.3))
+
+  no_plan-end : (of : CommandCases) → NoPlan of plan_file fault → HasEnd of plan_file data_file fault
+  no_plan-end (OfPlan own need records) h = (refused fault, subst (λ (f : File). PlanCase need records f data_file (refused fault)) (sym h.1) (inl (fault, h.2, h.3, refl)), refl)
+  no_plan-end _ h = absurd h
+
+  lacking-end : (of : CommandCases) → Lacking of plan_file fault → HasEnd of plan_file data_file fault
+  lacking-end (OfPlan own need records) h = (refused fault, lacking-there need records plan_file data_file h.0 fault h.1 h.2, refl)
+  lacking-end _ h = absurd h
+
+  misfits-end : (of : CommandCases) → Misfits of plan_file data_file fault → HasEnd of plan_file data_file fault
+  misfits-end (OfPlan own need records) h =
+      (refused fault, plan-there own need records plan_file data_file h.0 (refused fault) h.3 (headed-there (SuitCase h.0 (records h.0).ends) data_file h.1 h.2 (refused fault) h.4 (inl (fault, h.5, refl))), refl)
+  misfits-end _ h = absurd h
+
+  header-end : Unheaded data_file fault → HasEnd OfHeader plan_file data_file fault
+  header-end h =
+      let end = header_outcome h.bytes in
+      (end, there PrintCase data_file h.bytes end h.present (print-holds h.bytes), ap fault_in ((one_answer h.bytes (Err fault)).0 h.is_refused))
+
+  no_header-end : (of : CommandCases) → NoHeader of plan_file data_file fault → HasEnd of plan_file data_file fault
+  no_header-end NoWords h = absurd h
+  no_header-end (Writes text) h = absurd h
+  no_header-end OfHeader h = header-end h
+  no_header-end (OfRecords own records) h = (refused fault, unheaded-there records.ends data_file fault h, refl)
+  no_header-end (OfPlan own need records) h =
+      (refused fault, plan-there own need records plan_file data_file h.0 (refused fault) h.1 (unheaded-there (SuitCase h.0 (records h.0).ends) data_file fault h.2), refl)
+
+  -- by the records
+  records-end : (own : ℕ → Type 0) (records : RecordCases) (end_of : Header → List ℕ → Outcome) → RecordsTold own records end_of → (header : Header) (behind : List ℕ) → Headed data_file header behind → RecordCause records header behind fault
+      → HasEnd (OfRecords own records) plan_file data_file fault
+  records-end own records end_of told header behind headed cause =
+      let end = told.ends header behind fault cause in
+      (end.0, headed-there records.ends data_file header behind end.0 headed end.1, end.2)
+
+  planned-end : (own : ℕ → Type 0) (need : Need) (records : PlanView → RecordCases) (lacks : PlanView → Option Fault) (work : PlanView → Work) → PlanTold own need records lacks work
+      → (view : PlanView) (header : Header) (behind : List ℕ) → IsUsable need plan_file view → Headed data_file header behind → Suits view header → RecordCause (records view) header behind fault → HasEnd (OfPlan own need records) plan_file data_file fault
+  planned-end own need records lacks work told view header behind is headed suits cause =
+      let works = told.works view is.1 in
+      let end = works.told.ends header behind fault cause in
+      (end.0, suited-there own need records plan_file data_file view header behind end.0 is headed suits end.1, end.2)
+
+  cut-end : (does : Behaviour) (of : CommandCases) → IsTold does of → Cut of plan_file data_file fault → HasEnd of plan_file data_file fault
+  cut-end (OnFile file writing work) (OfRecords own records) told h = records-end own records _ told.told h.0 h.1 h.2 (inl h.3)
+  cut-end (ByPlan plan_name file writing memory lacks work) (OfPlan own need records) told h = planned-end own need records lacks work told h.0 h.1 h.2 h.3 h.4 h.5.0 (inl h.5.1)
+  cut-end (Alone whole) (Writes text) told h = absurd h
+  cut-end (OnFile file writing work) OfHeader told h = absurd h
+  cut-end does other told h = absurd told
+
+  refused-end : (does : Behaviour) (of : CommandCases) → IsTold does of → Refused of plan_file data_file fault → HasEnd of plan_file data_file fault
+  refused-end (OnFile file writing work) (OfRecords own records) told h = records-end own records _ told.told h.0 h.1 h.2 (inr (inl h.3))
+  refused-end (ByPlan plan_name file writing memory lacks work) (OfPlan own need records) told h = planned-end own need records lacks work told h.0 h.1 h.2 h.3 h.4 h.5.0 (inr (inl h.5.1))
+  refused-end (Alone whole) (Writes text) told h = absurd h
+  refused-end (OnFile file writing work) OfHeader told h = absurd h
+  refused-end does other told h = absurd told
+
+  late-end : (does : Behaviour) (of : CommandCases) → IsTold does of → TooLate of plan_file data_file fault → HasEnd of plan_file data_file fault
+  late-end (OnFile file writing work) (OfRecords own records) told h = records-end own records _ told.told h.0 h.1 h.2 (inr (inr h.3))
+  late-end (ByPlan plan_name file writing memory lacks work) (OfPlan own need records) told h = planned-end own need records lacks work told h.0 h.1 h.2 h.3 h.4 h.5.0 (inr (inr h.5.1))
+  late-end (Alone whole) (Writes text) told h = absurd h
+  late-end (OnFile file writing work) OfHeader told h = absurd h
+  late-end does other told h = absurd told
+
+pub ends-by : (request : Option Request) (plan_file data_file : File) (fault : Fault) → HasEnd (cases request) plan_file data_file fault → EndsWithFault request plan_file data_file fault
+ends-by request plan_file data_file fault h = ap (λ (o : Outcome). o.fault) ((one-outcome request plan_file data_file h.0).0 h.1) ∙ h.2
+
+-- no words have no records
+told-end : (request : Option Request) (plan_file data_file : File) (fault : Fault) (holds : CommandCases → Type 0) → (holds NoWords → ⊥) → ((does : Behaviour) (of : CommandCases) → IsTold does of → holds of → HasEnd of plan_file data_file fault)
+    → holds (cases request) → HasEnd (cases request) plan_file data_file fault
+told-end None plan_file data_file fault holds never ends h = absurd (never h)
+told-end (Some request) plan_file data_file fault holds never ends h = ends (behaviour (Some request)) (cases (Some request)) (proved request).1 h
+
+-- ## The status of each cause
+
+open-status : (fault : Fault) (slot : Slot) → fault ≡ OpenFault slot → StatusIn 2 2 fault
+open-status fault slot e = range-as 2 2 fault (OpenFault slot) e (omega arith, omega arith)
+
+module _ (plan_file data_file : File) (fault : Fault) where
+  absent-status : (of : CommandCases) → Absent of plan_file data_file fault → StatusIn 2 2 fault
+  absent-status NoWords h = absurd h
+  absent-status (Writes text) h = absurd h
+  absent-status OfHeader h = open-status fault Data h.1
+  absent-status (OfRecords own records) h = open-status fault Data h.1
+  absent-status (OfPlan own need records) (inl h) = open-status fault Plan h.1
+  absent-status (OfPlan own need records) (inr h) = open-status fault Data h.3
+
+  no_plan-status : (of : CommandCases) → NoPlan of plan_file fault → StatusIn 6 8 fault
+  no_plan-status (OfPlan own need records) h = called-status h.0 fault h.2 h.3
+  no_plan-status _ h = absurd h
+
+  misfits-status : (of : CommandCases) → Misfits of plan_file data_file fault → StatusIn 9 9 fault
+  misfits-status (OfPlan own need records) h = misfit-status (mode_of h.1.record_type) h.0 fault h.5
+  misfits-status _ h = absurd h
+
+  no_header-status : (of : CommandCases) → NoHeader of plan_file data_file fault → StatusIn 10 16 fault
+  no_header-status NoWords h = absurd h
+  no_header-status (Writes text) h = absurd h
+  no_header-status OfHeader h = unheaded-status data_file fault h
+  no_header-status (OfRecords own records) h = unheaded-status data_file fault h
+  no_header-status (OfPlan own need records) h = unheaded-status data_file fault h.2
+
+  cut-status : (of : CommandCases) → Cut of plan_file data_file fault → StatusIn 17 17 fault
+  cut-status (OfRecords own records) h = cut_behind-status h.1 fault h.3.2
+  cut-status (OfPlan own need records) h = cut_behind-status h.2 fault h.5.1.2
+  cut-status _ h = absurd h
+
+-- the statuses of a command's own that it says
+abbrev Own : CommandCases → ℕ → Type 0
+Own (OfRecords own records) n = own n
+Own (OfPlan own need records) n = own n
+Own other n = ⊥
+
+module _ (plan_file data_file : File) (fault : Fault) where
+  lacking-status : (does : Behaviour) (of : CommandCases) → IsTold does of → Lacking of plan_file fault → StatusIn 22 23 fault × Own of (status_of fault)
+  lacking-status (ByPlan plan_name file writing memory lacks work) (OfPlan own need records) told h = told.needs.status h.0 fault h.2
+  lacking-status (Alone whole) (Writes text) told h = absurd h
+  lacking-status (OnFile file writing work) OfHeader told h = absurd h
+  lacking-status (OnFile file writing work) (OfRecords own records) told h = absurd h
+  lacking-status does other told h = absurd told
+
+  refused-status : (does : Behaviour) (of : CommandCases) → IsTold does of → Refused of plan_file data_file fault → StatusIn 18 21 fault × Own of (status_of fault)
+  refused-status (OnFile file writing work) (OfRecords own records) told h = told.told.refuses_status h.0 h.1 fault h.3
+  refused-status (ByPlan plan_name file writing memory lacks work) (OfPlan own need records) told h = let works = told.works h.0 h.3.1 in works.told.refuses_status h.1 h.2 fault h.5.1
+  refused-status (Alone whole) (Writes text) told h = absurd h
+  refused-status (OnFile file writing work) OfHeader told h = absurd h
+  refused-status does other told h = absurd told
+
+  late-status : (does : Behaviour) (of : CommandCases) → IsTold does of → TooLate of plan_file data_file fault → StatusIn 24 24 fault × Own of (status_of fault)
+  late-status (OnFile file writing work) (OfRecords own records) told h = told.told.late_status h.0 h.1 fault h.3
+  late-status (ByPlan plan_name file writing memory lacks work) (OfPlan own need records) told h = let works = told.works h.0 h.3.1 in works.told.late_status h.1 h.2 fault h.5.1
+  late-status (Alone whole) (Writes text) told h = absurd h
+  late-status (OnFile file writing work) OfHeader told h = absurd h
+  late-status does other told h = absurd told
+
+told-status : (request : Option Request) (fault : Fault) (low high : ℕ) (holds : CommandCases → Type 0) → (holds NoWords → ⊥) → ((does : Behaviour) (of : CommandCases) → IsTold does of → holds of → StatusIn low high fault × Own of (status_of fault))
+    → holds (cases request) → StatusIn low high fault × Own (cases request) (status_of fault)
+told-status None fault low high holds never status h = absurd (never h)
+told-status (Some request) fault low high holds never status h = status (behaviour (Some request)) (cases (Some request)) (proved request).1 h
+
+-- ## Exactly where
+
+apart : {A : Type 0} (a b c d : ℕ) (fault : Fault) → StatusIn a b fault → (b < c) ⊎ (d < a) → StatusIn c d fault → A
+apart a b c d fault s (inl h) t = absurd (omega (arith, s.0, s.1, t.0, t.1, h))
+apart a b c d fault s (inr h) t = absurd (omega (arith, s.0, s.1, t.0, t.1, h))
+
+-- the cause of a fault by its status, and what it then is
+pub record ByStatus (request : Option Request) (plan_file data_file : File) (fault : Fault) : Type 0 where
+  pub is_usage : StatusIn 1 1 fault → IsNoCommand (cases request) × (fault ≡ Usage)
+  pub is_absent : StatusIn 2 2 fault → Absent (cases request) plan_file data_file fault
+  pub is_no_plan : StatusIn 6 8 fault → NoPlan (cases request) plan_file fault
+  pub is_misfits : StatusIn 9 9 fault → Misfits (cases request) plan_file data_file fault
+  pub is_no_header : StatusIn 10 16 fault → NoHeader (cases request) plan_file data_file fault
+  pub is_cut : StatusIn 17 17 fault → Cut (cases request) plan_file data_file fault
+  pub is_refused : StatusIn 18 21 fault → Refused (cases request) plan_file data_file fault
+  pub is_lacking : StatusIn 22 23 fault → Lacking (cases request) plan_file fault
+  pub is_late : StatusIn 24 24 fault → TooLate (cases request) plan_file data_file fault
+
+module _ (request : Option Request) (plan_file data_file : File) (fault : Fault) where
+  by-status : Cause (cases request) plan_file data_file fault → ByStatus request plan_file data_file fault
+  by-status (IsUsage none h) =
+      let s = range-as 1 1 fault Usage h (omega arith, omega arith) in
+      record {
+        is_usage = λ t. (none, h);
+        is_absent = apart 1 1 2 2 fault s (inl (omega arith));
+        is_no_plan = apart 1 1 6 8 fault s (inl (omega arith));
+        is_misfits = apart 1 1 9 9 fault s (inl (omega arith));
+        is_no_header = apart 1 1 10 16 fault s (inl (omega arith));
+        is_cut = apart 1 1 17 17 fault s (inl (omega arith));
+        is_refused = apart 1 1 18 21 fault s (inl (omega arith));
+        is_lacking = apart 1 1 22 23 fault s (inl (omega arith));
+        is_late = apart 1 1 24 24 fault s (inl (omega arith));
+      }
+  by-status (IsAbsent h) =
+      let s = absent-status plan_file data_file fault (cases request) h in
+      record {
+        is_usage = apart 2 2 1 1 fault s (inr (omega arith));
+        is_absent = λ t. h;
+        is_no_plan = apart 2 2 6 8 fault s (inl (omega arith));
+        is_misfits = apart 2 2 9 9 fault s (inl (omega arith));
+        is_no_header = apart 2 2 10 16 fault s (inl (omega arith));
+        is_cut = apart 2 2 17 17 fault s (inl (omega arith));
+        is_refused = apart 2 2 18 21 fault s (inl (omega arith));
+        is_lacking = apart 2 2 22 23 fault s (inl (omega arith));
+        is_late = apart 2 2 24 24 fault s (inl (omega arith));
+      }
+  by-status (IsNoPlan h) =
+      let s = no_plan-status plan_file data_file fault (cases request) h in
+      record {
+        is_usage = apart 6 8 1 1 fault s (inr (omega arith));
+        is_absent = apart 6 8 2 2 fault s (inr (omega arith));
+        is_no_plan = λ t. h;
+        is_misfits = apart 6 8 9 9 fault s (inl (omega arith));
+        is_no_header = apart 6 8 10 16 fault s (inl (omega arith));
+        is_cut = apart 6 8 17 17 fault s (inl (omega arith));
+        is_refused = apart 6 8 18 21 fault s (inl (omega arith));
+        is_lacking = apart 6 8 22 23 fault s (inl (omega arith));
+        is_late = apart 6 8 24 24 fault s (inl (omega arith));
+      }
+  by-status (HasMisfit h) =
+      let s = misfits-status plan_file data_file fault (cases request) h in
+      record {
+        is_usage = apart 9 9 1 1 fault s (inr (omega arith));
+        is_absent = apart 9 9 2 2 fault s (inr (omega arith));
+        is_no_plan = apart 9 9 6 8 fault s (inr (omega arith));
+        is_misfits = λ t. h;
+        is_no_header = apart 9 9 10 16 fault s (inl (omega arith));
+        is_cut = apart 9 9 17 17 fault s (inl (omega arith));
+        is_refused = apart 9 9 18 21 fault s (inl (omega arith));
+        is_lacking = apart 9 9 22 23 fault s (inl (omega arith));
+        is_late = apart 9 9 24 24 fault s (inl (omega arith));
+      }
+  by-status (IsNoHeader h) =
+      let s = no_header-status plan_file data_file fault (cases request) h in
+      record {
+        is_usage = apart 10 16 1 1 fault s (inr (omega arith));
+        is_absent = apart 10 16 2 2 fault s (inr (omega arith));
+        is_no_plan = apart 10 16 6 8 fault s (inr (omega arith));
+        is_misfits = apart 10 16 9 9 fault s (inr (omega arith));
+        is_no_header = λ t. h;
+        is_cut = apart 10 16 17 17 fault s (inl (omega arith));
+        is_refused = apart 10 16 18 21 fault s (inl (omega arith));
+        is_lacking = apart 10 16 22 23 fault s (inl (omega arith));
+        is_late = apart 10 16 24 24 fault s (inl (omega arith));
+      }
+  by-status (IsCut h) =
+      let s = cut-status plan_file data_file fault (cases request) h in
+      record {
+        is_usage = apart 17 17 1 1 fault s (inr (omega arith));
+        is_absent = apart 17 17 2 2 fault s (inr (omega arith));
+        is_no_plan = apart 17 17 6 8 fault s (inr (omega arith));
+        is_misfits = apart 17 17 9 9 fault s (inr (omega arith));
+        is_no_header = apart 17 17 10 16 fault s (inr (omega arith));
+        is_cut = λ t. h;
+        is_refused = apart 17 17 18 21 fault s (inl (omega arith));
+        is_lacking = apart 17 17 22 23 fault s (inl (omega arith));
+        is_late = apart 17 17 24 24 fault s (inl (omega arith));
+      }
+  by-status (IsRefused h) =
+      let s = (told-status request fault 18 21 (λ of. Refused of plan_file data_file fault) (λ never. never) (refused-status plan_file data_file fault) h).0 in
+      record {
+        is_usage = apart 18 21 1 1 fault s (inr (omega arith));
+        is_absent = apart 18 21 2 2 fault s (inr (omega arith));
+        is_no_plan = apart 18 21 6 8 fault s (inr (omega arith));
+        is_misfits = apart 18 21 9 9 fault s (inr (omega arith));
+        is_no_header = apart 18 21 10 16 fault s (inr (omega arith));
+        is_cut = apart 18 21 17 17 fault s (inr (omega arith));
+        is_refused = λ t. h;
+        is_lacking = apart 18 21 22 23 fault s (inl (omega arith));
+        is_late = apart 18 21 24 24 fault s (inl (omega arith));
+      }
+  by-status (IsLacking h) =
+      let s = (told-status request fault 22 23 (λ of. Lacking of plan_file fault) (λ never. never) (lacking-status plan_file data_file fault) h).0 in
+      record {
+        is_usage = apart 22 23 1 1 fault s (inr (omega arith));
+        is_absent = apart 22 23 2 2 fault s (inr (omega arith));
+        is_no_plan = apart 22 23 6 8 fault s (inr (omega arith));
+        is_misfits = apart 22 23 9 9 fault s (inr (omega arith));
+        is_no_header = apart 22 23 10 16 fault s (inr (omega arith));
+        is_cut = apart 22 23 17 17 fault s (inr (omega arith));
+        is_refused = apart 22 23 18 21 fault s (inr (omega arith));
+        is_lacking = λ t. h;
+        is_late = apart 22 23 24 24 fault s (inl (omega arith));
+      }
+  by-status (IsLate h) =
+      let s = (told-status request fault 24 24 (λ of. TooLate of plan_file data_file fault) (λ never. never) (late-status plan_file data_file fault) h).0 in
+      record {
+        is_usage = apart 24 24 1 1 fault s (inr (omega arith));
+        is_absent = apart 24 24 2 2 fault s (inr (omega arith));
+        is_no_plan = apart 24 24 6 8 fault s (inr (omega arith));
+        is_misfits = apart 24 24 9 9 fault s (inr (omega arith));
+        is_no_header = apart 24 24 10 16 fault s (inr (omega arith));
+        is_cut = apart 24 24 17 17 fault s (inr (omega arith));
+        is_refused = apart 24 24 18 21 fault s (inr (omega arith));
+        is_lacking = apart 24 24 22 23 fault s (inr (omega arith));
+        is_late = λ t. h;
+      }
+
+by-fault : (request : Option Request) (plan_file data_file : File) (fault : Fault) → EndsWithFault request plan_file data_file fault → ByStatus request plan_file data_file fault
+by-fault request plan_file data_file fault ends = by-status request plan_file data_file fault (fault-cause request plan_file data_file fault ends)
+
+-- a real command isn't none
+no-command : (does : Behaviour) (of : CommandCases) → IsTold does of → IsNoCommand of → ⊥
+no-command NoCommand NoWords told none = absurd told
+no-command (Alone end) NoWords told none = absurd told
+no-command (OnFile file writing work) NoWords told none = absurd told
+no-command (ByPlan plan_name file writing memory lacks work) NoWords told none = absurd told
+no-command does (Writes text) told none = absurd none
+no-command does OfHeader told none = absurd none
+no-command does (OfRecords own records) told none = absurd none
+no-command does (OfPlan own need records) told none = absurd none
+
+none-asked : (request : Option Request) → IsNoCommand (cases request) → request ≡ None
+none-asked None h = refl
+none-asked (Some request) h = absurd (no-command (behaviour (Some request)) (cases (Some request)) (proved request).1 h)
+
+none-ends : (request : Option Request) (plan_file data_file : File) → request ≡ None → EndsWithFault request plan_file data_file Usage
+none-ends None plan_file data_file e = ends-by None plan_file data_file Usage (refused Usage, refl, refl)
+none-ends (Some request) plan_file data_file e = cc
+
+pub exactly-words : (request : Option Request) (plan_file data_file : File) → EndsWithFault request plan_file data_file Usage ↔ (request ≡ None)
+exactly-words request plan_file data_file = (λ e. none-asked request ((by-fault request plan_file data_file Usage e).is_usage (omega arith, omega arith)).0, none-ends request plan_file data_file)
+
+module _ (request : Option Request) (plan_file data_file : File) (fault : Fault) where
+  pub exactly-absent : StatusIn 2 2 fault → EndsWithFault request plan_file data_file fault ↔ Absent (cases request) plan_file data_file fault
+  exactly-absent s = (λ e. (by-fault request plan_file data_file fault e).is_absent s, λ h. ends-by request plan_file data_file fault (absent-end plan_file data_file fault (cases request) h))
+
+  pub exactly-no_plan : StatusIn 6 8 fault → EndsWithFault request plan_file data_file fault ↔ NoPlan (cases request) plan_file fault
+  exactly-no_plan s = (λ e. (by-fault request plan_file data_file fault e).is_no_plan s, λ h. ends-by request plan_file data_file fault (no_plan-end plan_file data_file fault (cases request) h))
+
+  pub exactly-misfits : StatusIn 9 9 fault → EndsWithFault request plan_file data_file fault ↔ Misfits (cases request) plan_file data_file fault
+  exactly-misfits s = (λ e. (by-fault request plan_file data_file fault e).is_misfits s, λ h. ends-by request plan_file data_file fault (misfits-end plan_file data_file fault (cases request) h))
+
+  pub exactly-no_header : StatusIn 10 16 fault → EndsWithFault request plan_file data_file fault ↔ NoHeader (cases request) plan_file data_file fault
+  exactly-no_header s = (λ e. (by-fault request plan_file data_file fault e).is_no_header s, λ h. ends-by request plan_file data_file fault (no_header-end plan_file data_file fault (cases request) h))
+
+  pub exactly-cut : StatusIn 17 17 fault → EndsWithFault request plan_file data_file fault ↔ Cut (cases request) plan_file data_file fault
+  exactly-cut s = (
+    λ e. (by-fault request plan_file data_file fault e).is_cut s,
+    λ h. ends-by request plan_file data_file fault (told-end request plan_file data_file fault (λ of. Cut of plan_file data_file fault) (λ never. never) (cut-end plan_file data_file fault) h),
+  )
+
+  pub exactly-refused : StatusIn 18 21 fault → EndsWithFault request plan_file data_file fault ↔ Refused (cases request) plan_file data_file fault
+  exactly-refused s = (
+    λ e. (by-fault request plan_file data_file fault e).is_refused s,
+    λ h. ends-by request plan_file data_file fault (told-end request plan_file data_file fault (λ of. Refused of plan_file data_file fault) (λ never. never) (refused-end plan_file data_file fault) h),
+  )
+
+  pub exactly-lacking : StatusIn 22 23 fault → EndsWithFault request plan_file data_file fault ↔ Lacking (cases request) plan_file fault
+  exactly-lacking s = (λ e. (by-fault request plan_file data_file fault e).is_lacking s, λ h. ends-by request plan_file data_file fault (lacking-end plan_file data_file fault (cases request) h))
+
+  pub late-ends : TooLate (cases request) plan_file data_file fault → EndsWithFault request plan_file data_file fault
+  late-ends h = ends-by request plan_file data_file fault (told-end request plan_file data_file fault (λ of. TooLate of plan_file data_file fault) (λ never. never) (late-end plan_file data_file fault) h)
+
+  pub exactly-late : StatusIn 24 24 fault → EndsWithFault request plan_file data_file fault ↔ TooLate (cases request) plan_file data_file fault
+  exactly-late s = (λ e. (by-fault request plan_file data_file fault e).is_late s, late-ends)
+
+-- ## The statuses of each command
+
+module _ (plan_file data_file : File) (fault : Fault) where
+  -- behind the words and the plan
+  own-called : (of : CommandCases) (low high : ℕ) → StatusIn low high fault × Own of (status_of fault) → MayCallFor of fault
+  own-called NoWords low high h = absurd h.1
+  own-called (Writes text) low high h = absurd h.1
+  own-called OfHeader low high h = absurd h.1
+  own-called (OfRecords own records) low high h = inr (inr h.1)
+  own-called (OfPlan own need records) low high h = inr (inr h.1)
+
+  usage-called : (of : CommandCases) → IsNoCommand of → fault ≡ Usage → MayCallFor of fault
+  usage-called NoWords none h = h
+  usage-called _ none h = absurd none
+
+  absent-called : (of : CommandCases) → Absent of plan_file data_file fault → MayCallFor of fault
+  absent-called NoWords h = absurd h
+  absent-called (Writes text) h = absurd h
+  absent-called OfHeader h = inl (absent-status plan_file data_file fault OfHeader h)
+  absent-called (OfRecords own records) h = inl (absent-status plan_file data_file fault (OfRecords own records) h)
+  absent-called (OfPlan own need records) h = inl (absent-status plan_file data_file fault (OfPlan own need records) h)
+
+  no_plan-called : (of : CommandCases) → NoPlan of plan_file fault → MayCallFor of fault
+  no_plan-called (OfPlan own need records) h = inr (inl (wider 6 8 6 17 fault (no_plan-status plan_file data_file fault (OfPlan own need records) h) (omega arith) (omega arith)))
+  no_plan-called _ h = absurd h
+
+  misfits-called : (of : CommandCases) → Misfits of plan_file data_file fault → MayCallFor of fault
+  misfits-called (OfPlan own need records) h = inr (inl (wider 9 9 6 17 fault (misfits-status plan_file data_file fault (OfPlan own need records) h) (omega arith) (omega arith)))
+  misfits-called _ h = absurd h
+
+  no_header-called : (of : CommandCases) → NoHeader of plan_file data_file fault → MayCallFor of fault
+  no_header-called NoWords h = absurd h
+  no_header-called (Writes text) h = absurd h
+  no_header-called OfHeader h = inr (no_header-status plan_file data_file fault OfHeader h)
+  no_header-called (OfRecords own records) h = inr (inl (wider 10 16 10 17 fault (no_header-status plan_file data_file fault (OfRecords own records) h) (omega arith) (omega arith)))
+  no_header-called (OfPlan own need records) h = inr (inl (wider 10 16 6 17 fault (no_header-status plan_file data_file fault (OfPlan own need records) h) (omega arith) (omega arith)))
+
+  cut-called : (of : CommandCases) → Cut of plan_file data_file fault → MayCallFor of fault
+  cut-called (OfRecords own records) h = inr (inl (wider 17 17 10 17 fault (cut-status plan_file data_file fault (OfRecords own records) h) (omega arith) (omega arith)))
+  cut-called (OfPlan own need records) h = inr (inl (wider 17 17 6 17 fault (cut-status plan_file data_file fault (OfPlan own need records) h) (omega arith) (omega arith)))
+  cut-called _ h = absurd h
+
+pub may-call : (request : Option Request) (plan_file data_file : File) (fault : Fault) → EndsWithFault request plan_file data_file fault → MayCallFor (cases request) fault
+may-call request plan_file data_file fault ends = by (fault-cause request plan_file data_file fault ends)
   where
-    by : (o : Option TraceView) → trace_of traces.0 ≡ o → unless_traced o ≡ None → PlannedTrace traces.0 data_file end
-    by None e none = cc
-    by (Some set) e none = inr (set, e, h set e)
+    by : Cause (cases request) plan_file data_file fault → MayCallFor (cases request) fault
+    by (IsUsage none h) = usage-called plan_file data_file fault (cases request) none h
+    by (IsAbsent h) = absent-called plan_file data_file fault (cases request) h
+    by (IsNoPlan h) = no_plan-called plan_file data_file fault (cases request) h
+    by (HasMisfit h) = misfits-called plan_file data_file fault (cases request) h
+    by (IsNoHeader h) = no_header-called plan_file data_file fault (cases request) h
+    by (IsCut h) = cut-called plan_file data_file fault (cases request) h
+    by (IsRefused h) = own-called plan_file data_file fault (cases request) 18 21 (told-status request fault 18 21 (λ of. Refused of plan_file data_file fault) (λ never. never) (refused-status plan_file data_file fault) h)
+    by (IsLacking h) = own-called plan_file data_file fault (cases request) 22 23 (told-status request fault 22 23 (λ of. Lacking of plan_file fault) (λ never. never) (lacking-status plan_file data_file fault) h)
+    by (IsLate h) = own-called plan_file data_file fault (cases request) 24 24 (told-status request fault 24 24 (λ of. TooLate of plan_file data_file fault) (λ never. never) (late-status plan_file data_file fault) h)
 
--- the trace of a plan that has one
-set_of_plan : (view : PlanView) → no_trace view ≡ None → (set : TraceView) × (trace_of view ≡ Some set)
-set_of_plan view none = by (trace_of view) refl none
-  where
-    by : (o : Option TraceView) → trace_of view ≡ o → unless_traced o ≡ None → (set : TraceView) × (trace_of view ≡ Some set)
-    by None e none = cc
-    by (Some set) e none = (set, e)
-
-none_of : (o : Option TraceView) → unless_traced o ≡ Some NoTrace → o ≡ None
-none_of None e = refl
-none_of (Some set) e = cc
-
-traced-at : (plan_file data_file : File) (view : PlanView) → IsValidPlan plan_file view → (set : TraceView) → trace_of view ≡ Some set → (end : Outcome) → FileCase (HeaderCase (TraceCase set view)) data_file end → TracePlanCase plan_file data_file end
-traced-at plan_file data_file view is set has end h =
-    subst (λ (f : File). TracePlanCase f data_file end) (sym is.present) (inr (is.ms, is.is_valid, is.document_is, subst (λ (v : PlanView). PlannedTrace v data_file end) is.view_is (inr (set, has, h))))
-
-grouped-there : (group : ℕ) (plan_file data_file : File) (view : PlanView) → IsValidPlan plan_file view → HasGroup group view → (end : Outcome) → FileCase (HeaderCase (PickCase group view)) data_file end → PickPlanCase group plan_file data_file end
-grouped-there group plan_file data_file view is has end h =
-    subst (λ (f : File). PickPlanCase group f data_file end) (sym is.present) (inr (is.ms, is.is_valid, is.document_is, subst (λ (v : PlanView). PlannedPick group v data_file end) is.view_is (inr (has, h))))
-
-pub absent-ends : (request : Option Request) (plan_file data_file : File) (fault : Fault) → Absent request plan_file data_file fault → EndsWithFault request plan_file data_file fault
-absent-ends None plan_file data_file fault h = absurd h
-absent-ends (Some (Count file)) plan_file data_file fault h = ends-by (Some (Count file)) plan_file data_file _ fault (file-absent (HeaderCase CountCase) data_file h.0) (ap Some (sym h.1))
-absent-ends (Some (HeaderOf file)) plan_file data_file fault h = ends-by (Some (HeaderOf file)) plan_file data_file _ fault (file-absent PrintCase data_file h.0) (ap Some (sym h.1))
-absent-ends (Some (Events file)) plan_file data_file fault h = ends-by (Some (Events file)) plan_file data_file _ fault (file-absent (HeaderCase ListCase) data_file h.0) (ap Some (sym h.1))
-absent-ends (Some (Run plan_name file)) plan_file data_file fault (inl h) =
-    ends-by (Some (Run plan_name file)) plan_file data_file (refused (OpenFault Plan)) fault (subst (λ (f : File). PlanCase f data_file (refused (OpenFault Plan))) (sym h.0) refl) (ap Some (sym h.1))
-absent-ends (Some (Run plan_name file)) plan_file data_file fault (inr h) =
-    ends-by (Some (Run plan_name file)) plan_file data_file (refused (OpenFault Data)) fault (plan-there plan_file data_file h.0 _ h.1 (file-absent (HeaderCase (ReportCase h.0)) data_file h.2)) (ap Some (sym h.3))
-absent-ends (Some (Trace plan_name file)) plan_file data_file fault (inl h) =
-    ends-by (Some (Trace plan_name file)) plan_file data_file (refused (OpenFault Plan)) fault (subst (λ (f : File). TracePlanCase f data_file (refused (OpenFault Plan))) (sym h.0) refl) (ap Some (sym h.1))
-absent-ends (Some (Trace plan_name file)) plan_file data_file fault (inr h) =
-    ends-by (Some (Trace plan_name file)) plan_file data_file (refused (OpenFault Data)) fault (traced-there plan_file data_file h.0 _ (λ set is. file-absent (HeaderCase (TraceCase set h.0.0)) data_file h.1)) (ap Some (sym h.2))
-absent-ends (Some (Pick plan_name group file)) plan_file data_file fault (inl h) =
-    ends-by (Some (Pick plan_name group file)) plan_file data_file (refused (OpenFault Plan)) fault (subst (λ (f : File). PickPlanCase group f data_file (refused (OpenFault Plan))) (sym h.0) refl) (ap Some (sym h.1))
-absent-ends (Some (Pick plan_name group file)) plan_file data_file fault (inr h) =
-    let plans = h.0 in
-    ends-by (Some (Pick plan_name group file)) plan_file data_file (refused (OpenFault Data)) fault (grouped-there group plan_file data_file plans.0 plans.1 plans.2 _ (file-absent (HeaderCase (PickCase group plans.0)) data_file h.1)) (ap Some (sym h.2))
-absent-ends (Some (Demo seed count)) plan_file data_file fault h = absurd h
-
-pub no_plan-ends : (request : Option Request) (plan_file data_file : File) (fault : Fault) → NoPlan request plan_file fault → EndsWithFault request plan_file data_file fault
-no_plan-ends (Some (Run plan_name file)) plan_file data_file fault h =
-    ends-by (Some (Run plan_name file)) plan_file data_file (refused fault) fault (subst (λ (f : File). PlanCase f data_file (refused fault)) (sym h.1) (inl (fault, h.2, h.3, refl))) refl
-no_plan-ends (Some (Trace plan_name file)) plan_file data_file fault h =
-    ends-by (Some (Trace plan_name file)) plan_file data_file (refused fault) fault (subst (λ (f : File). TracePlanCase f data_file (refused fault)) (sym h.1) (inl (fault, h.2, h.3, refl))) refl
-no_plan-ends (Some (Pick plan_name group file)) plan_file data_file fault h =
-    ends-by (Some (Pick plan_name group file)) plan_file data_file (refused fault) fault (subst (λ (f : File). PickPlanCase group f data_file (refused fault)) (sym h.1) (inl (fault, h.2, h.3, refl))) refl
-no_plan-ends _ plan_file data_file fault h = absurd h
-
-pub misfits-ends : (request : Option Request) (plan_file data_file : File) (fault : Fault) → Misfits request plan_file data_file fault → EndsWithFault request plan_file data_file fault
-misfits-ends (Some (Run plan_name file)) plan_file data_file fault h =
-    ends-by (Some (Run plan_name file)) plan_file data_file (refused fault) fault (plan-there plan_file data_file h.0 _ h.3 (headed-there (ReportCase h.0) data_file h.1 h.2 _ h.4 (inl (fault, h.5, refl)))) refl
-misfits-ends (Some (Trace plan_name file)) plan_file data_file fault h =
-    ends-by (Some (Trace plan_name file)) plan_file data_file (refused fault) fault (traced-there plan_file data_file (h.0, h.3, h.5.0) _ (λ set is. headed-there (TraceCase set h.0) data_file h.1 h.2 _ h.4 (inl (fault, h.5.1, refl)))) refl
-misfits-ends (Some (Pick plan_name group file)) plan_file data_file fault h =
-    ends-by (Some (Pick plan_name group file)) plan_file data_file (refused fault) fault (grouped-there group plan_file data_file h.0 h.3 h.5.0 _ (headed-there (PickCase group h.0) data_file h.1 h.2 _ h.4 (inl (fault, h.5.1, refl)))) refl
-misfits-ends _ plan_file data_file fault h = absurd h
-
-print-ends : (file : List ℕ) (plan_file data_file : File) (fault : Fault) → Unheaded data_file fault → EndsWithFault (Some (HeaderOf file)) plan_file data_file fault
-unfolding outcome
-print-ends file plan_file data_file fault h =
-    ap (λ (f : File). (outcome (behaviour (Some (HeaderOf file))) plan_file f).fault) h.present ∙ ap fault_in ((one_answer h.bytes (Err fault)).0 h.is_refused)
-
-pub no_header-ends : (request : Option Request) (plan_file data_file : File) (fault : Fault) → NoHeader request plan_file data_file fault → EndsWithFault request plan_file data_file fault
-no_header-ends None plan_file data_file fault h = absurd h
-no_header-ends (Some (Count file)) plan_file data_file fault h = ends-by (Some (Count file)) plan_file data_file (refused fault) fault (unheaded-there CountCase data_file fault h) refl
-no_header-ends (Some (HeaderOf file)) plan_file data_file fault h = print-ends file plan_file data_file fault h
-no_header-ends (Some (Events file)) plan_file data_file fault h = ends-by (Some (Events file)) plan_file data_file (refused fault) fault (unheaded-there ListCase data_file fault h) refl
-no_header-ends (Some (Run plan_name file)) plan_file data_file fault h =
-    ends-by (Some (Run plan_name file)) plan_file data_file (refused fault) fault (plan-there plan_file data_file h.0 _ h.1 (unheaded-there (ReportCase h.0) data_file fault h.2)) refl
-no_header-ends (Some (Trace plan_name file)) plan_file data_file fault h =
-    ends-by (Some (Trace plan_name file)) plan_file data_file (refused fault) fault (traced-there plan_file data_file h.0 _ (λ set is. unheaded-there (TraceCase set h.0.0) data_file fault h.1)) refl
-no_header-ends (Some (Pick plan_name group file)) plan_file data_file fault h =
-    let plans = h.0 in
-    ends-by (Some (Pick plan_name group file)) plan_file data_file (refused fault) fault (grouped-there group plan_file data_file plans.0 plans.1 plans.2 _ (unheaded-there (PickCase group plans.0) data_file fault h.1)) refl
-no_header-ends (Some (Demo seed count)) plan_file data_file fault h = absurd h
-
-abbrev end_with : List ℕ → Fault → Outcome
-end_with text fault = record { text = text; fault = Some fault }
-
-pub cut-ends : (request : Option Request) (plan_file data_file : File) (fault : Fault) → Cut request plan_file data_file fault → EndsWithFault request plan_file data_file fault
-cut-ends (Some (Count file)) plan_file data_file fault h =
-    ends-by (Some (Count file)) plan_file data_file (refused fault) fault (headed-there CountCase data_file h.0 h.1 _ h.2 (inr (h.3.0, inl (h.3.1, ap refused h.3.2)))) refl
-cut-ends (Some (Events file)) plan_file data_file fault h =
-    ends-by (Some (Events file)) plan_file data_file (end_with (events_text (events_in (listing h.0) (words_of h.1))) fault) fault
-    (headed-there ListCase data_file h.0 h.1 _ h.2 (inr (h.3.0, refl, inl (h.3.1, ap Some h.3.2)))) refl
-cut-ends (Some (Run plan_name file)) plan_file data_file fault h =
-    ends-by (Some (Run plan_name file)) plan_file data_file (refused fault) fault
-    (plan-there plan_file data_file h.0 _ h.3 (headed-there (ReportCase h.0) data_file h.1 h.2 _ h.4 (inr (h.5.0, inr (h.5.1.0, inl (h.5.1.1, ap refused h.5.1.2)))))) refl
-cut-ends (Some (Trace plan_name file)) plan_file data_file fault h =
-    let view = h.0 in
-    let set = set_of_plan view h.5.0 in
-    ends-by (Some (Trace plan_name file)) plan_file data_file (end_with (open_text set.0 (settled_history (sorting view) (reading_by view h.1) (words_of h.2))) fault) fault
-    (traced-at plan_file data_file view h.3 set.0 set.1 _ (headed-there (TraceCase set.0 view) data_file h.1 h.2 _ h.4 (inr (h.5.1, inr (h.5.2.0, inl (h.5.2.1, ap (end_with (open_text set.0 (settled_history (sorting view) (reading_by view h.1) (words_of h.2)))) h.5.2.2)))))) refl
-cut-ends (Some (Pick plan_name group file)) plan_file data_file fault h =
-    let photons = settled_photons h.0 group h.1 (words_of h.2) in
-    ends-by (Some (Pick plan_name group file)) plan_file data_file (pick_end h.1 photons (Some fault)) fault
-    (grouped-there group plan_file data_file h.0 h.3 h.5.0 _ (headed-there (PickCase group h.0) data_file h.1 h.2 _ h.4 (inr (h.5.1, inr (inr (inl (h.5.2, ap (λ f. pick_end h.1 photons (Some f)) h.5.3))))))) refl
-cut-ends _ plan_file data_file fault h = absurd h
-
-pub refused-ends : (request : Option Request) (plan_file data_file : File) (fault : Fault) → Refused request plan_file data_file fault → EndsWithFault request plan_file data_file fault
-refused-ends (Some (Count file)) plan_file data_file fault h =
-    ends-by (Some (Count file)) plan_file data_file (refused fault) fault (headed-there CountCase data_file h.0 h.1 _ h.2 (inl (h.3.0, ap refused h.3.1))) refl
-refused-ends (Some (Events file)) plan_file data_file fault h =
-    ends-by (Some (Events file)) plan_file data_file (end_with (events_text (events_in (listing h.0) h.3.front)) fault) fault
-    (headed-there ListCase data_file h.0 h.1 _ h.2 (inl (record { fault = fault; least = h.3; end_is = refl }))) refl
-refused-ends (Some (Run plan_name file)) plan_file data_file fault h =
-    ends-by (Some (Run plan_name file)) plan_file data_file (refused fault) fault
-    (plan-there plan_file data_file h.0 _ h.3 (headed-there (ReportCase h.0) data_file h.1 h.2 _ h.4 (inr (h.5.0, inl (fault, h.5.1, refl))))) refl
-refused-ends (Some (Trace plan_name file)) plan_file data_file fault h =
-    let view = h.0 in
-    let set = set_of_plan view h.5.0 in
-    ends-by (Some (Trace plan_name file)) plan_file data_file (end_with (open_text set.0 (settled_history (sorting view) (reading_by view h.1) h.5.2.front)) fault) fault
-    (traced-at plan_file data_file view h.3 set.0 set.1 _ (headed-there (TraceCase set.0 view) data_file h.1 h.2 _ h.4 (inr (h.5.1, inl (record { fault = fault; least = h.5.2; end_is = refl }))))) refl
-refused-ends (Some (Pick plan_name group file)) plan_file data_file fault h =
-    let refusal = h.5.2 in
-    ends-by (Some (Pick plan_name group file)) plan_file data_file (pick_end h.1 (settled_photons h.0 group h.1 refusal.least.front) (Some fault)) fault
-    (grouped-there group plan_file data_file h.0 h.3 h.5.0 _ (headed-there (PickCase group h.0) data_file h.1 h.2 _ h.4 (inr (h.5.1, inr (inl (fault, refusal, refl)))))) refl
-refused-ends _ plan_file data_file fault h = absurd h
-
-pub untraced-ends : (request : Option Request) (plan_file data_file : File) (fault : Fault) → Untraced request plan_file fault → EndsWithFault request plan_file data_file fault
-untraced-ends (Some (Trace plan_name file)) plan_file data_file fault h =
-    ends-by (Some (Trace plan_name file)) plan_file data_file (refused NoTrace) fault
-    (subst (λ (f : File). TracePlanCase f data_file (refused NoTrace)) (sym h.1.present) (inr (h.1.ms, h.1.is_valid, h.1.document_is, subst (λ (v : PlanView). PlannedTrace v data_file (refused NoTrace)) h.1.view_is (inl (none_of (trace_of h.0) h.2, refl)))))
-    (ap Some (sym h.3))
-untraced-ends _ plan_file data_file fault h = absurd h
-
-pub ungrouped-ends : (request : Option Request) (plan_file data_file : File) (fault : Fault) → Ungrouped request plan_file fault → EndsWithFault request plan_file data_file fault
-ungrouped-ends (Some (Pick plan_name group file)) plan_file data_file fault h =
-    ends-by (Some (Pick plan_name group file)) plan_file data_file (refused (NoGroup group)) fault
-    (subst (λ (f : File). PickPlanCase group f data_file (refused (NoGroup group))) (sym h.1.present) (inr (h.1.ms, h.1.is_valid, h.1.document_is, subst (λ (v : PlanView). PlannedPick group v data_file (refused (NoGroup group))) h.1.view_is (inl (h.2, refl)))))
-    (ap Some (sym h.3))
-ungrouped-ends _ plan_file data_file fault h = absurd h
-
-pub late-ends : (request : Option Request) (plan_file data_file : File) (fault : Fault) → TooLate request plan_file data_file fault → EndsWithFault request plan_file data_file fault
-late-ends (Some (Pick plan_name group file)) plan_file data_file fault h = by h.5.2
-  where
-    ends : (photons : List Event) → PickedCase h.0 group h.1 h.2 (pick_end h.1 photons (Some fault)) → EndsWithFault (Some (Pick plan_name group file)) plan_file data_file fault
-    ends photons case =
-        ends-by (Some (Pick plan_name group file)) plan_file data_file (pick_end h.1 photons (Some fault)) fault
-        (grouped-there group plan_file data_file h.0 h.3 h.5.0 _ (headed-there (PickCase group h.0) data_file h.1 h.2 _ h.4 (inr (h.5.1, case)))) refl
-
-    by : NamesLate group h.0 h.1 h.2 fault → EndsWithFault (Some (Pick plan_name group file)) plan_file data_file fault
-    by (inl late) = ends late.0.first.before (inl (late.0, ap (λ f. pick_end h.1 late.0.first.before (Some f)) late.1))
-    by (inr late) = ends late.0.first.before (inr (inr (inr (inl (late.0, ap (λ f. pick_end h.1 late.0.first.before (Some f)) late.1)))))
-late-ends _ plan_file data_file fault h = absurd h
+-- ## pick
 
 -- a file that is read whole ends `pick` well, or by a photon that is too late
 pub pick-ends : (plan_name : List ℕ) (group : ℕ) (file : List ℕ) (plan_file data_file : File) → IsPickable group plan_file data_file
     → ((outcome (behaviour (Some (Pick plan_name group file))) plan_file data_file).fault ≡ None)
-    ⊎ ((fault : Fault) × EndsWithFault (Some (Pick plan_name group file)) plan_file data_file fault × TooLate (Some (Pick plan_name group file)) plan_file data_file fault)
+    ⊎ ((fault : Fault) × EndsWithFault (Some (Pick plan_name group file)) plan_file data_file fault × TooLate (cases (Some (Pick plan_name group file))) plan_file data_file fault)
 pick-ends plan_name group file plan_file data_file h =
     by (none-or-late (mode_of h.1.record_type) (settled_photons h.0 group h.1 (words_of h.2))) (none-or-late (mode_of h.1.record_type) (kept_photons h.0 group h.1 (words_of h.2)))
   where
     named : (fault : Fault) → NamesLate group h.0 h.1 h.2 fault
         → ((outcome (behaviour (Some (Pick plan_name group file))) plan_file data_file).fault ≡ None)
-        ⊎ ((fault : Fault) × EndsWithFault (Some (Pick plan_name group file)) plan_file data_file fault × TooLate (Some (Pick plan_name group file)) plan_file data_file fault)
+        ⊎ ((fault : Fault) × EndsWithFault (Some (Pick plan_name group file)) plan_file data_file fault × TooLate (cases (Some (Pick plan_name group file))) plan_file data_file fault)
     named fault names =
-        let cause : TooLate (Some (Pick plan_name group file)) plan_file data_file fault = (h.0, h.1, h.2, h.3, h.4, (h.5.0, h.5.1, names)) in
+        let cause : TooLate (cases (Some (Pick plan_name group file))) plan_file data_file fault = (h.0, h.1, h.2, (h.3, h.5), h.4, (h.6, names)) in
         inr (fault, late-ends (Some (Pick plan_name group file)) plan_file data_file fault cause, cause)
 
     well : AllPicked h.0 group h.1 h.2 → (outcome (behaviour (Some (Pick plan_name group file))) plan_file data_file).fault ≡ None
     well all =
         let end = pick_end h.1 (kept_photons h.0 group h.1 (words_of h.2)) None in
         ap (λ (o : Outcome). o.fault) ((one-outcome (Some (Pick plan_name group file)) plan_file data_file end).0
-        (grouped-there group plan_file data_file h.0 h.3 h.5.0 end (headed-there (PickCase group h.0) data_file h.1 h.2 end h.4 (inr (h.5.1, inr (inr (inr (inr (all, refl)))))))))
+        (suited-there PickStatus (Needs (HasGroup group) (NoGroup group)) (pick_cases group) plan_file data_file h.0 h.1 h.2 end (h.3, h.5) h.4 h.6 (inr (inr (inr (inr (all, refl)))))))
 
     by : (too_late (mode_of h.1.record_type) (settled_photons h.0 group h.1 (words_of h.2)) ≡ []) ⊎ FirstLate (mode_of h.1.record_type) (settled_photons h.0 group h.1 (words_of h.2))
         → (too_late (mode_of h.1.record_type) (kept_photons h.0 group h.1 (words_of h.2)) ≡ []) ⊎ FirstLate (mode_of h.1.record_type) (kept_photons h.0 group h.1 (words_of h.2))
         → ((outcome (behaviour (Some (Pick plan_name group file))) plan_file data_file).fault ≡ None)
-        ⊎ ((fault : Fault) × EndsWithFault (Some (Pick plan_name group file)) plan_file data_file fault × TooLate (Some (Pick plan_name group file)) plan_file data_file fault)
+        ⊎ ((fault : Fault) × EndsWithFault (Some (Pick plan_name group file)) plan_file data_file fault × TooLate (cases (Some (Pick plan_name group file))) plan_file data_file fault)
     by (inr s) kept =
-        let late = first-settled h.0 group h.1 h.2 (words_of h.2) [] (sym (append-nil (words_of h.2))) h.5.2 s in
+        let late = first-settled h.0 group h.1 h.2 (words_of h.2) [] (sym (append-nil (words_of h.2))) h.7 s in
         named (PickTime late.first.photon.place) (inl (late, refl))
     by (inl soon) (inr k) =
-        let late : LateAtEnd h.0 group h.1 h.2 = record { unrefused = h.5.2; whole = h.5.3; none_settled = soon; first = k } in
+        let late : LateAtEnd h.0 group h.1 h.2 = record { unrefused = h.7; whole = h.8; none_settled = soon; first = k } in
         named (PickTime k.photon.place) (inr (late, refl))
-    by (inl soon) (inl none) = inl (well (record { unrefused = h.5.2; whole = h.5.3; in_time = none }))
-
--- ## The status of each cause
-
-range-as : (low high : ℕ) (a b : Fault) → a ≡ b → StatusIn low high b → StatusIn low high a
-range-as low high a b e h = subst (StatusIn low high) (sym e) h
-
-pub usage-status : (fault : Fault) → fault ≡ Usage → StatusIn 1 1 fault
-usage-status fault e = range-as 1 1 fault Usage e (omega arith, omega arith)
-
-open-status : (fault : Fault) (slot : Slot) → fault ≡ OpenFault slot → StatusIn 2 2 fault
-open-status fault slot e = range-as 2 2 fault (OpenFault slot) e (omega arith, omega arith)
-
-pub absent-status : (request : Option Request) (plan_file data_file : File) (fault : Fault) → Absent request plan_file data_file fault → StatusIn 2 2 fault
-absent-status None plan_file data_file fault h = absurd h
-absent-status (Some (Count file)) plan_file data_file fault h = open-status fault Data h.1
-absent-status (Some (HeaderOf file)) plan_file data_file fault h = open-status fault Data h.1
-absent-status (Some (Events file)) plan_file data_file fault h = open-status fault Data h.1
-absent-status (Some (Run plan_name file)) plan_file data_file fault (inl h) = open-status fault Plan h.1
-absent-status (Some (Run plan_name file)) plan_file data_file fault (inr h) = open-status fault Data h.3
-absent-status (Some (Trace plan_name file)) plan_file data_file fault (inl h) = open-status fault Plan h.1
-absent-status (Some (Trace plan_name file)) plan_file data_file fault (inr h) = open-status fault Data h.2
-absent-status (Some (Pick plan_name group file)) plan_file data_file fault (inl h) = open-status fault Plan h.1
-absent-status (Some (Pick plan_name group file)) plan_file data_file fault (inr h) = open-status fault Data h.2
-absent-status (Some (Demo seed count)) plan_file data_file fault h = absurd h
-
-called-status : (text : List ℕ) (fault : Fault) → IsCalledFor text fault → fault ≢ OutOfMemory → StatusIn 6 8 fault
-called-status text OutOfMemory h other = absurd (other refl)
-called-status text PlanTooLong h other = (omega arith, omega arith)
-called-status text PlanSyntax h other = (omega arith, omega arith)
-called-status text (PlanRule n index) h other = (omega arith, omega arith)
-called-status text _ h other = absurd h
-
-pub no_plan-status : (request : Option Request) (plan_file : File) (fault : Fault) → NoPlan request plan_file fault → StatusIn 6 8 fault
-no_plan-status (Some (Run plan_name file)) plan_file fault h = called-status h.0 fault h.2 h.3
-no_plan-status (Some (Trace plan_name file)) plan_file fault h = called-status h.0 fault h.2 h.3
-no_plan-status (Some (Pick plan_name group file)) plan_file fault h = called-status h.0 fault h.2 h.3
-no_plan-status _ plan_file fault h = absurd h
-
-misfit-status : (mode : Mode) (view : PlanView) (fault : Fault) → IsMisfit mode view fault → StatusIn 9 9 fault
-misfit-status mode view fault misfit = range-as 9 9 fault _ (names_part mode view fault misfit).2 (omega arith, omega arith)
-
-pub misfits-status : (request : Option Request) (plan_file data_file : File) (fault : Fault) → Misfits request plan_file data_file fault → StatusIn 9 9 fault
-misfits-status (Some (Run plan_name file)) plan_file data_file fault h = misfit-status (mode_of h.1.record_type) h.0 fault h.5
-misfits-status (Some (Trace plan_name file)) plan_file data_file fault h = misfit-status (mode_of h.1.record_type) h.0 fault h.5.1
-misfits-status (Some (Pick plan_name group file)) plan_file data_file fault h = misfit-status (mode_of h.1.record_type) h.0 fault h.5.1
-misfits-status _ plan_file data_file fault h = absurd h
-
--- what an answer of a header says of its fault
-abbrev InHeader : {A : Type 0} → Result A Fault → Type 0
-InHeader (Ok value) = Unit {0}
-InHeader (Err fault) = StatusIn 10 16 fault
-
-with_rest-in : (rest : List ℕ) (r : Result Header Fault) → InHeader r → InHeader (with_rest rest r)
-with_rest-in rest (Ok header) h = tt
-with_rest-in rest (Err fault) h = h
-
-with_type-in : (version : List ℕ) (found : Found) (value : ℕ) (record_type : Option RecordType) → InHeader (with_type version found value record_type)
-with_type-in version found value None = (omega arith, omega arith)
-with_type-in version found value (Some record_type) = tt
-
-with_value-in : (version : List ℕ) (found : Found) (value : Option ℕ) → InHeader (with_value version found value)
-with_value-in version found None = (omega arith, omega arith)
-with_value-in version found (Some value) = with_type-in version found value _
-
-header_of-in : (version : List ℕ) (found : Found) → InHeader (header_of version found)
-unfolding header_of
-header_of-in version found = with_value-in version found found.record_type
-
-unfinished-in : (whole : Bool) (size : ℕ) → StatusIn 10 16 (if whole then HeaderLimit else TruncatedHeader size)
-unfinished-in true size = (omega arith, omega arith)
-unfinished-in false size = (omega arith, omega arith)
-
-answer_as-in : (file : List ℕ) (end : Ending) → InHeader (answer_as file end)
-answer_as-in file OtherFile = (omega arith, omega arith)
-answer_as-in file (BadType number code) = (omega arith, omega arith)
-answer_as-in file (BadLength number value) = (omega arith, omega arith)
-answer_as-in file (Whole items) = with_rest-in _ (header_of (version_in file) (found_in items)) (header_of-in (version_in file) (found_in items))
-answer_as-in file Open = unfinished-in (length (head_of file) == header_limit) (length (head_of file))
-
-unheaded-status : (data_file : File) (fault : Fault) → Unheaded data_file fault → StatusIn 10 16 fault
-unheaded-status data_file fault h = subst InHeader (sym h.is_refused.2) (answer_as-in h.bytes h.is_refused.0)
-
-pub no_header-status : (request : Option Request) (plan_file data_file : File) (fault : Fault) → NoHeader request plan_file data_file fault → StatusIn 10 16 fault
-no_header-status None plan_file data_file fault h = absurd h
-no_header-status (Some (Count file)) plan_file data_file fault h = unheaded-status data_file fault h
-no_header-status (Some (HeaderOf file)) plan_file data_file fault h = unheaded-status data_file fault h
-no_header-status (Some (Events file)) plan_file data_file fault h = unheaded-status data_file fault h
-no_header-status (Some (Run plan_name file)) plan_file data_file fault h = unheaded-status data_file fault h.2
-no_header-status (Some (Trace plan_name file)) plan_file data_file fault h = unheaded-status data_file fault h.1
-no_header-status (Some (Pick plan_name group file)) plan_file data_file fault h = unheaded-status data_file fault h.1
-no_header-status (Some (Demo seed count)) plan_file data_file fault h = absurd h
-
-cut_behind-status : (behind : List ℕ) (fault : Fault) → fault ≡ TruncatedRecord (length (rest_of behind)) → StatusIn 17 17 fault
-cut_behind-status behind fault e = range-as 17 17 fault _ e (omega arith, omega arith)
-
-pub cut-status : (request : Option Request) (plan_file data_file : File) (fault : Fault) → Cut request plan_file data_file fault → StatusIn 17 17 fault
-cut-status (Some (Count file)) plan_file data_file fault h = cut_behind-status h.1 fault h.3.2
-cut-status (Some (Events file)) plan_file data_file fault h = cut_behind-status h.1 fault h.3.2
-cut-status (Some (Run plan_name file)) plan_file data_file fault h = cut_behind-status h.2 fault h.5.1.2
-cut-status (Some (Trace plan_name file)) plan_file data_file fault h = cut_behind-status h.2 fault h.5.2.2
-cut-status (Some (Pick plan_name group file)) plan_file data_file fault h = cut_behind-status h.2 fault h.5.3
-cut-status _ plan_file data_file fault h = absurd h
-
--- what a refusal of a record says of its fault
-abbrev InRange : Option Fault → Type 0
-InRange None = Unit {0}
-InRange (Some fault) = StatusIn 18 21 fault
-
-late-in : (b : Bool) (place time before : ℕ) → InRange (if b then Some (BackwardTime place time before) else None)
-late-in true place time before = (omega arith, omega arith)
-late-in false place time before = tt
-
-late_refusal-in : (k : ℕ) (mode : Mode) (before es : List Event) → InRange (late_refusal k mode before es)
-late_refusal-in k mode before [] = tt
-late_refusal-in k mode before (e ∷ es) = late-in (is_late_by k mode before e) e.place e.time (greatest mode before)
-
-causes-in : (full reserved passing stops : Bool) (limit place word : ℕ) (late : Option Fault) → InRange late
-    → InRange (if full then Some (RecordLimit limit) else if reserved then Some (ReservedRecord place word) else if passing then Some (TimeLimit place) else if stops then late else None)
-causes-in true reserved passing stops limit place word late h = (omega arith, omega arith)
-causes-in false true passing stops limit place word late h = (omega arith, omega arith)
-causes-in false false true stops limit place word late h = (omega arith, omega arith)
-causes-in false false false true limit place word late h = h
-causes-in false false false false limit place word late h = tt
-
-refusal-in : (how : Reading) (before : List ℕ) (word : ℕ) → InRange (refusal how before word)
-unfolding refusal
-refusal-in how before word =
-    let records = map how.meaning before in
-    let raw = how.meaning word in
-    causes-in (nat_le how.policy.records (length records)) (is_reserved raw && stops_reserved how.policy.reserved) (passes records raw) (stops_late how.policy.order) how.policy.records (length records + 1) word
-    (late_refusal how.policy.settle how.mode (events records) (event_after records raw)) (late_refusal-in how.policy.settle how.mode (events records) (event_after records raw))
-
-least-status : (how : Reading) (behind : List ℕ) (fault : Fault) → RefusedIn how behind fault → StatusIn 18 21 fault
-least-status how behind fault h = subst InRange h.refused (refusal-in how _ h.word)
-
-pub refused-status : (request : Option Request) (plan_file data_file : File) (fault : Fault) → Refused request plan_file data_file fault → StatusIn 18 21 fault
-refused-status (Some (Count file)) plan_file data_file fault h = range-as 18 21 fault _ h.3.1 (omega arith, omega arith)
-refused-status (Some (Events file)) plan_file data_file fault h = least-status (listing h.0) h.1 fault h.3
-refused-status (Some (Run plan_name file)) plan_file data_file fault h = least-status (reading_by h.0 h.1) h.2 fault h.5.1
-refused-status (Some (Trace plan_name file)) plan_file data_file fault h = least-status (reading_by h.0 h.1) h.2 fault h.5.2
-refused-status (Some (Pick plan_name group file)) plan_file data_file fault h = least-status (reading_by h.0 h.1) h.2 fault h.5.2.least
-refused-status _ plan_file data_file fault h = absurd h
-
-pub untraced-status : (request : Option Request) (plan_file : File) (fault : Fault) → Untraced request plan_file fault → StatusIn 22 22 fault
-untraced-status (Some (Trace plan_name file)) plan_file fault h = range-as 22 22 fault NoTrace h.3 (omega arith, omega arith)
-untraced-status _ plan_file fault h = absurd h
-
-pub ungrouped-status : (request : Option Request) (plan_file : File) (fault : Fault) → Ungrouped request plan_file fault → StatusIn 23 23 fault
-ungrouped-status (Some (Pick plan_name group file)) plan_file fault h = range-as 23 23 fault (NoGroup group) h.3 (omega arith, omega arith)
-ungrouped-status _ plan_file fault h = absurd h
-
-pub late-status : (request : Option Request) (plan_file data_file : File) (fault : Fault) → TooLate request plan_file data_file fault → StatusIn 24 24 fault
-late-status (Some (Pick plan_name group file)) plan_file data_file fault h = by h.5.2
-  where
-    by : NamesLate group h.0 h.1 h.2 fault → StatusIn 24 24 fault
-    by (inl late) = range-as 24 24 fault (PickTime late.0.first.photon.place) late.1 (omega arith, omega arith)
-    by (inr late) = range-as 24 24 fault (PickTime late.0.first.photon.place) late.1 (omega arith, omega arith)
-late-status _ plan_file data_file fault h = absurd h
-
-wider : (a b c d : ℕ) (fault : Fault) → StatusIn a b fault → c ≤ a → b ≤ d → StatusIn c d fault
-wider a b c d fault s low high = (omega (arith, s.0, low), omega (arith, s.1, high))
-
-own-status : (request : Option Request) (plan_file data_file : File) (fault : Fault) → OwnCause request plan_file data_file fault → StatusIn 22 24 fault
-own-status request plan_file data_file fault (inl h) = wider 22 22 22 24 fault (untraced-status request plan_file fault h) (omega arith) (omega arith)
-own-status request plan_file data_file fault (inr (inl h)) = wider 23 23 22 24 fault (ungrouped-status request plan_file fault h) (omega arith) (omega arith)
-own-status request plan_file data_file fault (inr (inr h)) = wider 24 24 22 24 fault (late-status request plan_file data_file fault h) (omega arith) (omega arith)
-
-shared-status : (request : Option Request) (plan_file data_file : File) (fault : Fault) → Cause request plan_file data_file fault → StatusIn 1 21 fault
-shared-status request plan_file data_file fault (inl h) = wider 1 1 1 21 fault (usage-status fault h.1) (omega arith) (omega arith)
-shared-status request plan_file data_file fault (inr (inl h)) = wider 2 2 1 21 fault (absent-status request plan_file data_file fault h) (omega arith) (omega arith)
-shared-status request plan_file data_file fault (inr (inr (inl h))) = wider 6 8 1 21 fault (no_plan-status request plan_file fault h) (omega arith) (omega arith)
-shared-status request plan_file data_file fault (inr (inr (inr (inl h)))) = wider 9 9 1 21 fault (misfits-status request plan_file data_file fault h) (omega arith) (omega arith)
-shared-status request plan_file data_file fault (inr (inr (inr (inr (inl h))))) = wider 10 16 1 21 fault (no_header-status request plan_file data_file fault h) (omega arith) (omega arith)
-shared-status request plan_file data_file fault (inr (inr (inr (inr (inr (inl h)))))) = wider 17 17 1 21 fault (cut-status request plan_file data_file fault h) (omega arith) (omega arith)
-shared-status request plan_file data_file fault (inr (inr (inr (inr (inr (inr h)))))) = wider 18 21 1 21 fault (refused-status request plan_file data_file fault h) (omega arith) (omega arith)
-
--- ## Exactly where
-
-apart : (a b c d : ℕ) (fault : Fault) → StatusIn a b fault → StatusIn c d fault → (b < c) ⊎ (d < a) → ⊥
-apart a b c d fault p q (inl h) = omega (arith, p.0, p.1, q.0, q.1, h)
-apart a b c d fault p q (inr h) = omega (arith, p.0, p.1, q.0, q.1, h)
-
-not-own : (request : Option Request) (plan_file data_file : File) (fault : Fault) (low high : ℕ) → high < 22 → StatusIn low high fault → OwnCause request plan_file data_file fault → ⊥
-not-own request plan_file data_file fault low high below s h = apart 22 24 low high fault (own-status request plan_file data_file fault h) s (inr below)
-
-module _ (request : Option Request) (plan_file data_file : File) (fault : Fault) where
-  pub where-absent : StatusIn 2 2 fault → Cause request plan_file data_file fault → Absent request plan_file data_file fault
-  where-absent s (inl h) = absurd (apart 1 1 2 2 fault (usage-status fault h.1) s (inl (omega arith)))
-  where-absent s (inr (inl h)) = h
-  where-absent s (inr (inr (inl h))) = absurd (apart 6 8 2 2 fault (no_plan-status request plan_file fault h) s (inr (omega arith)))
-  where-absent s (inr (inr (inr (inl h)))) = absurd (apart 9 9 2 2 fault (misfits-status request plan_file data_file fault h) s (inr (omega arith)))
-  where-absent s (inr (inr (inr (inr (inl h))))) = absurd (apart 10 16 2 2 fault (no_header-status request plan_file data_file fault h) s (inr (omega arith)))
-  where-absent s (inr (inr (inr (inr (inr (inl h)))))) = absurd (apart 17 17 2 2 fault (cut-status request plan_file data_file fault h) s (inr (omega arith)))
-  where-absent s (inr (inr (inr (inr (inr (inr h)))))) = absurd (apart 18 21 2 2 fault (refused-status request plan_file data_file fault h) s (inr (omega arith)))
-
-  pub where-no_plan : StatusIn 6 8 fault → Cause request plan_file data_file fault → NoPlan request plan_file fault
-  where-no_plan s (inl h) = absurd (apart 1 1 6 8 fault (usage-status fault h.1) s (inl (omega arith)))
-  where-no_plan s (inr (inl h)) = absurd (apart 2 2 6 8 fault (absent-status request plan_file data_file fault h) s (inl (omega arith)))
-  where-no_plan s (inr (inr (inl h))) = h
-  where-no_plan s (inr (inr (inr (inl h)))) = absurd (apart 9 9 6 8 fault (misfits-status request plan_file data_file fault h) s (inr (omega arith)))
-  where-no_plan s (inr (inr (inr (inr (inl h))))) = absurd (apart 10 16 6 8 fault (no_header-status request plan_file data_file fault h) s (inr (omega arith)))
-  where-no_plan s (inr (inr (inr (inr (inr (inl h)))))) = absurd (apart 17 17 6 8 fault (cut-status request plan_file data_file fault h) s (inr (omega arith)))
-  where-no_plan s (inr (inr (inr (inr (inr (inr h)))))) = absurd (apart 18 21 6 8 fault (refused-status request plan_file data_file fault h) s (inr (omega arith)))
-
-  pub where-misfits : StatusIn 9 9 fault → Cause request plan_file data_file fault → Misfits request plan_file data_file fault
-  where-misfits s (inl h) = absurd (apart 1 1 9 9 fault (usage-status fault h.1) s (inl (omega arith)))
-  where-misfits s (inr (inl h)) = absurd (apart 2 2 9 9 fault (absent-status request plan_file data_file fault h) s (inl (omega arith)))
-  where-misfits s (inr (inr (inl h))) = absurd (apart 6 8 9 9 fault (no_plan-status request plan_file fault h) s (inl (omega arith)))
-  where-misfits s (inr (inr (inr (inl h)))) = h
-  where-misfits s (inr (inr (inr (inr (inl h))))) = absurd (apart 10 16 9 9 fault (no_header-status request plan_file data_file fault h) s (inr (omega arith)))
-  where-misfits s (inr (inr (inr (inr (inr (inl h)))))) = absurd (apart 17 17 9 9 fault (cut-status request plan_file data_file fault h) s (inr (omega arith)))
-  where-misfits s (inr (inr (inr (inr (inr (inr h)))))) = absurd (apart 18 21 9 9 fault (refused-status request plan_file data_file fault h) s (inr (omega arith)))
-
-  pub where-no_header : StatusIn 10 16 fault → Cause request plan_file data_file fault → NoHeader request plan_file data_file fault
-  where-no_header s (inl h) = absurd (apart 1 1 10 16 fault (usage-status fault h.1) s (inl (omega arith)))
-  where-no_header s (inr (inl h)) = absurd (apart 2 2 10 16 fault (absent-status request plan_file data_file fault h) s (inl (omega arith)))
-  where-no_header s (inr (inr (inl h))) = absurd (apart 6 8 10 16 fault (no_plan-status request plan_file fault h) s (inl (omega arith)))
-  where-no_header s (inr (inr (inr (inl h)))) = absurd (apart 9 9 10 16 fault (misfits-status request plan_file data_file fault h) s (inl (omega arith)))
-  where-no_header s (inr (inr (inr (inr (inl h))))) = h
-  where-no_header s (inr (inr (inr (inr (inr (inl h)))))) = absurd (apart 17 17 10 16 fault (cut-status request plan_file data_file fault h) s (inr (omega arith)))
-  where-no_header s (inr (inr (inr (inr (inr (inr h)))))) = absurd (apart 18 21 10 16 fault (refused-status request plan_file data_file fault h) s (inr (omega arith)))
-
-  pub where-cut : StatusIn 17 17 fault → Cause request plan_file data_file fault → Cut request plan_file data_file fault
-  where-cut s (inl h) = absurd (apart 1 1 17 17 fault (usage-status fault h.1) s (inl (omega arith)))
-  where-cut s (inr (inl h)) = absurd (apart 2 2 17 17 fault (absent-status request plan_file data_file fault h) s (inl (omega arith)))
-  where-cut s (inr (inr (inl h))) = absurd (apart 6 8 17 17 fault (no_plan-status request plan_file fault h) s (inl (omega arith)))
-  where-cut s (inr (inr (inr (inl h)))) = absurd (apart 9 9 17 17 fault (misfits-status request plan_file data_file fault h) s (inl (omega arith)))
-  where-cut s (inr (inr (inr (inr (inl h))))) = absurd (apart 10 16 17 17 fault (no_header-status request plan_file data_file fault h) s (inl (omega arith)))
-  where-cut s (inr (inr (inr (inr (inr (inl h)))))) = h
-  where-cut s (inr (inr (inr (inr (inr (inr h)))))) = absurd (apart 18 21 17 17 fault (refused-status request plan_file data_file fault h) s (inr (omega arith)))
-
-  pub where-refused : StatusIn 18 21 fault → Cause request plan_file data_file fault → Refused request plan_file data_file fault
-  where-refused s (inl h) = absurd (apart 1 1 18 21 fault (usage-status fault h.1) s (inl (omega arith)))
-  where-refused s (inr (inl h)) = absurd (apart 2 2 18 21 fault (absent-status request plan_file data_file fault h) s (inl (omega arith)))
-  where-refused s (inr (inr (inl h))) = absurd (apart 6 8 18 21 fault (no_plan-status request plan_file fault h) s (inl (omega arith)))
-  where-refused s (inr (inr (inr (inl h)))) = absurd (apart 9 9 18 21 fault (misfits-status request plan_file data_file fault h) s (inl (omega arith)))
-  where-refused s (inr (inr (inr (inr (inl h))))) = absurd (apart 10 16 18 21 fault (no_header-status request plan_file data_file fault h) s (inl (omega arith)))
-  where-refused s (inr (inr (inr (inr (inr (inl h)))))) = absurd (apart 17 17 18 21 fault (cut-status request plan_file data_file fault h) s (inl (omega arith)))
-  where-refused s (inr (inr (inr (inr (inr (inr h)))))) = h
-
-pub exactly-words : (request : Option Request) (plan_file data_file : File) → EndsWithFault request plan_file data_file Usage ↔ (request ≡ None)
-exactly-words request plan_file data_file = (λ e. where-words (fault-cause request plan_file data_file Usage (not-own request plan_file data_file Usage 1 1 (omega arith) one) e), λ e. by request e)
-  where
-    one : StatusIn 1 1 Usage
-    one = (omega arith, omega arith)
-
-    where-words : Cause request plan_file data_file Usage → request ≡ None
-    where-words (inl h) = h.0
-    where-words (inr (inl h)) = absurd (apart 2 2 1 1 Usage (absent-status request plan_file data_file Usage h) one (inr (omega arith)))
-    where-words (inr (inr (inl h))) = absurd (apart 6 8 1 1 Usage (no_plan-status request plan_file Usage h) one (inr (omega arith)))
-    where-words (inr (inr (inr (inl h)))) = absurd (apart 9 9 1 1 Usage (misfits-status request plan_file data_file Usage h) one (inr (omega arith)))
-    where-words (inr (inr (inr (inr (inl h))))) = absurd (apart 10 16 1 1 Usage (no_header-status request plan_file data_file Usage h) one (inr (omega arith)))
-    where-words (inr (inr (inr (inr (inr (inl h)))))) = absurd (apart 17 17 1 1 Usage (cut-status request plan_file data_file Usage h) one (inr (omega arith)))
-    where-words (inr (inr (inr (inr (inr (inr h)))))) = absurd (apart 18 21 1 1 Usage (refused-status request plan_file data_file Usage h) one (inr (omega arith)))
-
-    by : (request : Option Request) → request ≡ None → EndsWithFault request plan_file data_file Usage
-    by None e = ends-by None plan_file data_file (refused Usage) Usage refl refl
-    by (Some other) e = cc
-
-module _ (request : Option Request) (plan_file data_file : File) (fault : Fault) where
-  pub exactly-absent : StatusIn 2 2 fault → EndsWithFault request plan_file data_file fault ↔ Absent request plan_file data_file fault
-  exactly-absent s = (λ e. where-absent request plan_file data_file fault s (fault-cause request plan_file data_file fault (not-own request plan_file data_file fault 2 2 (omega arith) s) e), absent-ends request plan_file data_file fault)
-
-  pub exactly-no_plan : StatusIn 6 8 fault → EndsWithFault request plan_file data_file fault ↔ NoPlan request plan_file fault
-  exactly-no_plan s = (λ e. where-no_plan request plan_file data_file fault s (fault-cause request plan_file data_file fault (not-own request plan_file data_file fault 6 8 (omega arith) s) e), no_plan-ends request plan_file data_file fault)
-
-  pub exactly-misfits : StatusIn 9 9 fault → EndsWithFault request plan_file data_file fault ↔ Misfits request plan_file data_file fault
-  exactly-misfits s = (λ e. where-misfits request plan_file data_file fault s (fault-cause request plan_file data_file fault (not-own request plan_file data_file fault 9 9 (omega arith) s) e), misfits-ends request plan_file data_file fault)
-
-  pub exactly-no_header : StatusIn 10 16 fault → EndsWithFault request plan_file data_file fault ↔ NoHeader request plan_file data_file fault
-  exactly-no_header s = (λ e. where-no_header request plan_file data_file fault s (fault-cause request plan_file data_file fault (not-own request plan_file data_file fault 10 16 (omega arith) s) e), no_header-ends request plan_file data_file fault)
-
-  pub exactly-cut : StatusIn 17 17 fault → EndsWithFault request plan_file data_file fault ↔ Cut request plan_file data_file fault
-  exactly-cut s = (λ e. where-cut request plan_file data_file fault s (fault-cause request plan_file data_file fault (not-own request plan_file data_file fault 17 17 (omega arith) s) e), cut-ends request plan_file data_file fault)
-
-  pub exactly-refused : StatusIn 18 21 fault → EndsWithFault request plan_file data_file fault ↔ Refused request plan_file data_file fault
-  exactly-refused s = (λ e. where-refused request plan_file data_file fault s (fault-cause request plan_file data_file fault (not-own request plan_file data_file fault 18 21 (omega arith) s) e), refused-ends request plan_file data_file fault)
-
-  pub exactly-untraced : StatusIn 22 22 fault → EndsWithFault request plan_file data_file fault ↔ Untraced request plan_file fault
-  exactly-untraced s = (λ e. where-untraced s (any-cause request plan_file data_file fault e), untraced-ends request plan_file data_file fault)
-    where
-      where-untraced : StatusIn 22 22 fault → AnyCause request plan_file data_file fault → Untraced request plan_file fault
-      where-untraced s (inl h) = absurd (apart 1 21 22 22 fault (shared-status request plan_file data_file fault h) s (inl (omega arith)))
-      where-untraced s (inr (inl h)) = h
-      where-untraced s (inr (inr (inl h))) = absurd (apart 23 23 22 22 fault (ungrouped-status request plan_file fault h) s (inr (omega arith)))
-      where-untraced s (inr (inr (inr h))) = absurd (apart 24 24 22 22 fault (late-status request plan_file data_file fault h) s (inr (omega arith)))
-
-  pub exactly-ungrouped : StatusIn 23 23 fault → EndsWithFault request plan_file data_file fault ↔ Ungrouped request plan_file fault
-  exactly-ungrouped s = (λ e. where-ungrouped s (any-cause request plan_file data_file fault e), ungrouped-ends request plan_file data_file fault)
-    where
-      where-ungrouped : StatusIn 23 23 fault → AnyCause request plan_file data_file fault → Ungrouped request plan_file fault
-      where-ungrouped s (inl h) = absurd (apart 1 21 23 23 fault (shared-status request plan_file data_file fault h) s (inl (omega arith)))
-      where-ungrouped s (inr (inl h)) = absurd (apart 22 22 23 23 fault (untraced-status request plan_file fault h) s (inl (omega arith)))
-      where-ungrouped s (inr (inr (inl h))) = h
-      where-ungrouped s (inr (inr (inr h))) = absurd (apart 24 24 23 23 fault (late-status request plan_file data_file fault h) s (inr (omega arith)))
-
-  pub exactly-late : StatusIn 24 24 fault → EndsWithFault request plan_file data_file fault ↔ TooLate request plan_file data_file fault
-  exactly-late s = (λ e. where-late s (any-cause request plan_file data_file fault e), late-ends request plan_file data_file fault)
-    where
-      where-late : StatusIn 24 24 fault → AnyCause request plan_file data_file fault → TooLate request plan_file data_file fault
-      where-late s (inl h) = absurd (apart 1 21 24 24 fault (shared-status request plan_file data_file fault h) s (inl (omega arith)))
-      where-late s (inr (inl h)) = absurd (apart 22 22 24 24 fault (untraced-status request plan_file fault h) s (inl (omega arith)))
-      where-late s (inr (inr (inl h))) = absurd (apart 23 23 24 24 fault (ungrouped-status request plan_file fault h) s (inl (omega arith)))
-      where-late s (inr (inr (inr h))) = h
-
--- ## The statuses of each command
-
-no-own : ⊥ ⊎ (⊥ ⊎ ⊥) → ⊥
-no-own (inl none) = none
-no-own (inr (inl none)) = none
-no-own (inr (inr none)) = none
-
--- of a command by a plan
-shared-in : (request : Request) (plan_file data_file : File) (fault : Fault) → Cause (Some request) plan_file data_file fault → StatusIn 2 2 fault ⊎ StatusIn 6 21 fault
-shared-in request plan_file data_file fault (inl h) = cc
-shared-in request plan_file data_file fault (inr (inl h)) = inl (absent-status (Some request) plan_file data_file fault h)
-shared-in request plan_file data_file fault (inr (inr (inl h))) = inr (wider 6 8 6 21 fault (no_plan-status (Some request) plan_file fault h) (omega arith) (omega arith))
-shared-in request plan_file data_file fault (inr (inr (inr (inl h)))) = inr (wider 9 9 6 21 fault (misfits-status (Some request) plan_file data_file fault h) (omega arith) (omega arith))
-shared-in request plan_file data_file fault (inr (inr (inr (inr (inl h))))) = inr (wider 10 16 6 21 fault (no_header-status (Some request) plan_file data_file fault h) (omega arith) (omega arith))
-shared-in request plan_file data_file fault (inr (inr (inr (inr (inr (inl h)))))) = inr (wider 17 17 6 21 fault (cut-status (Some request) plan_file data_file fault h) (omega arith) (omega arith))
-shared-in request plan_file data_file fault (inr (inr (inr (inr (inr (inr h)))))) = inr (wider 18 21 6 21 fault (refused-status (Some request) plan_file data_file fault h) (omega arith) (omega arith))
-
--- late events and reserved records are refused by no listing
-abbrev InLimits : Option Fault → Type 0
-InLimits None = Unit {0}
-InLimits (Some fault) = StatusIn 20 21 fault
-
-limits-in : (full reserved passing : Bool) (limit place word : ℕ) (late : Option Fault)
-    → InLimits (if full then Some (RecordLimit limit) else if reserved && false then Some (ReservedRecord place word) else if passing then Some (TimeLimit place) else if false then late else None)
-limits-in true reserved passing limit place word late = (omega arith, omega arith)
-limits-in false true true limit place word late = (omega arith, omega arith)
-limits-in false true false limit place word late = tt
-limits-in false false true limit place word late = (omega arith, omega arith)
-limits-in false false false limit place word late = tt
-
-listing-in : (header : Header) (before : List ℕ) (word : ℕ) → InLimits (refusal (listing header) before word)
-unfolding refusal
-listing-in header before word =
-    let how = listing header in
-    let records = map how.meaning before in
-    let raw = how.meaning word in
-    limits-in (nat_le how.policy.records (length records)) (is_reserved raw) (passes records raw) how.policy.records (length records + 1) word (late_refusal how.policy.settle how.mode (events records) (event_after records raw))
-
-listed-status : (header : Header) (behind : List ℕ) (fault : Fault) → RefusedIn (listing header) behind fault → StatusIn 20 21 fault
-listed-status header behind fault h = subst InLimits h.refused (listing-in header _ h.word)
-
-pub count-statuses : (file : List ℕ) (plan_file data_file : File) (fault : Fault) → EndsWithFault (Some (Count file)) plan_file data_file fault → StatusIn 2 2 fault ⊎ (StatusIn 10 17 fault ⊎ StatusIn 20 20 fault)
-count-statuses file plan_file data_file fault e = by (fault-cause (Some (Count file)) plan_file data_file fault no-own e)
-  where
-    by : Cause (Some (Count file)) plan_file data_file fault → StatusIn 2 2 fault ⊎ (StatusIn 10 17 fault ⊎ StatusIn 20 20 fault)
-    by (inl h) = cc
-    by (inr (inl h)) = inl (absent-status (Some (Count file)) plan_file data_file fault h)
-    by (inr (inr (inl h))) = absurd h
-    by (inr (inr (inr (inl h)))) = absurd h
-    by (inr (inr (inr (inr (inl h))))) = inr (inl (wider 10 16 10 17 fault (unheaded-status data_file fault h) (omega arith) (omega arith)))
-    by (inr (inr (inr (inr (inr (inl h)))))) = inr (inl (wider 17 17 10 17 fault (cut_behind-status h.1 fault h.3.2) (omega arith) (omega arith)))
-    by (inr (inr (inr (inr (inr (inr h)))))) = inr (inr (range-as 20 20 fault _ h.3.1 (omega arith, omega arith)))
-
-pub header-statuses : (file : List ℕ) (plan_file data_file : File) (fault : Fault) → EndsWithFault (Some (HeaderOf file)) plan_file data_file fault → StatusIn 2 2 fault ⊎ StatusIn 10 16 fault
-header-statuses file plan_file data_file fault e = by (fault-cause (Some (HeaderOf file)) plan_file data_file fault no-own e)
-  where
-    by : Cause (Some (HeaderOf file)) plan_file data_file fault → StatusIn 2 2 fault ⊎ StatusIn 10 16 fault
-    by (inl h) = cc
-    by (inr (inl h)) = inl (absent-status (Some (HeaderOf file)) plan_file data_file fault h)
-    by (inr (inr (inl h))) = absurd h
-    by (inr (inr (inr (inl h)))) = absurd h
-    by (inr (inr (inr (inr (inl h))))) = inr (unheaded-status data_file fault h)
-    by (inr (inr (inr (inr (inr (inl h)))))) = absurd h
-    by (inr (inr (inr (inr (inr (inr h)))))) = absurd h
-
-pub events-statuses : (file : List ℕ) (plan_file data_file : File) (fault : Fault) → EndsWithFault (Some (Events file)) plan_file data_file fault → StatusIn 2 2 fault ⊎ (StatusIn 10 17 fault ⊎ StatusIn 20 21 fault)
-events-statuses file plan_file data_file fault e = by (fault-cause (Some (Events file)) plan_file data_file fault no-own e)
-  where
-    by : Cause (Some (Events file)) plan_file data_file fault → StatusIn 2 2 fault ⊎ (StatusIn 10 17 fault ⊎ StatusIn 20 21 fault)
-    by (inl h) = cc
-    by (inr (inl h)) = inl (absent-status (Some (Events file)) plan_file data_file fault h)
-    by (inr (inr (inl h))) = absurd h
-    by (inr (inr (inr (inl h)))) = absurd h
-    by (inr (inr (inr (inr (inl h))))) = inr (inl (wider 10 16 10 17 fault (unheaded-status data_file fault h) (omega arith) (omega arith)))
-    by (inr (inr (inr (inr (inr (inl h)))))) = inr (inl (wider 17 17 10 17 fault (cut_behind-status h.1 fault h.3.2) (omega arith) (omega arith)))
-    by (inr (inr (inr (inr (inr (inr h)))))) = inr (inr (listed-status h.0 h.1 fault h.3))
-
-pub run-statuses : (plan_name file : List ℕ) (plan_file data_file : File) (fault : Fault) → EndsWithFault (Some (Run plan_name file)) plan_file data_file fault → StatusIn 2 2 fault ⊎ StatusIn 6 21 fault
-run-statuses plan_name file plan_file data_file fault e = shared-in (Run plan_name file) plan_file data_file fault (fault-cause (Some (Run plan_name file)) plan_file data_file fault no-own e)
-
-pub trace-statuses : (plan_name file : List ℕ) (plan_file data_file : File) (fault : Fault) → EndsWithFault (Some (Trace plan_name file)) plan_file data_file fault → StatusIn 2 2 fault ⊎ StatusIn 6 22 fault
-trace-statuses plan_name file plan_file data_file fault e = by (any-cause (Some (Trace plan_name file)) plan_file data_file fault e)
-  where
-    from : StatusIn 2 2 fault ⊎ StatusIn 6 21 fault → StatusIn 2 2 fault ⊎ StatusIn 6 22 fault
-    from (inl s) = inl s
-    from (inr s) = inr (wider 6 21 6 22 fault s (omega arith) (omega arith))
-
-    by : AnyCause (Some (Trace plan_name file)) plan_file data_file fault → StatusIn 2 2 fault ⊎ StatusIn 6 22 fault
-    by (inl h) = from (shared-in (Trace plan_name file) plan_file data_file fault h)
-    by (inr (inl h)) = inr (wider 22 22 6 22 fault (untraced-status (Some (Trace plan_name file)) plan_file fault h) (omega arith) (omega arith))
-    by (inr (inr (inl none))) = absurd none
-    by (inr (inr (inr none))) = absurd none
-
-pub pick-statuses : (plan_name : List ℕ) (group : ℕ) (file : List ℕ) (plan_file data_file : File) (fault : Fault) → EndsWithFault (Some (Pick plan_name group file)) plan_file data_file fault → StatusIn 2 2 fault ⊎ (StatusIn 6 21 fault ⊎ StatusIn 23 24 fault)
-pick-statuses plan_name group file plan_file data_file fault e = by (any-cause (Some (Pick plan_name group file)) plan_file data_file fault e)
-  where
-    from : StatusIn 2 2 fault ⊎ StatusIn 6 21 fault → StatusIn 2 2 fault ⊎ (StatusIn 6 21 fault ⊎ StatusIn 23 24 fault)
-    from (inl s) = inl s
-    from (inr s) = inr (inl s)
-
-    by : AnyCause (Some (Pick plan_name group file)) plan_file data_file fault → StatusIn 2 2 fault ⊎ (StatusIn 6 21 fault ⊎ StatusIn 23 24 fault)
-    by (inl h) = from (shared-in (Pick plan_name group file) plan_file data_file fault h)
-    by (inr (inl none)) = absurd none
-    by (inr (inr (inl h))) = inr (inr (wider 23 23 23 24 fault (ungrouped-status (Some (Pick plan_name group file)) plan_file fault h) (omega arith) (omega arith)))
-    by (inr (inr (inr h))) = inr (inr (wider 24 24 23 24 fault (late-status (Some (Pick plan_name group file)) plan_file data_file fault h) (omega arith) (omega arith)))
-
-pub demo-statuses : (seed count : ℕ) (plan_file data_file : File) (fault : Fault) → EndsWithFault (Some (Demo seed count)) plan_file data_file fault → ⊥
-unfolding outcome
-demo-statuses seed count plan_file data_file fault e = cc
-
-pub no_words-statuses : (plan_file data_file : File) (fault : Fault) → EndsWithFault None plan_file data_file fault → fault ≡ Usage
-unfolding outcome
-no_words-statuses plan_file data_file fault e = some-same fault Usage (sym e)
+    by (inl soon) (inl none) = inl (well (record { unrefused = h.7; whole = h.8; in_time = none }))

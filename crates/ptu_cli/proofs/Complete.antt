@@ -19,7 +19,8 @@ use Rattle.ptu_cli.proofs.ByteFaults.{IsOfBytes}
 use Rattle.ptu_cli.proofs.RunFaults.{plan_answer-bytes}
 use Rattle.ptu_cli.proofs.PlanTold.{outcome-planned}
 use Rattle.ptu_cli.proofs.Answers.{files-map, holds-told}
-use Rattle.ptu_cli.proofs.Sound.{WorkIsSound, IsSound, sound}
+use Rattle.ptu_cli.proofs.Sound.{WorkIsSound, IsSound}
+use Rattle.ptu_cli.proofs.Proved.{sound}
 
 -- ## Good files
 

@@ -35,7 +35,11 @@ pub mod PickPhotons
 pub mod PickCases
 pub mod PickShown
 pub mod PickFaults
+pub mod Prints
+pub mod CaseShapes
+pub mod FaultStatuses
 pub mod Cases
+pub mod Proved
 pub mod Causes
 pub mod Shown
 pub mod Statuses

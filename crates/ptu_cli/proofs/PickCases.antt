@@ -1,37 +1,33 @@
 -- What `pick` ends with is what the table of cases calls for.
-use Rattle.std.proofs.Common.{◌≡◌, ◌≢◌, ◌∙◌, ◌≤◌, ℕ, List, [], ◌∷◌, ◌++◌, length, Bool, true, false, None, Some, Ok, Err, refl, sym, ap, subst, inl, inr, append_assoc, append-nil, arith}
-use Rattle.std.specs.Prelude.{◌⊎◌, ◌==◌, ◌&&◌, nat_le, Result, if◌then◌else◌}
+use Rattle.std.proofs.Common.{◌≡◌, ℕ, List, [], ◌∷◌, ◌++◌, length, Bool, true, false, None, Some, Err, refl, sym, ap, ◌∙◌, subst, inl, inr, ◌≢◌, ◌≤◌, append-nil, arith, append_assoc}
+use Rattle.std.specs.Prelude.{◌⊎◌, ◌==◌, nat_le, if◌then◌else◌, ◌&&◌}
 use Rattle.std.specs.declared.option.Option.{Option}
 use Rattle.std.proofs.lemmas.Bool.Decides.{nat_tests}
-use Rattle.toml.specs.Data.{table}
-use Rattle.tally_base.specs.declared.event.Event.{Event}
 use Rattle.tally_base.specs.declared.fault.Fault.{Fault}
 use Rattle.tally_base.specs.declared.fault.Fault.TheVariants.{TruncatedRecord, NoGroup, PickTime}
 use Rattle.tally_base.specs.declared.header.Header.{Header}
 use Rattle.tally_base.specs.Faults.{fault_in}
-use Rattle.tally_base.specs.RecordTypes.{mode_of}
-use Rattle.bench_io.specs.Inputs.{File}
-use Rattle.ptu_definitions.specs.Firsts.{IsFirst}
-use Rattle.ptu_definitions.specs.Streams.{Reading, record_refusal}
+use Rattle.tally_base.specs.declared.event.Event.{Event}
 use Rattle.ptu_definitions.specs.Words.{words_of, rest_of}
+use Rattle.ptu_definitions.specs.Firsts.{IsFirst}
+use Rattle.ptu_definitions.specs.Streams.{Reading, record_refusal, refusal}
 use Rattle.ptu_definitions.proofs.Firsts.{first-refusal, refused-first, none-refused}
 use Rattle.record_stream.proofs.Lasts.{streamed-refused}
-use Rattle.plan_text.specs.Plan.{PlanView, plan}
-use Rattle.plan_text.specs.Reading.{plan_answer}
-use Rattle.plan_text.specs.Fits.{fits}
-use Rattle.plan_text.proofs.Called.{called, valid, answers, plans}
-use Rattle.plan_text.proofs.Misfits.{misfit_named, is_first}
+use Rattle.plan_text.specs.Plan.{PlanView}
 use Rattle.tally_engine.specs.Plans.{reading_by}
 use Rattle.photon_pick.specs.Late.{too_late}
 use Rattle.photon_pick.specs.Ends.{photons_by}
 use Rattle.photon_pick.specs.Texts.{photons_in}
-use Rattle.ptu_cli.specs.Outcomes.{Outcome}
 use Rattle.ptu_cli.specs.PickOutcomes.{no_group, chosen_by, records_picked, picked_if_fits, picked_behind}
+use Rattle.ptu_cli.specs.Causes.{StatusIn}
+use Rattle.ptu_cli.specs.Outcomes.{Outcome}
 use Rattle.ptu_cli.specs.Behaviours.{picking}
-use Rattle.ptu_cli.specs.Endings.{on_file, unless, by_plan}
-use Rattle.ptu_cli.specs.Cases.{FileCase, HeaderCase, NoneRefused, HasGroup, settled_photons, kept_photons, FirstLate, LateAtRecord, LateAtEnd, RefusedInTime, CutInTime, AllPicked, pick_end, PickedCase, PickCase, PlannedPick, PickPlanCase}
-use Rattle.ptu_cli.proofs.CaseSteps.{empty-true, empty-false, true-empty, false-empty, file-holds, file-only, header-holds, header-only, whole_answer, streamed-clear, not_fit}
-use Rattle.ptu_cli.proofs.PickPhotons.{picked_end, none-or-late, late-more, end-late, end-in_time, in-settled, in-before, least-late, clear-front, late-ends, all-end}
+use Rattle.ptu_cli.specs.Cases.{NoneRefused, HasGroup, settled_photons, kept_photons, FirstLate, LateAtRecord, LateAtEnd, RefusedInTime, SettledInTime, AllPicked, pick_end, PickedCase}
+use Rattle.ptu_cli.specs.CommandCases.{IsIn, NamesLate, pick_cases, Lacks, Needs}
+use Rattle.ptu_cli.proofs.FaultStatuses.{some-same, of-written, of-end, range-as, wider, least-status}
+use Rattle.ptu_cli.proofs.CaseShapes.{RecordCause, NeedTold, PlanTold}
+use Rattle.ptu_cli.proofs.PickPhotons.{late-ends, none-or-late, late-more, picked_end, end-late, end-in_time, in-settled, in-before, least-late, clear-front, all-end}
+use Rattle.ptu_cli.proofs.CaseSteps.{empty-true, empty-false, true-empty, false-empty, whole_answer, streamed-clear}
 
 -- ## The records
 
@@ -85,12 +81,12 @@ module _ (view : PlanView) (group : ℕ) (header : Header) (behind : List ℕ) w
   clear-end : record_refusal how words ≡ None → (whole : Bool) → (length (rest_of behind) == 0) ≡ whole → whole_end ≡ picked_end how.mode (photons_by chooses how words (whole_answer how behind whole)) (fault_in (whole_answer how behind whole))
   clear-end none whole is = all-end chooses how behind (whole_answer how behind whole) (streamed-clear how behind none ∙ ap (whole_answer how behind) is)
 
-  cut-end : (cut : CutInTime view group header behind) → whole_end ≡ pick_end header (settled words) (Some (TruncatedRecord (length (rest_of behind))))
-  cut-end cut =
-      let none = (none-refused how words).1 cut.unrefused in
-      clear-end none false (false-empty (rest_of behind) cut.cut)
+  cut-end : SettledInTime view group header words → rest_of behind ≢ [] → whole_end ≡ pick_end header (settled words) (Some (TruncatedRecord (length (rest_of behind))))
+  cut-end soon cut =
+      let none = (none-refused how words).1 soon.unrefused in
+      clear-end none false (false-empty (rest_of behind) cut)
       ∙ ap (λ ps. picked_end how.mode ps (Some (TruncatedRecord (length (rest_of behind))))) (in-settled chooses how words none)
-      ∙ end-in_time how.mode (settled words) (Some (TruncatedRecord (length (rest_of behind)))) cut.in_time
+      ∙ end-in_time how.mode (settled words) (Some (TruncatedRecord (length (rest_of behind)))) soon.in_time
 
   late-last : (late : LateAtEnd view group header behind) → whole_end ≡ pick_end header late.first.before (Some (PickTime late.first.photon.place))
   late-last late = clear-end ((none-refused how words).1 late.unrefused) true (true-empty (rest_of behind) late.whole) ∙ end-late how.mode kept None late.first
@@ -107,7 +103,7 @@ module _ (view : PlanView) (group : ℕ) (header : Header) (behind : List ℕ) w
 
       left : NoneRefused how words → rest_of behind ≢ [] → (too_late how.mode (settled words) ≡ []) ⊎ FirstLate how.mode (settled words) → PickedCase view group header behind whole_end
       left clear some (inr h) = let late = first-settled words [] (sym (append-nil words)) clear h in inl (late, late-first late)
-      left clear some (inl none) = let cut : CutInTime view group header behind = record { unrefused = clear; cut = some; in_time = none } in inr (inr (inl (cut, cut-end cut)))
+      left clear some (inl none) = let soon : SettledInTime view group header words = record { unrefused = clear; in_time = none } in inr (inr (inl (soon, some, cut-end soon some)))
 
       whole : NoneRefused how words → rest_of behind ≡ [] → (too_late how.mode (settled words) ≡ []) ⊎ FirstLate how.mode (settled words) → (too_late how.mode kept ≡ []) ⊎ FirstLate how.mode kept → PickedCase view group header behind whole_end
       whole clear all (inr s) h = let late = first-settled words [] (sym (append-nil words)) clear s in inl (late, late-first late)
@@ -125,33 +121,11 @@ module _ (view : PlanView) (group : ℕ) (header : Header) (behind : List ℕ) w
   picked-only : (end : Outcome) → PickedCase view group header behind end → whole_end ≡ end
   picked-only end (inl h) = late-first h.0 ∙ sym h.1
   picked-only end (inr (inl h)) = refused-end h.0 h.1 ∙ sym h.2
-  picked-only end (inr (inr (inl h))) = cut-end h.0 ∙ sym h.1
+  picked-only end (inr (inr (inl h))) = cut-end h.0 h.1 ∙ sym h.2
   picked-only end (inr (inr (inr (inl h)))) = late-last h.0 ∙ sym h.1
   picked-only end (inr (inr (inr (inr h)))) = all-picked h.0 ∙ sym h.1
 
--- ## The header and the plan
-
-module _ (group : ℕ) (view : PlanView) where
-  pick-holds : (header : Header) (behind : List ℕ) → PickCase group view header behind (picked_if_fits view group header behind (fits (mode_of header.record_type) view))
-  pick-holds header behind = by (fits (mode_of header.record_type) view) refl
-    where
-      by : (r : Result (Unit {0}) Fault) → fits (mode_of header.record_type) view ≡ r → PickCase group view header behind (picked_if_fits view group header behind r)
-      by (Err fault) e = inl (fault, misfit_named (mode_of header.record_type) view fault e, refl)
-      by (Ok done) e = inr (λ fault misfit. not_fit fault (sym e ∙ is_first (mode_of header.record_type) view fault misfit), picked-holds view group header behind)
-
-  pick-only : (header : Header) (behind : List ℕ) (end : Outcome) → PickCase group view header behind end → picked_if_fits view group header behind (fits (mode_of header.record_type) view) ≡ end
-  pick-only header behind end (inl h) = ap (picked_if_fits view group header behind) (is_first (mode_of header.record_type) view h.0 h.1) ∙ sym h.2
-  pick-only header behind end (inr h) = by (fits (mode_of header.record_type) view) refl
-    where
-      by : (r : Result (Unit {0}) Fault) → fits (mode_of header.record_type) view ≡ r → picked_if_fits view group header behind r ≡ end
-      by (Err fault) e = absurd (h.0 fault (misfit_named (mode_of header.record_type) view fault e))
-      by (Ok done) e = picked-only view group header behind end h.1
-
-  file-pick : (data_file : File) → FileCase (HeaderCase (PickCase group view)) data_file (on_file (picking group view) data_file)
-  file-pick data_file = file-holds (picking group view) (HeaderCase (PickCase group view)) (header-holds (picked_behind view group) (PickCase group view) (λ fault. refl) pick-holds) data_file
-
-  file-picked : (data_file : File) (end : Outcome) → FileCase (HeaderCase (PickCase group view)) data_file end → on_file (picking group view) data_file ≡ end
-  file-picked data_file end h = file-only (picking group view) (HeaderCase (PickCase group view)) (header-only (picked_behind view group) (PickCase group view) (λ fault. refl) pick-only) data_file end h
+-- ## The group
 
 abbrev unless_has : ℕ → Bool → Option Fault
 unless_has group has = if has then None else Some (NoGroup group)
@@ -179,31 +153,74 @@ has-none group view h = ap (unless_has group) (true-has group (length view.group
 pub no-some : (group : ℕ) (view : PlanView) → (HasGroup group view → ⊥) → no_group group view ≡ Some (NoGroup group)
 no-some group view never = ap (unless_has group) (false-has group (length view.groups) never)
 
-planned-holds : (group : ℕ) (view : PlanView) (data_file : File) → PlannedPick group view data_file (unless (no_group group view) (on_file (picking group view) data_file))
-planned-holds group view data_file = by (has_group group view) refl
+-- ## What is told
+
+picked-cause : (group : ℕ) (view : PlanView) (header : Header) (behind : List ℕ) (end : Outcome) (fault : Fault) → PickedCase view group header behind end → end.fault ≡ Some fault → RecordCause (pick_cases group view) header behind fault
+picked-cause group view header behind end fault (inl h) e = inr (inr (inl (h.0, of-end end _ _ fault h.1 e)))
+picked-cause group view header behind end fault (inr (inl h)) e = inr (inl (subst (RefusedInTime view group header (words_of behind)) (sym (of-end end _ h.0 fault h.2 e)) h.1))
+picked-cause group view header behind end fault (inr (inr (inl h))) e = inl (h.0, h.1, of-end end _ _ fault h.2 e)
+picked-cause group view header behind end fault (inr (inr (inr (inl h)))) e = inr (inr (inr (h.0, of-end end _ _ fault h.1 e)))
+picked-cause group view header behind end fault (inr (inr (inr (inr h)))) e = absurd (of-written end _ fault h.1 e)
+
+module _ (group : ℕ) (view : PlanView) (header : Header) (behind : List ℕ) (fault : Fault) where
+  abbrev Ends : Type 0
+  Ends = (end : Outcome) × PickedCase view group header behind end × (end.fault ≡ Some fault)
+
+  abbrev with_photons : List Event → Fault → Outcome
+  with_photons photons own = pick_end header photons (Some own)
+
+  names-ends : NamesLate group view header behind fault → Ends
+  names-ends (inl late) = (with_photons late.0.first.before fault, inl (late.0, ap (with_photons late.0.first.before) late.1), refl)
+  names-ends (inr late) = (with_photons late.0.first.before fault, inr (inr (inr (inl (late.0, ap (with_photons late.0.first.before) late.1)))), refl)
+
+  picked-ends : RecordCause (pick_cases group view) header behind fault → Ends
+  picked-ends (inl cut) =
+      let photons = settled_photons view group header (words_of behind) in
+      (with_photons photons fault, inr (inr (inl (cut.0, cut.1, ap (with_photons photons) cut.2))), refl)
+  picked-ends (inr (inl refusal)) = (with_photons (settled_photons view group header refusal.least.front) fault, inr (inl (fault, refusal, refl)), refl)
+  picked-ends (inr (inr late)) = names-ends late
+
+names-status : (group : ℕ) (view : PlanView) (header : Header) (behind : List ℕ) (fault : Fault) → NamesLate group view header behind fault → StatusIn 24 24 fault
+names-status group view header behind fault (inl late) = range-as 24 24 fault (PickTime late.0.first.photon.place) late.1 (omega arith, omega arith)
+names-status group view header behind fault (inr late) = range-as 24 24 fault (PickTime late.0.first.photon.place) late.1 (omega arith, omega arith)
+
+abbrev pub PickStatus : ℕ → Type 0
+PickStatus n = IsIn 18 21 n ⊎ IsIn 23 24 n
+
+group-needs : (group : ℕ) → NeedTold PickStatus (Needs (HasGroup group) (NoGroup group)) (no_group group)
+group-needs group = record {
+  has = λ view none. found view (has_group group view) refl none;
+  none = λ view has. has-none group view has;
+  lack = λ view fault e. lacking view fault (has_group group view) refl e;
+  some = λ view fault h. no-some group view h.0 ∙ ap Some (sym h.1);
+  status = λ view fault h. let s = range-as 23 23 fault (NoGroup group) h.1 (omega arith, omega arith) in (wider 23 23 22 23 fault s (omega arith) (omega arith), inr (wider 23 23 23 24 fault s (omega arith) (omega arith)));
+}
   where
-    by : (has : Bool) → has_group group view ≡ has → PlannedPick group view data_file (unless (unless_has group has) (on_file (picking group view) data_file))
-    by true e = inr (has-true group (length view.groups) e, file-pick group view data_file)
-    by false e = inl (λ has. let is = true-has group (length view.groups) has in cc, refl)
+    found : (view : PlanView) (has : Bool) → has_group group view ≡ has → unless_has group has ≡ None → HasGroup group view
+    found view true e none = has-true group (length view.groups) e
+    found view false e none = cc
 
-planned-only : (group : ℕ) (view : PlanView) (data_file : File) (end : Outcome) → PlannedPick group view data_file end → unless (no_group group view) (on_file (picking group view) data_file) ≡ end
-planned-only group view data_file end (inl h) = ap (λ lack. unless lack (on_file (picking group view) data_file)) (no-some group view h.0) ∙ sym h.1
-planned-only group view data_file end (inr h) = ap (λ lack. unless lack (on_file (picking group view) data_file)) (has-none group view h.0) ∙ file-picked group view data_file end h.1
+    lacking : (view : PlanView) (fault : Fault) (has : Bool) → has_group group view ≡ has → unless_has group has ≡ Some fault → Lacks (Needs (HasGroup group) (NoGroup group)) view fault
+    lacking view fault true e some = cc
+    lacking view fault false e some = (λ has. let is = true-has group (length view.groups) has in cc, some-same fault (NoGroup group) (sym some))
 
-module _ (group : ℕ) where
-  abbrev pick_plan_end : File → Result PlanView Fault → Outcome
-  pick_plan_end data_file r = by_plan (no_group group) (picking group) r data_file
-
-  pub pick_plan-holds : (text : List ℕ) (data_file : File) → PickPlanCase group (Some text) data_file (pick_plan_end data_file (plan_answer text))
-  pick_plan-holds text data_file = by (plan_answer text) refl
-    where
-      by : (r : Result PlanView Fault) → plan_answer text ≡ r → PickPlanCase group (Some text) data_file (pick_plan_end data_file (plan_answer text))
-      by (Err fault) e = let calls = called text fault e in inl (fault, calls.0, calls.1, ap (pick_plan_end data_file) e)
-      by (Ok view) e =
-          let good = valid text view e in
-          let same = plans text good.1 good good.2 in
-          inr (good.1, good, good.2, subst (λ r. PlannedPick group (plan (table good.1)) data_file (pick_plan_end data_file r)) (sym same) (planned-holds group (plan (table good.1)) data_file))
-
-  pub pick_plan-only : (text : List ℕ) (data_file : File) (end : Outcome) → PickPlanCase group (Some text) data_file end → pick_plan_end data_file (plan_answer text) ≡ end
-  pick_plan-only text data_file end (inl h) = ap (pick_plan_end data_file) (answers text h.0 (h.1, h.2)) ∙ sym h.3
-  pick_plan-only text data_file end (inr h) = ap (pick_plan_end data_file) (plans text h.0 h.1 h.2) ∙ planned-only group (plan (table h.0)) data_file end h.3
+pub pick-told : (group : ℕ) → PlanTold PickStatus (Needs (HasGroup group) (NoGroup group)) (pick_cases group) (no_group group) (picking group)
+pick-told group = record {
+  needs = group-needs group;
+  works = λ view has. record {
+    end_of = picked_behind view group;
+    fit_of = picked_if_fits view group;
+    is = λ bytes. refl;
+    fails = λ fault. refl;
+    headed = λ header behind. refl;
+    misfit = λ header behind fault. refl;
+    told = record {
+      holds = picked-holds view group;
+      only = picked-only view group;
+      cause = picked-cause group view;
+      ends = picked-ends group view;
+      refuses_status = λ header behind fault h. let s = least-status (reading_by view header) behind fault h.least in (s, inl s);
+      late_status = λ header behind fault h. let s = names-status group view header behind fault h in (s, inr (wider 24 24 23 24 fault s (omega arith) (omega arith)));
+    };
+  };
+}

@@ -1,10 +1,9 @@
 -- A header, and the photons that are picked of the records behind it.
-use Rattle.std.proofs.Common.{◌≡◌, ◌∙◌, ◌<◌, ◌≤◌, ℕ, List, [], ◌++◌, Bool, None, Some, Ok, Err, length, map, refl, sym, ap, subst, arith, append_assoc, append-nil}
+use Rattle.std.proofs.Common.{◌≡◌, ◌∙◌, ◌<◌, ◌≤◌, ℕ, List, [], ◌++◌, Bool, None, Some, Ok, Err, length, map, refl, sym, ap, subst, arith, append_assoc}
 use Rattle.std.specs.Prelude.{◌⊎◌, ◌&&◌, nat_le, true, false, Result, IfErr, if◌then◌else◌}
 use Rattle.std.specs.declared.option.Option.{Option}
 use Rattle.std.specs.Io.KnownBytes.{Appends, Consumes}
 use Rattle.std.proofs.lemmas.Bool.Decides.{nat_tests}
-use Rattle.std.proofs.lemmas.Grind.{common_steps}
 use Rattle.tally_base.specs.declared.event.Event.{Event}
 use Rattle.tally_base.specs.declared.fault.Fault.{Fault}
 use Rattle.tally_base.specs.declared.fault.Fault.TheVariants.{NoGroup}

@@ -1,27 +1,28 @@
--- What is shown of each command's work: good files end it well, and no end of it is that of a bad command line.
-use Rattle.std.proofs.Common.{◌≡◌, ℕ, List, length, false, None, Some, Ok, refl, sym, ap, ◌∙◌, arith}
-use Rattle.std.specs.Prelude.{◌≢◌, nat_lt}
+-- What is shown of each command's work: good files end it well, an end that its bytes show stays, and no end of it is that of a bad command line.
+use Rattle.std.proofs.Common.{◌≡◌, ℕ, List, length, false, None, Ok, refl, sym, ap, ◌∙◌, ◌≢◌, arith}
+use Rattle.std.specs.Prelude.{nat_lt}
 use Rattle.std.proofs.lemmas.Bool.Decides.{nat_tests}
-use Rattle.tally_base.specs.declared.header.RecordType.{RecordType}
 use Rattle.tally_base.specs.Faults.{fault_in}
+use Rattle.tally_base.specs.declared.header.RecordType.{RecordType}
 use Rattle.ptu_definitions.specs.Headers.{header_answer}
 use Rattle.ptu_definitions.specs.Words.{words_of}
 use Rattle.ptu_definitions.specs.Kinds.{counts_of}
-use Rattle.ptu_definitions.specs.Counted.{counted, records_of, record_limit}
+use Rattle.ptu_definitions.specs.Counted.{record_limit, records_of, counted}
 use Rattle.ptu_definitions.specs.Streams.{Reading, summary, streamed}
-use Rattle.plan_text.specs.Plan.{PlanView}
+use Rattle.plan_text.specs.Plan.{PlanView, plan}
 use Rattle.tally_engine.specs.Plans.{reading_by}
-use Rattle.ptu_cli.specs.Commands.{Request, Count, Header, Events, Run, Trace, Pick, Demo}
 use Rattle.ptu_cli.specs.Outcomes.{status, file_counts, listing}
-use Rattle.ptu_cli.specs.Behaviours.{Work, Behaviour, NoCommand, Alone, OnFile, ByPlan, AreWhole, AreRead, counting, printing, listing_all, reporting, tracing, picking, behaviour}
+use Rattle.ptu_cli.specs.Behaviours.{Work, GoesOnOrShows, Behaviour, AreWhole, AreRead, counting, printing, listing_all, reporting, tracing, picking, NoCommand, Alone, OnFile, ByPlan}
+use Rattle.ptu_cli.proofs.PickFaults.{pick-bytes}
+use Rattle.ptu_cli.proofs.TraceFaults.{trace-fault}
+use Rattle.ptu_cli.proofs.PickShown.{pick-shows}
 use Rattle.ptu_cli.proofs.ByteFaults.{header_answer-bytes, counts_behind-bytes, count_outcome-bytes, fault_in-bytes, events_behind-bytes}
+use Rattle.ptu_cli.proofs.Shown.{count-shows, print-shows, list-shows, report-shows, trace-shows}
 use Rattle.ptu_cli.proofs.RunFaults.{report-bytes}
-use Rattle.ptu_cli.specs.TraceOutcomes.{trace_of}
-use Rattle.ptu_cli.proofs.TraceFaults.{trace-fault, untraced-status}
-use Rattle.ptu_cli.proofs.PickFaults.{pick-bytes, ungrouped-status}
 
 pub record WorkIsSound (work : Work) : Type 0 where
   pub well : (bytes : List ℕ) → work.good bytes → (work.outcome bytes).fault ≡ None
+  pub shows : (bytes : List ℕ) → GoesOnOrShows work bytes
   pub no_usage : (bytes : List ℕ) → status (work.outcome bytes).fault ≢ 1
 
 -- what is shown of a command
@@ -41,47 +42,44 @@ streamed-read : (how : Reading) (behind : List ℕ) → AreRead how behind → s
 unfolding streamed
 streamed-read how behind h = rw (h.unrefused, h.whole) refl
 
-counting-sound : WorkIsSound counting
+pub counting-sound : WorkIsSound counting
 counting-sound = record {
   well = λ bytes h. rw (h.2, counted-whole h.0.record_type h.1 h.3) refl;
+  shows = count-shows;
   no_usage = λ bytes. count_outcome-bytes (file_counts bytes) (counts_behind-bytes (header_answer bytes) (header_answer-bytes bytes));
 }
 
-printing-sound : WorkIsSound printing
+pub printing-sound : WorkIsSound printing
 printing-sound = record {
   well = λ bytes h. rw h.2 refl;
+  shows = print-shows;
   no_usage = λ bytes. fault_in-bytes (header_answer bytes) (header_answer-bytes bytes);
 }
 
-listing-sound : WorkIsSound listing_all
+pub listing-sound : WorkIsSound listing_all
 listing-sound = record {
   well = λ bytes h. rw h.2 (ap fault_in (streamed-read (listing h.0) h.1 h.3));
+  shows = list-shows;
   no_usage = λ bytes. events_behind-bytes (header_answer bytes) (header_answer-bytes bytes);
 }
 
-reporting-sound : (view : PlanView) → WorkIsSound (reporting view)
+pub reporting-sound : (view : PlanView) → WorkIsSound (reporting view)
 reporting-sound view = record {
   well = λ bytes h. rw (h.2, h.3.0, streamed-read (reading_by view h.0) h.1 h.3.1) refl;
+  shows = report-shows view;
   no_usage = λ bytes. report-bytes view bytes;
 }
 
-tracing-sound : (view : PlanView) → WorkIsSound (tracing view)
+pub tracing-sound : (view : PlanView) → WorkIsSound (tracing view)
 tracing-sound view = record {
   well = λ bytes h. rw (h.2, h.3.0, streamed-read (reading_by view h.0) h.1 h.3.1) refl;
+  shows = trace-shows view;
   no_usage = λ bytes e. report-bytes view bytes (ap status (sym (trace-fault view bytes)) ∙ e);
 }
 
-picking-sound : (group : ℕ) (view : PlanView) → WorkIsSound (picking group view)
+pub picking-sound : (group : ℕ) (view : PlanView) → WorkIsSound (picking group view)
 picking-sound group view = record {
   well = λ bytes h. rw (h.2, h.3.0, streamed-read (reading_by view h.0) h.1 h.3.1, h.3.2) refl;
+  shows = pick-shows group view;
   no_usage = λ bytes. pick-bytes group view bytes;
 }
-
-pub sound : (request : Request) → IsSound (behaviour (Some request))
-sound (Count file) = counting-sound
-sound (Header file) = printing-sound
-sound (Events file) = listing-sound
-sound (Run plan file) = λ view. (reporting-sound view, λ e. omega arith)
-sound (Trace plan file) = λ view. (tracing-sound view, untraced-status (trace_of view))
-sound (Pick plan group file) = λ view. (picking-sound group view, ungrouped-status group view)
-sound (Demo seed count) = λ e. omega arith

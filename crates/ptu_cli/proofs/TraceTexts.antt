@@ -1,9 +1,9 @@
 -- The text of a trace of words, and of more of them.
 use Rattle.std.proofs.Common.{◌≡◌, ◌∙◌, ◌<◌, ℕ, List, [], ◌++◌, None, Some, Ok, Err, map, take, drop, length, refl, sym, ap, subst, append_assoc, append-nil, take-append-drop}
-use Rattle.std.specs.Prelude.{Result, ◌-◌, false}
+use Rattle.std.specs.Prelude.{Result, ◌-◌}
 use Rattle.std.specs.declared.option.Option.{Option}
 use Rattle.tally_base.specs.declared.fault.Fault.{Fault}
-use Rattle.tally_base.specs.Faults.{is_outside, fault_in}
+use Rattle.tally_base.specs.Faults.{fault_in}
 use Rattle.tally_base.specs.Settings.{TraceView}
 use Rattle.ptu_definitions.specs.declared.records.Summary.{Summary}
 use Rattle.ptu_definitions.specs.Words.{words_of, rest_of}

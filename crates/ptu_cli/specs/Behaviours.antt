@@ -69,6 +69,13 @@ pub data Behaviour : Type 1 where
   -- PLAN is read whole. Where it is a plan and lacks nothing, FILE is opened and read.
   ByPlan : (plan file : List ℕ) (writing : Writing (PlanView → List ℕ → List ℕ)) (memory : Memory) (lacks : PlanView → Option Fault) (work : PlanView → Work) → Behaviour
 
+-- Bytes of FILE call for no end of the command by themselves, or for one that stays.
+abbrev pub EndsStay : Behaviour → Type 0
+EndsStay NoCommand = Unit {0}
+EndsStay (Alone end) = Unit {0}
+EndsStay (OnFile file writing work) = (bytes : List ℕ) → GoesOnOrShows work bytes
+EndsStay (ByPlan plan file writing memory lacks work) = (view : PlanView) (bytes : List ℕ) → GoesOnOrShows (work view) bytes
+
 -- ## The commands
 
 -- a plan of any parts will do

@@ -2,11 +2,10 @@
 use Rattle.std.specs.Prelude.{ℕ, ◌≡◌, ◌≢◌, ◌⊎◌, ◌<◌, ◌≤◌, List, [], ◌∷◌, ◌++◌, length, take, get_or, map, flat_map, codes, decimal, nat_le, count_by, ◌+◌, ◌/◌, ◌==◌, true, None, Some, Result, Ok, Err}
 use Rattle.std.specs.List.{filter}
 use Rattle.std.specs.declared.option.Option.{Option}
-use Rattle.toml.specs.Data.{Members, table}
-use Rattle.tally_base.specs.declared.slot.Slot.TheVariants.{Plan, Data}
+use Rattle.tally_base.specs.declared.slot.Slot.TheVariants.{Data}
 use Rattle.tally_base.specs.declared.event.Event.{Event}
 use Rattle.tally_base.specs.declared.fault.Fault.{Fault}
-use Rattle.tally_base.specs.declared.fault.Fault.TheVariants.{Usage, OpenFault, OutOfMemory, RecordLimit, TruncatedRecord, NoTrace, NoGroup, PickTime}
+use Rattle.tally_base.specs.declared.fault.Fault.TheVariants.{OpenFault, RecordLimit, TruncatedRecord, PickTime}
 use Rattle.tally_base.specs.declared.header.Header.{Header}
 use Rattle.tally_base.specs.declared.header.Mode.{Mode}
 use Rattle.tally_base.specs.Faults.{fault_in}
@@ -27,9 +26,7 @@ use Rattle.ptu_definitions.specs.Settled.{kept_by, settled_by}
 use Rattle.ptu_definitions.specs.Times.{events}
 use Rattle.ptu_definitions.specs.Streams.{Reading, refusal, events_in, summary_of}
 use Rattle.ptu_definitions.specs.Firsts.{IsFirst}
-use Rattle.plan_text.specs.Plan.{PlanView, plan, parts_of}
-use Rattle.plan_text.specs.Reading.{document, IsValid, IsCalledFor}
-use Rattle.plan_text.specs.Fits.{IsMisfit}
+use Rattle.plan_text.specs.Plan.{PlanView, parts_of}
 use Rattle.coincidence.specs.Places.{count_pairs}
 use Rattle.gate_plan.specs.Shifting.{sorting}
 use Rattle.tally_engine.specs.Histories.{history, settled_history}
@@ -40,13 +37,9 @@ use Rattle.table_out.specs.Lines.{line}
 use Rattle.table_out.specs.Printed.{Printed, cell_line, table_lines}
 use Rattle.table_out.specs.StartStop.{startstop_printed}
 use Rattle.table_out.specs.Report.{head_text, printed, same_kind, Table, with_events}
-use Rattle.ptu_made.specs.Generator.{made_words}
-use Rattle.ptu_made.specs.Records.{made_header}
 use Rattle.ptu_cli.specs.CountText.{counts_text}
-use Rattle.ptu_cli.specs.Commands.{Request, Count, Header as HeaderOf, Events, Run, Trace, Pick, Demo}
 use Rattle.record_write.specs.Picked.{is_too_late, picked_file}
 use Rattle.photon_pick.specs.Late.{too_late}
-use Rattle.ptu_cli.specs.Demo.{demo_plan}
 use Rattle.long_trace.specs.Texts.{open_text, whole_text}
 use Rattle.ptu_cli.specs.Outcomes.{Outcome, refused, written, listing}
 use Rattle.ptu_cli.specs.TraceOutcomes.{trace_of}
@@ -169,19 +162,6 @@ StreamCase view header behind end =
     ((fault : Fault) × IsFirst (reading_by view header) fault [] (words_of behind) × (end ≡ refused fault))
     ⊎ (NoneRefused (reading_by view header) (words_of behind) × WholeCase behind (words_report view header (words_of behind)) end)
 
--- The first part that does not suit the file's mode ends the run.
-abbrev pub ReportCase : PlanView → Header → List ℕ → Outcome → Type 0
-ReportCase view header behind end =
-    ((fault : Fault) × IsMisfit (mode_of header.record_type) view fault × (end ≡ refused fault))
-    ⊎ (((fault : Fault) → IsMisfit (mode_of header.record_type) view fault → ⊥) × StreamCase view header behind end)
-
--- The bytes of PLAN call for a refusal, or are the plan of a document that breaks no rule. Only then FILE is looked at.
-abbrev pub PlanCase : File → File → Outcome → Type 0
-PlanCase None data_file end = end ≡ refused (OpenFault Plan)
-PlanCase (Some text) data_file end =
-    ((fault : Fault) × IsCalledFor text fault × (fault ≢ OutOfMemory) × (end ≡ refused fault))
-    ⊎ ((ms : Members) × IsValid text × (document text ≡ Some ms) × FileCase (HeaderCase (ReportCase (plan (table ms)))) data_file end)
-
 -- ## trace
 
 -- The trace ends at the least record that is refused, with what the records before it have settled.
@@ -201,23 +181,13 @@ RecordsCase set view header behind end =
     RefusedTrace set view header (words_of behind) end
     ⊎ (NoneRefused (reading_by view header) (words_of behind) × WholeTrace set view header behind end)
 
--- The first part that does not suit the file's mode ends the run.
-abbrev pub TraceCase : TraceView → PlanView → Header → List ℕ → Outcome → Type 0
-TraceCase set view header behind end =
-    ((fault : Fault) × IsMisfit (mode_of header.record_type) view fault × (end ≡ refused fault))
-    ⊎ (((fault : Fault) → IsMisfit (mode_of header.record_type) view fault → ⊥) × RecordsCase set view header behind end)
+-- A plan has a trace.
+abbrev pub HasTrace : PlanView → Type 0
+HasTrace view = (set : TraceView) × (trace_of view ≡ Some set)
 
--- A plan that has no trace is refused. Else its first trace is printed.
-abbrev pub PlannedTrace : PlanView → File → Outcome → Type 0
-PlannedTrace view data_file end =
-    ((trace_of view ≡ None) × (end ≡ refused NoTrace))
-    ⊎ ((set : TraceView) × (trace_of view ≡ Some set) × FileCase (HeaderCase (TraceCase set view)) data_file end)
-
-abbrev pub TracePlanCase : File → File → Outcome → Type 0
-TracePlanCase None data_file end = end ≡ refused (OpenFault Plan)
-TracePlanCase (Some text) data_file end =
-    ((fault : Fault) × IsCalledFor text fault × (fault ≢ OutOfMemory) × (end ≡ refused fault))
-    ⊎ ((ms : Members) × IsValid text × (document text ≡ Some ms) × PlannedTrace (plan (table ms)) data_file end)
+-- The plan's first trace is printed.
+abbrev pub TracedCase : PlanView → Header → List ℕ → Outcome → Type 0
+TracedCase view header behind end = (set : TraceView) × (trace_of view ≡ Some set) × RecordsCase set view header behind end
 
 -- ## pick
 
@@ -268,11 +238,10 @@ pub record RefusedInTime (view : PlanView) (group : ℕ) (header : Header) (word
   pub least : IsFirst (reading_by view header) fault [] words
   pub in_time : too_late (mode_of header.record_type) (settled_photons view group header least.front) ≡ []
 
--- A record is cut behind some of which none is refused, and no photon of the group is too late that is settled by these.
-pub record CutInTime (view : PlanView) (group : ℕ) (header : Header) (behind : List ℕ) : Type 0 where
-  pub unrefused : NoneRefused (reading_by view header) (words_of behind)
-  pub cut : rest_of behind ≢ []
-  pub in_time : too_late (mode_of header.record_type) (settled_photons view group header (words_of behind)) ≡ []
+-- None of these records is refused, and no photon of the group is too late that is settled by them.
+pub record SettledInTime (view : PlanView) (group : ℕ) (header : Header) (words : List ℕ) : Type 0 where
+  pub unrefused : NoneRefused (reading_by view header) words
+  pub in_time : too_late (mode_of header.record_type) (settled_photons view group header words) ≡ []
 
 -- The data are read to their end, and no photon of the group is too late.
 pub record AllPicked (view : PlanView) (group : ℕ) (header : Header) (behind : List ℕ) : Type 0 where
@@ -289,37 +258,6 @@ abbrev pub PickedCase : PlanView → ℕ → Header → List ℕ → Outcome →
 PickedCase view group header behind end =
     ((late : LateAtRecord view group header (words_of behind)) × (end ≡ pick_end header late.first.before (Some (PickTime late.first.photon.place))))
     ⊎ (((fault : Fault) × (refusal : RefusedInTime view group header (words_of behind) fault) × (end ≡ pick_end header (settled_photons view group header refusal.least.front) (Some fault)))
-    ⊎ ((CutInTime view group header behind × (end ≡ pick_end header (settled_photons view group header (words_of behind)) (Some (TruncatedRecord (length (rest_of behind))))))
+    ⊎ ((SettledInTime view group header (words_of behind) × (rest_of behind ≢ []) × (end ≡ pick_end header (settled_photons view group header (words_of behind)) (Some (TruncatedRecord (length (rest_of behind))))))
     ⊎ (((late : LateAtEnd view group header behind) × (end ≡ pick_end header late.first.before (Some (PickTime late.first.photon.place))))
     ⊎ (AllPicked view group header behind × (end ≡ pick_end header (kept_photons view group header (words_of behind)) None)))))
-
--- The first part that does not suit the file's mode ends the run.
-abbrev pub PickCase : ℕ → PlanView → Header → List ℕ → Outcome → Type 0
-PickCase group view header behind end =
-    ((fault : Fault) × IsMisfit (mode_of header.record_type) view fault × (end ≡ refused fault))
-    ⊎ (((fault : Fault) → IsMisfit (mode_of header.record_type) view fault → ⊥) × PickedCase view group header behind end)
-
--- A plan that has no group of this number is refused. Else the photons of the group are written.
-abbrev pub PlannedPick : ℕ → PlanView → File → Outcome → Type 0
-PlannedPick group view data_file end =
-    ((HasGroup group view → ⊥) × (end ≡ refused (NoGroup group)))
-    ⊎ (HasGroup group view × FileCase (HeaderCase (PickCase group view)) data_file end)
-
-abbrev pub PickPlanCase : ℕ → File → File → Outcome → Type 0
-PickPlanCase group None data_file end = end ≡ refused (OpenFault Plan)
-PickPlanCase group (Some text) data_file end =
-    ((fault : Fault) × IsCalledFor text fault × (fault ≢ OutOfMemory) × (end ≡ refused fault))
-    ⊎ ((ms : Members) × IsValid text × (document text ≡ Some ms) × PlannedPick group (plan (table ms)) data_file end)
-
--- ## All commands
-
--- The request ends so over these files of its words PLAN and FILE.
-abbrev pub IsOutcome : Option Request → File → File → Outcome → Type 0
-IsOutcome None plan_file data_file end = end ≡ refused Usage
-IsOutcome (Some (Count file)) plan_file data_file end = FileCase (HeaderCase CountCase) data_file end
-IsOutcome (Some (HeaderOf file)) plan_file data_file end = FileCase PrintCase data_file end
-IsOutcome (Some (Events file)) plan_file data_file end = FileCase (HeaderCase ListCase) data_file end
-IsOutcome (Some (Run plan_name file)) plan_file data_file end = PlanCase plan_file data_file end
-IsOutcome (Some (Trace plan_name file)) plan_file data_file end = TracePlanCase plan_file data_file end
-IsOutcome (Some (Pick plan_name group file)) plan_file data_file end = PickPlanCase group plan_file data_file end
-IsOutcome (Some (Demo seed count)) plan_file data_file end = end ≡ written (words_report demo_plan made_header (made_words seed count))

@@ -20,6 +20,7 @@ pub mod Requests
 pub mod Endings
 pub mod Runs
 pub mod Cases
+pub mod CommandCases
 pub mod Causes
 pub mod Edge
 pub mod EventRuns

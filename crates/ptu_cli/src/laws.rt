@@ -11,14 +11,13 @@ ghost use Rattle.tally_base.specs.declared.event.Event.{Event};
 ghost use Rattle.tally_base.specs.declared.header.Mode.{Mode};
 ghost use Rattle.tally_base.specs.declared.fault.Fault.{Fault};
 ghost use Rattle.tally_base.specs.declared.fault.Fault.TheVariants.{Usage};
-ghost use Rattle.ptu_cli.specs.Commands.{Request, Count, Header, Events, Run, Trace, Pick, Demo};
+ghost use Rattle.ptu_cli.specs.Commands.{Request, Events, Run, Pick, Demo};
 ghost use Rattle.ptu_cli.specs.Outcomes.{Outcome, written};
-ghost use Rattle.ptu_cli.specs.Cases.{IsOutcome};
+ghost use Rattle.ptu_cli.specs.CommandCases.{cases, IsOutcome};
 ghost use Rattle.ptu_cli.specs.Runs.{Around, Runs};
-ghost use Rattle.ptu_cli.specs.Causes.{EndsWithFault, IsIn, StatusIn, Absent, NoPlan, Misfits, NoHeader, Cut, Refused, Untraced, Ungrouped, TooLate, IsPickable};
+ghost use Rattle.ptu_cli.specs.Causes.{EndsWithFault, StatusIn, Absent, NoPlan, Misfits, NoHeader, Cut, Refused, Lacking, TooLate, IsPickable, MayCallFor, MayEndWith};
 ghost use Rattle.ptu_cli.specs.Demo.{demo_text};
-ghost use Rattle.plan_text.specs.Plan.{PlanView};
-ghost use Rattle.ptu_cli.specs.Behaviours.{GoesOnOrShows, behaviour, counting, printing, listing_all, reporting, tracing, picking};
+ghost use Rattle.ptu_cli.specs.Behaviours.{EndsStay, behaviour};
 ghost use Rattle.ptu_cli.specs.Endings.{outcome};
 
 /// A `demo` ends as `run` does on the text of its plan and the made file.
@@ -45,41 +44,38 @@ pub fn one_outcome()
         ↔ (outcome (behaviour request) plan_file data_file ≡ end) }
 {}
 
-/// A command ends with a fault exactly where its cause is: with status 1 where the words are no command,
+/// A command ends with a fault exactly where its cause is, by its shape: with status 1 where the words are no command,
 /// with 2 where a file is not there, 6 to 8 where PLAN is no plan, 9 where a part of it doesn't suit, 10 to
-/// 16 where FILE is refused as a header, 17 where it ends within a record, 18 to 21 where a record is refused, 22 where
-/// the plan has no trace, 23 where it has no group of the number, and 24 where a photon of the group is too late to be
-/// written.
+/// 16 where FILE is refused as a header, 17 where it ends within a record, 18 to 21 where a record is refused, 22 and 23
+/// where the plan has not what the command needs (a trace, or the group of the number), and 24 where a photon of the
+/// group is too late to be written.
 pub fn exactly_where()
     ensures words { (request : Option Request) (plan_file data_file : File)
         → EndsWithFault request plan_file data_file Usage ↔ (request ≡ None) }
     ensures absent { (request : Option Request) (plan_file data_file : File) (fault : Fault)
         → StatusIn 2 2 fault → EndsWithFault request plan_file data_file fault
-        ↔ Absent request plan_file data_file fault }
+        ↔ Absent (cases request) plan_file data_file fault }
     ensures plan { (request : Option Request) (plan_file data_file : File) (fault : Fault)
         → StatusIn 6 8 fault → EndsWithFault request plan_file data_file fault
-        ↔ NoPlan request plan_file fault }
+        ↔ NoPlan (cases request) plan_file fault }
+    ensures lacking { (request : Option Request) (plan_file data_file : File) (fault : Fault)
+        → StatusIn 22 23 fault → EndsWithFault request plan_file data_file fault
+        ↔ Lacking (cases request) plan_file fault }
     ensures mode { (request : Option Request) (plan_file data_file : File) (fault : Fault)
         → StatusIn 9 9 fault → EndsWithFault request plan_file data_file fault
-        ↔ Misfits request plan_file data_file fault }
+        ↔ Misfits (cases request) plan_file data_file fault }
     ensures header { (request : Option Request) (plan_file data_file : File) (fault : Fault)
         → StatusIn 10 16 fault → EndsWithFault request plan_file data_file fault
-        ↔ NoHeader request plan_file data_file fault }
+        ↔ NoHeader (cases request) plan_file data_file fault }
     ensures cut { (request : Option Request) (plan_file data_file : File) (fault : Fault)
         → StatusIn 17 17 fault → EndsWithFault request plan_file data_file fault
-        ↔ Cut request plan_file data_file fault }
+        ↔ Cut (cases request) plan_file data_file fault }
     ensures refused { (request : Option Request) (plan_file data_file : File) (fault : Fault)
         → StatusIn 18 21 fault → EndsWithFault request plan_file data_file fault
-        ↔ Refused request plan_file data_file fault }
-    ensures untraced { (request : Option Request) (plan_file data_file : File) (fault : Fault)
-        → StatusIn 22 22 fault → EndsWithFault request plan_file data_file fault
-        ↔ Untraced request plan_file fault }
-    ensures ungrouped { (request : Option Request) (plan_file data_file : File) (fault : Fault)
-        → StatusIn 23 23 fault → EndsWithFault request plan_file data_file fault
-        ↔ Ungrouped request plan_file fault }
+        ↔ Refused (cases request) plan_file data_file fault }
     ensures late { (request : Option Request) (plan_file data_file : File) (fault : Fault)
         → StatusIn 24 24 fault → EndsWithFault request plan_file data_file fault
-        ↔ TooLate request plan_file data_file fault }
+        ↔ TooLate (cases request) plan_file data_file fault }
 {}
 
 /// `pick` ends well by a plan that has the group, over a file that suits it and whose records are whole and not refused,
@@ -89,67 +85,26 @@ pub fn pick_ends_well_or_late()
         → IsPickable group plan_file data_file
         → ((outcome (behaviour (Some (Pick plan_name group file))) plan_file data_file).fault ≡ None)
         ⊎ ((fault : Fault) × EndsWithFault (Some (Pick plan_name group file)) plan_file data_file fault
-        × TooLate (Some (Pick plan_name group file)) plan_file data_file fault) }
+        × TooLate (cases (Some (Pick plan_name group file))) plan_file data_file fault) }
 {}
 
-/// The faults that the words and files of each command may call for, by their statuses. Beside these a run
-/// may end with 0, and with 2 to 5 for what fails outside.
+/// The faults that the words and files of each command may call for, by their statuses: usage where there is no command,
+/// none for `demo`, else those of its shape and its own (`cases`). Beside these a run may end with 0, and with 2 to 5
+/// for what fails outside.
 pub fn statuses_of_commands()
-    ensures none { (plan_file data_file : File) (fault : Fault)
-        → EndsWithFault None plan_file data_file fault → fault ≡ Usage }
-    ensures count { (file : List ℕ) (plan_file data_file : File) (fault : Fault)
-        → EndsWithFault (Some (Count file)) plan_file data_file fault
-        → StatusIn 2 2 fault ⊎ (StatusIn 10 17 fault ⊎ StatusIn 20 20 fault) }
-    ensures header { (file : List ℕ) (plan_file data_file : File) (fault : Fault)
-        → EndsWithFault (Some (Header file)) plan_file data_file fault
-        → StatusIn 2 2 fault ⊎ StatusIn 10 16 fault }
-    ensures events { (file : List ℕ) (plan_file data_file : File) (fault : Fault)
-        → EndsWithFault (Some (Events file)) plan_file data_file fault
-        → StatusIn 2 2 fault ⊎ (StatusIn 10 17 fault ⊎ StatusIn 20 21 fault) }
-    ensures run { (plan_name file : List ℕ) (plan_file data_file : File) (fault : Fault)
-        → EndsWithFault (Some (Run plan_name file)) plan_file data_file fault
-        → StatusIn 2 2 fault ⊎ StatusIn 6 21 fault }
-    ensures trace { (plan_name file : List ℕ) (plan_file data_file : File) (fault : Fault)
-        → EndsWithFault (Some (Trace plan_name file)) plan_file data_file fault
-        → StatusIn 2 2 fault ⊎ StatusIn 6 22 fault }
-    ensures pick { (plan_name : List ℕ) (group : ℕ) (file : List ℕ) (plan_file data_file : File) (fault : Fault)
-        → EndsWithFault (Some (Pick plan_name group file)) plan_file data_file fault
-        → StatusIn 2 2 fault ⊎ (StatusIn 6 21 fault ⊎ StatusIn 23 24 fault) }
-    ensures demo { (seed count : ℕ) (plan_file data_file : File) (fault : Fault)
-        → EndsWithFault (Some (Demo seed count)) plan_file data_file fault → ⊥ }
+    ensures { (request : Option Request) (plan_file data_file : File) (fault : Fault)
+        → EndsWithFault request plan_file data_file fault → MayCallFor (cases request) fault }
 {}
 
 /// Bytes of FILE call for no end by themselves, or the run ends as they say whatever comes behind them: a
 /// refusal of a header, also a whole header for `header`, a plan that doesn't suit it, a refused record, and for `pick` a
 /// photon that is settled and too late.
 pub fn an_end_that_is_shown_stays()
-    ensures count { (bytes : List ℕ) → GoesOnOrShows counting bytes }
-    ensures header { (bytes : List ℕ) → GoesOnOrShows printing bytes }
-    ensures events { (bytes : List ℕ) → GoesOnOrShows listing_all bytes }
-    ensures run { (plan : PlanView) (bytes : List ℕ) → GoesOnOrShows (reporting plan) bytes }
-    ensures trace { (plan : PlanView) (bytes : List ℕ) → GoesOnOrShows (tracing plan) bytes }
-    ensures pick { (group : ℕ) (plan : PlanView) (bytes : List ℕ) → GoesOnOrShows (picking group plan) bytes }
+    ensures { (request : Option Request) → EndsStay (behaviour request) }
 {}
 
 /// The statuses that a run of each command may end with, whatever fails.
 pub fn statuses_of_runs()
-    ensures none { (run : Around) (result : ℕ) → Runs None run result → result ≡ 1 }
-    ensures count { (file : List ℕ) (run : Around) (result : ℕ)
-        → Runs (Some (Count file)) run result
-        → (result ≡ 0) ⊎ (IsIn 2 4 result ⊎ (IsIn 10 17 result ⊎ IsIn 20 20 result)) }
-    ensures header { (file : List ℕ) (run : Around) (result : ℕ)
-        → Runs (Some (Header file)) run result
-        → (result ≡ 0) ⊎ (IsIn 2 4 result ⊎ IsIn 10 16 result) }
-    ensures events { (file : List ℕ) (run : Around) (result : ℕ)
-        → Runs (Some (Events file)) run result
-        → (result ≡ 0) ⊎ (IsIn 2 4 result ⊎ (IsIn 10 17 result ⊎ IsIn 20 21 result)) }
-    ensures run { (plan_name file : List ℕ) (run : Around) (result : ℕ)
-        → Runs (Some (Run plan_name file)) run result → (result ≡ 0) ⊎ IsIn 2 21 result }
-    ensures trace { (plan_name file : List ℕ) (run : Around) (result : ℕ)
-        → Runs (Some (Trace plan_name file)) run result → (result ≡ 0) ⊎ IsIn 2 22 result }
-    ensures pick { (plan_name : List ℕ) (group : ℕ) (file : List ℕ) (run : Around) (result : ℕ)
-        → Runs (Some (Pick plan_name group file)) run result
-        → (result ≡ 0) ⊎ (IsIn 2 21 result ⊎ IsIn 23 24 result) }
-    ensures demo { (seed count : ℕ) (run : Around) (result : ℕ)
-        → Runs (Some (Demo seed count)) run result → (result ≡ 0) ⊎ IsIn 4 5 result }
+    ensures { (request : Option Request) (run : Around) (result : ℕ) → Runs request run result
+        → MayEndWith (cases request) result }
 {}

@@ -6,7 +6,7 @@ use Rattle.bench_io.proofs.States.{OnlyReads-refl, OnlyReads-trans}
 use Rattle.ptu_definitions.specs.Words.{words_of}
 use Rattle.tally_base.specs.declared.slot.Slot.TheVariants.{Data}
 use Rattle.tally_base.specs.Faults.{fault_in}
-use Rattle.ptu_cli.proofs.EventEnds.{Wrote-none, Wrote-trans, answers-piece, cuts-piece, streamed-clear, answers-end, reason-piece, not_written}
+use Rattle.ptu_cli.proofs.EventEnds.{Wrote-none, Wrote-trans, answers-piece, cuts-piece, streamed-clear, answers-end, reason-piece}
 use Rattle.ptu_cli.proofs.EventReasons.{streamed-open}
 use Rattle.ptu_cli.proofs.Few.{few-none, few-piece}
 use Rattle.ptu_cli.proofs.Once.{stays-same, stays-behind, once-refl, once-read, once-unread, Rose-kept}

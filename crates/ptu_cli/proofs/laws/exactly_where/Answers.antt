@@ -1,4 +1,4 @@
-use Rattle.ptu_cli.proofs.Causes.{exactly-words, exactly-absent, exactly-no_plan, exactly-misfits, exactly-no_header, exactly-cut, exactly-refused, exactly-untraced, exactly-ungrouped, exactly-late}
+use Rattle.ptu_cli.proofs.Causes.{exactly-words, exactly-absent, exactly-no_plan, exactly-misfits, exactly-no_header, exactly-cut, exactly-refused, exactly-lacking, exactly-late}
 use Rattle.ptu_cli.proofs.laws.exactly_where.Goals as goal
 
 pub returns-clause-words : goal.returns-clause-words
@@ -9,6 +9,9 @@ returns-clause-absent c = exactly-absent
 
 pub returns-clause-plan : goal.returns-clause-plan
 returns-clause-plan c = exactly-no_plan
+
+pub returns-clause-lacking : goal.returns-clause-lacking
+returns-clause-lacking c = exactly-lacking
 
 pub returns-clause-mode : goal.returns-clause-mode
 returns-clause-mode c = exactly-misfits
@@ -21,12 +24,6 @@ returns-clause-cut c = exactly-cut
 
 pub returns-clause-refused : goal.returns-clause-refused
 returns-clause-refused c = exactly-refused
-
-pub returns-clause-untraced : goal.returns-clause-untraced
-returns-clause-untraced c = exactly-untraced
-
-pub returns-clause-ungrouped : goal.returns-clause-ungrouped
-returns-clause-ungrouped c = exactly-ungrouped
 
 pub returns-clause-late : goal.returns-clause-late
 returns-clause-late c = exactly-late

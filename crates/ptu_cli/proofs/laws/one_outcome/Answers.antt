@@ -1,4 +1,4 @@
-use Rattle.ptu_cli.proofs.Cases.{one-outcome}
+use Rattle.ptu_cli.proofs.Proved.{one-outcome}
 use Rattle.ptu_cli.proofs.laws.one_outcome.Goals as goal
 
 pub returns : goal.returns

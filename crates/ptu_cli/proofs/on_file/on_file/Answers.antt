@@ -4,7 +4,7 @@ use Rattle.tally_base.specs.declared.slot.Slot.TheVariants.{Plan, Data}
 use Rattle.bench_io.proofs.Bytes.{Appends-nil, Keeps-from_none}
 use Rattle.ptu_cli.specs.Endings.{Span, HasCauses}
 use Rattle.ptu_cli.proofs.WorkTold.{file-answers, file-causes, few-told}
-use Rattle.ptu_cli.proofs.Once.{stays-same, once-refl, once-behind, once-opened, once-unopened}
+use Rattle.ptu_cli.proofs.Once.{once-refl, once-behind, once-opened, once-unopened}
 use Rattle.ptu_cli.proofs.on_file.on_file.Goals as goal
 
 pub returns-in-Err : goal.returns-in-Err

@@ -3,7 +3,6 @@ use Rattle.std.proofs.lemmas.Result.{err_from_is_err_and}
 use Rattle.bench_io.proofs.Bytes.{Consumes-nil, Consumes-kept, Consumes-trans}
 use Rattle.bench_io.proofs.Rises.{Rose-behind}
 use Rattle.bench_io.proofs.States.{OnlyReads-refl, OnlyReads-trans}
-use Rattle.ptu_definitions.specs.Words.{words_of}
 use Rattle.tally_base.specs.declared.slot.Slot.TheVariants.{Data}
 use Rattle.tally_base.specs.Settings.{trace_view}
 use Rattle.gate_plan.specs.Groups.{sorting_of}
