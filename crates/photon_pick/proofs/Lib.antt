@@ -6,3 +6,4 @@ pub mod Feeds
 pub mod Ends
 pub mod Streams
 pub mod Stays
+pub mod CanBeWritten

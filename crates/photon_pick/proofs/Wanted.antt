@@ -8,11 +8,11 @@ use Rattle.tally_base.specs.Events.{is_photon, is_ordered}
 use Rattle.gate_plan.specs.Shifting.{Sorting}
 use Rattle.photon_pick.specs.Chosen.{is_chosen}
 
-first-of : (a b : Bool) → (a && b) ≡ true → a ≡ true
+pub first-of : (a b : Bool) → (a && b) ≡ true → a ≡ true
 first-of true b is = refl
 first-of false b is = is
 
-ordered-photon : (mode : Mode) (e : Event) → is_photon e ≡ true → is_ordered mode e ≡ true
+pub ordered-photon : (mode : Mode) (e : Event) → is_photon e ≡ true → is_ordered mode e ≡ true
 ordered-photon T2 e is = is
 ordered-photon T3 e is = refl
 

@@ -1,0 +1,230 @@
+-- The photons of a group of a file can be written, up to the first that is too late.
+use Rattle.std.proofs.Common.{◌≡◌, ◌∙◌, ◌-◌, ℕ, ◌+◌, List, [], ◌∷◌, ◌++◌, Bool, true, false, Ok, Err, cond, length, take, drop, map, refl, sym, ap, subst}
+use Rattle.std.specs.Prelude.{Result, ◌==◌}
+use Rattle.std.specs.List.{All, AllByRecursion, filter}
+use Rattle.std.proofs.lemmas.Bool.{eqb-true}
+use Rattle.std.proofs.lemmas.List.{take-append-drop}
+use Rattle.std.proofs.lemmas.List.Elements.{All-nil, All-cons, All-head, All-tail, All-append, All-filter, All-from_recursion, filter-append}
+use Rattle.std.proofs.lemmas.List.Sorted.{All-permutation}
+use Rattle.tally_base.specs.declared.event.Event.{Event}
+use Rattle.tally_base.specs.declared.event.EventKind.TheVariants.{Marker as MarkerEvent}
+use Rattle.tally_base.specs.declared.event.Policy.{Policy}
+use Rattle.tally_base.specs.declared.fault.Fault.{Fault}
+use Rattle.tally_base.specs.declared.header.Mode.{Mode}
+use Rattle.tally_base.specs.declared.header.Mode.TheVariants.{T2, T3}
+use Rattle.tally_base.specs.declared.header.RecordType.{RecordType}
+use Rattle.tally_base.specs.Events.{is_photon, is_ordered}
+use Rattle.tally_base.specs.RecordTypes.{mode_of}
+use Rattle.ptu_definitions.specs.declared.records.Raw.{Raw}
+use Rattle.ptu_definitions.specs.declared.records.Raw.TheVariants.{Photon, Marker, Wrap, Reserved}
+use Rattle.ptu_definitions.specs.declared.records.Summary.{Summary}
+use Rattle.ptu_definitions.specs.Fitting.{Fits, KindFits}
+use Rattle.ptu_definitions.specs.Kept.{kept}
+use Rattle.ptu_definitions.specs.Layouts.{meaning_of}
+use Rattle.ptu_definitions.specs.Prefixes.{each_after}
+use Rattle.ptu_definitions.specs.Settled.{is_overtaken, unless_overtaken, not_overtaken, in_time, ordered, kept_by, Rises}
+use Rattle.ptu_definitions.specs.Streams.{Reading, reading, unrefused_after, given, streamed}
+use Rattle.ptu_definitions.specs.Times.{event_of, event_after, events}
+use Rattle.ptu_definitions.specs.Words.{words_of}
+use Rattle.ptu_definitions.proofs.DeliveredLaws.{in_time-kept, delivered-settled}
+use Rattle.ptu_definitions.proofs.FittingLemmas.{meaning-fits}
+use Rattle.ptu_definitions.proofs.SettledLaws.{in_time-permutation, Rises-put_all}
+use Rattle.ptu_definitions.proofs.SettledLemmas.{Rises-lower, IsNonDecreasingBy-Rises}
+use Rattle.gate_plan.specs.Shifting.{Sorting}
+use Rattle.record_write.specs.Picked.{is_too_late, IsPhotonOf, CanBePicked}
+use Rattle.photon_pick.specs.Chosen.{is_chosen}
+use Rattle.photon_pick.specs.Late.{too_late, writable}
+use Rattle.photon_pick.specs.Texts.{photons_in}
+use Rattle.photon_pick.specs.Ends.{photons_kept, photons_by, photons_of}
+use Rattle.photon_pick.proofs.Parts.{writable-all}
+use Rattle.photon_pick.proofs.Wanted.{first-of, ordered-photon}
+
+-- ## Events fit the mode of their records
+
+abbrev FitAll : Mode → List Event → Type 0
+FitAll mode es = All (λ (e : Event). KindFits mode e.kind) es
+
+marker-fits : (mode : Mode) (bits : ℕ) → KindFits mode (MarkerEvent bits)
+marker-fits T2 bits = tt
+marker-fits T3 bits = tt
+
+event-fits : (mode : Mode) (place base : ℕ) (raw : Raw) → Fits mode raw → FitAll mode (event_of place base raw)
+event-fits mode place base (Photon input time dtime) fits = All-cons (λ (e : Event). KindFits mode e.kind) _ [] fits.1 (All-nil (λ (e : Event). KindFits mode e.kind))
+event-fits mode place base (Marker bits time) fits = All-cons (λ (e : Event). KindFits mode e.kind) _ [] (marker-fits mode bits) (All-nil (λ (e : Event). KindFits mode e.kind))
+event-fits mode place base (Wrap ticks) fits = All-nil (λ (e : Event). KindFits mode e.kind)
+event-fits mode place base Reserved fits = All-nil (λ (e : Event). KindFits mode e.kind)
+
+events-fit_after : (mode : Mode) (meaning : ℕ → Raw) → ((word : ℕ) → Fits mode (meaning word)) → (before : List Raw) (words : List ℕ) → FitAll mode (each_after event_after before (map meaning words))
+events-fit_after mode meaning fits before [] = All-nil (λ (e : Event). KindFits mode e.kind)
+events-fit_after mode meaning fits before (word ∷ words) =
+    All-append (λ (e : Event). KindFits mode e.kind) (event_after before (meaning word)) _
+    (event-fits mode (length before + 1) _ (meaning word) (fits word))
+    (events-fit_after mode meaning fits (before ++ meaning word ∷ []) words)
+
+events-fit : (mode : Mode) (meaning : ℕ → Raw) → ((word : ℕ) → Fits mode (meaning word)) → (words : List ℕ) → FitAll mode (events (map meaning words))
+unfolding events
+events-fit mode meaning fits words = events-fit_after mode meaning fits [] words
+
+-- those that aren't late are among them
+unless-one : (P : Event → Type 0) (late : Bool) (e : Event) (rest : List Event) → P e → All P rest → All P (cond late [] (e ∷ []) ++ rest)
+unless-one P true e rest p all = all
+unless-one P false e rest p all = All-cons P e rest p all
+
+not_overtaken-all : (P : Event → Type 0) (k : ℕ) (before es : List Event) → All P es → All P (each_after (unless_overtaken k) before es)
+not_overtaken-all P k before [] all = All-nil P
+not_overtaken-all P k before (e ∷ es) all =
+    unless-one P (is_overtaken k before e) e _ (All-head P e es all) (not_overtaken-all P k (before ++ e ∷ []) es (All-tail P e es all))
+
+in_time-all : (P : Event → Type 0) (k : ℕ) (es : List Event) → All P es → All P (in_time k es)
+unfolding not_overtaken
+in_time-all P k es all = All-permutation P (not_overtaken k es) (in_time k es) (in_time-permutation k es) (not_overtaken-all P k [] es all)
+
+-- ## Photons that fit, in order of time
+
+-- what is known of photons whether one is too late or not
+record CanFollow (mode : Mode) (ps : List Event) : Type 0 where
+  fits : AllByRecursion (IsPhotonOf mode) ps
+  rising : Rises 0 ps
+
+-- the front of such photons
+front-all : (P : Event → Type 0) (ps qs : List Event) → AllByRecursion P (ps ++ qs) → AllByRecursion P ps
+front-all P [] qs all = tt
+front-all P (p ∷ ps) qs all = (all.0, front-all P ps qs all.1)
+
+front-rises : (t : ℕ) (ps qs : List Event) → Rises t (ps ++ qs) → Rises t ps
+front-rises t [] qs up = tt
+front-rises t (p ∷ ps) qs up = (up.0, front-rises p.time ps qs up.1)
+
+front-follows : (mode : Mode) (ps qs : List Event) → CanFollow mode (ps ++ qs) → CanFollow mode ps
+front-follows mode ps qs can = record { fits = front-all (IsPhotonOf mode) ps qs can.fits; rising = front-rises 0 ps qs can.rising }
+
+-- those before the first that is too late
+writable-fits : (P : Event → Type 0) (mode : Mode) (ps : List Event) → AllByRecursion P ps → AllByRecursion P (writable mode ps)
+writable-fits P mode [] all = tt
+writable-fits P mode (p ∷ ps) all = by (is_too_late mode p.time) (writable-fits P mode ps all.1)
+  where
+    by : (late : Bool) → AllByRecursion P (writable mode ps) → AllByRecursion P (cond late [] (p ∷ writable mode ps))
+    by true rest = tt
+    by false rest = (all.0, rest)
+
+writable-rises : (t : ℕ) (mode : Mode) (ps : List Event) → Rises t ps → Rises t (writable mode ps)
+writable-rises t mode [] up = tt
+writable-rises t mode (p ∷ ps) up = by (is_too_late mode p.time) (writable-rises p.time mode ps up.1)
+  where
+    by : (late : Bool) → Rises p.time (writable mode ps) → Rises t (cond late [] (p ∷ writable mode ps))
+    by true rest = tt
+    by false rest = (up.0, rest)
+
+writable-soon : (mode : Mode) (ps : List Event) → AllByRecursion (λ e. is_too_late mode e.time ≡ false) (writable mode ps)
+writable-soon mode [] = tt
+writable-soon mode (p ∷ ps) = by (is_too_late mode p.time) refl (writable-soon mode ps)
+  where
+    by : (late : Bool) → is_too_late mode p.time ≡ late → AllByRecursion (λ e. is_too_late mode e.time ≡ false) (writable mode ps) → AllByRecursion (λ e. is_too_late mode e.time ≡ false) (cond late [] (p ∷ writable mode ps))
+    by true is rest = tt
+    by false is rest = (is, rest)
+
+writable-can : (mode : Mode) (ps : List Event) → CanFollow mode ps → CanBePicked mode (writable mode ps)
+writable-can mode ps can = record {
+  fits = All-from_recursion (IsPhotonOf mode) (writable mode ps) (writable-fits (IsPhotonOf mode) mode ps can.fits);
+  in_order = IsNonDecreasingBy-Rises 0 (writable mode ps) (writable-rises 0 mode ps can.rising);
+  in_time = All-from_recursion (λ e. is_too_late mode e.time ≡ false) (writable mode ps) (writable-soon mode ps);
+}
+
+-- ## The photons that are chosen of a kept list
+
+module _ (mode : Mode) (chooses : Event → Bool) (photons : (e : Event) → chooses e ≡ true → is_photon e ≡ true) where
+  chosen-fit : (es : List Event) → FitAll mode es → AllByRecursion (IsPhotonOf mode) (filter chooses es)
+  chosen-fit [] all = tt
+  chosen-fit (e ∷ es) all = by (chooses e) refl (chosen-fit es (All-tail (λ (x : Event). KindFits mode x.kind) e es all))
+    where
+      by : (b : Bool) → chooses e ≡ b → AllByRecursion (IsPhotonOf mode) (filter chooses es) → AllByRecursion (IsPhotonOf mode) (cond b (e ∷ filter chooses es) (filter chooses es))
+      by true is rest = (record { photon = photons e is; fits = All-head (λ (x : Event). KindFits mode x.kind) e es all }, rest)
+      by false is rest = rest
+
+  chosen-rise : (t : ℕ) (es : List Event) → Rises t es → Rises t (filter chooses es)
+  chosen-rise t [] up = tt
+  chosen-rise t (e ∷ es) up = by (chooses e) (chosen-rise e.time es up.1)
+    where
+      by : (b : Bool) → Rises e.time (filter chooses es) → Rises t (cond b (e ∷ filter chooses es) (filter chooses es))
+      by true rest = (up.0, rest)
+      by false rest = Rises-lower e.time t (filter chooses es) up.0 rest
+
+  -- photons are ordered in each mode, so no photon is lost with the markers that aren't
+  chosen-ordered : (es : List Event) → filter chooses (ordered mode es) ≡ filter chooses es
+  chosen-ordered [] = refl
+  chosen-ordered (e ∷ es) = by (chosen-ordered es) (chooses e) (is_ordered mode e) refl refl
+    where
+      by : filter chooses (ordered mode es) ≡ filter chooses es → (b o : Bool) → chooses e ≡ b → is_ordered mode e ≡ o → filter chooses (cond o (e ∷ ordered mode es) (ordered mode es)) ≡ cond b (e ∷ filter chooses es) (filter chooses es)
+      by rest true true is on = rw is (ap (λ l. e ∷ l) rest)
+      by rest true false is on = let bad = sym (ordered-photon mode e (photons e is)) ∙ on in cc
+      by rest false true is on = rw is rest
+      by rest false false is on = rest
+
+  -- where late events are left out they are those of the list in order of time too
+  kept-in_time : (k : ℕ) (es : List Event) → filter chooses (kept_by k mode es) ≡ filter chooses (in_time k (ordered mode es))
+  kept-in_time k es = by (k == 0) refl
+    where
+      by : (b : Bool) → (k == 0) ≡ b → filter chooses (cond b (kept mode es) (in_time k (ordered mode es))) ≡ filter chooses (in_time k (ordered mode es))
+      by true is =
+          let none : k ≡ 0 = eqb-true k 0 is in
+          rw none (sym (chosen-ordered (kept mode es)) ∙ ap (filter chooses) (sym (in_time-kept mode es)))
+      by false is = refl
+
+  in_time-follow : (k : ℕ) (es : List Event) → FitAll mode es → CanFollow mode (filter chooses (in_time k (ordered mode es)))
+  unfolding in_time
+  in_time-follow k es fit = record {
+    fits = chosen-fit (in_time k (ordered mode es)) (in_time-all (λ (e : Event). KindFits mode e.kind) k (ordered mode es) (All-filter (λ e. is_ordered mode e) (λ (e : Event). KindFits mode e.kind) es fit));
+    rising = chosen-rise 0 (in_time k (ordered mode es)) (Rises-put_all [] (not_overtaken k (ordered mode es)) tt);
+  }
+
+  kept-follow : (k : ℕ) (es : List Event) → FitAll mode es → CanFollow mode (filter chooses (kept_by k mode es))
+  kept-follow k es fit = rw (kept-in_time k es) (in_time-follow k es fit)
+
+  -- a front of the kept list
+  taken-follow : (n : ℕ) (es : List Event) → CanFollow mode (filter chooses es) → CanFollow mode (filter chooses (take n es))
+  taken-follow n es can =
+      front-follows mode (filter chooses (take n es)) (filter chooses (drop n es))
+      (subst (CanFollow mode) (ap (filter chooses) (sym (take-append-drop n es)) ∙ filter-append chooses (take n es) (drop n es)) can)
+
+-- ## The photons of a group of a file
+
+module _ (record_type : RecordType) (policy : Policy) (sorting : Sorting) (group : ℕ) where
+  abbrev mode : Mode
+  mode = mode_of record_type
+
+  abbrev how : Reading
+  how = reading record_type policy
+
+  abbrev chooses : Event → Bool
+  chooses = is_chosen sorting group
+
+  chosen-photon : (e : Event) → chooses e ≡ true → is_photon e ≡ true
+  chosen-photon e is = first-of (is_photon e) _ is
+
+  fit : (words : List ℕ) → FitAll mode (events (map how.meaning words))
+  fit words = events-fit mode (meaning_of record_type) (meaning-fits record_type) words
+
+  photons_kept-follow : (words : List ℕ) → CanFollow mode (photons_kept chooses how words)
+  photons_kept-follow words = kept-follow mode chooses chosen-photon policy.settle (events (map how.meaning words)) (fit words)
+
+  photons_in-follow : (words : List ℕ) → CanFollow mode (photons_in chooses how words)
+  unfolding given
+  photons_in-follow words =
+      let before = unrefused_after how [] words in
+      let es = events (map how.meaning before) in
+      let kept = kept_by policy.settle mode es in
+      rw (delivered-settled policy.settle mode es)
+      (taken-follow mode chooses chosen-photon (length kept - policy.settle) kept (photons_kept-follow before))
+
+  photons_by-follow : (words : List ℕ) (answer : Result Summary Fault) → CanFollow mode (photons_by chooses how words answer)
+  photons_by-follow words (Ok summary) = photons_kept-follow words
+  photons_by-follow words (Err fault) = photons_in-follow words
+
+  pub kept-can : (words : List ℕ) → too_late mode (photons_kept chooses how words) ≡ [] → CanBePicked mode (photons_kept chooses how words)
+  kept-can words none = subst (CanBePicked mode) (writable-all mode (photons_kept chooses how words) none) (writable-can mode (photons_kept chooses how words) (photons_kept-follow words))
+
+  pub written-can : (bytes : List ℕ) → CanBePicked mode (writable mode (photons_of chooses how bytes))
+  written-can bytes = writable-can mode (photons_of chooses how bytes) (photons_by-follow (words_of bytes) (streamed how bytes))
+
+  pub settled-can : (words : List ℕ) → CanBePicked mode (writable mode (photons_in chooses how words))
+  settled-can words = writable-can mode (photons_in chooses how words) (photons_in-follow words)
