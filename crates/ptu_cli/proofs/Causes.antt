@@ -1,6 +1,6 @@
 -- Each fault of a command has its cause, and each cause its fault, by the shape of the command.
-use Rattle.std.proofs.Common.{◌≡◌, ℕ, List, [], None, Some, Ok, Err, refl, sym, ap, ◌∙◌, subst, inl, inr, ◌<◌, append-nil, arith}
-use Rattle.std.specs.Prelude.{◌⊎◌, ◌↔◌, Result}
+use Rattle.std.proofs.Common.{◌≡◌, ℕ, List, [], None, Some, Ok, Err, refl, sym, ap, ◌∙◌, subst, inl, inr, ◌<◌, append-nil, arith, length, false, ◌≤◌}
+use Rattle.std.specs.Prelude.{◌⊎◌, ◌↔◌, Result, map}
 use Rattle.std.specs.declared.option.Option.{Option}
 use Rattle.toml.specs.Data.{table}
 use Rattle.tally_base.specs.declared.fault.Fault.{Fault}
@@ -22,17 +22,25 @@ use Rattle.plan_text.specs.Fits.{IsMisfit}
 use Rattle.photon_pick.specs.Late.{too_late}
 use Rattle.ptu_cli.specs.Endings.{outcome}
 use Rattle.ptu_cli.specs.Causes.{IsValidPlan, Headed, Unheaded, IsUsable, Absent, NoPlan, Misfits, NoHeader, Cut, Refused, Lacking, TooLate, IsPickable, EndsWithFault, StatusIn, MayCallFor}
-use Rattle.ptu_cli.specs.Outcomes.{Outcome, refused, header_outcome}
+use Rattle.ptu_cli.specs.Outcomes.{Outcome, refused, header_outcome, written}
 use Rattle.ptu_cli.specs.Behaviours.{Work, Behaviour, behaviour, NoCommand, Alone, OnFile, ByPlan}
-use Rattle.ptu_cli.specs.Commands.{Request, Pick}
+use Rattle.ptu_cli.specs.Commands.{Request, Pick, Events}
 use Rattle.ptu_cli.specs.Cases.{FileCase, HeaderCase, PrintCase, HasGroup, settled_photons, kept_photons, FirstLate, LateAtEnd, AllPicked, pick_end}
 use Rattle.ptu_cli.specs.CommandCases.{RecordCases, Need, CommandCases, NamesLate, pick_cases, cases, Lacks, Suits, SuitCase, NeedCase, PlanCase, EndsAs, IsOutcome, Needs, NoWords, Writes, OfHeader, OfRecords, OfPlan}
 use Rattle.ptu_cli.proofs.FaultStatuses.{some-same, of-refused, of-written, range-as, wider, called-status, misfit-status, unheaded-status, cut_behind-status}
 use Rattle.ptu_cli.proofs.CaseShapes.{RecordCause, RecordsTold, PlanTold, IsTold}
 use Rattle.ptu_cli.proofs.Prints.{print-holds}
 use Rattle.ptu_cli.proofs.PickPhotons.{none-or-late}
-use Rattle.ptu_cli.proofs.PickCases.{PickStatus, first-settled}
+use Rattle.ptu_cli.proofs.PickCases.{PickStatus, first-settled, picked-holds}
 use Rattle.ptu_cli.proofs.Proved.{proved, one-outcome}
+use Rattle.ptu_cli.proofs.PickedFiles.{listed-picked}
+use Rattle.ptu_cli.specs.PickOutcomes.{records_picked, photons_written}
+use Rattle.photon_pick.proofs.CanBeWritten.{written-can}
+use Rattle.gate_plan.specs.Shifting.{sorting}
+use Rattle.table_out.specs.EventText.{events_text}
+use Rattle.short_file.specs.ShortFiles.{short_file}
+use Rattle.record_write.specs.Picked.{picked_words, picked_file, picked_events}
+use Rattle.ptu_definitions.specs.Counted.{record_limit}
 
 -- ## From an outcome to its cause
 
@@ -615,3 +623,19 @@ pick-ends plan_name group file plan_file data_file h =
         let late : LateAtEnd h.0 group h.1 h.2 = record { unrefused = h.7; whole = h.8; none_settled = soon; first = k } in
         named (PickTime k.photon.place) (inr (late, refl))
     by (inl soon) (inl none) = inl (well (record { unrefused = h.7; whole = h.8; in_time = none }))
+
+-- what it writes of a file with a header is listed
+pub pick-is-listed : (plan_name : List ℕ) (group : ℕ) (file name : List ℕ) (plan_file data_file : File) (view : PlanView) (header : Header) (behind : List ℕ)
+    → IsUsable (Needs (HasGroup group) (NoGroup group)) plan_file view → Headed data_file header behind → Suits view header → length (picked_words (mode_of header.record_type) (photons_written group view header behind)) ≤ record_limit
+    → outcome (behaviour (Some (Events name))) None (Some (outcome (behaviour (Some (Pick plan_name group file))) plan_file data_file).text)
+    ≡ written (events_text (map (λ e. (e, false)) (picked_events (mode_of header.record_type) (photons_written group view header behind))))
+unfolding short_file
+pick-is-listed plan_name group file name plan_file data_file view header behind usable headed suits few =
+    let end = records_picked view group header behind in
+    let is : outcome (behaviour (Some (Pick plan_name group file))) plan_file data_file ≡ end =
+    (one-outcome (Some (Pick plan_name group file)) plan_file data_file end).0
+    (suited-there PickStatus (Needs (HasGroup group) (NoGroup group)) (pick_cases group) plan_file data_file view header behind end usable headed suits (picked-holds view group header behind)) in
+    let text : end.text ≡ picked_file (mode_of header.record_type) (photons_written group view header behind) = refl in
+    ap (λ (o : Outcome). outcome (behaviour (Some (Events name))) None (Some o.text)) is
+    ∙ ap (λ (t : List ℕ). outcome (behaviour (Some (Events name))) None (Some t)) text
+    ∙ listed-picked name (mode_of header.record_type) (photons_written group view header behind) (written-can header.record_type _ (sorting view) group behind) few

@@ -94,7 +94,7 @@ module _ (view : PlanView) (group : ℕ) (header : Header) (behind : List ℕ) w
   all-picked : (all : AllPicked view group header behind) → whole_end ≡ pick_end header kept None
   all-picked all = clear-end ((none-refused how words).1 all.unrefused) true (true-empty (rest_of behind) all.whole) ∙ end-in_time how.mode kept None all.in_time
 
-  picked-holds : PickedCase view group header behind whole_end
+  pub picked-holds : PickedCase view group header behind whole_end
   picked-holds = by (record_refusal how words) refl
     where
       stopped : (fault : Fault) (least : IsFirst how fault [] words) → (too_late how.mode (settled least.front) ≡ []) ⊎ FirstLate how.mode (settled least.front) → PickedCase view group header behind whole_end

@@ -16,8 +16,8 @@ use Rattle.tally_engine.specs.Plans.{reading_by}
 use Rattle.short_file.specs.ShortFiles.{short_header}
 use Rattle.photon_pick.specs.Chosen.{is_chosen}
 use Rattle.photon_pick.specs.Texts.{text_in, refusal_in}
-use Rattle.photon_pick.specs.Ends.{photons_kept, end_text, end_fault}
-use Rattle.photon_pick.specs.Late.{too_late}
+use Rattle.photon_pick.specs.Ends.{photons_kept, photons_of, end_text, end_fault}
+use Rattle.photon_pick.specs.Late.{too_late, writable}
 use Rattle.ptu_cli.specs.Outcomes.{Outcome, refused, MayChange}
 
 -- the fault of a plan without a group of this number
@@ -51,6 +51,10 @@ picked_behind plan group (Err fault) = refused fault
 -- what writing the photons of a group of a whole file ends with
 abbrev pub pick_outcome : ℕ → PlanView → List ℕ → Outcome
 pick_outcome group plan file = picked_behind plan group (header_answer file)
+
+-- the photons that are written of the bytes behind a header: those before the first that is too late
+abbrev pub photons_written : ℕ → PlanView → Header → List ℕ → List Event
+photons_written group plan header bytes = writable (mode_of header.record_type) (photons_of (chosen_by plan group) (reading_by plan header) bytes)
 
 -- What has been written of the bytes of a file, where the next read fails: nothing before the header is whole and suits the plan.
 abbrev pub so_far_if_fits : PlanView → ℕ → Header → List ℕ → Result (Unit {0}) Fault → List ℕ

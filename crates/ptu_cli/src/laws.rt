@@ -10,12 +10,17 @@ ghost use Rattle.ptu_made.specs.Generator.{photon_limit};
 ghost use Rattle.tally_base.specs.declared.event.Event.{Event};
 ghost use Rattle.tally_base.specs.declared.header.Mode.{Mode};
 ghost use Rattle.tally_base.specs.declared.fault.Fault.{Fault};
-ghost use Rattle.tally_base.specs.declared.fault.Fault.TheVariants.{Usage};
+ghost use Rattle.tally_base.specs.declared.fault.Fault.TheVariants.{Usage, NoGroup};
+ghost use Rattle.tally_base.specs.declared.header.Header.{Header};
+ghost use Rattle.tally_base.specs.RecordTypes.{mode_of};
+ghost use Rattle.plan_text.specs.Plan.{PlanView};
 ghost use Rattle.ptu_cli.specs.Commands.{Request, Events, Run, Pick, Demo};
 ghost use Rattle.ptu_cli.specs.Outcomes.{Outcome, written};
-ghost use Rattle.ptu_cli.specs.CommandCases.{cases, IsOutcome};
+ghost use Rattle.ptu_cli.specs.CommandCases.{Needs, Suits, cases, IsOutcome};
+ghost use Rattle.ptu_cli.specs.Cases.{HasGroup};
+ghost use Rattle.ptu_cli.specs.PickOutcomes.{photons_written};
 ghost use Rattle.ptu_cli.specs.Runs.{Around, Runs};
-ghost use Rattle.ptu_cli.specs.Causes.{EndsWithFault, StatusIn, Absent, NoPlan, Misfits, NoHeader, Cut, Refused, Lacking, TooLate, IsPickable, MayCallFor, MayEndWith};
+ghost use Rattle.ptu_cli.specs.Causes.{Headed, IsUsable, EndsWithFault, StatusIn, Absent, NoPlan, Misfits, NoHeader, Cut, Refused, Lacking, TooLate, IsPickable, MayCallFor, MayEndWith};
 ghost use Rattle.ptu_cli.specs.Demo.{demo_text};
 ghost use Rattle.ptu_cli.specs.Behaviours.{EndsStay, behaviour};
 ghost use Rattle.ptu_cli.specs.Endings.{outcome};
@@ -35,6 +40,22 @@ pub fn picked_photons_are_listed()
         → length (picked_words mode photons) ≤ record_limit
         → outcome (behaviour (Some (Events name))) None (Some (picked_file mode photons))
         ≡ written (events_text (map (λ e. (e, false)) (picked_events mode photons))) }
+{}
+
+/// What `pick` writes of a file with a header, by a plan that has the group and suits the file, is a file of photons,
+/// however `pick` ends: `events` lists just those that were written, at their places in that file, and none of them as
+/// late, where its words are at most 2^40.
+pub fn what_is_picked_is_listed()
+    ensures { (plan_name : List ℕ) (group : ℕ) (file name : List ℕ) (plan_file data_file : File)
+        (view : PlanView) (header : Header) (behind : List ℕ)
+        → IsUsable (Needs (HasGroup group) (NoGroup group)) plan_file view
+        → Headed data_file header behind → Suits view header
+        → length (picked_words (mode_of header.record_type)
+        (photons_written group view header behind)) ≤ record_limit
+        → outcome (behaviour (Some (Events name))) None
+        (Some (outcome (behaviour (Some (Pick plan_name group file))) plan_file data_file).text)
+        ≡ written (events_text (map (λ e. (e, false)) (picked_events (mode_of header.record_type)
+        (photons_written group view header behind)))) }
 {}
 
 /// The outcome of a command over its files is the one that the table of cases calls for, and no other.
