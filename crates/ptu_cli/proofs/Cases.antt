@@ -39,11 +39,11 @@ use Rattle.ptu_cli.specs.TraceOutcomes.{trace_of, unless_traced, no_trace, trace
 use Rattle.ptu_cli.specs.Demo.{demo_plan, demo_report}
 use Rattle.ptu_cli.specs.Outcomes.{Outcome, refused, written, with_counts, counts_behind, count_outcome, listing, listed, events_behind, report_outcome}
 use Rattle.ptu_cli.specs.Behaviours.{any_plan, counting, listing_all, reporting, tracing}
-use Rattle.ptu_cli.specs.Cases.{WholeCase, NoneRefused, CountCase, LeftOver, ListCase, startstop_by_places, by_places, placed_text, report_by_places, words_report, StreamCase, WholeTrace, RecordsCase, HasTrace, TracedCase}
+use Rattle.ptu_cli.specs.Cases.{WholeCase, NoneRefused, CountCase, LeftOver, ListCase, startstop_by_places, by_places, placed_text, report_by_places, words_report, StreamCase, WholeTrace, TraceCase, HasTrace, TracedCase}
 use Rattle.ptu_cli.specs.CommandCases.{IsIn, count_cases, events_cases, run_cases, trace_cases, Lacks, NeedsNothing, Needs}
 use Rattle.ptu_cli.proofs.FaultStatuses.{some-same, of-refused, of-written, of-end, whole-cause, range-as, wider, least-status, listed-status}
 use Rattle.ptu_cli.proofs.CaseSteps.{end_with, same-end, lt-true, lt-false, true-lt, false-lt, empty-true, empty-false, true-empty, false-empty, whole_answer, streamed-clear}
-use Rattle.ptu_cli.proofs.CaseShapes.{RecordCause, FileTold, NeedTold, PlanTold}
+use Rattle.ptu_cli.proofs.CaseShapes.{RecordCause, FileMeets, NeedMeets, PlanMeets}
 use Rattle.ptu_cli.proofs.TraceTexts.{settled-whole, settled-first}
 
 -- ## A report by places
@@ -135,7 +135,7 @@ count-ends header behind fault (inl cut) = (refused fault, inr (cut.0, inl (cut.
 count-ends header behind fault (inr (inl many)) = (refused fault, inl (many.0, ap refused many.1), refl)
 count-ends header behind fault (inr (inr never)) = absurd never
 
-pub count-told : FileTold (IsIn 20 20) count_cases counting
+pub count-told : FileMeets (IsIn 20 20) count_cases counting
 count-told = record {
   end_of = λ r. count_outcome (counts_behind r);
   is = λ bytes. refl;
@@ -201,7 +201,7 @@ list-ends header behind fault (inr (inl least)) =
     (end_with (events_text (events_in (listing header) least.front)) (Some fault), inl (record { fault = fault; least = least; end_is = refl }), refl)
 list-ends header behind fault (inr (inr never)) = absurd never
 
-pub events-told : FileTold (IsIn 20 21) events_cases listing_all
+pub events-told : FileMeets (IsIn 20 21) events_cases listing_all
 events-told = record {
   end_of = events_behind;
   is = λ bytes. refl;
@@ -258,7 +258,7 @@ stream-ends view header behind fault (inl cut) = (refused fault, inr (cut.0, inl
 stream-ends view header behind fault (inr (inl least)) = (refused fault, inl (fault, least, refl), refl)
 stream-ends view header behind fault (inr (inr never)) = absurd never
 
-pub run-told : PlanTold (IsIn 18 21) NeedsNothing run_cases any_plan reporting
+pub run-told : PlanMeets (IsIn 18 21) NeedsNothing run_cases any_plan reporting
 run-told = record {
   needs = record {
     has = λ view none. tt;
@@ -308,10 +308,10 @@ module _ (set : TraceView) (view : PlanView) (header : Header) (behind : List �
       ap trace_end (sym (streamed-refused (reading_by view header) behind fault e))
       ∙ same-end _ _ _ _ (ap (open_text set) (settled-first (sorting view) (reading_by view header) (words_of behind) fault least)) refl
 
-  records-hold : RecordsCase set view header behind (trace_end (streamed (reading_by view header) behind))
+  records-hold : TraceCase set view header behind (trace_end (streamed (reading_by view header) behind))
   records-hold = by (record_refusal (reading_by view header) (words_of behind)) refl
     where
-      by : (o : Option Fault) → record_refusal (reading_by view header) (words_of behind) ≡ o → RecordsCase set view header behind (trace_end (streamed (reading_by view header) behind))
+      by : (o : Option Fault) → record_refusal (reading_by view header) (words_of behind) ≡ o → TraceCase set view header behind (trace_end (streamed (reading_by view header) behind))
       by (Some fault) e =
           let least = first-refusal (reading_by view header) (words_of behind) fault e in
           inl (record { fault = fault; least = least; end_is = refused-trace fault e least })
@@ -320,7 +320,7 @@ module _ (set : TraceView) (view : PlanView) (header : Header) (behind : List �
         subst (λ r. WholeTrace set view header behind (trace_end r)) (sym (streamed-clear (reading_by view header) behind e)) (left-trace e _ refl),
       )
 
-  records-only : (end : Outcome) → RecordsCase set view header behind end → trace_end (streamed (reading_by view header) behind) ≡ end
+  records-only : (end : Outcome) → TraceCase set view header behind end → trace_end (streamed (reading_by view header) behind) ≡ end
   records-only end (inl h) = refused-trace h.fault (refused-first (reading_by view header) (words_of behind) h.fault h.least) h.least ∙ sym h.end_is
   records-only end (inr h) =
       let none = (none-refused (reading_by view header) (words_of behind)).1 h.0 in
@@ -331,7 +331,7 @@ module _ (set : TraceView) (view : PlanView) (is : trace_of view ≡ Some set) w
   same-trace header behind = ap (λ o. records_traced o (sorting view) (reading_by view header) behind) is
 
 traced-holds : (view : PlanView) → HasTrace view → (header : Header) (behind : List ℕ) → TracedCase view header behind (records_traced (trace_of view) (sorting view) (reading_by view header) behind)
-traced-holds view has header behind = (has.0, has.1, subst (RecordsCase has.0 view header behind) (sym (same-trace has.0 view has.1 header behind)) (records-hold has.0 view header behind))
+traced-holds view has header behind = (has.0, has.1, subst (TraceCase has.0 view header behind) (sym (same-trace has.0 view has.1 header behind)) (records-hold has.0 view header behind))
 
 traced-only : (view : PlanView) (header : Header) (behind : List ℕ) (end : Outcome) → TracedCase view header behind end → records_traced (trace_of view) (sorting view) (reading_by view header) behind ≡ end
 traced-only view header behind end h = same-trace h.0 view h.1 header behind ∙ records-only h.0 view header behind end h.2
@@ -343,7 +343,7 @@ records-cause view header behind end fault traced e = by traced.2
     left none (inl h) = inl (none, h.0, of-end end _ _ fault h.1 e)
     left none (inr h) = absurd (of-written end _ fault h.1 e)
 
-    by : RecordsCase traced.0 view header behind end → RecordCause (trace_cases view) header behind fault
+    by : TraceCase traced.0 view header behind end → RecordCause (trace_cases view) header behind fault
     by (inl h) = inr (inl (subst (λ (f : Fault). IsFirst (reading_by view header) f [] (words_of behind)) (sym (of-end end _ h.fault fault h.end_is e)) h.least))
     by (inr h) = left h.0 h.1
 
@@ -356,7 +356,7 @@ traced-ends view has header behind fault (inr (inl least)) =
     (end_with text (Some fault), (has.0, has.1, inl (record { fault = fault; least = least; end_is = refl })), refl)
 traced-ends view has header behind fault (inr (inr never)) = absurd never
 
-trace-needs : NeedTold (IsIn 18 22) (Needs HasTrace NoTrace) no_trace
+trace-needs : NeedMeets (IsIn 18 22) (Needs HasTrace NoTrace) no_trace
 trace-needs = record {
   has = λ view none. found view (trace_of view) refl none;
   none = λ view has. ap unless_traced has.1;
@@ -377,7 +377,7 @@ trace-needs = record {
     missing view fault h None is = ap unless_traced is ∙ ap Some (sym h.1)
     missing view fault h (Some set) is = absurd (h.0 (set, is))
 
-pub trace-told : PlanTold (IsIn 18 22) (Needs HasTrace NoTrace) trace_cases no_trace tracing
+pub trace-told : PlanMeets (IsIn 18 22) (Needs HasTrace NoTrace) trace_cases no_trace tracing
 trace-told = record {
   needs = trace-needs;
   works = λ view has. record {

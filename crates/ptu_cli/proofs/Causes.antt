@@ -21,17 +21,17 @@ use Rattle.plan_text.specs.Reading.{IsCalledFor}
 use Rattle.plan_text.specs.Fits.{IsMisfit}
 use Rattle.photon_pick.specs.Late.{too_late}
 use Rattle.ptu_cli.specs.Endings.{outcome}
-use Rattle.ptu_cli.specs.Causes.{IsValidPlan, Headed, Unheaded, IsUsable, Absent, NoPlan, Misfits, NoHeader, Cut, Refused, Lacking, TooLate, IsPickable, EndsWithFault, StatusIn, MayCallFor}
+use Rattle.ptu_cli.specs.Causes.{IsValidPlan, Headed, Unheaded, IsPlanWith, Absent, NoPlan, Misfits, NoHeader, Cut, Refused, Lacking, TooLate, IsPickable, EndsWithFault, StatusIn, MayCallFor}
 use Rattle.ptu_cli.specs.Outcomes.{Outcome, refused, header_outcome, written}
 use Rattle.ptu_cli.specs.Behaviours.{Work, Behaviour, behaviour, NoCommand, Alone, OnFile, ByPlan}
 use Rattle.ptu_cli.specs.Commands.{Request, Pick, Events}
 use Rattle.ptu_cli.specs.Cases.{FileCase, HeaderCase, PrintCase, HasGroup, settled_photons, kept_photons, FirstLate, LateAtEnd, AllPicked, pick_end}
-use Rattle.ptu_cli.specs.CommandCases.{RecordCases, Need, CommandCases, NamesLate, pick_cases, cases, Lacks, Suits, SuitCase, NeedCase, PlanCase, EndsAs, IsOutcome, Needs, NoWords, Writes, OfHeader, OfRecords, OfPlan}
+use Rattle.ptu_cli.specs.CommandCases.{pick_statuses, RecordCases, Need, CommandCases, NamesLate, pick_cases, cases, Lacks, Suits, SuitCase, NeedCase, PlanCase, ShapeCase, IsOutcome, Needs, BadWords, Writes, ReadsHeader, ReadsRecords, ReadsByPlan}
 use Rattle.ptu_cli.proofs.FaultStatuses.{some-same, of-refused, of-written, range-as, wider, called-status, misfit-status, unheaded-status, cut_behind-status}
-use Rattle.ptu_cli.proofs.CaseShapes.{RecordCause, RecordsTold, PlanTold, IsTold}
+use Rattle.ptu_cli.proofs.CaseShapes.{RecordCause, RecordsMeet, PlanMeets, MeetsCases}
 use Rattle.ptu_cli.proofs.Prints.{print-holds}
 use Rattle.ptu_cli.proofs.PickPhotons.{none-or-late}
-use Rattle.ptu_cli.proofs.PickCases.{PickStatus, first-settled, picked-holds}
+use Rattle.ptu_cli.proofs.PickCases.{first-settled, picked-holds}
 use Rattle.ptu_cli.proofs.Proved.{proved, one-outcome}
 use Rattle.ptu_cli.proofs.PickedFiles.{listed-picked}
 use Rattle.ptu_cli.specs.PickOutcomes.{records_picked, photons_written}
@@ -45,20 +45,20 @@ use Rattle.ptu_definitions.specs.Counted.{record_limit}
 -- ## From an outcome to its cause
 
 abbrev IsNoCommand : CommandCases → Type 0
-IsNoCommand NoWords = Unit {0}
+IsNoCommand BadWords = Unit {0}
 IsNoCommand other = ⊥
 
 -- why a command ends with a fault that its words and files call for
-data Cause (of : CommandCases) (plan_file data_file : File) (fault : Fault) : Type 0 where
-  IsUsage : IsNoCommand of → fault ≡ Usage → Cause of plan_file data_file fault
-  IsAbsent : Absent of plan_file data_file fault → Cause of plan_file data_file fault
-  IsNoPlan : NoPlan of plan_file fault → Cause of plan_file data_file fault
-  IsLacking : Lacking of plan_file fault → Cause of plan_file data_file fault
-  HasMisfit : Misfits of plan_file data_file fault → Cause of plan_file data_file fault
-  IsNoHeader : NoHeader of plan_file data_file fault → Cause of plan_file data_file fault
-  IsCut : Cut of plan_file data_file fault → Cause of plan_file data_file fault
-  IsRefused : Refused of plan_file data_file fault → Cause of plan_file data_file fault
-  IsLate : TooLate of plan_file data_file fault → Cause of plan_file data_file fault
+data Cause (shape : CommandCases) (plan_file data_file : File) (fault : Fault) : Type 0 where
+  IsUsage : IsNoCommand shape → fault ≡ Usage → Cause shape plan_file data_file fault
+  IsAbsent : Absent shape plan_file data_file fault → Cause shape plan_file data_file fault
+  IsNoPlan : NoPlan shape plan_file fault → Cause shape plan_file data_file fault
+  IsLacking : Lacking shape plan_file fault → Cause shape plan_file data_file fault
+  HasMisfit : Misfits shape plan_file data_file fault → Cause shape plan_file data_file fault
+  IsNoHeader : NoHeader shape plan_file data_file fault → Cause shape plan_file data_file fault
+  IsCut : Cut shape plan_file data_file fault → Cause shape plan_file data_file fault
+  IsRefused : Refused shape plan_file data_file fault → Cause shape plan_file data_file fault
+  IsLate : TooLate shape plan_file data_file fault → Cause shape plan_file data_file fault
 
 file-cause : (case : List ℕ → Outcome → Type 0) (data_file : File) (end : Outcome) (fault : Fault) → FileCase case data_file end → end.fault ≡ Some fault
     → ((data_file ≡ None) × (fault ≡ OpenFault Data)) ⊎ ((bytes : List ℕ) × (data_file ≡ Some bytes) × case bytes end)
@@ -72,77 +72,77 @@ header-cause case data_file bytes end fault present (inl h) e =
 header-cause case data_file bytes end fault present (inr h) e = inr (h.0, h.1, record { bytes = bytes; present = present; is_header = h.2 }, h.3)
 
 module _ (plan_file data_file : File) (end : Outcome) (fault : Fault) (ends : end.fault ≡ Some fault) where
-  print-causes : FileCase PrintCase data_file end → Cause OfHeader plan_file data_file fault
+  print-causes : FileCase PrintCase data_file end → Cause ReadsHeader plan_file data_file fault
   print-causes h = at (file-cause PrintCase data_file end fault h ends)
     where
-      next : (bytes : List ℕ) (answer : Result (Header × List ℕ) Fault) → data_file ≡ Some bytes → HasAnswer bytes answer → end.fault ≡ fault_in answer → Cause OfHeader plan_file data_file fault
+      next : (bytes : List ℕ) (answer : Result (Header × List ℕ) Fault) → data_file ≡ Some bytes → HasAnswer bytes answer → end.fault ≡ fault_in answer → Cause ReadsHeader plan_file data_file fault
       next bytes (Ok found) present has e = absurd cc
       next bytes (Err own) present has e = IsNoHeader (record { bytes = bytes; present = present; is_refused = subst (λ (f : Fault). HasAnswer bytes (Err f)) (some-same own fault (sym e ∙ ends)) has })
 
-      at : ((data_file ≡ None) × (fault ≡ OpenFault Data)) ⊎ ((bytes : List ℕ) × (data_file ≡ Some bytes) × PrintCase bytes end) → Cause OfHeader plan_file data_file fault
+      at : ((data_file ≡ None) × (fault ≡ OpenFault Data)) ⊎ ((bytes : List ℕ) × (data_file ≡ Some bytes) × PrintCase bytes end) → Cause ReadsHeader plan_file data_file fault
       at (inl absent) = IsAbsent absent
       at (inr there) = next there.0 there.2.answer there.1 there.2.is_answer there.2.fault_is
 
-  record-causes : (own : ℕ → Type 0) (records : RecordCases) (end_of : Header → List ℕ → Outcome) → RecordsTold own records end_of → FileCase (HeaderCase records.ends) data_file end → Cause (OfRecords own records) plan_file data_file fault
-  record-causes own records end_of told h = at (file-cause (HeaderCase records.ends) data_file end fault h ends)
+  record-causes : (further : ℕ → Type 0) (records : RecordCases) (end_of : Header → List ℕ → Outcome) → RecordsMeet further records end_of → FileCase (HeaderCase records.ends) data_file end → Cause (ReadsRecords further records) plan_file data_file fault
+  record-causes further records end_of told h = at (file-cause (HeaderCase records.ends) data_file end fault h ends)
     where
-      last : (header : Header) (behind : List ℕ) → Headed data_file header behind → RecordCause records header behind fault → Cause (OfRecords own records) plan_file data_file fault
+      last : (header : Header) (behind : List ℕ) → Headed data_file header behind → RecordCause records header behind fault → Cause (ReadsRecords further records) plan_file data_file fault
       last header behind headed (inl cut) = IsCut (header, behind, headed, cut)
       last header behind headed (inr (inl refusal)) = IsRefused (header, behind, headed, refusal)
       last header behind headed (inr (inr late)) = IsLate (header, behind, headed, late)
 
-      next : Unheaded data_file fault ⊎ ((header : Header) × (behind : List ℕ) × Headed data_file header behind × records.ends header behind end) → Cause (OfRecords own records) plan_file data_file fault
+      next : Unheaded data_file fault ⊎ ((header : Header) × (behind : List ℕ) × Headed data_file header behind × records.ends header behind end) → Cause (ReadsRecords further records) plan_file data_file fault
       next (inl refusal) = IsNoHeader refusal
       next (inr it) = last it.0 it.1 it.2 (told.cause it.0 it.1 end fault it.3 ends)
 
-      at : ((data_file ≡ None) × (fault ≡ OpenFault Data)) ⊎ ((bytes : List ℕ) × (data_file ≡ Some bytes) × HeaderCase records.ends bytes end) → Cause (OfRecords own records) plan_file data_file fault
+      at : ((data_file ≡ None) × (fault ≡ OpenFault Data)) ⊎ ((bytes : List ℕ) × (data_file ≡ Some bytes) × HeaderCase records.ends bytes end) → Cause (ReadsRecords further records) plan_file data_file fault
       at (inl absent) = IsAbsent absent
       at (inr there) = next (header-cause records.ends data_file there.0 end fault there.1 there.2 ends)
 
-  suit-causes : (own : ℕ → Type 0) (need : Need) (records : PlanView → RecordCases) (view : PlanView) (end_of : Header → List ℕ → Outcome) → RecordsTold own (records view) end_of → IsUsable need plan_file view
-      → FileCase (HeaderCase (SuitCase view (records view).ends)) data_file end → Cause (OfPlan own need records) plan_file data_file fault
-  suit-causes own need records view end_of told is h = at (file-cause (HeaderCase case) data_file end fault h ends)
+  suit-causes : (further : ℕ → Type 0) (need : Need) (records : PlanView → RecordCases) (view : PlanView) (end_of : Header → List ℕ → Outcome) → RecordsMeet further (records view) end_of → IsPlanWith need plan_file view
+      → FileCase (HeaderCase (SuitCase view (records view).ends)) data_file end → Cause (ReadsByPlan further need records) plan_file data_file fault
+  suit-causes further need records view end_of told is h = at (file-cause (HeaderCase case) data_file end fault h ends)
     where
       case : Header → List ℕ → Outcome → Type 0
       case = SuitCase view (records view).ends
 
-      last : (header : Header) (behind : List ℕ) → Headed data_file header behind → Suits view header → RecordCause (records view) header behind fault → Cause (OfPlan own need records) plan_file data_file fault
+      last : (header : Header) (behind : List ℕ) → Headed data_file header behind → Suits view header → RecordCause (records view) header behind fault → Cause (ReadsByPlan further need records) plan_file data_file fault
       last header behind headed suits (inl cut) = IsCut (view, header, behind, is, headed, (suits, cut))
       last header behind headed suits (inr (inl refusal)) = IsRefused (view, header, behind, is, headed, (suits, refusal))
       last header behind headed suits (inr (inr late)) = IsLate (view, header, behind, is, headed, (suits, late))
 
-      suited : (header : Header) (behind : List ℕ) → Headed data_file header behind → SuitCase view (records view).ends header behind end → Cause (OfPlan own need records) plan_file data_file fault
+      suited : (header : Header) (behind : List ℕ) → Headed data_file header behind → SuitCase view (records view).ends header behind end → Cause (ReadsByPlan further need records) plan_file data_file fault
       suited header behind headed (inl misfit) =
           HasMisfit (view, header, behind, is, headed, subst (λ (f : Fault). IsMisfit (mode_of header.record_type) view f) (sym (of-refused end misfit.0 fault misfit.2 ends)) misfit.1)
       suited header behind headed (inr suits) = last header behind headed suits.0 (told.cause header behind end fault suits.1 ends)
 
-      next : Unheaded data_file fault ⊎ ((header : Header) × (behind : List ℕ) × Headed data_file header behind × SuitCase view (records view).ends header behind end) → Cause (OfPlan own need records) plan_file data_file fault
+      next : Unheaded data_file fault ⊎ ((header : Header) × (behind : List ℕ) × Headed data_file header behind × SuitCase view (records view).ends header behind end) → Cause (ReadsByPlan further need records) plan_file data_file fault
       next (inl refusal) = IsNoHeader (view, is, refusal)
       next (inr it) = suited it.0 it.1 it.2 it.3
 
-      at : ((data_file ≡ None) × (fault ≡ OpenFault Data)) ⊎ ((bytes : List ℕ) × (data_file ≡ Some bytes) × HeaderCase (SuitCase view (records view).ends) bytes end) → Cause (OfPlan own need records) plan_file data_file fault
+      at : ((data_file ≡ None) × (fault ≡ OpenFault Data)) ⊎ ((bytes : List ℕ) × (data_file ≡ Some bytes) × HeaderCase (SuitCase view (records view).ends) bytes end) → Cause (ReadsByPlan further need records) plan_file data_file fault
       at (inl absent) = IsAbsent (inr (view, is, absent.0, absent.1))
       at (inr there) = next (header-cause (SuitCase view (records view).ends) data_file there.0 end fault there.1 there.2 ends)
 
-  need-causes : (own : ℕ → Type 0) (need : Need) (records : PlanView → RecordCases) (lacks : PlanView → Option Fault) (work : PlanView → Work) → PlanTold own need records lacks work → (view : PlanView) → IsValidPlan plan_file view
-      → NeedCase need (records view) view data_file end → Cause (OfPlan own need records) plan_file data_file fault
-  need-causes own need records lacks work told view is (inl h) = IsLacking (view, is, subst (Lacks need view) (sym (of-refused end h.0 fault h.2 ends)) h.1)
-  need-causes own need records lacks work told view is (inr h) = let works = told.works view h.0 in suit-causes own need records view _ works.told (is, h.0) h.1
+  need-causes : (further : ℕ → Type 0) (need : Need) (records : PlanView → RecordCases) (lacks : PlanView → Option Fault) (work : PlanView → Work) → PlanMeets further need records lacks work → (view : PlanView) → IsValidPlan plan_file view
+      → NeedCase need (records view) view data_file end → Cause (ReadsByPlan further need records) plan_file data_file fault
+  need-causes further need records lacks work told view is (inl h) = IsLacking (view, is, subst (Lacks need view) (sym (of-refused end h.0 fault h.2 ends)) h.1)
+  need-causes further need records lacks work told view is (inr h) = let works = told.works view h.0 in suit-causes further need records view _ works.told (is, h.0) h.1
 
-plan-causes : (own : ℕ → Type 0) (need : Need) (records : PlanView → RecordCases) (lacks : PlanView → Option Fault) (work : PlanView → Work) → PlanTold own need records lacks work
-    → (plan_file data_file : File) (end : Outcome) (fault : Fault) → end.fault ≡ Some fault → PlanCase need records plan_file data_file end → Cause (OfPlan own need records) plan_file data_file fault
-plan-causes own need records lacks work told None data_file end fault ends h = IsAbsent (inl (refl, of-refused end _ fault h ends))
-plan-causes own need records lacks work told (Some text) data_file end fault ends (inl h) =
+plan-causes : (further : ℕ → Type 0) (need : Need) (records : PlanView → RecordCases) (lacks : PlanView → Option Fault) (work : PlanView → Work) → PlanMeets further need records lacks work
+    → (plan_file data_file : File) (end : Outcome) (fault : Fault) → end.fault ≡ Some fault → PlanCase need records plan_file data_file end → Cause (ReadsByPlan further need records) plan_file data_file fault
+plan-causes further need records lacks work told None data_file end fault ends h = IsAbsent (inl (refl, of-refused end _ fault h ends))
+plan-causes further need records lacks work told (Some text) data_file end fault ends (inl h) =
     let same = of-refused end h.0 fault h.3 ends in
     IsNoPlan (text, refl, subst (IsCalledFor text) (sym same) h.1, λ e. h.2 (sym same ∙ e))
-plan-causes own need records lacks work told (Some text) data_file end fault ends (inr h) =
-    need-causes (Some text) data_file end fault ends own need records lacks work told (plan (table h.0)) (record { text = text; ms = h.0; present = refl; is_valid = h.1; document_is = h.2; view_is = refl }) h.3
+plan-causes further need records lacks work told (Some text) data_file end fault ends (inr h) =
+    need-causes (Some text) data_file end fault ends further need records lacks work told (plan (table h.0)) (record { text = text; ms = h.0; present = refl; is_valid = h.1; document_is = h.2; view_is = refl }) h.3
 
-case-causes : (does : Behaviour) (of : CommandCases) → IsTold does of → (plan_file data_file : File) (end : Outcome) (fault : Fault) → end.fault ≡ Some fault → EndsAs of plan_file data_file end → Cause of plan_file data_file fault
+case-causes : (does : Behaviour) (shape : CommandCases) → MeetsCases does shape → (plan_file data_file : File) (end : Outcome) (fault : Fault) → end.fault ≡ Some fault → ShapeCase shape plan_file data_file end → Cause shape plan_file data_file fault
 case-causes (Alone whole) (Writes text) told plan_file data_file end fault ends h = absurd (of-written end text fault h ends)
-case-causes (OnFile file writing work) OfHeader told plan_file data_file end fault ends h = print-causes plan_file data_file end fault ends h
-case-causes (OnFile file writing work) (OfRecords own records) told plan_file data_file end fault ends h = record-causes plan_file data_file end fault ends own records _ told.told h
-case-causes (ByPlan plan_name file writing memory lacks work) (OfPlan own need records) told plan_file data_file end fault ends h = plan-causes own need records lacks work told plan_file data_file end fault ends h
+case-causes (OnFile file writing work) ReadsHeader told plan_file data_file end fault ends h = print-causes plan_file data_file end fault ends h
+case-causes (OnFile file writing work) (ReadsRecords further records) told plan_file data_file end fault ends h = record-causes plan_file data_file end fault ends further records _ told.told h
+case-causes (ByPlan plan_name file writing memory lacks work) (ReadsByPlan further need records) told plan_file data_file end fault ends h = plan-causes further need records lacks work told plan_file data_file end fault ends h
 case-causes does other told plan_file data_file end fault ends h = absurd told
 
 fault-cause : (request : Option Request) (plan_file data_file : File) (fault : Fault) → EndsWithFault request plan_file data_file fault → Cause (cases request) plan_file data_file fault
@@ -156,7 +156,7 @@ fault-cause request plan_file data_file fault ends = by request (outcome (behavi
 
 -- the cases of a command have an end with this fault
 abbrev HasEnd : CommandCases → File → File → Fault → Type 0
-HasEnd of plan_file data_file fault = (end : Outcome) × EndsAs of plan_file data_file end × (end.fault ≡ Some fault)
+HasEnd shape plan_file data_file fault = (end : Outcome) × ShapeCase shape plan_file data_file end × (end.fault ≡ Some fault)
 
 there : (case : List ℕ → Outcome → Type 0) (data_file : File) (bytes : List ℕ) (end : Outcome) → data_file ≡ Some bytes → case bytes end → FileCase case data_file end
 there case data_file bytes end present h = subst (λ (f : File). FileCase case f end) (sym present) h
@@ -170,9 +170,9 @@ headed-there case data_file header behind end h c = there (HeaderCase case) data
 unheaded-there : (case : Header → List ℕ → Outcome → Type 0) (data_file : File) (fault : Fault) → Unheaded data_file fault → FileCase (HeaderCase case) data_file (refused fault)
 unheaded-there case data_file fault h = there (HeaderCase case) data_file h.bytes (refused fault) h.present (inl (fault, h.is_refused, refl))
 
-pub plan-there : (own : ℕ → Type 0) (need : Need) (records : PlanView → RecordCases) (plan_file data_file : File) (view : PlanView) (end : Outcome) → IsUsable need plan_file view
+pub plan-there : (further : ℕ → Type 0) (need : Need) (records : PlanView → RecordCases) (plan_file data_file : File) (view : PlanView) (end : Outcome) → IsPlanWith need plan_file view
     → FileCase (HeaderCase (SuitCase view (records view).ends)) data_file end → PlanCase need records plan_file data_file end
-plan-there own need records plan_file data_file view end is h =
+plan-there further need records plan_file data_file view end is h =
     let valid = is.0 in
     subst (λ (f : File). PlanCase need records f data_file end) (sym valid.present)
     (inr (valid.ms, valid.is_valid, valid.document_is, subst (λ (v : PlanView). NeedCase need (records v) v data_file end) valid.view_is (inr (is.1, h))))
@@ -182,90 +182,90 @@ lacking-there need records plan_file data_file view fault valid h =
     subst (λ (f : File). PlanCase need records f data_file (refused fault)) (sym valid.present)
     (inr (valid.ms, valid.is_valid, valid.document_is, subst (λ (v : PlanView). NeedCase need (records v) v data_file (refused fault)) valid.view_is (inl (fault, h, refl))))
 
-pub suited-there : (own : ℕ → Type 0) (need : Need) (records : PlanView → RecordCases) (plan_file data_file : File) (view : PlanView) (header : Header) (behind : List ℕ) (end : Outcome)
-    → IsUsable need plan_file view → Headed data_file header behind → Suits view header → (records view).ends header behind end → PlanCase need records plan_file data_file end
-suited-there own need records plan_file data_file view header behind end is headed suits h =
-    plan-there own need records plan_file data_file view end is (headed-there (SuitCase view (records view).ends) data_file header behind end headed (inr (suits, h)))
+pub suited-there : (further : ℕ → Type 0) (need : Need) (records : PlanView → RecordCases) (plan_file data_file : File) (view : PlanView) (header : Header) (behind : List ℕ) (end : Outcome)
+    → IsPlanWith need plan_file view → Headed data_file header behind → Suits view header → (records view).ends header behind end → PlanCase need records plan_file data_file end
+suited-there further need records plan_file data_file view header behind end is headed suits h =
+    plan-there further need records plan_file data_file view end is (headed-there (SuitCase view (records view).ends) data_file header behind end headed (inr (suits, h)))
 
 plan-absent : (need : Need) (records : PlanView → RecordCases) (plan_file data_file : File) → plan_file ≡ None → PlanCase need records plan_file data_file (refused (OpenFault Plan))
 plan-absent need records plan_file data_file none = subst (λ (f : File). PlanCase need records f data_file (refused (OpenFault Plan))) (sym none) refl
 
 module _ (plan_file data_file : File) (fault : Fault) where
-  absent-end : (of : CommandCases) → Absent of plan_file data_file fault → HasEnd of plan_file data_file fault
-  absent-end NoWords h = absurd h
+  absent-end : (shape : CommandCases) → Absent shape plan_file data_file fault → HasEnd shape plan_file data_file fault
+  absent-end BadWords h = absurd h
   absent-end (Writes text) h = absurd h
-  absent-end OfHeader h = (refused (OpenFault Data), absent-file PrintCase data_file h.0, ap Some (sym h.1))
-  absent-end (OfRecords own records) h = (refused (OpenFault Data), absent-file (HeaderCase records.ends) data_file h.0, ap Some (sym h.1))
-  absent-end (OfPlan own need records) (inl h) = (refused (OpenFault Plan), plan-absent need records plan_file data_file h.0, ap Some (sym h.1))
-  absent-end (OfPlan own need records) (inr h) =
-      (refused (OpenFault Data), plan-there own need records plan_file data_file h.0 (refused (OpenFault Data)) h.1 (absent-file (HeaderCase (SuitCase h.0 (records h.0).ends)) data_file h.2), ap Some (sym h.3))
+  absent-end ReadsHeader h = (refused (OpenFault Data), absent-file PrintCase data_file h.0, ap Some (sym h.1))
+  absent-end (ReadsRecords further records) h = (refused (OpenFault Data), absent-file (HeaderCase records.ends) data_file h.0, ap Some (sym h.1))
+  absent-end (ReadsByPlan further need records) (inl h) = (refused (OpenFault Plan), plan-absent need records plan_file data_file h.0, ap Some (sym h.1))
+  absent-end (ReadsByPlan further need records) (inr h) =
+      (refused (OpenFault Data), plan-there further need records plan_file data_file h.0 (refused (OpenFault Data)) h.1 (absent-file (HeaderCase (SuitCase h.0 (records h.0).ends)) data_file h.2), ap Some (sym h.3))
 
-  no_plan-end : (of : CommandCases) → NoPlan of plan_file fault → HasEnd of plan_file data_file fault
-  no_plan-end (OfPlan own need records) h = (refused fault, subst (λ (f : File). PlanCase need records f data_file (refused fault)) (sym h.1) (inl (fault, h.2, h.3, refl)), refl)
+  no_plan-end : (shape : CommandCases) → NoPlan shape plan_file fault → HasEnd shape plan_file data_file fault
+  no_plan-end (ReadsByPlan further need records) h = (refused fault, subst (λ (f : File). PlanCase need records f data_file (refused fault)) (sym h.1) (inl (fault, h.2, h.3, refl)), refl)
   no_plan-end _ h = absurd h
 
-  lacking-end : (of : CommandCases) → Lacking of plan_file fault → HasEnd of plan_file data_file fault
-  lacking-end (OfPlan own need records) h = (refused fault, lacking-there need records plan_file data_file h.0 fault h.1 h.2, refl)
+  lacking-end : (shape : CommandCases) → Lacking shape plan_file fault → HasEnd shape plan_file data_file fault
+  lacking-end (ReadsByPlan further need records) h = (refused fault, lacking-there need records plan_file data_file h.0 fault h.1 h.2, refl)
   lacking-end _ h = absurd h
 
-  misfits-end : (of : CommandCases) → Misfits of plan_file data_file fault → HasEnd of plan_file data_file fault
-  misfits-end (OfPlan own need records) h =
-      (refused fault, plan-there own need records plan_file data_file h.0 (refused fault) h.3 (headed-there (SuitCase h.0 (records h.0).ends) data_file h.1 h.2 (refused fault) h.4 (inl (fault, h.5, refl))), refl)
+  misfits-end : (shape : CommandCases) → Misfits shape plan_file data_file fault → HasEnd shape plan_file data_file fault
+  misfits-end (ReadsByPlan further need records) h =
+      (refused fault, plan-there further need records plan_file data_file h.0 (refused fault) h.3 (headed-there (SuitCase h.0 (records h.0).ends) data_file h.1 h.2 (refused fault) h.4 (inl (fault, h.5, refl))), refl)
   misfits-end _ h = absurd h
 
-  header-end : Unheaded data_file fault → HasEnd OfHeader plan_file data_file fault
+  header-end : Unheaded data_file fault → HasEnd ReadsHeader plan_file data_file fault
   header-end h =
       let end = header_outcome h.bytes in
       (end, there PrintCase data_file h.bytes end h.present (print-holds h.bytes), ap fault_in ((one_answer h.bytes (Err fault)).0 h.is_refused))
 
-  no_header-end : (of : CommandCases) → NoHeader of plan_file data_file fault → HasEnd of plan_file data_file fault
-  no_header-end NoWords h = absurd h
+  no_header-end : (shape : CommandCases) → NoHeader shape plan_file data_file fault → HasEnd shape plan_file data_file fault
+  no_header-end BadWords h = absurd h
   no_header-end (Writes text) h = absurd h
-  no_header-end OfHeader h = header-end h
-  no_header-end (OfRecords own records) h = (refused fault, unheaded-there records.ends data_file fault h, refl)
-  no_header-end (OfPlan own need records) h =
-      (refused fault, plan-there own need records plan_file data_file h.0 (refused fault) h.1 (unheaded-there (SuitCase h.0 (records h.0).ends) data_file fault h.2), refl)
+  no_header-end ReadsHeader h = header-end h
+  no_header-end (ReadsRecords further records) h = (refused fault, unheaded-there records.ends data_file fault h, refl)
+  no_header-end (ReadsByPlan further need records) h =
+      (refused fault, plan-there further need records plan_file data_file h.0 (refused fault) h.1 (unheaded-there (SuitCase h.0 (records h.0).ends) data_file fault h.2), refl)
 
   -- by the records
-  records-end : (own : ℕ → Type 0) (records : RecordCases) (end_of : Header → List ℕ → Outcome) → RecordsTold own records end_of → (header : Header) (behind : List ℕ) → Headed data_file header behind → RecordCause records header behind fault
-      → HasEnd (OfRecords own records) plan_file data_file fault
-  records-end own records end_of told header behind headed cause =
+  records-end : (further : ℕ → Type 0) (records : RecordCases) (end_of : Header → List ℕ → Outcome) → RecordsMeet further records end_of → (header : Header) (behind : List ℕ) → Headed data_file header behind → RecordCause records header behind fault
+      → HasEnd (ReadsRecords further records) plan_file data_file fault
+  records-end further records end_of told header behind headed cause =
       let end = told.ends header behind fault cause in
       (end.0, headed-there records.ends data_file header behind end.0 headed end.1, end.2)
 
-  planned-end : (own : ℕ → Type 0) (need : Need) (records : PlanView → RecordCases) (lacks : PlanView → Option Fault) (work : PlanView → Work) → PlanTold own need records lacks work
-      → (view : PlanView) (header : Header) (behind : List ℕ) → IsUsable need plan_file view → Headed data_file header behind → Suits view header → RecordCause (records view) header behind fault → HasEnd (OfPlan own need records) plan_file data_file fault
-  planned-end own need records lacks work told view header behind is headed suits cause =
+  planned-end : (further : ℕ → Type 0) (need : Need) (records : PlanView → RecordCases) (lacks : PlanView → Option Fault) (work : PlanView → Work) → PlanMeets further need records lacks work
+      → (view : PlanView) (header : Header) (behind : List ℕ) → IsPlanWith need plan_file view → Headed data_file header behind → Suits view header → RecordCause (records view) header behind fault → HasEnd (ReadsByPlan further need records) plan_file data_file fault
+  planned-end further need records lacks work told view header behind is headed suits cause =
       let works = told.works view is.1 in
       let end = works.told.ends header behind fault cause in
-      (end.0, suited-there own need records plan_file data_file view header behind end.0 is headed suits end.1, end.2)
+      (end.0, suited-there further need records plan_file data_file view header behind end.0 is headed suits end.1, end.2)
 
-  cut-end : (does : Behaviour) (of : CommandCases) → IsTold does of → Cut of plan_file data_file fault → HasEnd of plan_file data_file fault
-  cut-end (OnFile file writing work) (OfRecords own records) told h = records-end own records _ told.told h.0 h.1 h.2 (inl h.3)
-  cut-end (ByPlan plan_name file writing memory lacks work) (OfPlan own need records) told h = planned-end own need records lacks work told h.0 h.1 h.2 h.3 h.4 h.5.0 (inl h.5.1)
+  cut-end : (does : Behaviour) (shape : CommandCases) → MeetsCases does shape → Cut shape plan_file data_file fault → HasEnd shape plan_file data_file fault
+  cut-end (OnFile file writing work) (ReadsRecords further records) told h = records-end further records _ told.told h.0 h.1 h.2 (inl h.3)
+  cut-end (ByPlan plan_name file writing memory lacks work) (ReadsByPlan further need records) told h = planned-end further need records lacks work told h.0 h.1 h.2 h.3 h.4 h.5.0 (inl h.5.1)
   cut-end (Alone whole) (Writes text) told h = absurd h
-  cut-end (OnFile file writing work) OfHeader told h = absurd h
+  cut-end (OnFile file writing work) ReadsHeader told h = absurd h
   cut-end does other told h = absurd told
 
-  refused-end : (does : Behaviour) (of : CommandCases) → IsTold does of → Refused of plan_file data_file fault → HasEnd of plan_file data_file fault
-  refused-end (OnFile file writing work) (OfRecords own records) told h = records-end own records _ told.told h.0 h.1 h.2 (inr (inl h.3))
-  refused-end (ByPlan plan_name file writing memory lacks work) (OfPlan own need records) told h = planned-end own need records lacks work told h.0 h.1 h.2 h.3 h.4 h.5.0 (inr (inl h.5.1))
+  refused-end : (does : Behaviour) (shape : CommandCases) → MeetsCases does shape → Refused shape plan_file data_file fault → HasEnd shape plan_file data_file fault
+  refused-end (OnFile file writing work) (ReadsRecords further records) told h = records-end further records _ told.told h.0 h.1 h.2 (inr (inl h.3))
+  refused-end (ByPlan plan_name file writing memory lacks work) (ReadsByPlan further need records) told h = planned-end further need records lacks work told h.0 h.1 h.2 h.3 h.4 h.5.0 (inr (inl h.5.1))
   refused-end (Alone whole) (Writes text) told h = absurd h
-  refused-end (OnFile file writing work) OfHeader told h = absurd h
+  refused-end (OnFile file writing work) ReadsHeader told h = absurd h
   refused-end does other told h = absurd told
 
-  late-end : (does : Behaviour) (of : CommandCases) → IsTold does of → TooLate of plan_file data_file fault → HasEnd of plan_file data_file fault
-  late-end (OnFile file writing work) (OfRecords own records) told h = records-end own records _ told.told h.0 h.1 h.2 (inr (inr h.3))
-  late-end (ByPlan plan_name file writing memory lacks work) (OfPlan own need records) told h = planned-end own need records lacks work told h.0 h.1 h.2 h.3 h.4 h.5.0 (inr (inr h.5.1))
+  late-end : (does : Behaviour) (shape : CommandCases) → MeetsCases does shape → TooLate shape plan_file data_file fault → HasEnd shape plan_file data_file fault
+  late-end (OnFile file writing work) (ReadsRecords further records) told h = records-end further records _ told.told h.0 h.1 h.2 (inr (inr h.3))
+  late-end (ByPlan plan_name file writing memory lacks work) (ReadsByPlan further need records) told h = planned-end further need records lacks work told h.0 h.1 h.2 h.3 h.4 h.5.0 (inr (inr h.5.1))
   late-end (Alone whole) (Writes text) told h = absurd h
-  late-end (OnFile file writing work) OfHeader told h = absurd h
+  late-end (OnFile file writing work) ReadsHeader told h = absurd h
   late-end does other told h = absurd told
 
 pub ends-by : (request : Option Request) (plan_file data_file : File) (fault : Fault) → HasEnd (cases request) plan_file data_file fault → EndsWithFault request plan_file data_file fault
 ends-by request plan_file data_file fault h = ap (λ (o : Outcome). o.fault) ((one-outcome request plan_file data_file h.0).0 h.1) ∙ h.2
 
 -- no words have no records
-told-end : (request : Option Request) (plan_file data_file : File) (fault : Fault) (holds : CommandCases → Type 0) → (holds NoWords → ⊥) → ((does : Behaviour) (of : CommandCases) → IsTold does of → holds of → HasEnd of plan_file data_file fault)
+told-end : (request : Option Request) (plan_file data_file : File) (fault : Fault) (holds : CommandCases → Type 0) → (holds BadWords → ⊥) → ((does : Behaviour) (shape : CommandCases) → MeetsCases does shape → holds shape → HasEnd shape plan_file data_file fault)
     → holds (cases request) → HasEnd (cases request) plan_file data_file fault
 told-end None plan_file data_file fault holds never ends h = absurd (never h)
 told-end (Some request) plan_file data_file fault holds never ends h = ends (behaviour (Some request)) (cases (Some request)) (proved request).1 h
@@ -276,64 +276,64 @@ open-status : (fault : Fault) (slot : Slot) → fault ≡ OpenFault slot → Sta
 open-status fault slot e = range-as 2 2 fault (OpenFault slot) e (omega arith, omega arith)
 
 module _ (plan_file data_file : File) (fault : Fault) where
-  absent-status : (of : CommandCases) → Absent of plan_file data_file fault → StatusIn 2 2 fault
-  absent-status NoWords h = absurd h
+  absent-status : (shape : CommandCases) → Absent shape plan_file data_file fault → StatusIn 2 2 fault
+  absent-status BadWords h = absurd h
   absent-status (Writes text) h = absurd h
-  absent-status OfHeader h = open-status fault Data h.1
-  absent-status (OfRecords own records) h = open-status fault Data h.1
-  absent-status (OfPlan own need records) (inl h) = open-status fault Plan h.1
-  absent-status (OfPlan own need records) (inr h) = open-status fault Data h.3
+  absent-status ReadsHeader h = open-status fault Data h.1
+  absent-status (ReadsRecords further records) h = open-status fault Data h.1
+  absent-status (ReadsByPlan further need records) (inl h) = open-status fault Plan h.1
+  absent-status (ReadsByPlan further need records) (inr h) = open-status fault Data h.3
 
-  no_plan-status : (of : CommandCases) → NoPlan of plan_file fault → StatusIn 6 8 fault
-  no_plan-status (OfPlan own need records) h = called-status h.0 fault h.2 h.3
+  no_plan-status : (shape : CommandCases) → NoPlan shape plan_file fault → StatusIn 6 8 fault
+  no_plan-status (ReadsByPlan further need records) h = called-status h.0 fault h.2 h.3
   no_plan-status _ h = absurd h
 
-  misfits-status : (of : CommandCases) → Misfits of plan_file data_file fault → StatusIn 9 9 fault
-  misfits-status (OfPlan own need records) h = misfit-status (mode_of h.1.record_type) h.0 fault h.5
+  misfits-status : (shape : CommandCases) → Misfits shape plan_file data_file fault → StatusIn 9 9 fault
+  misfits-status (ReadsByPlan further need records) h = misfit-status (mode_of h.1.record_type) h.0 fault h.5
   misfits-status _ h = absurd h
 
-  no_header-status : (of : CommandCases) → NoHeader of plan_file data_file fault → StatusIn 10 16 fault
-  no_header-status NoWords h = absurd h
+  no_header-status : (shape : CommandCases) → NoHeader shape plan_file data_file fault → StatusIn 10 16 fault
+  no_header-status BadWords h = absurd h
   no_header-status (Writes text) h = absurd h
-  no_header-status OfHeader h = unheaded-status data_file fault h
-  no_header-status (OfRecords own records) h = unheaded-status data_file fault h
-  no_header-status (OfPlan own need records) h = unheaded-status data_file fault h.2
+  no_header-status ReadsHeader h = unheaded-status data_file fault h
+  no_header-status (ReadsRecords further records) h = unheaded-status data_file fault h
+  no_header-status (ReadsByPlan further need records) h = unheaded-status data_file fault h.2
 
-  cut-status : (of : CommandCases) → Cut of plan_file data_file fault → StatusIn 17 17 fault
-  cut-status (OfRecords own records) h = cut_behind-status h.1 fault h.3.2
-  cut-status (OfPlan own need records) h = cut_behind-status h.2 fault h.5.1.2
+  cut-status : (shape : CommandCases) → Cut shape plan_file data_file fault → StatusIn 17 17 fault
+  cut-status (ReadsRecords further records) h = cut_behind-status h.1 fault h.3.2
+  cut-status (ReadsByPlan further need records) h = cut_behind-status h.2 fault h.5.1.2
   cut-status _ h = absurd h
 
--- the statuses of a command's own that it says
-abbrev Own : CommandCases → ℕ → Type 0
-Own (OfRecords own records) n = own n
-Own (OfPlan own need records) n = own n
-Own other n = ⊥
+-- the statuses of a command's further that it says
+abbrev Further : CommandCases → ℕ → Type 0
+Further (ReadsRecords further records) n = further n
+Further (ReadsByPlan further need records) n = further n
+Further other n = ⊥
 
 module _ (plan_file data_file : File) (fault : Fault) where
-  lacking-status : (does : Behaviour) (of : CommandCases) → IsTold does of → Lacking of plan_file fault → StatusIn 22 23 fault × Own of (status_of fault)
-  lacking-status (ByPlan plan_name file writing memory lacks work) (OfPlan own need records) told h = told.needs.status h.0 fault h.2
+  lacking-status : (does : Behaviour) (shape : CommandCases) → MeetsCases does shape → Lacking shape plan_file fault → StatusIn 22 23 fault × Further shape (status_of fault)
+  lacking-status (ByPlan plan_name file writing memory lacks work) (ReadsByPlan further need records) told h = told.needs.status h.0 fault h.2
   lacking-status (Alone whole) (Writes text) told h = absurd h
-  lacking-status (OnFile file writing work) OfHeader told h = absurd h
-  lacking-status (OnFile file writing work) (OfRecords own records) told h = absurd h
+  lacking-status (OnFile file writing work) ReadsHeader told h = absurd h
+  lacking-status (OnFile file writing work) (ReadsRecords further records) told h = absurd h
   lacking-status does other told h = absurd told
 
-  refused-status : (does : Behaviour) (of : CommandCases) → IsTold does of → Refused of plan_file data_file fault → StatusIn 18 21 fault × Own of (status_of fault)
-  refused-status (OnFile file writing work) (OfRecords own records) told h = told.told.refuses_status h.0 h.1 fault h.3
-  refused-status (ByPlan plan_name file writing memory lacks work) (OfPlan own need records) told h = let works = told.works h.0 h.3.1 in works.told.refuses_status h.1 h.2 fault h.5.1
+  refused-status : (does : Behaviour) (shape : CommandCases) → MeetsCases does shape → Refused shape plan_file data_file fault → StatusIn 18 21 fault × Further shape (status_of fault)
+  refused-status (OnFile file writing work) (ReadsRecords further records) told h = told.told.refuses_status h.0 h.1 fault h.3
+  refused-status (ByPlan plan_name file writing memory lacks work) (ReadsByPlan further need records) told h = let works = told.works h.0 h.3.1 in works.told.refuses_status h.1 h.2 fault h.5.1
   refused-status (Alone whole) (Writes text) told h = absurd h
-  refused-status (OnFile file writing work) OfHeader told h = absurd h
+  refused-status (OnFile file writing work) ReadsHeader told h = absurd h
   refused-status does other told h = absurd told
 
-  late-status : (does : Behaviour) (of : CommandCases) → IsTold does of → TooLate of plan_file data_file fault → StatusIn 24 24 fault × Own of (status_of fault)
-  late-status (OnFile file writing work) (OfRecords own records) told h = told.told.late_status h.0 h.1 fault h.3
-  late-status (ByPlan plan_name file writing memory lacks work) (OfPlan own need records) told h = let works = told.works h.0 h.3.1 in works.told.late_status h.1 h.2 fault h.5.1
+  late-status : (does : Behaviour) (shape : CommandCases) → MeetsCases does shape → TooLate shape plan_file data_file fault → StatusIn 24 24 fault × Further shape (status_of fault)
+  late-status (OnFile file writing work) (ReadsRecords further records) told h = told.told.late_status h.0 h.1 fault h.3
+  late-status (ByPlan plan_name file writing memory lacks work) (ReadsByPlan further need records) told h = let works = told.works h.0 h.3.1 in works.told.late_status h.1 h.2 fault h.5.1
   late-status (Alone whole) (Writes text) told h = absurd h
-  late-status (OnFile file writing work) OfHeader told h = absurd h
+  late-status (OnFile file writing work) ReadsHeader told h = absurd h
   late-status does other told h = absurd told
 
-told-status : (request : Option Request) (fault : Fault) (low high : ℕ) (holds : CommandCases → Type 0) → (holds NoWords → ⊥) → ((does : Behaviour) (of : CommandCases) → IsTold does of → holds of → StatusIn low high fault × Own of (status_of fault))
-    → holds (cases request) → StatusIn low high fault × Own (cases request) (status_of fault)
+told-status : (request : Option Request) (fault : Fault) (low high : ℕ) (holds : CommandCases → Type 0) → (holds BadWords → ⊥) → ((does : Behaviour) (shape : CommandCases) → MeetsCases does shape → holds shape → StatusIn low high fault × Further shape (status_of fault))
+    → holds (cases request) → StatusIn low high fault × Further (cases request) (status_of fault)
 told-status None fault low high holds never status h = absurd (never h)
 told-status (Some request) fault low high holds never status h = status (behaviour (Some request)) (cases (Some request)) (proved request).1 h
 
@@ -436,7 +436,7 @@ module _ (request : Option Request) (plan_file data_file : File) (fault : Fault)
         is_late = apart 17 17 24 24 fault s (inl (omega arith));
       }
   by-status (IsRefused h) =
-      let s = (told-status request fault 18 21 (λ of. Refused of plan_file data_file fault) (λ never. never) (refused-status plan_file data_file fault) h).0 in
+      let s = (told-status request fault 18 21 (λ shape. Refused shape plan_file data_file fault) (λ never. never) (refused-status plan_file data_file fault) h).0 in
       record {
         is_usage = apart 18 21 1 1 fault s (inr (omega arith));
         is_absent = apart 18 21 2 2 fault s (inr (omega arith));
@@ -449,7 +449,7 @@ module _ (request : Option Request) (plan_file data_file : File) (fault : Fault)
         is_late = apart 18 21 24 24 fault s (inl (omega arith));
       }
   by-status (IsLacking h) =
-      let s = (told-status request fault 22 23 (λ of. Lacking of plan_file fault) (λ never. never) (lacking-status plan_file data_file fault) h).0 in
+      let s = (told-status request fault 22 23 (λ shape. Lacking shape plan_file fault) (λ never. never) (lacking-status plan_file data_file fault) h).0 in
       record {
         is_usage = apart 22 23 1 1 fault s (inr (omega arith));
         is_absent = apart 22 23 2 2 fault s (inr (omega arith));
@@ -462,7 +462,7 @@ module _ (request : Option Request) (plan_file data_file : File) (fault : Fault)
         is_late = apart 22 23 24 24 fault s (inl (omega arith));
       }
   by-status (IsLate h) =
-      let s = (told-status request fault 24 24 (λ of. TooLate of plan_file data_file fault) (λ never. never) (late-status plan_file data_file fault) h).0 in
+      let s = (told-status request fault 24 24 (λ shape. TooLate shape plan_file data_file fault) (λ never. never) (late-status plan_file data_file fault) h).0 in
       record {
         is_usage = apart 24 24 1 1 fault s (inr (omega arith));
         is_absent = apart 24 24 2 2 fault s (inr (omega arith));
@@ -479,15 +479,15 @@ by-fault : (request : Option Request) (plan_file data_file : File) (fault : Faul
 by-fault request plan_file data_file fault ends = by-status request plan_file data_file fault (fault-cause request plan_file data_file fault ends)
 
 -- a real command isn't none
-no-command : (does : Behaviour) (of : CommandCases) → IsTold does of → IsNoCommand of → ⊥
-no-command NoCommand NoWords told none = absurd told
-no-command (Alone end) NoWords told none = absurd told
-no-command (OnFile file writing work) NoWords told none = absurd told
-no-command (ByPlan plan_name file writing memory lacks work) NoWords told none = absurd told
+no-command : (does : Behaviour) (shape : CommandCases) → MeetsCases does shape → IsNoCommand shape → ⊥
+no-command NoCommand BadWords told none = absurd told
+no-command (Alone end) BadWords told none = absurd told
+no-command (OnFile file writing work) BadWords told none = absurd told
+no-command (ByPlan plan_name file writing memory lacks work) BadWords told none = absurd told
 no-command does (Writes text) told none = absurd none
-no-command does OfHeader told none = absurd none
-no-command does (OfRecords own records) told none = absurd none
-no-command does (OfPlan own need records) told none = absurd none
+no-command does ReadsHeader told none = absurd none
+no-command does (ReadsRecords further records) told none = absurd none
+no-command does (ReadsByPlan further need records) told none = absurd none
 
 none-asked : (request : Option Request) → IsNoCommand (cases request) → request ≡ None
 none-asked None h = refl
@@ -516,20 +516,20 @@ module _ (request : Option Request) (plan_file data_file : File) (fault : Fault)
   pub exactly-cut : StatusIn 17 17 fault → EndsWithFault request plan_file data_file fault ↔ Cut (cases request) plan_file data_file fault
   exactly-cut s = (
     λ e. (by-fault request plan_file data_file fault e).is_cut s,
-    λ h. ends-by request plan_file data_file fault (told-end request plan_file data_file fault (λ of. Cut of plan_file data_file fault) (λ never. never) (cut-end plan_file data_file fault) h),
+    λ h. ends-by request plan_file data_file fault (told-end request plan_file data_file fault (λ shape. Cut shape plan_file data_file fault) (λ never. never) (cut-end plan_file data_file fault) h),
   )
 
   pub exactly-refused : StatusIn 18 21 fault → EndsWithFault request plan_file data_file fault ↔ Refused (cases request) plan_file data_file fault
   exactly-refused s = (
     λ e. (by-fault request plan_file data_file fault e).is_refused s,
-    λ h. ends-by request plan_file data_file fault (told-end request plan_file data_file fault (λ of. Refused of plan_file data_file fault) (λ never. never) (refused-end plan_file data_file fault) h),
+    λ h. ends-by request plan_file data_file fault (told-end request plan_file data_file fault (λ shape. Refused shape plan_file data_file fault) (λ never. never) (refused-end plan_file data_file fault) h),
   )
 
   pub exactly-lacking : StatusIn 22 23 fault → EndsWithFault request plan_file data_file fault ↔ Lacking (cases request) plan_file fault
   exactly-lacking s = (λ e. (by-fault request plan_file data_file fault e).is_lacking s, λ h. ends-by request plan_file data_file fault (lacking-end plan_file data_file fault (cases request) h))
 
   pub late-ends : TooLate (cases request) plan_file data_file fault → EndsWithFault request plan_file data_file fault
-  late-ends h = ends-by request plan_file data_file fault (told-end request plan_file data_file fault (λ of. TooLate of plan_file data_file fault) (λ never. never) (late-end plan_file data_file fault) h)
+  late-ends h = ends-by request plan_file data_file fault (told-end request plan_file data_file fault (λ shape. TooLate shape plan_file data_file fault) (λ never. never) (late-end plan_file data_file fault) h)
 
   pub exactly-late : StatusIn 24 24 fault → EndsWithFault request plan_file data_file fault ↔ TooLate (cases request) plan_file data_file fault
   exactly-late s = (λ e. (by-fault request plan_file data_file fault e).is_late s, late-ends)
@@ -538,42 +538,42 @@ module _ (request : Option Request) (plan_file data_file : File) (fault : Fault)
 
 module _ (plan_file data_file : File) (fault : Fault) where
   -- behind the words and the plan
-  own-called : (of : CommandCases) (low high : ℕ) → StatusIn low high fault × Own of (status_of fault) → MayCallFor of fault
-  own-called NoWords low high h = absurd h.1
-  own-called (Writes text) low high h = absurd h.1
-  own-called OfHeader low high h = absurd h.1
-  own-called (OfRecords own records) low high h = inr (inr h.1)
-  own-called (OfPlan own need records) low high h = inr (inr h.1)
+  further-called : (shape : CommandCases) (low high : ℕ) → StatusIn low high fault × Further shape (status_of fault) → MayCallFor shape fault
+  further-called BadWords low high h = absurd h.1
+  further-called (Writes text) low high h = absurd h.1
+  further-called ReadsHeader low high h = absurd h.1
+  further-called (ReadsRecords further records) low high h = inr (inr h.1)
+  further-called (ReadsByPlan further need records) low high h = inr (inr h.1)
 
-  usage-called : (of : CommandCases) → IsNoCommand of → fault ≡ Usage → MayCallFor of fault
-  usage-called NoWords none h = h
+  usage-called : (shape : CommandCases) → IsNoCommand shape → fault ≡ Usage → MayCallFor shape fault
+  usage-called BadWords none h = h
   usage-called _ none h = absurd none
 
-  absent-called : (of : CommandCases) → Absent of plan_file data_file fault → MayCallFor of fault
-  absent-called NoWords h = absurd h
+  absent-called : (shape : CommandCases) → Absent shape plan_file data_file fault → MayCallFor shape fault
+  absent-called BadWords h = absurd h
   absent-called (Writes text) h = absurd h
-  absent-called OfHeader h = inl (absent-status plan_file data_file fault OfHeader h)
-  absent-called (OfRecords own records) h = inl (absent-status plan_file data_file fault (OfRecords own records) h)
-  absent-called (OfPlan own need records) h = inl (absent-status plan_file data_file fault (OfPlan own need records) h)
+  absent-called ReadsHeader h = inl (absent-status plan_file data_file fault ReadsHeader h)
+  absent-called (ReadsRecords further records) h = inl (absent-status plan_file data_file fault (ReadsRecords further records) h)
+  absent-called (ReadsByPlan further need records) h = inl (absent-status plan_file data_file fault (ReadsByPlan further need records) h)
 
-  no_plan-called : (of : CommandCases) → NoPlan of plan_file fault → MayCallFor of fault
-  no_plan-called (OfPlan own need records) h = inr (inl (wider 6 8 6 17 fault (no_plan-status plan_file data_file fault (OfPlan own need records) h) (omega arith) (omega arith)))
+  no_plan-called : (shape : CommandCases) → NoPlan shape plan_file fault → MayCallFor shape fault
+  no_plan-called (ReadsByPlan further need records) h = inr (inl (wider 6 8 6 17 fault (no_plan-status plan_file data_file fault (ReadsByPlan further need records) h) (omega arith) (omega arith)))
   no_plan-called _ h = absurd h
 
-  misfits-called : (of : CommandCases) → Misfits of plan_file data_file fault → MayCallFor of fault
-  misfits-called (OfPlan own need records) h = inr (inl (wider 9 9 6 17 fault (misfits-status plan_file data_file fault (OfPlan own need records) h) (omega arith) (omega arith)))
+  misfits-called : (shape : CommandCases) → Misfits shape plan_file data_file fault → MayCallFor shape fault
+  misfits-called (ReadsByPlan further need records) h = inr (inl (wider 9 9 6 17 fault (misfits-status plan_file data_file fault (ReadsByPlan further need records) h) (omega arith) (omega arith)))
   misfits-called _ h = absurd h
 
-  no_header-called : (of : CommandCases) → NoHeader of plan_file data_file fault → MayCallFor of fault
-  no_header-called NoWords h = absurd h
+  no_header-called : (shape : CommandCases) → NoHeader shape plan_file data_file fault → MayCallFor shape fault
+  no_header-called BadWords h = absurd h
   no_header-called (Writes text) h = absurd h
-  no_header-called OfHeader h = inr (no_header-status plan_file data_file fault OfHeader h)
-  no_header-called (OfRecords own records) h = inr (inl (wider 10 16 10 17 fault (no_header-status plan_file data_file fault (OfRecords own records) h) (omega arith) (omega arith)))
-  no_header-called (OfPlan own need records) h = inr (inl (wider 10 16 6 17 fault (no_header-status plan_file data_file fault (OfPlan own need records) h) (omega arith) (omega arith)))
+  no_header-called ReadsHeader h = inr (no_header-status plan_file data_file fault ReadsHeader h)
+  no_header-called (ReadsRecords further records) h = inr (inl (wider 10 16 10 17 fault (no_header-status plan_file data_file fault (ReadsRecords further records) h) (omega arith) (omega arith)))
+  no_header-called (ReadsByPlan further need records) h = inr (inl (wider 10 16 6 17 fault (no_header-status plan_file data_file fault (ReadsByPlan further need records) h) (omega arith) (omega arith)))
 
-  cut-called : (of : CommandCases) → Cut of plan_file data_file fault → MayCallFor of fault
-  cut-called (OfRecords own records) h = inr (inl (wider 17 17 10 17 fault (cut-status plan_file data_file fault (OfRecords own records) h) (omega arith) (omega arith)))
-  cut-called (OfPlan own need records) h = inr (inl (wider 17 17 6 17 fault (cut-status plan_file data_file fault (OfPlan own need records) h) (omega arith) (omega arith)))
+  cut-called : (shape : CommandCases) → Cut shape plan_file data_file fault → MayCallFor shape fault
+  cut-called (ReadsRecords further records) h = inr (inl (wider 17 17 10 17 fault (cut-status plan_file data_file fault (ReadsRecords further records) h) (omega arith) (omega arith)))
+  cut-called (ReadsByPlan further need records) h = inr (inl (wider 17 17 6 17 fault (cut-status plan_file data_file fault (ReadsByPlan further need records) h) (omega arith) (omega arith)))
   cut-called _ h = absurd h
 
 pub may-call : (request : Option Request) (plan_file data_file : File) (fault : Fault) → EndsWithFault request plan_file data_file fault → MayCallFor (cases request) fault
@@ -586,9 +586,9 @@ may-call request plan_file data_file fault ends = by (fault-cause request plan_f
     by (HasMisfit h) = misfits-called plan_file data_file fault (cases request) h
     by (IsNoHeader h) = no_header-called plan_file data_file fault (cases request) h
     by (IsCut h) = cut-called plan_file data_file fault (cases request) h
-    by (IsRefused h) = own-called plan_file data_file fault (cases request) 18 21 (told-status request fault 18 21 (λ of. Refused of plan_file data_file fault) (λ never. never) (refused-status plan_file data_file fault) h)
-    by (IsLacking h) = own-called plan_file data_file fault (cases request) 22 23 (told-status request fault 22 23 (λ of. Lacking of plan_file fault) (λ never. never) (lacking-status plan_file data_file fault) h)
-    by (IsLate h) = own-called plan_file data_file fault (cases request) 24 24 (told-status request fault 24 24 (λ of. TooLate of plan_file data_file fault) (λ never. never) (late-status plan_file data_file fault) h)
+    by (IsRefused h) = further-called plan_file data_file fault (cases request) 18 21 (told-status request fault 18 21 (λ shape. Refused shape plan_file data_file fault) (λ never. never) (refused-status plan_file data_file fault) h)
+    by (IsLacking h) = further-called plan_file data_file fault (cases request) 22 23 (told-status request fault 22 23 (λ shape. Lacking shape plan_file fault) (λ never. never) (lacking-status plan_file data_file fault) h)
+    by (IsLate h) = further-called plan_file data_file fault (cases request) 24 24 (told-status request fault 24 24 (λ shape. TooLate shape plan_file data_file fault) (λ never. never) (late-status plan_file data_file fault) h)
 
 -- ## pick
 
@@ -610,7 +610,7 @@ pick-ends plan_name group file plan_file data_file h =
     well all =
         let end = pick_end h.1 (kept_photons h.0 group h.1 (words_of h.2)) None in
         ap (λ (o : Outcome). o.fault) ((one-outcome (Some (Pick plan_name group file)) plan_file data_file end).0
-        (suited-there PickStatus (Needs (HasGroup group) (NoGroup group)) (pick_cases group) plan_file data_file h.0 h.1 h.2 end (h.3, h.5) h.4 h.6 (inr (inr (inr (inr (all, refl)))))))
+        (suited-there pick_statuses (Needs (HasGroup group) (NoGroup group)) (pick_cases group) plan_file data_file h.0 h.1 h.2 end (h.3, h.5) h.4 h.6 (inr (inr (inr (inr (all, refl)))))))
 
     by : (too_late (mode_of h.1.record_type) (settled_photons h.0 group h.1 (words_of h.2)) ≡ []) ⊎ FirstLate (mode_of h.1.record_type) (settled_photons h.0 group h.1 (words_of h.2))
         → (too_late (mode_of h.1.record_type) (kept_photons h.0 group h.1 (words_of h.2)) ≡ []) ⊎ FirstLate (mode_of h.1.record_type) (kept_photons h.0 group h.1 (words_of h.2))
@@ -626,7 +626,7 @@ pick-ends plan_name group file plan_file data_file h =
 
 -- what it writes of a file with a header is listed
 pub pick-is-listed : (plan_name : List ℕ) (group : ℕ) (file name : List ℕ) (plan_file data_file : File) (view : PlanView) (header : Header) (behind : List ℕ)
-    → IsUsable (Needs (HasGroup group) (NoGroup group)) plan_file view → Headed data_file header behind → Suits view header → length (picked_words (mode_of header.record_type) (photons_written group view header behind)) ≤ record_limit
+    → IsPlanWith (Needs (HasGroup group) (NoGroup group)) plan_file view → Headed data_file header behind → Suits view header → length (picked_words (mode_of header.record_type) (photons_written group view header behind)) ≤ record_limit
     → outcome (behaviour (Some (Events name))) None (Some (outcome (behaviour (Some (Pick plan_name group file))) plan_file data_file).text)
     ≡ written (events_text (map (λ e. (e, false)) (picked_events (mode_of header.record_type) (photons_written group view header behind))))
 unfolding short_file
@@ -634,7 +634,7 @@ pick-is-listed plan_name group file name plan_file data_file view header behind 
     let end = records_picked view group header behind in
     let is : outcome (behaviour (Some (Pick plan_name group file))) plan_file data_file ≡ end =
     (one-outcome (Some (Pick plan_name group file)) plan_file data_file end).0
-    (suited-there PickStatus (Needs (HasGroup group) (NoGroup group)) (pick_cases group) plan_file data_file view header behind end usable headed suits (picked-holds view group header behind)) in
+    (suited-there pick_statuses (Needs (HasGroup group) (NoGroup group)) (pick_cases group) plan_file data_file view header behind end usable headed suits (picked-holds view group header behind)) in
     let text : end.text ≡ picked_file (mode_of header.record_type) (photons_written group view header behind) = refl in
     ap (λ (o : Outcome). outcome (behaviour (Some (Events name))) None (Some o.text)) is
     ∙ ap (λ (t : List ℕ). outcome (behaviour (Some (Events name))) None (Some t)) text

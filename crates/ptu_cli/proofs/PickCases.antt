@@ -23,9 +23,9 @@ use Rattle.ptu_cli.specs.Causes.{StatusIn}
 use Rattle.ptu_cli.specs.Outcomes.{Outcome}
 use Rattle.ptu_cli.specs.Behaviours.{picking}
 use Rattle.ptu_cli.specs.Cases.{NoneRefused, HasGroup, settled_photons, kept_photons, FirstLate, LateAtRecord, LateAtEnd, RefusedInTime, SettledInTime, AllPicked, pick_end, PickedCase}
-use Rattle.ptu_cli.specs.CommandCases.{IsIn, NamesLate, pick_cases, Lacks, Needs}
+use Rattle.ptu_cli.specs.CommandCases.{pick_statuses, IsIn, NamesLate, pick_cases, Lacks, Needs}
 use Rattle.ptu_cli.proofs.FaultStatuses.{some-same, of-written, of-end, range-as, wider, least-status}
-use Rattle.ptu_cli.proofs.CaseShapes.{RecordCause, NeedTold, PlanTold}
+use Rattle.ptu_cli.proofs.CaseShapes.{RecordCause, NeedMeets, PlanMeets}
 use Rattle.ptu_cli.proofs.PickPhotons.{late-ends, none-or-late, late-more, picked_end, end-late, end-in_time, in-settled, in-before, least-late, clear-front, all-end}
 use Rattle.ptu_cli.proofs.CaseSteps.{empty-true, empty-false, true-empty, false-empty, whole_answer, streamed-clear}
 
@@ -167,7 +167,7 @@ module _ (group : ℕ) (view : PlanView) (header : Header) (behind : List ℕ) (
   Ends = (end : Outcome) × PickedCase view group header behind end × (end.fault ≡ Some fault)
 
   abbrev with_photons : List Event → Fault → Outcome
-  with_photons photons own = pick_end header photons (Some own)
+  with_photons photons further = pick_end header photons (Some further)
 
   names-ends : NamesLate group view header behind fault → Ends
   names-ends (inl late) = (with_photons late.0.first.before fault, inl (late.0, ap (with_photons late.0.first.before) late.1), refl)
@@ -184,10 +184,7 @@ names-status : (group : ℕ) (view : PlanView) (header : Header) (behind : List 
 names-status group view header behind fault (inl late) = range-as 24 24 fault (PickTime late.0.first.photon.place) late.1 (omega arith, omega arith)
 names-status group view header behind fault (inr late) = range-as 24 24 fault (PickTime late.0.first.photon.place) late.1 (omega arith, omega arith)
 
-abbrev pub PickStatus : ℕ → Type 0
-PickStatus n = IsIn 18 21 n ⊎ IsIn 23 24 n
-
-group-needs : (group : ℕ) → NeedTold PickStatus (Needs (HasGroup group) (NoGroup group)) (no_group group)
+group-needs : (group : ℕ) → NeedMeets pick_statuses (Needs (HasGroup group) (NoGroup group)) (no_group group)
 group-needs group = record {
   has = λ view none. found view (has_group group view) refl none;
   none = λ view has. has-none group view has;
@@ -204,7 +201,7 @@ group-needs group = record {
     lacking view fault true e some = cc
     lacking view fault false e some = (λ has. let is = true-has group (length view.groups) has in cc, some-same fault (NoGroup group) (sym some))
 
-pub pick-told : (group : ℕ) → PlanTold PickStatus (Needs (HasGroup group) (NoGroup group)) (pick_cases group) (no_group group) (picking group)
+pub pick-told : (group : ℕ) → PlanMeets pick_statuses (Needs (HasGroup group) (NoGroup group)) (pick_cases group) (no_group group) (picking group)
 pick-told group = record {
   needs = group-needs group;
   works = λ view has. record {

@@ -10,7 +10,7 @@ use Rattle.ptu_cli.specs.Outcomes.{Outcome, written}
 use Rattle.ptu_cli.specs.Behaviours.{Behaviour, EndsStay, behaviour, NoCommand, Alone, OnFile, ByPlan}
 use Rattle.ptu_cli.specs.Commands.{Request, Count, Events, Run, Trace, Pick, Demo, Header as HeaderOf}
 use Rattle.ptu_cli.specs.CommandCases.{cases, IsOutcome}
-use Rattle.ptu_cli.proofs.CaseShapes.{IsTold, told-holds, told-only}
+use Rattle.ptu_cli.proofs.CaseShapes.{MeetsCases, told-holds, told-only}
 use Rattle.ptu_cli.proofs.PickFaults.{ungrouped-status}
 use Rattle.ptu_cli.proofs.TraceFaults.{untraced-status}
 use Rattle.ptu_cli.proofs.Sound.{IsSound, counting-sound, printing-sound, listing-sound, reporting-sound, tracing-sound, picking-sound}
@@ -19,7 +19,7 @@ use Rattle.ptu_cli.proofs.Cases.{count-told, events-told, run-told, trace-told, 
 
 -- its work is sound, and it ends as the cases of its shape call for
 abbrev pub IsProved : Request → Type 0
-IsProved request = IsSound (behaviour (Some request)) × IsTold (behaviour (Some request)) (cases (Some request))
+IsProved request = IsSound (behaviour (Some request)) × MeetsCases (behaviour (Some request)) (cases (Some request))
 
 pub proved : (request : Request) → IsProved request
 proved (Count file) = (counting-sound, count-told)

@@ -13,8 +13,8 @@ use Rattle.ptu_cli.specs.Causes.{MayCallFor, MayEndWith}
 use Rattle.ptu_cli.specs.Outcomes.{status}
 use Rattle.ptu_cli.specs.Behaviours.{Behaviour, behaviour, Alone, OnFile, ByPlan}
 use Rattle.ptu_cli.specs.Commands.{Request}
-use Rattle.ptu_cli.specs.CommandCases.{CommandCases, IsIn, cases, NoWords, Writes, OfHeader, OfRecords, OfPlan}
-use Rattle.ptu_cli.proofs.CaseShapes.{IsTold}
+use Rattle.ptu_cli.specs.CommandCases.{CommandCases, IsIn, cases, BadWords, Writes, ReadsHeader, ReadsRecords, ReadsByPlan}
+use Rattle.ptu_cli.proofs.CaseShapes.{MeetsCases}
 use Rattle.ptu_cli.proofs.Causes.{may-call}
 use Rattle.ptu_cli.proofs.Proved.{proved}
 
@@ -32,7 +32,7 @@ ends-in request run result h = elim (cases_lt result 2) [
 ]
   where
     by : (2 ≤ result → 5 < result) → IsIn 2 5 result ⊎ OfFiles request result
-    by own = let some = h.answered own in inr (some.plan_file, some.data_file, some.holds.0)
+    by further = let some = h.answered further in inr (some.plan_file, some.data_file, some.holds.0)
 
 -- without want of memory
 no-memory : (result : ℕ) → IsIn 2 5 result → (result ≡ 5 → ⊥) → IsIn 2 4 result
@@ -50,7 +50,7 @@ pub record Outside (does : Behaviour) (run : Around) (result : ℕ) : Type 0 whe
   pub unread : result ≡ 3 → (slot : Slot) × Reaches does run.before slot
   pub memory : result ≡ 5 → RunsOut does run.before run.after run.out_before run.out_after
 
-outside-in : (does : Behaviour) (of : CommandCases) (run : Around) (result : ℕ) → IsTold does of → Outside does run result → IsIn 2 5 result → MayEndWith of result
+outside-in : (does : Behaviour) (shape : CommandCases) (run : Around) (result : ℕ) → MeetsCases does shape → Outside does run result → IsIn 2 5 result → MayEndWith shape result
 outside-in (Alone end) (Writes text) run result told h few = elim (cases_eq result 2) [
   | inl two ↦ absurd (h.unopened two).1
   | inr not_two ↦ elim (cases_eq result 3) [
@@ -58,29 +58,29 @@ outside-in (Alone end) (Writes text) run result told h few = elim (cases_eq resu
     | inr not_three ↦ inr (omega (arith, few.0, not_two, not_three), few.1)
   ]
 ]
-outside-in (OnFile file writing work) OfHeader run result told h few = inr (inl (no-memory result few (λ five. h.memory five)))
-outside-in (OnFile file writing work) (OfRecords own records) run result told h few = inr (inl (no-memory result few (λ five. h.memory five)))
-outside-in (ByPlan plan_name file writing memory lacks work) (OfPlan own need records) run result told h few = inr (inl (few.0, omega (arith, few.1)))
+outside-in (OnFile file writing work) ReadsHeader run result told h few = inr (inl (no-memory result few (λ five. h.memory five)))
+outside-in (OnFile file writing work) (ReadsRecords further records) run result told h few = inr (inl (no-memory result few (λ five. h.memory five)))
+outside-in (ByPlan plan_name file writing memory lacks work) (ReadsByPlan further need records) run result told h few = inr (inl (few.0, omega (arith, few.1)))
 outside-in does other run result told h few = absurd told
 
-no-fault : (does : Behaviour) (of : CommandCases) → IsTold does of → MayEndWith of 0
+no-fault : (does : Behaviour) (shape : CommandCases) → MeetsCases does shape → MayEndWith shape 0
 no-fault (Alone end) (Writes text) told = inl refl
-no-fault (OnFile file writing work) OfHeader told = inl refl
-no-fault (OnFile file writing work) (OfRecords own records) told = inl refl
-no-fault (ByPlan plan_name file writing memory lacks work) (OfPlan own need records) told = inl refl
+no-fault (OnFile file writing work) ReadsHeader told = inl refl
+no-fault (OnFile file writing work) (ReadsRecords further records) told = inl refl
+no-fault (ByPlan plan_name file writing memory lacks work) (ReadsByPlan further need records) told = inl refl
 no-fault does other told = absurd told
 
-called-end : (of : CommandCases) (fault : Fault) → MayCallFor of fault → MayEndWith of (status_of fault)
-called-end NoWords fault h = ap status_of h
+called-end : (shape : CommandCases) (fault : Fault) → MayCallFor shape fault → MayEndWith shape (status_of fault)
+called-end BadWords fault h = ap status_of h
 called-end (Writes text) fault h = absurd h
-called-end OfHeader fault (inl s) = inr (inl (s.0, omega (arith, s.1)))
-called-end OfHeader fault (inr s) = inr (inr s)
-called-end (OfRecords own records) fault (inl s) = inr (inl (s.0, omega (arith, s.1)))
-called-end (OfRecords own records) fault (inr (inl s)) = inr (inr (inl s))
-called-end (OfRecords own records) fault (inr (inr s)) = inr (inr (inr s))
-called-end (OfPlan own need records) fault (inl s) = inr (inl (s.0, omega (arith, s.1)))
-called-end (OfPlan own need records) fault (inr (inl s)) = inr (inl (omega (arith, s.0), s.1))
-called-end (OfPlan own need records) fault (inr (inr s)) = inr (inr s)
+called-end ReadsHeader fault (inl s) = inr (inl (s.0, omega (arith, s.1)))
+called-end ReadsHeader fault (inr s) = inr (inr s)
+called-end (ReadsRecords further records) fault (inl s) = inr (inl (s.0, omega (arith, s.1)))
+called-end (ReadsRecords further records) fault (inr (inl s)) = inr (inr (inl s))
+called-end (ReadsRecords further records) fault (inr (inr s)) = inr (inr (inr s))
+called-end (ReadsByPlan further need records) fault (inl s) = inr (inl (s.0, omega (arith, s.1)))
+called-end (ReadsByPlan further need records) fault (inr (inl s)) = inr (inl (omega (arith, s.0), s.1))
+called-end (ReadsByPlan further need records) fault (inr (inr s)) = inr (inr s)
 
 of-files : (request : Request) (result : ℕ) → OfFiles (Some request) result → MayEndWith (cases (Some request)) result
 of-files request result it = subst (MayEndWith (cases (Some request))) (sym it.2) (by (outcome (behaviour (Some request)) it.0 it.1).fault refl)

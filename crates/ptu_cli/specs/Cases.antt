@@ -1,4 +1,4 @@
--- What a run of the program ends with, as a table of cases over whole lists: relations, plain counts and the texts of lines. No function is cited that finds an answer for the program (`header_answer`, `plan_answer`, `fits`, `counted`, `record_refusal`, `streamed`, `given`, `seen`).
+-- How commands end by the header and the records of FILE, as cases over whole lists: relations, plain counts and the texts of lines. No function is cited that finds an answer for the program (`header_answer`, `plan_answer`, `fits`, `counted`, `record_refusal`, `streamed`, `given`, `seen`).
 use Rattle.std.specs.Prelude.{ℕ, ◌≡◌, ◌≢◌, ◌⊎◌, ◌<◌, ◌≤◌, List, [], ◌∷◌, ◌++◌, length, take, get_or, map, flat_map, codes, decimal, nat_le, count_by, ◌+◌, ◌/◌, ◌==◌, true, None, Some, Result, Ok, Err}
 use Rattle.std.specs.List.{filter}
 use Rattle.std.specs.declared.option.Option.{Option}
@@ -176,8 +176,8 @@ WholeTrace set view header behind end =
     ((rest_of behind ≢ []) × (end ≡ record { text = open_text set (settled_history (sorting view) (reading_by view header) (words_of behind)); fault = Some (TruncatedRecord (length (rest_of behind))) }))
     ⊎ ((rest_of behind ≡ []) × (end ≡ written (whole_text set (history (sorting view) (reading_by view header) (words_of behind)))))
 
-abbrev pub RecordsCase : TraceView → PlanView → Header → List ℕ → Outcome → Type 0
-RecordsCase set view header behind end =
+abbrev pub TraceCase : TraceView → PlanView → Header → List ℕ → Outcome → Type 0
+TraceCase set view header behind end =
     RefusedTrace set view header (words_of behind) end
     ⊎ (NoneRefused (reading_by view header) (words_of behind) × WholeTrace set view header behind end)
 
@@ -187,7 +187,7 @@ HasTrace view = (set : TraceView) × (trace_of view ≡ Some set)
 
 -- The plan's first trace is printed.
 abbrev pub TracedCase : PlanView → Header → List ℕ → Outcome → Type 0
-TracedCase view header behind end = (set : TraceView) × (trace_of view ≡ Some set) × RecordsCase set view header behind end
+TracedCase view header behind end = (set : TraceView) × (trace_of view ≡ Some set) × TraceCase set view header behind end
 
 -- ## pick
 

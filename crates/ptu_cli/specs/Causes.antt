@@ -19,7 +19,7 @@ use Rattle.ptu_cli.specs.Commands.{Request}
 use Rattle.ptu_cli.specs.Behaviours.{behaviour}
 use Rattle.ptu_cli.specs.Endings.{outcome}
 use Rattle.ptu_cli.specs.Cases.{NoneRefused, HasGroup}
-use Rattle.ptu_cli.specs.CommandCases.{RecordCases, Need, CommandCases, NoWords, Writes, OfHeader, OfRecords, OfPlan, IsIn, Has, Lacks, Suits}
+use Rattle.ptu_cli.specs.CommandCases.{RecordCases, Need, CommandCases, BadWords, Writes, ReadsHeader, ReadsRecords, ReadsByPlan, IsIn, Has, Lacks, Suits}
 
 -- The file is there, and its bytes are this plan.
 pub record IsValidPlan (plan_file : File) (view : PlanView) : Type 0 where
@@ -43,8 +43,8 @@ pub record Unheaded (data_file : File) (fault : Fault) : Type 0 where
   pub is_refused : HasAnswer bytes (Err fault)
 
 -- The file is there, and its bytes are a plan that has what is needed.
-abbrev pub IsUsable : Need → File → PlanView → Type 0
-IsUsable need plan_file view = IsValidPlan plan_file view × Has need view
+abbrev pub IsPlanWith : Need → File → PlanView → Type 0
+IsPlanWith need plan_file view = IsValidPlan plan_file view × Has need view
 
 -- what FILE's records are refused for, of a command that reads them without a plan
 abbrev pub InRecords : (Header → List ℕ → Type 0) → File → Type 0
@@ -52,60 +52,60 @@ InRecords calls data_file = (header : Header) × (behind : List ℕ) × Headed d
 
 -- The same by a plan that has what is needed, behind a header.
 abbrev pub ByPlanIn : Need → (PlanView → Header → List ℕ → Type 0) → File → File → Type 0
-ByPlanIn need calls plan_file data_file = (view : PlanView) × (header : Header) × (behind : List ℕ) × IsUsable need plan_file view × Headed data_file header behind × calls view header behind
+ByPlanIn need calls plan_file data_file = (view : PlanView) × (header : Header) × (behind : List ℕ) × IsPlanWith need plan_file view × Headed data_file header behind × calls view header behind
 
 -- A record is cut, and no whole one before it ends the run.
-abbrev pub IsCutAt : RecordCases → Fault → Header → List ℕ → Type 0
-IsCutAt records fault header behind = records.goes_through header behind × (rest_of behind ≢ []) × (fault ≡ TruncatedRecord (length (rest_of behind)))
+abbrev pub EndsCut : RecordCases → Header → List ℕ → Fault → Type 0
+EndsCut records header behind fault = records.goes_through header behind × (rest_of behind ≢ []) × (fault ≡ TruncatedRecord (length (rest_of behind)))
 
 -- 2: a file that a command comes to is not there
 abbrev pub Absent : CommandCases → File → File → Fault → Type 0
-Absent NoWords plan_file data_file fault = ⊥
+Absent BadWords plan_file data_file fault = ⊥
 Absent (Writes text) plan_file data_file fault = ⊥
-Absent OfHeader plan_file data_file fault = (data_file ≡ None) × (fault ≡ OpenFault Data)
-Absent (OfRecords own records) plan_file data_file fault = (data_file ≡ None) × (fault ≡ OpenFault Data)
-Absent (OfPlan own need records) plan_file data_file fault =
-    ((plan_file ≡ None) × (fault ≡ OpenFault Plan)) ⊎ ((view : PlanView) × IsUsable need plan_file view × (data_file ≡ None) × (fault ≡ OpenFault Data))
+Absent ReadsHeader plan_file data_file fault = (data_file ≡ None) × (fault ≡ OpenFault Data)
+Absent (ReadsRecords further records) plan_file data_file fault = (data_file ≡ None) × (fault ≡ OpenFault Data)
+Absent (ReadsByPlan further need records) plan_file data_file fault =
+    ((plan_file ≡ None) × (fault ≡ OpenFault Plan)) ⊎ ((view : PlanView) × IsPlanWith need plan_file view × (data_file ≡ None) × (fault ≡ OpenFault Data))
 
 -- 6 to 8: PLAN is no plan
 abbrev pub NoPlan : CommandCases → File → Fault → Type 0
-NoPlan (OfPlan own need records) plan_file fault = (text : List ℕ) × (plan_file ≡ Some text) × IsCalledFor text fault × (fault ≢ OutOfMemory)
+NoPlan (ReadsByPlan further need records) plan_file fault = (text : List ℕ) × (plan_file ≡ Some text) × IsCalledFor text fault × (fault ≢ OutOfMemory)
 NoPlan other plan_file fault = ⊥
 
 -- 9: a part of the plan doesn't suit FILE
 abbrev pub Misfits : CommandCases → File → File → Fault → Type 0
-Misfits (OfPlan own need records) plan_file data_file fault = ByPlanIn need (λ view header behind. IsMisfit (mode_of header.record_type) view fault) plan_file data_file
+Misfits (ReadsByPlan further need records) plan_file data_file fault = ByPlanIn need (λ view header behind. IsMisfit (mode_of header.record_type) view fault) plan_file data_file
 Misfits other plan_file data_file fault = ⊥
 
 -- 10 to 16: FILE is refused as a header
 abbrev pub NoHeader : CommandCases → File → File → Fault → Type 0
-NoHeader NoWords plan_file data_file fault = ⊥
+NoHeader BadWords plan_file data_file fault = ⊥
 NoHeader (Writes text) plan_file data_file fault = ⊥
-NoHeader OfHeader plan_file data_file fault = Unheaded data_file fault
-NoHeader (OfRecords own records) plan_file data_file fault = Unheaded data_file fault
-NoHeader (OfPlan own need records) plan_file data_file fault = (view : PlanView) × IsUsable need plan_file view × Unheaded data_file fault
+NoHeader ReadsHeader plan_file data_file fault = Unheaded data_file fault
+NoHeader (ReadsRecords further records) plan_file data_file fault = Unheaded data_file fault
+NoHeader (ReadsByPlan further need records) plan_file data_file fault = (view : PlanView) × IsPlanWith need plan_file view × Unheaded data_file fault
 
--- 17: FILE ends within a record
+-- 17: FILE ends within a record, and no whole record ends the run
 abbrev pub Cut : CommandCases → File → File → Fault → Type 0
-Cut (OfRecords own records) plan_file data_file fault = InRecords (IsCutAt records fault) data_file
-Cut (OfPlan own need records) plan_file data_file fault = ByPlanIn need (λ view header behind. Suits view header × IsCutAt (records view) fault header behind) plan_file data_file
+Cut (ReadsRecords further records) plan_file data_file fault = InRecords (λ header behind. EndsCut records header behind fault) data_file
+Cut (ReadsByPlan further need records) plan_file data_file fault = ByPlanIn need (λ view header behind. Suits view header × EndsCut (records view) header behind fault) plan_file data_file
 Cut other plan_file data_file fault = ⊥
 
--- 18 to 21: a record of FILE is refused
+-- 18 to 21: a record of FILE is refused, and nothing before it ends the run
 abbrev pub Refused : CommandCases → File → File → Fault → Type 0
-Refused (OfRecords own records) plan_file data_file fault = InRecords (λ header behind. records.refuses header behind fault) data_file
-Refused (OfPlan own need records) plan_file data_file fault = ByPlanIn need (λ view header behind. Suits view header × (records view).refuses header behind fault) plan_file data_file
+Refused (ReadsRecords further records) plan_file data_file fault = InRecords (λ header behind. records.refuses header behind fault) data_file
+Refused (ReadsByPlan further need records) plan_file data_file fault = ByPlanIn need (λ view header behind. Suits view header × (records view).refuses header behind fault) plan_file data_file
 Refused other plan_file data_file fault = ⊥
 
--- 22 and 23: the plan has not what the command needs
+-- 22 and 23: the plan lacks what the command needs
 abbrev pub Lacking : CommandCases → File → Fault → Type 0
-Lacking (OfPlan own need records) plan_file fault = (view : PlanView) × IsValidPlan plan_file view × Lacks need view fault
+Lacking (ReadsByPlan further need records) plan_file fault = (view : PlanView) × IsValidPlan plan_file view × Lacks need view fault
 Lacking other plan_file fault = ⊥
 
 -- 24: a photon is too late to be written
 abbrev pub TooLate : CommandCases → File → File → Fault → Type 0
-TooLate (OfRecords own records) plan_file data_file fault = InRecords (λ header behind. records.late header behind fault) data_file
-TooLate (OfPlan own need records) plan_file data_file fault = ByPlanIn need (λ view header behind. Suits view header × (records view).late header behind fault) plan_file data_file
+TooLate (ReadsRecords further records) plan_file data_file fault = InRecords (λ header behind. records.too_late_for header behind fault) data_file
+TooLate (ReadsByPlan further need records) plan_file data_file fault = ByPlanIn need (λ view header behind. Suits view header × (records view).too_late_for header behind fault) plan_file data_file
 TooLate other plan_file data_file fault = ⊥
 
 -- The plan has the group and suits FILE, whose records are whole and of which none is refused.
@@ -123,16 +123,16 @@ StatusIn low high fault = IsIn low high (status_of fault)
 
 -- the faults that the words and files of a command may call for, by their statuses
 abbrev pub MayCallFor : CommandCases → Fault → Type 0
-MayCallFor NoWords fault = fault ≡ Usage
+MayCallFor BadWords fault = fault ≡ Usage
 MayCallFor (Writes text) fault = ⊥
-MayCallFor OfHeader fault = StatusIn 2 2 fault ⊎ StatusIn 10 16 fault
-MayCallFor (OfRecords own records) fault = StatusIn 2 2 fault ⊎ (StatusIn 10 17 fault ⊎ own (status_of fault))
-MayCallFor (OfPlan own need records) fault = StatusIn 2 2 fault ⊎ (StatusIn 6 17 fault ⊎ own (status_of fault))
+MayCallFor ReadsHeader fault = StatusIn 2 2 fault ⊎ StatusIn 10 16 fault
+MayCallFor (ReadsRecords further records) fault = StatusIn 2 2 fault ⊎ (StatusIn 10 17 fault ⊎ further (status_of fault))
+MayCallFor (ReadsByPlan further need records) fault = StatusIn 2 2 fault ⊎ (StatusIn 6 17 fault ⊎ further (status_of fault))
 
 -- the statuses that a run of a command may end with, whatever fails
 abbrev pub MayEndWith : CommandCases → ℕ → Type 0
-MayEndWith NoWords n = n ≡ 1
+MayEndWith BadWords n = n ≡ 1
 MayEndWith (Writes text) n = (n ≡ 0) ⊎ IsIn 4 5 n
-MayEndWith OfHeader n = (n ≡ 0) ⊎ (IsIn 2 4 n ⊎ IsIn 10 16 n)
-MayEndWith (OfRecords own records) n = (n ≡ 0) ⊎ (IsIn 2 4 n ⊎ (IsIn 10 17 n ⊎ own n))
-MayEndWith (OfPlan own need records) n = (n ≡ 0) ⊎ (IsIn 2 17 n ⊎ own n)
+MayEndWith ReadsHeader n = (n ≡ 0) ⊎ (IsIn 2 4 n ⊎ IsIn 10 16 n)
+MayEndWith (ReadsRecords further records) n = (n ≡ 0) ⊎ (IsIn 2 4 n ⊎ (IsIn 10 17 n ⊎ further n))
+MayEndWith (ReadsByPlan further need records) n = (n ≡ 0) ⊎ (IsIn 2 17 n ⊎ further n)

@@ -1,4 +1,4 @@
--- How each command may end and what it is refused for, told once: a line for each command, and the cases that commands of one shape share.
+-- How each command may end and what it is refused for, told once: a line for each command, and the cases that commands of one shape share. As in `Cases`, no function is cited that finds an answer for the program.
 use Rattle.std.specs.Prelude.{ℕ, ◌≡◌, ◌≢◌, ◌⊎◌, ◌<◌, ◌≤◌, List, [], length, None, Some}
 use Rattle.std.specs.declared.option.Option.{Option}
 use Rattle.toml.specs.Data.{Members, table}
@@ -23,7 +23,7 @@ use Rattle.ptu_cli.specs.Demo.{demo_plan}
 use Rattle.ptu_cli.specs.Outcomes.{Outcome, refused, written, listing}
 use Rattle.ptu_cli.specs.Cases.{FileCase, HeaderCase, NoneRefused, CountCase, PrintCase, ListCase, words_report, StreamCase, HasTrace, TracedCase, HasGroup, LateAtRecord, LateAtEnd, SettledInTime, RefusedInTime, PickedCase}
 
--- How a command ends by the records behind a header that suits it.
+-- How a command ends by the records behind a header that suits it. That the four agree is what the laws `one_outcome` and `exactly_where` say.
 pub record RecordCases : Type 1 where
   -- the text, and the fault where there is one
   pub ends : Header → List ℕ → Outcome → Type 0
@@ -32,25 +32,25 @@ pub record RecordCases : Type 1 where
   -- 18 to 21: a record is refused with this fault
   pub refuses : Header → List ℕ → Fault → Type 0
   -- 24: a photon is too late to be written, and this fault names it
-  pub late : Header → List ℕ → Fault → Type 0
+  pub too_late_for : Header → List ℕ → Fault → Type 0
 
--- What a plan must have for a command, and the fault of one that has it not.
+-- What a plan must have for a command, and the fault of one that lacks it.
 pub data Need : Type 1 where
   NeedsNothing : Need
   Needs : (has : PlanView → Type 0) (lack : Fault) → Need
 
--- How a command may end, by its shape. `own` are the statuses of the faults that its records, and what its plan lacks, call for, beside 17.
+-- How a command may end, by its shape. `further` are the statuses of records that are refused, of a plan that lacks something, and of photons too late. Those up to 17 come with the shape.
 pub data CommandCases : Type 1 where
-  -- the words are no command
-  NoWords : CommandCases
+  -- The words are no command.
+  BadWords : CommandCases
   -- This text is written, whatever the files are.
   Writes : (text : List ℕ) → CommandCases
   -- FILE is read for its header, which is printed as far as it goes.
-  OfHeader : CommandCases
-  -- FILE has a header, and records that end it.
-  OfRecords : (own : ℕ → Type 0) (records : RecordCases) → CommandCases
-  -- So it has by a plan that has what is needed and suits the header.
-  OfPlan : (own : ℕ → Type 0) (need : Need) (records : PlanView → RecordCases) → CommandCases
+  ReadsHeader : CommandCases
+  -- FILE is read for its header and its records.
+  ReadsRecords : (further : ℕ → Type 0) (records : RecordCases) → CommandCases
+  -- The same by a plan, which must have what is needed and suit the header.
+  ReadsByPlan : (further : ℕ → Type 0) (need : Need) (records : PlanView → RecordCases) → CommandCases
 
 -- ## The commands
 
@@ -62,41 +62,35 @@ IsIn low high n = (low ≤ n) × (n ≤ high)
 abbrev pub RefusedIn : Reading → List ℕ → Fault → Type 0
 RefusedIn how behind fault = IsFirst how fault [] (words_of behind)
 
--- No photon is written, so none is too late.
-abbrev pub NoneLate : Header → List ℕ → Fault → Type 0
-NoneLate header behind fault = ⊥
+-- No photon is written, so none is too late to be.
+abbrev pub NothingTooLate : Header → List ℕ → Fault → Type 0
+NothingTooLate header behind fault = ⊥
 
 abbrev pub count_cases : RecordCases
 count_cases = record {
   ends = CountCase;
   goes_through = λ header behind. length (words_of behind) ≤ record_limit;
   refuses = λ header behind fault. (record_limit < length (words_of behind)) × (fault ≡ RecordLimit record_limit);
-  late = NoneLate;
+  too_late_for = NothingTooLate;
+}
+
+-- The records of a stream that is read so end it in these cases, and the least record that it refuses is the one that ends it.
+abbrev pub stream_cases : (Header → Reading) → (Header → List ℕ → Outcome → Type 0) → RecordCases
+stream_cases how ends = record {
+  ends = ends;
+  goes_through = λ header behind. NoneRefused (how header) (words_of behind);
+  refuses = λ header behind fault. RefusedIn (how header) behind fault;
+  too_late_for = NothingTooLate;
 }
 
 abbrev pub events_cases : RecordCases
-events_cases = record {
-  ends = ListCase;
-  goes_through = λ header behind. NoneRefused (listing header) (words_of behind);
-  refuses = λ header behind fault. RefusedIn (listing header) behind fault;
-  late = NoneLate;
-}
+events_cases = stream_cases listing ListCase
 
 abbrev pub run_cases : PlanView → RecordCases
-run_cases view = record {
-  ends = StreamCase view;
-  goes_through = λ header behind. NoneRefused (reading_by view header) (words_of behind);
-  refuses = λ header behind fault. RefusedIn (reading_by view header) behind fault;
-  late = NoneLate;
-}
+run_cases view = stream_cases (reading_by view) (StreamCase view)
 
 abbrev pub trace_cases : PlanView → RecordCases
-trace_cases view = record {
-  ends = TracedCase view;
-  goes_through = λ header behind. NoneRefused (reading_by view header) (words_of behind);
-  refuses = λ header behind fault. RefusedIn (reading_by view header) behind fault;
-  late = NoneLate;
-}
+trace_cases view = stream_cases (reading_by view) (TracedCase view)
 
 -- A photon of the group is too late to be written, at a record or at the end, and the fault names the first of these.
 abbrev pub NamesLate : ℕ → PlanView → Header → List ℕ → Fault → Type 0
@@ -104,23 +98,28 @@ NamesLate group view header behind fault =
     ((late : LateAtRecord view group header (words_of behind)) × (fault ≡ PickTime late.first.photon.place))
     ⊎ ((late : LateAtEnd view group header behind) × (fault ≡ PickTime late.first.photon.place))
 
--- A photon of the group that is too late and settled before comes before a record that is refused or cut.
+-- A settled photon of the group that is too late ends the run before a later record is refused or cut.
 abbrev pub pick_cases : ℕ → PlanView → RecordCases
 pick_cases group view = record {
   ends = PickedCase view group;
   goes_through = λ header behind. SettledInTime view group header (words_of behind);
   refuses = λ header behind fault. RefusedInTime view group header (words_of behind) fault;
-  late = NamesLate group view;
+  too_late_for = NamesLate group view;
 }
 
+-- the further statuses of `pick`
+abbrev pub pick_statuses : ℕ → Type 0
+pick_statuses n = IsIn 18 21 n ⊎ IsIn 23 24 n
+
+-- The line of each command: the statuses beside those of its shape, what its plan must have, and how its records end it. The statuses bound what may come; which does come where, the causes say.
 abbrev pub cases : Option Request → CommandCases
-cases None = NoWords
-cases (Some (Count file)) = OfRecords (IsIn 20 20) count_cases
-cases (Some (HeaderOf file)) = OfHeader
-cases (Some (Events file)) = OfRecords (IsIn 20 21) events_cases
-cases (Some (Run plan file)) = OfPlan (IsIn 18 21) NeedsNothing run_cases
-cases (Some (Trace plan file)) = OfPlan (IsIn 18 22) (Needs HasTrace NoTrace) trace_cases
-cases (Some (Pick plan group file)) = OfPlan (λ n. IsIn 18 21 n ⊎ IsIn 23 24 n) (Needs (HasGroup group) (NoGroup group)) (pick_cases group)
+cases None = BadWords
+cases (Some (Count file)) = ReadsRecords (IsIn 20 20) count_cases
+cases (Some (HeaderOf file)) = ReadsHeader
+cases (Some (Events file)) = ReadsRecords (IsIn 20 21) events_cases
+cases (Some (Run plan file)) = ReadsByPlan (IsIn 18 21) NeedsNothing run_cases
+cases (Some (Trace plan file)) = ReadsByPlan (IsIn 18 22) (Needs HasTrace NoTrace) trace_cases
+cases (Some (Pick plan group file)) = ReadsByPlan pick_statuses (Needs (HasGroup group) (NoGroup group)) (pick_cases group)
 cases (Some (Demo seed count)) = Writes (words_report demo_plan made_header (made_words seed count))
 
 -- ## How they end
@@ -130,7 +129,7 @@ abbrev pub Has : Need → PlanView → Type 0
 Has NeedsNothing view = Unit {0}
 Has (Needs has lack) view = has view
 
--- The plan has not what is needed, and this is the fault.
+-- The plan lacks what is needed, and this is the fault.
 abbrev pub Lacks : Need → PlanView → Fault → Type 0
 Lacks NeedsNothing view fault = ⊥
 Lacks (Needs has lack) view fault = (has view → ⊥) × (fault ≡ lack)
@@ -145,7 +144,7 @@ SuitCase view case header behind end =
     ((fault : Fault) × IsMisfit (mode_of header.record_type) view fault × (end ≡ refused fault))
     ⊎ (Suits view header × case header behind end)
 
--- A plan that has not what is needed is refused. Else FILE ends the run.
+-- A plan without what is needed is refused. Else FILE ends the run.
 abbrev pub NeedCase : Need → RecordCases → PlanView → File → Outcome → Type 0
 NeedCase need records view data_file end =
     ((fault : Fault) × Lacks need view fault × (end ≡ refused fault))
@@ -158,14 +157,14 @@ PlanCase need records (Some text) data_file end =
     ((fault : Fault) × IsCalledFor text fault × (fault ≢ OutOfMemory) × (end ≡ refused fault))
     ⊎ ((ms : Members) × IsValid text × (document text ≡ Some ms) × NeedCase need (records (plan (table ms))) (plan (table ms)) data_file end)
 
--- So it ends over these files of its words PLAN and FILE.
-abbrev pub EndsAs : CommandCases → File → File → Outcome → Type 0
-EndsAs NoWords plan_file data_file end = end ≡ refused Usage
-EndsAs (Writes text) plan_file data_file end = end ≡ written text
-EndsAs OfHeader plan_file data_file end = FileCase PrintCase data_file end
-EndsAs (OfRecords own records) plan_file data_file end = FileCase (HeaderCase records.ends) data_file end
-EndsAs (OfPlan own need records) plan_file data_file end = PlanCase need records plan_file data_file end
+-- The command ends so over the files of its words PLAN and FILE.
+abbrev pub ShapeCase : CommandCases → File → File → Outcome → Type 0
+ShapeCase BadWords plan_file data_file end = end ≡ refused Usage
+ShapeCase (Writes text) plan_file data_file end = end ≡ written text
+ShapeCase ReadsHeader plan_file data_file end = FileCase PrintCase data_file end
+ShapeCase (ReadsRecords further records) plan_file data_file end = FileCase (HeaderCase records.ends) data_file end
+ShapeCase (ReadsByPlan further need records) plan_file data_file end = PlanCase need records plan_file data_file end
 
 -- what the words ask for ends so
 abbrev pub IsOutcome : Option Request → File → File → Outcome → Type 0
-IsOutcome request = EndsAs (cases request)
+IsOutcome request = ShapeCase (cases request)

@@ -20,7 +20,7 @@ ghost use Rattle.ptu_cli.specs.CommandCases.{Needs, Suits, cases, IsOutcome};
 ghost use Rattle.ptu_cli.specs.Cases.{HasGroup};
 ghost use Rattle.ptu_cli.specs.PickOutcomes.{photons_written};
 ghost use Rattle.ptu_cli.specs.Runs.{Around, Runs};
-ghost use Rattle.ptu_cli.specs.Causes.{Headed, IsUsable, EndsWithFault, StatusIn, Absent, NoPlan, Misfits, NoHeader, Cut, Refused, Lacking, TooLate, IsPickable, MayCallFor, MayEndWith};
+ghost use Rattle.ptu_cli.specs.Causes.{Headed, IsPlanWith, EndsWithFault, StatusIn, Absent, NoPlan, Misfits, NoHeader, Cut, Refused, Lacking, TooLate, IsPickable, MayCallFor, MayEndWith};
 ghost use Rattle.ptu_cli.specs.Demo.{demo_text};
 ghost use Rattle.ptu_cli.specs.Behaviours.{EndsStay, behaviour};
 ghost use Rattle.ptu_cli.specs.Endings.{outcome};
@@ -48,7 +48,7 @@ pub fn picked_photons_are_listed()
 pub fn what_is_picked_is_listed()
     ensures { (plan_name : List ℕ) (group : ℕ) (file name : List ℕ) (plan_file data_file : File)
         (view : PlanView) (header : Header) (behind : List ℕ)
-        → IsUsable (Needs (HasGroup group) (NoGroup group)) plan_file view
+        → IsPlanWith (Needs (HasGroup group) (NoGroup group)) plan_file view
         → Headed data_file header behind → Suits view header
         → length (picked_words (mode_of header.record_type)
         (photons_written group view header behind)) ≤ record_limit
@@ -65,10 +65,10 @@ pub fn one_outcome()
         ↔ (outcome (behaviour request) plan_file data_file ≡ end) }
 {}
 
-/// A command ends with a fault exactly where its cause is, by its shape: with status 1 where the words are no command,
+/// A command ends with a fault exactly where its cause stands, which its line of `cases` tells: with status 1 where the words are no command,
 /// with 2 where a file is not there, 6 to 8 where PLAN is no plan, 9 where a part of it doesn't suit, 10 to
 /// 16 where FILE is refused as a header, 17 where it ends within a record, 18 to 21 where a record is refused, 22 and 23
-/// where the plan has not what the command needs (a trace, or the group of the number), and 24 where a photon of the
+/// where the plan lacks what the command needs (a trace, or the group of the number), and 24 where a photon of the
 /// group is too late to be written.
 pub fn exactly_where()
     ensures words { (request : Option Request) (plan_file data_file : File)
@@ -124,7 +124,9 @@ pub fn an_end_that_is_shown_stays()
     ensures { (request : Option Request) → EndsStay (behaviour request) }
 {}
 
-/// The statuses that a run of each command may end with, whatever fails.
+/// The statuses that a run of each command may end with, whatever fails: 1 for words that are no command; 0, 2 to 4, 10
+/// to 17 and 20 for `count`; 0, 2 to 4 and 10 to 16 for `header`; 0, 2 to 4, 10 to 17, 20 and 21 for `events`; 0 and 2 to
+/// 21 for `run`; 0 and 2 to 22 for `trace`; 0, 2 to 21, 23 and 24 for `pick`; 0, 4 and 5 for `demo`.
 pub fn statuses_of_runs()
     ensures { (request : Option Request) (run : Around) (result : ℕ) → Runs request run result
         → MayEndWith (cases request) result }
