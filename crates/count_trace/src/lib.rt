@@ -7,8 +7,3 @@ mod trace;
 
 pub use bin::Bin;
 pub use trace::Trace;
-
-#[cfg(test)]
-mod greatest_tests;
-#[cfg(test)]
-mod tests;

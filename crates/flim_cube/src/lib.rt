@@ -7,8 +7,3 @@ pub mod laws;
 mod spread;
 
 pub use cube::FlimCube;
-
-#[cfg(test)]
-mod spread_tests;
-#[cfg(test)]
-mod tests;

@@ -8,6 +8,3 @@ mod taking;
 mod waiting;
 
 pub use fold::Fold;
-
-#[cfg(test)]
-mod tests;

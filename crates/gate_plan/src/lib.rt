@@ -10,6 +10,3 @@ mod table;
 
 pub use gates::Gates;
 pub use only_gate::OnlyGate;
-
-#[cfg(test)]
-mod tests;

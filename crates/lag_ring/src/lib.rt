@@ -9,8 +9,3 @@ mod window;
 pub use cells::PairCells;
 pub use ring::{Entry, LagRing};
 pub use window::{FEW_LAGS, LAGS, Side, few_lag_sums, lag_sums, put_weights, total_weight};
-
-#[cfg(test)]
-mod tests;
-#[cfg(test)]
-mod window_tests;

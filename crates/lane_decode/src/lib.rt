@@ -6,6 +6,3 @@ mod lanes;
 
 pub use block::decode_block;
 pub use lanes::FieldLanes;
-
-#[cfg(test)]
-mod tests;

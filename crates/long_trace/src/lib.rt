@@ -10,6 +10,3 @@ mod trace;
 
 pub use lines::{LINE_SIZE, LINES_SIZE};
 pub use trace::LongTrace;
-
-#[cfg(test)]
-mod tests;

@@ -8,6 +8,3 @@ mod strip;
 
 pub use lines::Lines;
 pub use strip::{Strip, Way};
-
-#[cfg(test)]
-mod tests;

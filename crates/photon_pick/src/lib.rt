@@ -8,6 +8,3 @@ mod taker;
 
 pub use end::pick_end;
 pub use piece::pick_piece;
-
-#[cfg(test)]
-mod tests;

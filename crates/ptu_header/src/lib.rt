@@ -5,11 +5,7 @@
 mod fields;
 mod fill;
 mod reader;
-#[cfg(test)]
-mod refused_tests;
 mod step;
-#[cfg(test)]
-mod tests;
 
 pub use reader::{HEADER_LIMIT, HeaderReader};
 pub use step::HeaderStep;

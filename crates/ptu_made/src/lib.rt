@@ -9,6 +9,3 @@ mod slot;
 mod unread;
 
 pub use made::{Made, PHOTON_LIMIT};
-
-#[cfg(test)]
-mod tests;

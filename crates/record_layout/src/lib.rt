@@ -25,6 +25,3 @@ pub use layout::RecordLayout;
 pub use pico::{PicoT2, PicoT3};
 pub use ptu_definitions::{KindCounts, Raw};
 pub use row::Row;
-
-#[cfg(test)]
-mod tests;

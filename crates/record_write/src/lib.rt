@@ -6,6 +6,3 @@ mod picker;
 mod words;
 
 pub use picker::Picker;
-
-#[cfg(test)]
-mod tests;

@@ -7,8 +7,3 @@ pub mod laws;
 
 pub use image::Image;
 pub use marker_map::Lines;
-
-#[cfg(test)]
-mod greatest_tests;
-#[cfg(test)]
-mod tests;

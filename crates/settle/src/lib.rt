@@ -5,6 +5,3 @@ pub mod laws;
 mod settle;
 
 pub use settle::{Settle, Settled};
-
-#[cfg(test)]
-mod tests;

@@ -27,6 +27,3 @@ pub use settings::{
 pub use slot::{Failed, Slot};
 pub use steps::Steps;
 pub use tally::{Tally, floor_behind};
-
-#[cfg(test)]
-mod tests;

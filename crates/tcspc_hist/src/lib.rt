@@ -4,6 +4,3 @@
 mod hist;
 
 pub use hist::Hist;
-
-#[cfg(test)]
-mod tests;
