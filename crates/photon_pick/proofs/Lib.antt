@@ -1,4 +1,7 @@
 pub mod Rows
+pub mod Chooses
+pub mod Gives
+pub mod BlockTakes
 pub mod Steps
 pub mod Wanted
 pub mod Parts

@@ -16,6 +16,9 @@ pub ordered-photon : (mode : Mode) (e : Event) → is_photon e ≡ true → is_o
 ordered-photon T2 e is = is
 ordered-photon T3 e is = refl
 
+pub chosen-photon : (by : Sorting) (group : ℕ) (e : Event) → is_chosen by group e ≡ true → is_photon e ≡ true
+chosen-photon by group e is = first-of (is_photon e) _ is
+
 pub wanted-photon : (by : Sorting) (group : ℕ) (e : Event) (late : Bool) → (not late && is_chosen by group e) ≡ true → is_photon e ≡ true
 wanted-photon by group e true is = cc
 wanted-photon by group e false is = first-of (is_photon e) _ is

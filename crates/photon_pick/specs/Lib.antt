@@ -1,4 +1,6 @@
 pub mod Chosen
+pub mod Places
+pub mod Giving
 pub mod Late
 pub mod Taking
 pub mod Texts

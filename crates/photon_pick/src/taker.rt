@@ -5,9 +5,12 @@ ghost use Rattle.gate_plan.specs.Groups.{sorting_of};
 ghost use Rattle.record_write.specs.Picker.{mode_of, last_by};
 ghost use Rattle.photon_pick.specs.Chosen.{is_chosen};
 
+use crate::choosing::choose;
+use crate::giving::give_photons;
 use bench_io::{Block, Sink};
+use event_block::BLOCK_SIZE;
 use gate_plan::Gates;
-use record_stream::{EventTaker, moved_floor};
+use record_stream::{EventTaker, moved_floor, orders_markers};
 use record_write::Picker;
 use tally_base::{Event, Failed, Fault, Mode, is_in};
 
@@ -92,5 +95,20 @@ impl<'g, 'p, 'o, O: Sink> EventTaker for Picks<'g, 'p, 'o, O> {
                 Err(Failed)
             }
         }
+    }
+
+    fn take_block(&mut self, block: &mut event_block::Block) -> Result<(), Failed> {
+        self.taken += block.len() as u64;
+        self.floor = block.floor_after(orders_markers(self.mode), self.floor);
+        // All places first, and then the photons: so no branch depends on the group.
+        let mut places = [0; BLOCK_SIZE];
+        let many = choose(self.gates, self.group, block, &mut places);
+        let given = give_photons(block, &places, many, self.picker, &mut self.block, self.out);
+        if let Err(fault) = given {
+            self.fault = Some(fault);
+            self.refusals = self.refusals.saturating_add(1);
+            return Err(Failed);
+        }
+        Ok(())
     }
 }

@@ -1,0 +1,15 @@
+use Rattle.std.proofs.Common.{◌≡◌, ◌<◌, ◌≤◌, ℕ, filter, length}
+use Rattle.std.specs.Prelude.{slice_index}
+use Rattle.event_block.specs.Columns.{event_at, rows}
+use Rattle.gate_plan.specs.Groups.{sorting_of}
+use Rattle.photon_pick.specs.Chosen.{is_chosen}
+use Rattle.photon_pick.specs.Places.{events_at}
+use Rattle.photon_pick.proofs.choosing.choose.Given as goal
+
+abbrev pub invariant-loop-at : goal.invariant-loop-at
+invariant-loop-at l = record {
+  sized : length l.places ≡ 64;
+  few : l.chosen ≤ l.at;
+  inside : (k : ℕ) → k < l.chosen → slice_index l.places k < l.at;
+  chosen : events_at l.block l.places l.chosen ≡ filter (is_chosen (sorting_of l.gates) l.group) (rows (event_at l.block) l.at);
+}

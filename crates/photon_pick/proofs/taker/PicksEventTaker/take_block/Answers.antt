@@ -1,0 +1,85 @@
+use Rattle.std.proofs.Common.{◌≡◌, ◌∙◌, ◌+◌, true, All, filter, length, ap, sym, subst, refl}
+use Rattle.std.proofs.lemmas.List.Elements.{All-weaker, All-filter, filter_passes}
+use Rattle.tally_base.specs.Events.{is_photon}
+use Rattle.ptu_definitions.specs.Fitting.{KindFits}
+use Rattle.event_block.specs.Columns.{gathered}
+use Rattle.event_block.specs.Order.{InOrder}
+use Rattle.gate_plan.specs.Groups.{sorting_of}
+use Rattle.record_stream.specs.Blocks.{orders_markers}
+use Rattle.record_write.specs.Picker.{mode_of, last_by}
+use Rattle.photon_pick.specs.Chosen.{is_chosen}
+use Rattle.photon_pick.specs.Giving.{pen, Gave, Stopped}
+use Rattle.photon_pick.proofs.Wanted.{chosen-photon}
+use Rattle.photon_pick.proofs.BlockTakes.{order-chosen, last-chosen, up_to, Took-block, Refused-block}
+use Rattle.photon_pick.proofs.taker.PicksEventTaker.take_block.Goals as goal
+
+pub give_photons-given-requires-clause-photons : goal.give_photons-given-requires-clause-photons
+give_photons-given-requires-clause-photons g c =
+    let t = c.args.self.now in
+    let p = is_chosen (sorting_of t.gates.now) t.group in
+    let all : All (λ e. is_photon e ≡ true) (filter p (gathered c.args.block.now)) = All-weaker (λ e. p e ≡ true) (λ e. is_photon e ≡ true) (λ e is. chosen-photon (sorting_of t.gates.now) t.group e is) _ (filter_passes p (gathered c.args.block.now)) in
+    subst (λ l. All (λ e. is_photon e ≡ true) l) (sym c.choose-many.ensures.chosen) all
+
+pub give_photons-given-requires-clause-fit : goal.give_photons-given-requires-clause-fit
+give_photons-given-requires-clause-fit g c =
+    let t = c.args.self.now in
+    let p = is_chosen (sorting_of t.gates.now) t.group in
+    let fits : All (λ e. KindFits (mode_of t.picker.now) e.kind) (gathered c.args.block.now) = subst (λ m. All (λ e. KindFits m e.kind) (gathered c.args.block.now)) (sym t.of_mode) c.requires.fit in
+    subst (λ l. All (λ e. KindFits (mode_of t.picker.now) e.kind) l) (sym c.choose-many.ensures.chosen) (All-filter p (λ e. KindFits (mode_of t.picker.now) e.kind) (gathered c.args.block.now) fits)
+
+pub give_photons-given-requires-clause-in_order : goal.give_photons-given-requires-clause-in_order
+give_photons-given-requires-clause-in_order g c =
+    let t = c.args.self.now in
+    let p = is_chosen (sorting_of t.gates.now) t.group in
+    let low = last_by t.picker.now in
+    subst (λ l. InOrder true low l) (sym c.choose-many.ensures.chosen) (order-chosen p (chosen-photon (sorting_of t.gates.now) t.group) (orders_markers t.mode) low t.floor (gathered c.args.block.now) t.before c.requires.in_order).0
+
+pub invariant_of-self-in_default-clause-of_mode : goal.invariant_of-self-in_default-clause-of_mode
+invariant_of-self-in_default-clause-of_mode g c = c.give_photons-given.ensures.same_mode ∙ c.args.self.now.of_mode
+
+pub invariant_of-self-in_default-clause-before : goal.invariant_of-self-in_default-clause-before
+invariant_of-self-in_default-clause-before g c =
+    let t = c.args.self.now in
+    let p = is_chosen (sorting_of t.gates.now) t.group in
+    let low = last_by t.picker.now in
+    let es = gathered c.args.block.now in
+    last-chosen p (chosen-photon (sorting_of t.gates.now) t.group) (orders_markers t.mode) low t.floor es t.before c.requires.in_order _ _ c.choose-many.ensures.chosen _ c.give_photons-given.ensures.last (rw c.orders_markers.ensures at c.floor_after-self.ensures)
+
+pub invariant_of-self-clause-of_mode : goal.invariant_of-self-clause-of_mode
+invariant_of-self-clause-of_mode g c = c.give_photons-given.ensures.same_mode ∙ c.args.self.now.of_mode
+
+pub invariant_of-self-clause-before : goal.invariant_of-self-clause-before
+invariant_of-self-clause-before g c =
+    let t = c.args.self.now in
+    let p = is_chosen (sorting_of t.gates.now) t.group in
+    let low = last_by t.picker.now in
+    let es = gathered c.args.block.now in
+    last-chosen p (chosen-photon (sorting_of t.gates.now) t.group) (orders_markers t.mode) low t.floor es t.before c.requires.in_order _ _ c.choose-many.ensures.chosen _ c.give_photons-given.ensures.last (rw c.orders_markers.ensures at c.floor_after-self.ensures)
+
+pub returns-in-Err-clause-broken : goal.returns-in-Err-clause-broken
+returns-in-Err-clause-broken g c =
+    let t = c.args.self.now in
+    let p = is_chosen (sorting_of t.gates.now) t.group in
+    let es = gathered c.args.block.now in
+    let old = pen t.picker.now (g.O.Sink.written t.out.now) t.block (g.O.Sink.faults t.out.now) in
+    let new = pen c.give_photons-given.new.picker (g.O.Sink.written c.give_photons-given.new.out) c.give_photons-given.new.block (g.O.Sink.faults c.give_photons-given.new.out) in
+    let stopped : Stopped old new (filter p es) c.in-Err.fault = subst (λ ps. Stopped old new ps c.in-Err.fault) c.choose-many.ensures.chosen c.in-Err.ensures.stopped in
+    let up = up_to p es stopped.front stopped.back stopped.e stopped.are in
+    record {
+      front = up.front;
+      back = up.back;
+      some = up.some;
+      are = up.are;
+      broken = λ start l h. Refused-block _ _ l h t.of_mode es new c.in-Err.fault stopped up.front up.chosen _ refl refl refl refl;
+    }
+
+pub returns-clause-follows : goal.returns-clause-follows
+returns-clause-follows g c = λ start l h.
+    let t = c.args.self.now in
+    let p = is_chosen (sorting_of t.gates.now) t.group in
+    let es = gathered c.args.block.now in
+    let old = pen t.picker.now (g.O.Sink.written t.out.now) t.block (g.O.Sink.faults t.out.now) in
+    let new = pen c.give_photons-given.new.picker (g.O.Sink.written c.give_photons-given.new.out) c.give_photons-given.new.block (g.O.Sink.faults c.give_photons-given.new.out) in
+    let gave : Gave old new (filter p es) = subst (λ ps. Gave old new ps) c.choose-many.ensures.chosen c.in_default.ensures.gave in
+    let counted : t.taken + c.len.result ≡ t.taken + length es = ap (λ n. t.taken + n) c.len.ensures.value in
+    Took-block _ _ l h t.of_mode es new _ _ _ gave c.requires.in_order counted (rw c.orders_markers.ensures at c.floor_after-self.ensures) (ap (λ n. n + t.refusals) gave.kept)

@@ -1,0 +1,60 @@
+-- What giving photons to a picker writes.
+use Rattle.std.specs.Prelude.{ℕ, ◌≡◌, ◌⊎◌, true, false, List, [], ◌∷◌, ◌++◌}
+use Rattle.std.specs.declared.option.Option.{Option}
+use Rattle.tally_base.specs.declared.event.Event.{Event}
+use Rattle.tally_base.specs.declared.fault.Fault.{Fault}
+use Rattle.tally_base.specs.declared.fault.Fault.TheVariants.{PickTime, WriteFault}
+use Rattle.tally_base.specs.FaultCounts.{Rose}
+use Rattle.ptu_definitions.specs.Prefixes.{each_after}
+use Rattle.event_block.specs.Order.{floor_after}
+use Rattle.record_write.specs.declared.picker.Picker.{Picker}
+use Rattle.record_write.specs.Picked.{is_too_late, photon_words}
+use Rattle.record_write.specs.Picker.{mode_of, last_by, HasPicked}
+use Rattle.record_write.specs.Writing.{PutsWords, CutsWords}
+use Rattle.photon_pick.specs.Late.{too_late}
+
+-- A picker, the bytes that its sink tells, those that its block holds, and how often a write has failed.
+pub record Pen : Type 0 where
+  pub picker : Picker
+  pub written : Option (List ℕ)
+  pub held : List ℕ
+  pub faults : ℕ
+
+abbrev pub pen : Picker → Option (List ℕ) → List ℕ → ℕ → Pen
+pen picker written held faults = record { picker = picker; written = written; held = held; faults = faults }
+
+-- the words of photons behind others
+abbrev pub words_behind : Pen → List Event → List Event → List ℕ
+words_behind p behind photons = each_after (photon_words (mode_of p.picker)) behind photons
+
+-- These photons were given to the picker, which refused none.
+pub record Gave (p q : Pen) (photons : List Event) : Type 0 where
+  pub in_time : too_late (mode_of p.picker) photons ≡ []
+  pub picked : (behind : List Event) → HasPicked p.picker behind → HasPicked q.picker (behind ++ photons)
+  pub text : (behind : List Event) → HasPicked p.picker behind → PutsWords p.written q.written p.held q.held (words_behind p behind photons)
+  pub same_mode : mode_of q.picker ≡ mode_of p.picker
+  pub last : last_by q.picker ≡ floor_after true (last_by p.picker) photons
+  pub kept : q.faults ≡ p.faults
+
+-- A photon was too late: those before it were put.
+pub record TooLate (p q : Pen) (front : List Event) (e : Event) (fault : Fault) : Type 0 where
+  pub late : is_too_late (mode_of p.picker) e.time ≡ true
+  pub is : fault ≡ PickTime e.place
+  pub kept : q.faults ≡ p.faults
+  pub text : (behind : List Event) → HasPicked p.picker behind → PutsWords p.written q.written p.held q.held (words_behind p behind front)
+
+-- A write failed at a photon: of the bytes with its words a front was written that is not the whole.
+pub record WriteFailed (p q : Pen) (front : List Event) (e : Event) (fault : Fault) : Type 0 where
+  pub soon : is_too_late (mode_of p.picker) e.time ≡ false
+  pub is : fault ≡ WriteFault
+  pub rose : Rose p.faults q.faults
+  pub text : (behind : List Event) → HasPicked p.picker behind → CutsWords p.written q.written p.held q.held (words_behind p behind (front ++ e ∷ []))
+
+-- The picker refused one of these photons.
+pub record Stopped (p q : Pen) (photons : List Event) (fault : Fault) : Type 0 where
+  pub front : List Event
+  pub e : Event
+  pub back : List Event
+  pub are : photons ≡ front ++ e ∷ back
+  pub in_time : too_late (mode_of p.picker) front ≡ []
+  pub why : TooLate p q front e fault ⊎ WriteFailed p q front e fault

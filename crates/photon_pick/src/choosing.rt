@@ -1,0 +1,62 @@
+// Which events of a block are photons of a group.
+ghost use Rattle.std.specs.Prelude.{◌≡◌, ◌<◌, ◌≤◌, ◌&&◌, ℕ, false, filter, slice_index};
+ghost use Rattle.event_block.specs.Columns.{count, gathered};
+ghost use Rattle.gate_plan.specs.Groups.{sorting_of};
+ghost use Rattle.gate_plan.specs.Parting.{gated_bits};
+ghost use Rattle.gate_plan.specs.Taking.{groups_in};
+ghost use Rattle.photon_pick.specs.Chosen.{is_chosen};
+ghost use Rattle.photon_pick.specs.Places.{events_at};
+
+use event_block::{BLOCK_SIZE, Block};
+use gate_plan::Gates;
+use tally_base::{Event, EventKind, is_in};
+
+/// The groups that an event is in. Where no group has a gate, its input alone tells.
+#[inline(always)]
+fn groups_of(gates: &Gates, gated: bool, e: &Event) -> u64
+    requires { gated ≡ false → (input dtime : ℕ) → gated_bits (sorting_of gates.now).groups input dtime ≡ 0 }
+    ensures { result ≡ groups_in (sorting_of gates.now) e.now }
+{
+    if gated {
+        return gates.groups(e);
+    }
+    match e.kind {
+        EventKind::Photon { input, .. } => gates.of_input(input),
+        EventKind::Marker { .. } => 0,
+    }
+}
+
+/// Whether an event is a photon of a group, by its shifted dtime.
+#[inline(always)]
+fn is_chosen(gates: &Gates, gated: bool, group: u8, e: &Event) -> bool
+    requires gated { gated ≡ false → (input dtime : ℕ) → gated_bits (sorting_of gates.now).groups input dtime ≡ 0 }
+    requires group { (0 < group) × (group ≤ 64) }
+    ensures { result ≡ is_chosen (sorting_of gates.now) group e.now }
+{
+    e.is_photon() && is_in(groups_of(gates, gated, e), group)
+}
+
+/// Puts the places of the photons of a group in a block, in order, to the front of an array. The answer is how
+/// many they are. It takes no branch on the group, which no processor would foresee.
+// Not inlined, so that its loop has the registers for itself.
+#[inline(never)]
+pub(crate) fn choose(
+    gates: &Gates,
+    group: u8,
+    block: &Block,
+    places: &mut [u8; BLOCK_SIZE],
+) -> usize
+    requires group { (0 < group) × (group ≤ 64) }
+    ensures few { result ≤ BLOCK_SIZE }
+    ensures inside { (k : ℕ) → k < result → slice_index places.new k < count block.now }
+    ensures chosen { events_at block.now places.new result
+        ≡ filter (is_chosen (sorting_of gates.now) group) (gathered block.now) }
+{
+    let gated = gates.has_gates();
+    let mut chosen = 0;
+    for at in 0..block.len().min(BLOCK_SIZE) {
+        places[chosen] = at as u8;
+        chosen += usize::from(is_chosen(gates, gated, group, &block.event(at)));
+    }
+    chosen
+}

@@ -1,0 +1,47 @@
+// Photons of a block, given to a picker.
+ghost use Rattle.std.specs.Prelude.{◌≡◌, ◌<◌, ◌≤◌, ℕ, All, true, slice_index, OnOk, IfErr};
+ghost use Rattle.tally_base.specs.Events.{is_photon};
+ghost use Rattle.event_block.specs.Columns.{count, gathered};
+ghost use Rattle.event_block.specs.Order.{floor_after, InOrder};
+ghost use Rattle.record_stream.specs.Blocks.{AllFit};
+ghost use Rattle.record_write.specs.Picker.{mode_of, last_by};
+ghost use Rattle.photon_pick.specs.Places.{events_at};
+ghost use Rattle.photon_pick.specs.Giving.{pen, Gave, Stopped};
+
+use bench_io::{Block, Sink};
+use event_block::BLOCK_SIZE;
+use record_write::Picker;
+use tally_base::Fault;
+
+/// Gives the photons at the first so many of these places of a block to a picker, until it refuses one.
+pub(crate) fn give_photons<O: Sink>(
+    events: &event_block::Block,
+    places: &[u8; BLOCK_SIZE],
+    many: usize,
+    picker: &mut Picker,
+    block: &mut Block,
+    out: &mut O,
+) -> Result<(), Fault>
+    requires few { many ≤ BLOCK_SIZE }
+    requires inside { (k : ℕ) → k < many → slice_index places.now k < count events.now }
+    requires photons { All (λ e. is_photon e ≡ true) (events_at events.now places.now many) }
+    requires fit { AllFit (mode_of picker.old) (events_at events.now places.now many) }
+    requires in_order { InOrder true (last_by picker.old) (events_at events.now places.now many) }
+    ensures gave { OnOk result (Gave
+        (pen picker.old (O.written out.old) block.old (O.faults out.old))
+        (pen picker.new (O.written out.new) block.new (O.faults out.new))
+        (events_at events.now places.now many)) }
+    ensures stopped { IfErr result (Stopped
+        (pen picker.old (O.written out.old) block.old (O.faults out.old))
+        (pen picker.new (O.written out.new) block.new (O.faults out.new))
+        (events_at events.now places.now many)) }
+    ensures same_mode { mode_of picker.new ≡ mode_of picker.old }
+    ensures last { last_by picker.new
+        ≤ floor_after true (last_by picker.old) (events_at events.now places.now many) }
+    ensures later { O.faults out.old ≤ O.faults out.new }
+{
+    for k in 0..many {
+        picker.put(&events.event(places[k] as usize), block, out)?;
+    }
+    Ok(())
+}
