@@ -1,8 +1,8 @@
 // What `count` answers.
+use crate::rows::{File, Row, leave_each};
 use std::alloc::{AllocError, Global};
 use whole_runs::files::{
-    ANSI_STRING, BLOB, BOOL8, EMPTY8, INT8, behind_great_wraps, bench, put_end, put_item,
-    put_words, short, with_item,
+    ANSI_STRING, BLOB, BOOL8, EMPTY8, INT8, put_item, put_words, short, with_item,
 };
 use whole_runs::run::{Run, Wrong, leaves};
 
@@ -27,7 +27,7 @@ const HYDRA_T3: [u32; 5] = [
 ];
 
 /// A record type, words of a file, and the lines behind `announced`.
-struct Row {
+struct Counted {
     code: u64,
     name: &'static [u8],
     words: &'static [u32],
@@ -40,92 +40,92 @@ const T2_LINES: &[u8] = b"records 5\nphotons 2\nmarkers 1\nwraps 1\nreserved 1\n
 
 const T3_LINES: &[u8] = b"records 5\nphotons 1\nmarkers 2\nwraps 1\nreserved 1\n";
 
-const ROWS: [Row; 15] = [
-    Row {
+const TYPES: [Counted; 15] = [
+    Counted {
         code: 0x0001_0203,
         name: b"PicoHarpT2",
         words: &PICO_T2,
         lines: PICO_LINES,
     },
-    Row {
+    Counted {
         code: 0x0001_0303,
         name: b"PicoHarpT3",
         words: &PICO_T3,
         lines: PICO_LINES,
     },
-    Row {
+    Counted {
         code: 0x0001_0204,
         name: b"HydraHarpT2",
         words: &HYDRA_T2,
         lines: T2_LINES,
     },
-    Row {
+    Counted {
         code: 0x0101_0204,
         name: b"HydraHarp2T2",
         words: &HYDRA_T2,
         lines: T2_LINES,
     },
-    Row {
+    Counted {
         code: 0x0001_0205,
         name: b"TimeHarp260NT2",
         words: &HYDRA_T2,
         lines: T2_LINES,
     },
-    Row {
+    Counted {
         code: 0x0001_0206,
         name: b"TimeHarp260PT2",
         words: &HYDRA_T2,
         lines: T2_LINES,
     },
-    Row {
+    Counted {
         code: 0x0001_0207,
         name: b"MultiHarpT2",
         words: &HYDRA_T2,
         lines: T2_LINES,
     },
-    Row {
+    Counted {
         code: 0x0001_0304,
         name: b"HydraHarpT3",
         words: &HYDRA_T3,
         lines: T3_LINES,
     },
-    Row {
+    Counted {
         code: 0x0101_0304,
         name: b"HydraHarp2T3",
         words: &HYDRA_T3,
         lines: T3_LINES,
     },
-    Row {
+    Counted {
         code: 0x0001_0305,
         name: b"TimeHarp260NT3",
         words: &HYDRA_T3,
         lines: T3_LINES,
     },
-    Row {
+    Counted {
         code: 0x0001_0306,
         name: b"TimeHarp260PT3",
         words: &HYDRA_T3,
         lines: T3_LINES,
     },
-    Row {
+    Counted {
         code: 0x0001_0307,
         name: b"MultiHarpT3",
         words: &HYDRA_T3,
         lines: T3_LINES,
     },
-    Row {
+    Counted {
         code: 0x0101_0204,
         name: b"HydraHarp2T2",
         words: &[0x8000_0007, 0xA000_0000],
         lines: b"records 2\nphotons 1\nmarkers 0\nwraps 0\nreserved 1\n",
     },
-    Row {
+    Counted {
         code: 0x0001_0303,
         name: b"PicoHarpT3",
         words: &[0x5000_0000, 0x0000_0000],
         lines: b"records 2\nphotons 1\nmarkers 0\nwraps 0\nreserved 1\n",
     },
-    Row {
+    Counted {
         code: 0x0101_0304,
         name: b"HydraHarp2T3",
         words: &[],
@@ -134,7 +134,7 @@ const ROWS: [Row; 15] = [
 ];
 
 /// The seven lines of a row.
-fn lines_of(alloc: Global, row: &Row) -> Result<Vec<u8>, AllocError> {
+fn lines_of(alloc: Global, row: &Counted) -> Result<Vec<u8>, AllocError> {
     let mut lines = b"type ".as_slice().to_vec(alloc)?;
     lines.extend_from_slice(row.name)?;
     lines.extend_from_slice(b"\nannounced -\n")?;
@@ -145,7 +145,7 @@ fn lines_of(alloc: Global, row: &Row) -> Result<Vec<u8>, AllocError> {
 #[test]
 fn records_of_each_type(rt: HostRuntime) -> Result<(), Wrong> {
     let alloc = rt.alloc();
-    for row in &ROWS {
+    for row in &TYPES {
         let file = short(alloc, row.code, row.words)?;
         let lines = lines_of(alloc, row)?;
         leaves(alloc, "count", file.as_slice(), 0, lines.as_slice(), b"")?;
@@ -153,94 +153,122 @@ fn records_of_each_type(rt: HostRuntime) -> Result<(), Wrong> {
     Ok(())
 }
 
-#[test]
-fn the_bench_file(rt: HostRuntime) -> Result<(), Wrong> {
-    let file = bench(rt.alloc())?;
-    leaves(
-        rt.alloc(),
-        "count",
-        file.as_slice(),
-        0,
-        b"type HydraHarp2T3\nannounced 9\nrecords 9\nphotons 5\nmarkers 2\nwraps 2\nreserved 0\n",
-        b"",
-    )
-}
+const WHOLE: [Row; 2] = [
+    Row {
+        file: File::Bench,
+        status: 0,
+        out: b"type HydraHarp2T3\nannounced 9\nrecords 9\nphotons 5\nmarkers 2\nwraps 2\nreserved 0\n",
+        err: b"",
+    },
+    Row {
+        file: File::BehindGreatWraps(&[u32::MAX]),
+        status: 0,
+        out: b"type HydraHarp2T2\nannounced -\nrecords 4097\nphotons 0\nmarkers 0\nwraps 4097\nreserved 0\n",
+        err: b"",
+    },
+];
 
 #[test]
-fn many_great_wraps(rt: HostRuntime) -> Result<(), Wrong> {
-    let alloc = rt.alloc();
-    let file = behind_great_wraps(alloc, &[u32::MAX])?;
-    Run::new(&["count", "f"], b"", file.as_slice()).leaves(
-        alloc,
-        0,
-        b"type HydraHarp2T2\nannounced -\nrecords 4097\nphotons 0\nmarkers 0\nwraps 4097\nreserved 0\n",
-        b"",
-    )
+fn the_bench_file_and_many_great_wraps(rt: HostRuntime) -> Result<(), Wrong> {
+    leave_each(rt.alloc(), "count", &WHOLE)
 }
 
-/// The file is refused so, with nothing on standard output.
-fn is_refused(alloc: Global, file: &[u8], status: u8, line: &[u8]) -> Result<(), Wrong> {
-    leaves(alloc, "count", file, status, b"", line)
-}
+const REFUSED: [Row; 10] = [
+    // Fronts that are no header.
+    Row {
+        file: File::Bytes(b""),
+        status: 11,
+        out: b"",
+        err: b"ptu: header cut after 0 bytes\n",
+    },
+    Row {
+        file: File::Bytes(b"PQ"),
+        status: 11,
+        out: b"",
+        err: b"ptu: header cut after 2 bytes\n",
+    },
+    Row {
+        file: File::Bytes(b"PQTTTS"),
+        status: 10,
+        out: b"",
+        err: b"ptu: not a PTU file\n",
+    },
+    Row {
+        file: File::Front,
+        status: 11,
+        out: b"",
+        err: b"ptu: header cut after 100 bytes\n",
+    },
+    Row {
+        file: File::Item {
+            ident: b"A",
+            code: 0x3000_0008,
+            value: 0,
+            body: b"",
+        },
+        status: 12,
+        out: b"",
+        err: b"ptu: tag 1 has type 30000008\n",
+    },
+    Row {
+        file: File::Item {
+            ident: b"A",
+            code: ANSI_STRING,
+            value: u64::MAX,
+            body: b"",
+        },
+        status: 13,
+        out: b"",
+        err: b"ptu: tag 1 has length -1\n",
+    },
+    // Headers without a record type.
+    Row {
+        file: File::Item {
+            ident: b"Header_End",
+            code: EMPTY8,
+            value: 0,
+            body: b"",
+        },
+        status: 14,
+        out: b"",
+        err: b"ptu: no record type\n",
+    },
+    Row {
+        file: File::Ended {
+            ident: b"TTResultFormat_TTTRRecType",
+            code: BOOL8,
+            value: 0x0101_0304,
+        },
+        status: 14,
+        out: b"",
+        err: b"ptu: no record type\n",
+    },
+    Row {
+        file: File::Short {
+            code: 0x0001_0308,
+            words: &[],
+            rest: b"",
+        },
+        status: 15,
+        out: b"",
+        err: b"ptu: record type 0000000000010308\n",
+    },
+    // Bytes left over.
+    Row {
+        file: File::Short {
+            code: 0x0101_0304,
+            words: &[1],
+            rest: &[5, 6],
+        },
+        status: 17,
+        out: b"",
+        err: b"ptu: 2 bytes of a record at the end\n",
+    },
+];
 
 #[test]
-fn fronts_that_are_no_header(rt: HostRuntime) -> Result<(), Wrong> {
-    let alloc = rt.alloc();
-    is_refused(alloc, b"", 11, b"ptu: header cut after 0 bytes\n")?;
-    is_refused(alloc, b"PQ", 11, b"ptu: header cut after 2 bytes\n")?;
-    is_refused(alloc, b"PQTTTS", 10, b"ptu: not a PTU file\n")?;
-    let mut front = short(alloc, 0x0101_0304, &[])?;
-    front.truncate(100);
-    is_refused(
-        alloc,
-        front.as_slice(),
-        11,
-        b"ptu: header cut after 100 bytes\n",
-    )?;
-    let unknown = with_item(alloc, b"A", 0x3000_0008, 0)?;
-    is_refused(
-        alloc,
-        unknown.as_slice(),
-        12,
-        b"ptu: tag 1 has type 30000008\n",
-    )?;
-    let negative = with_item(alloc, b"A", ANSI_STRING, u64::MAX)?;
-    is_refused(
-        alloc,
-        negative.as_slice(),
-        13,
-        b"ptu: tag 1 has length -1\n",
-    )
-}
-
-#[test]
-fn headers_without_a_record_type(rt: HostRuntime) -> Result<(), Wrong> {
-    let alloc = rt.alloc();
-    let untyped = with_item(alloc, b"Header_End", EMPTY8, 0)?;
-    is_refused(alloc, untyped.as_slice(), 14, b"ptu: no record type\n")?;
-    let mut other = with_item(alloc, b"TTResultFormat_TTTRRecType", BOOL8, 0x0101_0304)?;
-    put_end(&mut other)?;
-    is_refused(alloc, other.as_slice(), 14, b"ptu: no record type\n")?;
-    let strange = short(alloc, 0x0001_0308, &[])?;
-    is_refused(
-        alloc,
-        strange.as_slice(),
-        15,
-        b"ptu: record type 0000000000010308\n",
-    )
-}
-
-#[test]
-fn bytes_left_over(rt: HostRuntime) -> Result<(), Wrong> {
-    let alloc = rt.alloc();
-    let mut cut = short(alloc, 0x0101_0304, &[1])?;
-    cut.extend_from_slice(&[5, 6])?;
-    is_refused(
-        alloc,
-        cut.as_slice(),
-        17,
-        b"ptu: 2 bytes of a record at the end\n",
-    )
+fn files_that_are_not_counted(rt: HostRuntime) -> Result<(), Wrong> {
+    leave_each(rt.alloc(), "count", &REFUSED)
 }
 
 #[test]

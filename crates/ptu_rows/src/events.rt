@@ -1,13 +1,12 @@
 // What `events` prints.
+use crate::rows::{File, Row, leave_each};
 use std::alloc::Global;
 use whole_runs::bench::BENCH_EVENTS;
-use whole_runs::files::{
-    ANSI_STRING, BOOL8, EMPTY8, behind_great_wraps, bench, put_end, short, with_item,
-};
+use whole_runs::files::{ANSI_STRING, BOOL8, EMPTY8, bench, short};
 use whole_runs::run::{Run, Wrong, leaves};
 
 /// A record type, words of a file, and the lines of its events.
-struct Row {
+struct Listed {
     code: u64,
     words: &'static [u32],
     text: &'static [u8],
@@ -23,129 +22,129 @@ const T2_TEXT: &[u8] = b"2 photon 2 67108867 0\n";
 
 const T3_TEXT: &[u8] = b"2 photon 1 2051 5\n";
 
-const TYPES: [Row; 12] = [
-    Row {
+const TYPES: [Listed; 12] = [
+    Listed {
         code: 0x0001_0203,
         words: &[0xF000_0000, 0x4000_0003, 0x5000_0000, 0xF000_0001],
         text: b"2 photon 4 210698243 0\n4 marker 1 210698241\n",
     },
-    Row {
+    Listed {
         code: 0x0001_0303,
         words: &[0xF010_0000, 0x4FFF_FFFF, 0xE000_0000, 0xF012_FFFF],
         text: b"2 photon 4 131071 4095\n4 marker 2 131071\n",
     },
-    Row {
+    Listed {
         code: 0x0001_0204,
         words: &T2_WORDS,
         text: b"2 photon 2 33552003 0\n",
     },
-    Row {
+    Listed {
         code: 0x0101_0204,
         words: &T2_WORDS,
         text: T2_TEXT,
     },
-    Row {
+    Listed {
         code: 0x0001_0205,
         words: &T2_WORDS,
         text: T2_TEXT,
     },
-    Row {
+    Listed {
         code: 0x0001_0206,
         words: &T2_WORDS,
         text: T2_TEXT,
     },
-    Row {
+    Listed {
         code: 0x0001_0207,
         words: &T2_WORDS,
         text: T2_TEXT,
     },
-    Row {
+    Listed {
         code: 0x0001_0304,
         words: &T3_WORDS,
         text: b"2 photon 1 1027 5\n",
     },
-    Row {
+    Listed {
         code: 0x0101_0304,
         words: &T3_WORDS,
         text: T3_TEXT,
     },
-    Row {
+    Listed {
         code: 0x0001_0305,
         words: &T3_WORDS,
         text: T3_TEXT,
     },
-    Row {
+    Listed {
         code: 0x0001_0306,
         words: &T3_WORDS,
         text: T3_TEXT,
     },
-    Row {
+    Listed {
         code: 0x0001_0307,
         words: &T3_WORDS,
         text: T3_TEXT,
     },
 ];
 
-const ROWS: [Row; 13] = [
-    Row {
+const ROWS: [Listed; 13] = [
+    Listed {
         code: 0x0101_0304,
         words: &[],
         text: b"",
     },
     // A wrap of field 0 counts once.
-    Row {
+    Listed {
         code: 0x0101_0304,
         words: &[0xFE00_0000, 0xFE00_0003, 0x0000_0005],
         text: b"3 photon 0 4101 0\n",
     },
     // An old wrap goes by no field.
-    Row {
+    Listed {
         code: 0x0001_0204,
         words: &[0xFE00_0005, 0x0000_0000],
         text: b"2 photon 1 33552000 0\n",
     },
     // Four bits alone tell a wrap.
-    Row {
+    Listed {
         code: 0x0001_0303,
         words: &[0xF010_0000, 0x1007_0003],
         text: b"2 photon 1 65539 7\n",
     },
     // A marker in T2 makes no photon late.
-    Row {
+    Listed {
         code: 0x0001_0203,
         words: &[0xF000_100F, 0x1000_1002],
         text: b"1 marker 15 4111\n2 photon 1 4098 0\n",
     },
-    Row {
+    Listed {
         code: 0x0101_0204,
         words: &[0x8000_0007, 0xA000_0000],
         text: b"1 photon 0 7 0\n",
     },
-    Row {
+    Listed {
         code: 0x0101_0304,
         words: &[0x8000_0007, 0xA000_0000, 0xFC00_0001, 0x0000_0001],
         text: b"4 photon 0 1 0\n",
     },
     // Times that go back.
-    Row {
+    Listed {
         code: 0x0101_0304,
         words: &[0x0000_0005, 0x0000_0009, 0x0000_0007, 0x0000_0009],
         text: b"1 photon 0 5 0\n2 photon 0 9 0\n3 photon 0 7 0 late\n4 photon 0 9 0\n",
     },
     // A late event moves nothing.
-    Row {
+    Listed {
         code: 0x0101_0304,
         words: &[0x0000_0009, 0x0000_0007, 0x0000_0008],
         text: b"1 photon 0 9 0\n2 photon 0 7 0 late\n3 photon 0 8 0 late\n",
     },
     // In T3 a marker can be late, and makes others late.
-    Row {
+    Listed {
         code: 0x0101_0304,
         words: &[0x0000_0009, 0x8200_0007, 0x9E00_000B, 0x0000_000A],
         text: b"1 photon 0 9 0\n2 marker 1 7 late\n3 marker 15 11\n4 photon 0 10 0 late\n",
     },
     // In T2 it does neither.
-    Row {
+    Listed {
         code: 0x0101_0204,
         words: &[
             0x0000_0009,
@@ -157,12 +156,12 @@ const ROWS: [Row; 13] = [
         text: b"1 photon 1 9 0\n2 marker 1 7\n3 marker 15 11\n4 photon 1 10 0\n5 photon 0 8 0 late\n",
     },
     // All bits of a photon.
-    Row {
+    Listed {
         code: 0x0001_0307,
         words: &[0x7FFF_FFFF],
         text: b"1 photon 63 1023 32767\n",
     },
-    Row {
+    Listed {
         code: 0x0001_0207,
         words: &[0x7FFF_FFFF],
         text: b"1 photon 64 33554431 0\n",
@@ -170,7 +169,7 @@ const ROWS: [Row; 13] = [
 ];
 
 /// `events` lists this of the short file of each row.
-fn list_each(alloc: Global, rows: &[Row]) -> Result<(), Wrong> {
+fn list_each(alloc: Global, rows: &[Listed]) -> Result<(), Wrong> {
     for row in rows {
         let file = short(alloc, row.code, row.words)?;
         leaves(alloc, "events", file.as_slice(), 0, row.text, b"")?;
@@ -188,161 +187,173 @@ fn times_and_late_events(rt: HostRuntime) -> Result<(), Wrong> {
     list_each(rt.alloc(), &ROWS)
 }
 
-#[test]
-fn events_of_the_bench_file(rt: HostRuntime) -> Result<(), Wrong> {
-    let alloc = rt.alloc();
-    let file = bench(alloc)?;
-    leaves(alloc, "events", file.as_slice(), 0, BENCH_EVENTS, b"")
-}
-
 const CUT_EVENTS: &[u8] = b"1 photon 0 5 0\n2 photon 0 9 0\n3 photon 0 7 0 late\n";
 
+/// The bench file, and a record that is cut.
+const WHOLE_AND_CUT: [Row; 3] = [
+    Row {
+        file: File::Bench,
+        status: 0,
+        out: BENCH_EVENTS,
+        err: b"",
+    },
+    Row {
+        file: File::Short {
+            code: 0x0101_0304,
+            words: &[5, 9, 7],
+            rest: &[1],
+        },
+        status: 17,
+        out: CUT_EVENTS,
+        err: b"ptu: 1 bytes of a record at the end\n",
+    },
+    Row {
+        file: File::Short {
+            code: 0x0101_0304,
+            words: &[5, 9, 7],
+            rest: &[1, 0],
+        },
+        status: 17,
+        out: CUT_EVENTS,
+        err: b"ptu: 2 bytes of a record at the end\n",
+    },
+];
+
 #[test]
-fn a_record_that_is_cut(rt: HostRuntime) -> Result<(), Wrong> {
-    let alloc = rt.alloc();
-    let mut file = short(alloc, 0x0101_0304, &[5, 9, 7])?;
-    file.extend_from_slice(&[1])?;
-    leaves(
-        alloc,
-        "events",
-        file.as_slice(),
-        17,
-        CUT_EVENTS,
-        b"ptu: 1 bytes of a record at the end\n",
-    )?;
-    file.extend_from_slice(&[0])?;
-    leaves(
-        alloc,
-        "events",
-        file.as_slice(),
-        17,
-        CUT_EVENTS,
-        b"ptu: 2 bytes of a record at the end\n",
-    )
+fn events_of_the_bench_file_and_a_cut_record(rt: HostRuntime) -> Result<(), Wrong> {
+    leave_each(rt.alloc(), "events", &WHOLE_AND_CUT)
 }
+
+const GREATEST_TIME: [Row; 2] = [
+    Row {
+        file: File::BehindGreatWraps(&[]),
+        status: 0,
+        out: b"",
+        err: b"",
+    },
+    Row {
+        file: File::BehindGreatWraps(&[0xFE00_1000, 0x01FF_FFFF]),
+        status: 0,
+        out: b"4098 photon 1 4611686018460942335 0\n",
+        err: b"",
+    },
+];
 
 #[test]
 fn up_to_the_greatest_time(rt: HostRuntime) -> Result<(), Wrong> {
-    let alloc = rt.alloc();
-    let empty = behind_great_wraps(alloc, &[])?;
-    leaves(alloc, "events", empty.as_slice(), 0, b"", b"")?;
-    let full = behind_great_wraps(alloc, &[0xFE00_1000, 0x01FF_FFFF])?;
-    leaves(
-        alloc,
-        "events",
-        full.as_slice(),
-        0,
-        b"4098 photon 1 4611686018460942335 0\n",
-        b"",
-    )
+    leave_each(rt.alloc(), "events", &GREATEST_TIME)
 }
+
+const TOO_GREAT: [Row; 4] = [
+    Row {
+        file: File::BehindGreatWraps(&[u32::MAX]),
+        status: 21,
+        out: b"",
+        err: b"ptu: record 4097 passes the greatest time\n",
+    },
+    Row {
+        file: File::BehindGreatWraps(&[u32::MAX, 0]),
+        status: 21,
+        out: b"",
+        err: b"ptu: record 4097 passes the greatest time\n",
+    },
+    Row {
+        file: File::BehindGreatWraps(&[0xFE00_1001, 0]),
+        status: 21,
+        out: b"",
+        err: b"ptu: record 4097 passes the greatest time\n",
+    },
+    Row {
+        file: File::BehindGreatWraps(&[0xFE00_1000, 0, 0xFE00_0000, 0]),
+        status: 21,
+        out: b"4098 photon 1 4611686018427387904 0\n",
+        err: b"ptu: record 4099 passes the greatest time\n",
+    },
+];
 
 #[test]
 fn past_the_greatest_time(rt: HostRuntime) -> Result<(), Wrong> {
-    let alloc = rt.alloc();
-    let words: [&[u32]; 3] = [&[u32::MAX], &[u32::MAX, 0], &[0xFE00_1001, 0]];
-    for last in words {
-        let file = behind_great_wraps(alloc, last)?;
-        leaves(
-            alloc,
-            "events",
-            file.as_slice(),
-            21,
-            b"",
-            b"ptu: record 4097 passes the greatest time\n",
-        )?;
-    }
-    let full = behind_great_wraps(alloc, &[0xFE00_1000, 0, 0xFE00_0000, 0])?;
-    leaves(
-        alloc,
-        "events",
-        full.as_slice(),
-        21,
-        b"4098 photon 1 4611686018427387904 0\n",
-        b"ptu: record 4099 passes the greatest time\n",
-    )
+    leave_each(rt.alloc(), "events", &TOO_GREAT)
 }
 
-#[test]
-fn fronts_that_list_nothing(rt: HostRuntime) -> Result<(), Wrong> {
-    let alloc = rt.alloc();
-    leaves(
-        alloc,
-        "events",
-        b"",
-        11,
-        b"",
-        b"ptu: header cut after 0 bytes\n",
-    )?;
-    leaves(
-        alloc,
-        "events",
-        b"PQTTTS",
-        10,
-        b"",
-        b"ptu: not a PTU file\n",
-    )?;
-    let mut front = short(alloc, 0x0101_0304, &[])?;
-    front.truncate(100);
-    leaves(
-        alloc,
-        "events",
-        front.as_slice(),
-        11,
-        b"",
-        b"ptu: header cut after 100 bytes\n",
-    )?;
-    let unknown = with_item(alloc, b"A", 0x3000_0008, 0)?;
-    leaves(
-        alloc,
-        "events",
-        unknown.as_slice(),
-        12,
-        b"",
-        b"ptu: tag 1 has type 30000008\n",
-    )?;
-    let negative = with_item(alloc, b"A", ANSI_STRING, u64::MAX)?;
-    leaves(
-        alloc,
-        "events",
-        negative.as_slice(),
-        13,
-        b"",
-        b"ptu: tag 1 has length -1\n",
-    )
-}
+/// Fronts and record types that list nothing.
+const NOTHING: [Row; 8] = [
+    Row {
+        file: File::Bytes(b""),
+        status: 11,
+        out: b"",
+        err: b"ptu: header cut after 0 bytes\n",
+    },
+    Row {
+        file: File::Bytes(b"PQTTTS"),
+        status: 10,
+        out: b"",
+        err: b"ptu: not a PTU file\n",
+    },
+    Row {
+        file: File::Front,
+        status: 11,
+        out: b"",
+        err: b"ptu: header cut after 100 bytes\n",
+    },
+    Row {
+        file: File::Item {
+            ident: b"A",
+            code: 0x3000_0008,
+            value: 0,
+            body: b"",
+        },
+        status: 12,
+        out: b"",
+        err: b"ptu: tag 1 has type 30000008\n",
+    },
+    Row {
+        file: File::Item {
+            ident: b"A",
+            code: ANSI_STRING,
+            value: u64::MAX,
+            body: b"",
+        },
+        status: 13,
+        out: b"",
+        err: b"ptu: tag 1 has length -1\n",
+    },
+    Row {
+        file: File::Item {
+            ident: b"Header_End",
+            code: EMPTY8,
+            value: 0,
+            body: b"",
+        },
+        status: 14,
+        out: b"",
+        err: b"ptu: no record type\n",
+    },
+    Row {
+        file: File::Ended {
+            ident: b"TTResultFormat_TTTRRecType",
+            code: BOOL8,
+            value: 0x0101_0304,
+        },
+        status: 14,
+        out: b"",
+        err: b"ptu: no record type\n",
+    },
+    Row {
+        file: File::Short {
+            code: 0x0001_0308,
+            words: &[5],
+            rest: b"",
+        },
+        status: 15,
+        out: b"",
+        err: b"ptu: record type 0000000000010308\n",
+    },
+];
 
 #[test]
-fn types_that_list_nothing(rt: HostRuntime) -> Result<(), Wrong> {
-    let alloc = rt.alloc();
-    let untyped = with_item(alloc, b"Header_End", EMPTY8, 0)?;
-    leaves(
-        alloc,
-        "events",
-        untyped.as_slice(),
-        14,
-        b"",
-        b"ptu: no record type\n",
-    )?;
-    let mut other = with_item(alloc, b"TTResultFormat_TTTRRecType", BOOL8, 0x0101_0304)?;
-    put_end(&mut other)?;
-    leaves(
-        alloc,
-        "events",
-        other.as_slice(),
-        14,
-        b"",
-        b"ptu: no record type\n",
-    )?;
-    let strange = short(alloc, 0x0001_0308, &[5])?;
-    leaves(
-        alloc,
-        "events",
-        strange.as_slice(),
-        15,
-        b"",
-        b"ptu: record type 0000000000010308\n",
-    )
+fn headers_that_list_nothing(rt: HostRuntime) -> Result<(), Wrong> {
+    leave_each(rt.alloc(), "events", &NOTHING)
 }
 
 /// Sizes of pieces, the call of the inputs that fails, and what was printed before.
@@ -453,19 +464,29 @@ fn events_before_a_failed_write(rt: HostRuntime) -> Result<(), Wrong> {
     Ok(())
 }
 
+/// A record type and the words of a file, of which nothing is listed, and what is left.
+const UNLISTED: [(u64, &[u32], u8, &[u8]); 2] = [
+    (0x0101_0304, &[0xFE00_0000], 0, b""),
+    (1, &[], 15, b"ptu: record type 0000000000000001\n"),
+];
+
+#[test]
+fn nothing_in_no_room(rt: HostRuntime) -> Result<(), Wrong> {
+    let alloc = rt.alloc();
+    for (code, words, status, line) in UNLISTED {
+        let file = short(alloc, code, words)?;
+        Run::new(&["events", "f"], b"", file.as_slice())
+            .in_room(0)
+            .leaves(alloc, status, b"", line)?;
+    }
+    Ok(())
+}
+
 #[test]
 fn a_room_that_just_fits(rt: HostRuntime) -> Result<(), Wrong> {
     let alloc = rt.alloc();
     let file = bench(alloc)?;
     Run::new(&["events", "f"], b"", file.as_slice())
         .in_room(134)
-        .leaves(alloc, 0, BENCH_EVENTS, b"")?;
-    let wraps = short(alloc, 0x0101_0304, &[0xFE00_0000])?;
-    Run::new(&["events", "f"], b"", wraps.as_slice())
-        .in_room(0)
-        .leaves(alloc, 0, b"", b"")?;
-    let strange = short(alloc, 1, &[])?;
-    Run::new(&["events", "f"], b"", strange.as_slice())
-        .in_room(0)
-        .leaves(alloc, 15, b"", b"ptu: record type 0000000000000001\n")
+        .leaves(alloc, 0, BENCH_EVENTS, b"")
 }

@@ -45,16 +45,26 @@ fn words_that_are_no_command(rt: HostRuntime) -> Result<(), Wrong> {
     Ok(())
 }
 
+const NO_DATA: &[u8] = b"ptu: cannot open the data\n";
+
+/// Words whose file is not there, and words and the call that fails.
+const NO_FILE: [(&[&str], &[u64]); 6] = [
+    (&["count", "g"], &[]),
+    (&["count", "f"], &[1]),
+    (&["header", "g"], &[]),
+    (&["header", "f"], &[1]),
+    (&["events", "g"], &[]),
+    (&["events", "f"], &[1]),
+];
+
 #[test]
 fn a_file_that_cannot_be_opened(rt: HostRuntime) -> Result<(), Wrong> {
     let alloc = rt.alloc();
     let file = bench(alloc)?;
-    for command in ["count", "header", "events"] {
-        let line = b"ptu: cannot open the data\n";
-        Run::new(&[command, "g"], b"", file.as_slice()).leaves(alloc, 2, b"", line)?;
-        Run::new(&[command, "f"], b"", file.as_slice())
-            .failing(&[1])
-            .leaves(alloc, 2, b"", line)?;
+    for (words, failing) in NO_FILE {
+        Run::new(words, b"", file.as_slice())
+            .failing(failing)
+            .leaves(alloc, 2, b"", NO_DATA)?;
     }
     Ok(())
 }
@@ -100,86 +110,132 @@ const FAILING: [Failing; 8] = [
     },
 ];
 
+const NO_READ: &[u8] = b"ptu: cannot read the data\n";
+
+/// A command on the bench file, whose call of this number fails, leaves this and cannot read the data.
+fn fails_to_read(
+    alloc: Global,
+    command: &str,
+    file: &[u8],
+    call: u64,
+    printed: &[u8],
+) -> Result<(), Wrong> {
+    Run::new(&[command, "f"], b"", file)
+        .in_pieces(&[100])
+        .failing(&[call])
+        .leaves(alloc, 3, printed, NO_READ)
+}
+
 /// The 747 bytes of the header and the records behind it take eight reads, and the end of the file one more.
 #[test]
 fn a_read_that_fails(rt: HostRuntime) -> Result<(), Wrong> {
     let alloc = rt.alloc();
     let file = bench(alloc)?;
-    let line = b"ptu: cannot read the data\n";
-    let count = Run::new(&["count", "f"], b"", file.as_slice()).in_pieces(&[100]);
-    let header = Run::new(&["header", "f"], b"", file.as_slice()).in_pieces(&[100]);
-    let events = Run::new(&["events", "f"], b"", file.as_slice()).in_pieces(&[100]);
     for row in &FAILING {
         let printed = BENCH_TEXT.get(..row.printed).unwrap_or(b"");
-        count.failing(&[row.call]).leaves(alloc, 3, b"", line)?;
-        header.failing(&[row.call]).leaves(alloc, 3, printed, line)?;
-        events.failing(&[row.call]).leaves(alloc, 3, b"", line)?;
+        fails_to_read(alloc, "count", file.as_slice(), row.call, b"")?;
+        fails_to_read(alloc, "header", file.as_slice(), row.call, printed)?;
+        fails_to_read(alloc, "events", file.as_slice(), row.call, b"")?;
     }
-    count.failing(&[10]).leaves(alloc, 3, b"", line)?;
-    header.failing(&[10]).leaves(alloc, 0, BENCH_TEXT, b"")?;
-    events.failing(&[10]).leaves(alloc, 3, BENCH_EVENTS, line)?;
-    events.failing(&[11]).leaves(alloc, 0, BENCH_EVENTS, b"")
+    Ok(())
 }
+
+/// A command and the call that fails at the end of the file or behind it, and what is left.
+const AT_THE_END: [(&str, u64, u8, &[u8], &[u8]); 4] = [
+    ("count", 10, 3, b"", NO_READ),
+    ("header", 10, 0, BENCH_TEXT, b""),
+    ("events", 10, 3, BENCH_EVENTS, NO_READ),
+    ("events", 11, 0, BENCH_EVENTS, b""),
+];
+
+#[test]
+fn a_read_of_the_end_that_fails(rt: HostRuntime) -> Result<(), Wrong> {
+    let alloc = rt.alloc();
+    let file = bench(alloc)?;
+    for (command, call, status, out, err) in AT_THE_END {
+        Run::new(&[command, "f"], b"", file.as_slice())
+            .in_pieces(&[100])
+            .failing(&[call])
+            .leaves(alloc, status, out, err)?;
+    }
+    Ok(())
+}
+
+const NO_WRITE: &[u8] = b"ptu: cannot write\n";
+
+/// A command and a room of standard output that is too small, and what is left.
+const NO_ROOM: [(&str, usize, &[u8]); 2] = [
+    ("count", 10, b"type Hydra"),
+    ("header", 30, b"magic 5051545454520000\nversion"),
+];
 
 #[test]
 fn a_write_that_fails(rt: HostRuntime) -> Result<(), Wrong> {
     let alloc = rt.alloc();
     let file = bench(alloc)?;
-    let line = b"ptu: cannot write\n";
-    Run::new(&["count", "f"], b"", file.as_slice())
-        .in_room(10)
-        .leaves(alloc, 4, b"type Hydra", line)?;
-    Run::new(&["header", "f"], b"", file.as_slice())
-        .in_room(30)
-        .leaves(alloc, 4, b"magic 5051545454520000\nversion", line)?;
-    let strange = short(alloc, 1, &[])?;
-    Run::new(&["count", "f"], b"", strange.as_slice())
-        .in_room(0)
-        .leaves(alloc, 15, b"", b"ptu: record type 0000000000000001\n")
+    for (command, room, out) in NO_ROOM {
+        Run::new(&[command, "f"], b"", file.as_slice())
+            .in_room(room)
+            .leaves(alloc, 4, out, NO_WRITE)?;
+    }
+    Ok(())
 }
 
+/// Words and the rooms of both outputs, on a file of the record type 1, and what is told.
+const TOLD: [(&[&str], usize, usize, u8, &[u8]); 3] = [
+    (
+        &["count", "f"],
+        0,
+        96,
+        15,
+        b"ptu: record type 0000000000000001\n",
+    ),
+    // The line can't be told whole.
+    (&["count", "g"], 4096, 10, 2, b"ptu: canno"),
+    (&["count"], 4096, 5, 1, b"ptu: "),
+];
+
 #[test]
-fn a_line_that_cannot_be_told(rt: HostRuntime) -> Result<(), Wrong> {
+fn lines_told_with_little_room(rt: HostRuntime) -> Result<(), Wrong> {
     let alloc = rt.alloc();
-    Run::new(&["count", "g"], b"", b"")
-        .told_in_room(10)
-        .leaves(alloc, 2, b"", b"ptu: canno")?;
-    Run::new(&["count"], b"", b"")
-        .told_in_room(5)
-        .leaves(alloc, 1, b"", b"ptu: ")
+    let file = short(alloc, 1, &[])?;
+    for (words, room, told, status, line) in TOLD {
+        Run::new(words, b"", file.as_slice())
+            .in_room(room)
+            .told_in_room(told)
+            .leaves(alloc, status, b"", line)?;
+    }
+    Ok(())
 }
+
+/// Words and a plan, and what is told.
+const NOT_THERE: [(&[&str], &[u8], u8, &[u8]); 3] = [
+    (&["run", "q", "f"], BENCH_PLAN, 2, NO_PLAN),
+    (&["run", "p", "g"], BENCH_PLAN, 2, NO_DATA),
+    (&["run", "p", "g"], b"\xFF", 7, b"ptu: plan is not TOML\n"),
+];
 
 #[test]
 fn a_plan_or_data_that_are_not_there(rt: HostRuntime) -> Result<(), Wrong> {
     let alloc = rt.alloc();
     let file = bench(alloc)?;
-    Run::new(&["run", "q", "f"], BENCH_PLAN, file.as_slice()).leaves(
-        alloc,
-        2,
-        b"",
-        b"ptu: cannot open the plan\n",
-    )?;
-    Run::new(&["run", "p", "g"], BENCH_PLAN, file.as_slice()).leaves(
-        alloc,
-        2,
-        b"",
-        b"ptu: cannot open the data\n",
-    )?;
-    Run::new(&["run", "p", "g"], b"\xFF", file.as_slice()).leaves(
-        alloc,
-        7,
-        b"",
-        b"ptu: plan is not TOML\n",
-    )
+    for (words, plan, status, line) in NOT_THERE {
+        Run::new(words, plan, file.as_slice()).leaves(alloc, status, b"", line)?;
+    }
+    Ok(())
 }
+
+const NO_PLAN: &[u8] = b"ptu: cannot open the plan\n";
+
+const NO_PLAN_READ: &[u8] = b"ptu: cannot read the plan\n";
 
 /// What a run of the bench plan leaves whose call of this number fails.
 fn fault_of(call: u64) -> (u8, &'static [u8]) {
     match call {
-        1 => (2, b"ptu: cannot open the plan\n"),
-        2..=5 => (3, b"ptu: cannot read the plan\n"),
-        6 => (2, b"ptu: cannot open the data\n"),
-        _ => (3, b"ptu: cannot read the data\n"),
+        1 => (2, NO_PLAN),
+        2..=5 => (3, NO_PLAN_READ),
+        6 => (2, NO_DATA),
+        _ => (3, NO_READ),
     }
 }
 
@@ -202,10 +258,9 @@ fn a_report_that_cannot_be_written(rt: HostRuntime) -> Result<(), Wrong> {
     let alloc = rt.alloc();
     let file = bench(alloc)?;
     let run = Run::new(&["run", "p", "f"], BENCH_PLAN, file.as_slice());
-    let line = b"ptu: cannot write\n";
     for room in 0..BENCH_REPORT.len() {
         run.in_room(room)
-            .leaves(alloc, 4, BENCH_REPORT.split_at(room).0, line)?;
+            .leaves(alloc, 4, BENCH_REPORT.split_at(room).0, NO_WRITE)?;
     }
     run.in_room(BENCH_REPORT.len())
         .leaves(alloc, 0, BENCH_REPORT, b"")
@@ -228,24 +283,29 @@ fn a_failed_write_is_not_tried_again(rt: HostRuntime) -> Result<(), Wrong> {
     for words in commands {
         Run::new(words, BENCH_PLAN, file.as_slice())
             .failing_writes(&[1])
-            .leaves(alloc, 4, b"", b"ptu: cannot write\n")?;
+            .leaves(alloc, 4, b"", NO_WRITE)?;
     }
     Ok(())
 }
+
+/// Plans of so many bytes of a comment, and what is left where the third call fails.
+const LONG_PLANS: [(usize, u8, &[u8]); 2] = [
+    (65_536, 3, NO_PLAN_READ),
+    (65_538, 6, b"ptu: plan longer than 65536 bytes\n"),
+];
 
 /// Reading ends with the plan, or with one byte more than a plan may have.
 #[test]
 fn a_long_plan_and_a_failing_read(rt: HostRuntime) -> Result<(), Wrong> {
     let alloc = rt.alloc();
     let file = bench(alloc)?;
-    let longest = vec![in alloc; b'#'; 65_536]?;
-    Run::new(&["run", "p", "f"], longest.as_slice(), file.as_slice())
-        .failing(&[3])
-        .leaves(alloc, 3, b"", b"ptu: cannot read the plan\n")?;
-    let longer = vec![in alloc; b'#'; 65_538]?;
-    Run::new(&["run", "p", "f"], longer.as_slice(), file.as_slice())
-        .failing(&[3])
-        .leaves(alloc, 6, b"", b"ptu: plan longer than 65536 bytes\n")
+    for (length, status, err) in LONG_PLANS {
+        let plan = vec![in alloc; b'#'; length]?;
+        Run::new(&["run", "p", "f"], plan.as_slice(), file.as_slice())
+            .failing(&[3])
+            .leaves(alloc, status, b"", err)?;
+    }
+    Ok(())
 }
 
 /// Inputs that count their reads.
@@ -272,11 +332,17 @@ impl Inputs for Counted {
     }
 }
 
-/// How often a command reads the bench plan `p` and the file `f` in such pieces, where its first write fails.
-fn reads_of(alloc: Global, words: &[&str], file: &[u8], size: usize) -> Result<u64, AllocError> {
+/// The bench plan `p` and the file `f`.
+fn plan_and_file(alloc: Global, file: &[u8]) -> Result<Vec<MemoryFile>, AllocError> {
     let mut files = Vec::new(alloc);
     files.push(MemoryFile::new(String::from_str(alloc, "p")?, BENCH_PLAN.to_vec(alloc)?))?;
     files.push(MemoryFile::new(String::from_str(alloc, "f")?, file.to_vec(alloc)?))?;
+    Ok(files)
+}
+
+/// How often a command reads the bench plan `p` and the file `f` in such pieces, where its first write fails.
+fn reads_of(alloc: Global, words: &[&str], file: &[u8], size: usize) -> Result<u64, AllocError> {
+    let files = plan_and_file(alloc, file)?;
     let pieces = Vec::from_array(alloc, [size])?;
     let mut inputs = Counted {
         inputs: MemoryInputs::new(files, pieces, Vec::new(alloc)),

@@ -1,4 +1,5 @@
 // Headers at the limit of 2^24 bytes, and lengths and types that end a header early.
+use crate::rows::{File, Row, leave_each};
 use std::alloc::{AllocError, Global};
 use whole_runs::files::{BLOB, EMPTY8, INT8, PREAMBLE, put_end, put_item, with_item};
 use whole_runs::run::{Run, Wrong, leaves};
@@ -30,19 +31,21 @@ fn headers_of_the_most_bytes(rt: HostRuntime) -> Result<(), Wrong> {
 }
 
 /// A body of whatever length is passed over as far as the file goes.
+const GREATEST: [Row; 1] = [Row {
+    file: File::Item {
+        ident: b"A",
+        code: BLOB,
+        value: 0x7FFF_FFFF_FFFF_FFFF,
+        body: b"0123456789",
+    },
+    status: 11,
+    out: b"",
+    err: b"ptu: header cut after 74 bytes\n",
+}];
+
 #[test]
 fn a_body_of_the_greatest_length(rt: HostRuntime) -> Result<(), Wrong> {
-    let alloc = rt.alloc();
-    let mut file = with_item(alloc, b"A", BLOB, 0x7FFF_FFFF_FFFF_FFFF)?;
-    file.extend_from_slice(b"0123456789")?;
-    leaves(
-        alloc,
-        "count",
-        file.as_slice(),
-        11,
-        b"",
-        b"ptu: header cut after 74 bytes\n",
-    )
+    leave_each(rt.alloc(), "count", &GREATEST)
 }
 
 /// The tag of an unknown type is told by its number.

@@ -18,4 +18,6 @@ mod headers;
 #[cfg(test)]
 mod pieces;
 #[cfg(test)]
+mod rows;
+#[cfg(test)]
 mod written;
