@@ -351,7 +351,7 @@ fn a_plan_a_group_or_data_that_are_not_there(rt: HostRuntime) -> Result<(), Wron
 ///
 /// Only the times of PicoHarp files go further than a unit behind a wrap, and of these only PicoHarpT2 gets to 2^62
 /// within the limit of records, behind more than 2^34 wraps. So the status of a photon that is too late, 24, is shown of
-/// what writes the photons alone, in `record_write`.
+/// what writes the photons alone, in `file_rows`.
 #[test]
 fn the_last_photon_that_is_read(rt: HostRuntime) -> Result<(), Wrong> {
     let alloc = rt.alloc();

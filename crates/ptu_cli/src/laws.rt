@@ -42,9 +42,9 @@ pub fn picked_photons_are_listed()
         ≡ written (events_text (map (λ e. (e, false)) (picked_events mode photons))) }
 {}
 
-/// What `pick` writes of a file with a header, by a plan that has the group and suits the file, is a file of photons,
-/// however `pick` ends: `events` lists just those that were written, at their places in that file, and none of them as
-/// late, where its words are at most 2^40.
+/// What `pick` writes of a file with a header, by a plan that has the group and suits the file, and whatever its records
+/// call for, is a file of photons: `events` lists just those that were written, at their places in that file, and none of
+/// them as late, where its words are at most 2^40.
 pub fn what_is_picked_is_listed()
     ensures { (plan_name : List ℕ) (group : ℕ) (file name : List ℕ) (plan_file data_file : File)
         (view : PlanView) (header : Header) (behind : List ℕ)

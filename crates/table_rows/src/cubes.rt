@@ -1,4 +1,4 @@
-// Cubes of known events, where memory is had: a test of `flim_cube`.
+// Cubes of known events, where memory is had: tests of `flim_cube`.
 use crate::given::{Given, fill, marker, timed};
 use flim_cube::FlimCube;
 use std::alloc::{AllocError, Global};
@@ -68,6 +68,15 @@ fn each_photon_is_in_its_bin(rt: HostRuntime) -> Result<(), Fail> {
     Ok(())
 }
 
+/// One pixel of three bins: fewer cells than are kept together.
+fn narrow() -> CubeSet {
+    let mut set = small();
+    set.image.width = 1;
+    set.image.height = 1;
+    set.dbins = 3;
+    set
+}
+
 /// Puts so many events of one kind behind those that are there.
 fn repeat(events: &mut Vec<Given>, event: Given, times: u32) -> Result<(), AllocError> {
     for _ in 0..times {
@@ -89,6 +98,21 @@ fn counts_pass_one_byte_and_two(rt: HostRuntime) -> Result<(), Fail> {
     assert_eq!(rt;
         counts(rt.alloc(), &table)?.as_slice(),
         [255, 256, 257, 65_537, 0, 0, 0, 0, 0, 0].as_slice()
+    );
+    Ok(())
+}
+
+#[test]
+fn counts_of_few_cells_pass_one_byte_and_two(rt: HostRuntime) -> Result<(), Fail> {
+    let mut events = Vec::new(rt.alloc());
+    events.push(marker(100, 3))?;
+    repeat(&mut events, timed(100, 0, 1), 255)?;
+    repeat(&mut events, timed(100, 5, 1), 256)?;
+    repeat(&mut events, timed(100, 10, 1), 65_537)?;
+    let table = filled(rt.alloc(), narrow(), events.as_slice())?;
+    assert_eq!(rt;
+        counts(rt.alloc(), &table)?.as_slice(),
+        [255, 256, 65_537, 0, 0].as_slice()
     );
     Ok(())
 }
