@@ -1,9 +1,6 @@
 -- That an event fits a mode is a proposition.
 use Rattle.std.proofs.Props.{props}
-use Rattle.tally_base.specs.declared.event.EventKind.{EventKind}
-use Rattle.tally_base.specs.declared.event.EventKind.TheVariants.{Photon, Marker}
-use Rattle.tally_base.specs.declared.header.Mode.{Mode}
-use Rattle.tally_base.specs.declared.header.Mode.TheVariants.{T2, T3}
+use Rattle.tally_base.{specs.declared.event.EventKind.EventKind, specs.declared.event.EventKind.TheVariants.{Photon, Marker}, specs.declared.header.Mode.Mode, specs.declared.header.Mode.TheVariants.{T2, T3}}
 use Rattle.ptu_definitions.specs.Fitting.{KindFits}
 
 pub kind_fits-prop : (mode : Mode) (kind : EventKind) → IsProp (KindFits mode kind)

@@ -1,19 +1,8 @@
 -- What a clock stands for.
 use Rattle.std.specs.Prelude.{ℕ, ◌≡◌, ◌+◌, ◌≤◌, ◌&&◌, IsTrue, nat_lt, List, [], ◌∷◌, length, if◌then◌else◌, Result, Ok, Err}
-use Rattle.tally_base.specs.declared.event.Event.{Event}
-use Rattle.tally_base.specs.declared.fault.Fault.{Fault}
-use Rattle.tally_base.specs.declared.fault.Fault.TheVariants.{TimeLimit}
-use Rattle.tally_base.specs.declared.header.Mode.{Mode}
-use Rattle.tally_base.specs.Events.{is_ordered}
-use Rattle.tally_base.specs.Limits.{time_limit}
-use Rattle.ptu_definitions.specs.declared.records.Raw.{Raw}
-use Rattle.ptu_definitions.specs.Kinds.{is_wrap}
-use Rattle.ptu_definitions.specs.Times.{base, event_after, events, passes}
-use Rattle.ptu_definitions.specs.Kept.{is_late, greatest}
-use Rattle.ptu_definitions.specs.Fitting.{KindFits}
-use Rattle.abs_time.specs.declared.clock.Clock.{Clock}
-use Rattle.abs_time.specs.declared.clock.Placed.{Placed}
-use Rattle.abs_time.specs.declared.clock.Placed.TheVariants.{Event as InOrder, Late, Wrap, Reserved}
+use Rattle.tally_base.{specs.declared.event.Event.Event, specs.declared.fault.Fault.Fault, specs.declared.fault.Fault.TheVariants.TimeLimit, specs.declared.header.Mode.Mode, specs.Events.is_ordered, specs.Limits.time_limit}
+use Rattle.ptu_definitions.{specs.declared.records.Raw.Raw, specs.Kinds.is_wrap, specs.Times.{base, event_after, events, passes}, specs.Kept.{is_late, greatest}, specs.Fitting.KindFits}
+use Rattle.abs_time.{specs.declared.clock.Clock.Clock, specs.declared.clock.Placed.Placed, specs.declared.clock.Placed.TheVariants.Event as InOrder, specs.declared.clock.Placed.TheVariants.{Late, Wrap, Reserved}}
 
 -- the numbers that a clock keeps, by the records placed
 pub record IsClock (mode : Mode) (count sum top : ℕ) (records : List Raw) : Type 0 where

@@ -1,7 +1,6 @@
 // The clock of a file: the absolute times of its records.
 ghost use Rattle.std.specs.Prelude.{◌≡◌, ◌+◌, ◌<◌, ◌≤◌, ◌++◌, ◌∷◌, [], List, ℕ, Bool, ◌&&◌, not, nat_lt, max, if◌then◌else◌, OnOk, OnErr, IfOk, IfErr, length};
-ghost use Rattle.tally_base.specs.Events.{is_ordered};
-ghost use Rattle.tally_base.specs.Limits.{record_limit, wrap_limit};
+ghost use Rattle.tally_base.{specs.Events.is_ordered, specs.Limits.{record_limit, wrap_limit}};
 ghost use Rattle.ptu_definitions.specs.declared.records.Raw.{Raw};
 
 use ptu_definitions::Raw;
@@ -33,8 +32,7 @@ pub struct Clock {
 
 impl Clock {
     ghost use Rattle.abs_time.specs.Placing.{IsClock, mode_of, placed_by, greatest_by, HasPlaced, base_of, against, place_answer, IsSmall, Moves, IsAtPlace, IsNext};
-    ghost use Rattle.ptu_definitions.specs.Fitting.{Fits};
-    ghost use Rattle.ptu_definitions.specs.Kept.{ordered_time};
+    ghost use Rattle.ptu_definitions.{specs.Fitting.Fits, specs.Kept.ordered_time};
 
     /// The clock of a file of this mode, before its first record.
     pub fn new(mode: Mode) -> Clock

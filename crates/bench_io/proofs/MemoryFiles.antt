@@ -1,13 +1,7 @@
 -- A file is found by its name.
-use Rattle.std.proofs.Common.{◌≡◌, ◌<◌, ◌+◌, min, ℕ, zero, suc, List, [], ◌∷◌, ◌++◌, true, None, Some, length, take, drop, get_or, refl, sym, ap, ◌∙◌, arith, take-append-drop}
-use Rattle.std.proofs.lemmas.Grind.{common_steps}
-use Rattle.std.proofs.lemmas.List.{drop-drop, nil_from_length}
-use Rattle.std.specs.declared.option.Option.{Option}
-use Rattle.std.specs.Prelude.{slice_get}
-use Rattle.std.specs.Str.{bytes_eq}
-use Rattle.bench_io.specs.NamedBytes.{NamedBytes}
-use Rattle.bench_io.specs.Turns.{limited}
-use Rattle.bench_io.specs.Memory.{file_named, rest_of_file}
+use Rattle.std.proofs.Common.{◌≡◌, ◌<◌, ◌+◌, min, ℕ, zero, suc, List, [], ◌∷◌, ◌++◌, true, None, Some, length, take, drop, get_or, refl, sym, ap, ◌∙◌, arith, take-append-drop, slice_get}
+use Rattle.std.{proofs.lemmas.Grind.common_steps, proofs.lemmas.List.{drop-drop, nil_from_length}, specs.declared.option.Option.Option, specs.Str.bytes_eq}
+use Rattle.bench_io.{specs.NamedBytes.NamedBytes, specs.Turns.limited, specs.Memory.{file_named, rest_of_file}}
 
 pub file_named-found : (files : List NamedBytes) (i : ℕ) (name : List ℕ) (file : NamedBytes) → i < length files → file ≡ get_or files i file → bytes_eq file.name name ≡ true
     → file_named (drop i files) name ≡ Some (rest_of_file (slice_get files i) 0)

@@ -1,8 +1,7 @@
 -- What calls say of two inputs, each in a slot of its own.
 use Rattle.std.specs.Prelude.{ℕ, List, ◌≡◌, ◌≤◌, Bool, None, Some, IsSome}
 use Rattle.std.specs.declared.option.Option.{Option}
-use Rattle.tally_base.specs.declared.slot.Slot.{Slot}
-use Rattle.tally_base.specs.declared.slot.Slot.TheVariants.{Plan, Data}
+use Rattle.tally_base.{specs.declared.slot.Slot.Slot, specs.declared.slot.Slot.TheVariants.{Plan, Data}}
 
 -- the bytes of a file, or None where there is no such file
 abbrev pub File : Type 0

@@ -1,13 +1,8 @@
 -- Files and inputs in memory.
 use Rattle.std.specs.Prelude.{ℕ, ◌≡◌, List, [], ◌∷◌, true, false, None, Some, drop, slice_get, unwrap_or, if◌then◌else◌}
-use Rattle.std.specs.Str.{bytes_eq}
-use Rattle.std.specs.declared.option.Option.{Option}
-use Rattle.std.specs.declared.result.Result.{Result}
-use Rattle.bench_io.specs.NamedBytes.{NamedBytes}
+use Rattle.std.{specs.Str.bytes_eq, specs.declared.option.Option.Option, specs.declared.result.Result.Result}
+use Rattle.bench_io.{specs.NamedBytes.NamedBytes, specs.CallCounts.{one_more, CountsFailure, FailsNext}, specs.Inputs.{File, InputState, other}, specs.Turns.{next_turn, limited}}
 use Rattle.tally_base.specs.declared.slot.Slot.{Slot}
-use Rattle.bench_io.specs.CallCounts.{one_more, CountsFailure, FailsNext}
-use Rattle.bench_io.specs.Inputs.{File, InputState, other}
-use Rattle.bench_io.specs.Turns.{next_turn, limited}
 
 -- of two files of one name the first counts
 abbrev pub file_named : List NamedBytes → List ℕ → File

@@ -1,14 +1,7 @@
 -- What inputs in memory hold, as callers see it.
 use Rattle.std.specs.Prelude.{ℕ, List, [], ◌≡◌, Bool, true, false, Some, slice_get, refl}
-use Rattle.tally_base.specs.declared.slot.Slot.{Slot}
-use Rattle.tally_base.specs.declared.slot.Slot.TheVariants.{Plan, Data}
-use Rattle.bench_io.specs.declared.memory_slot.Reading.{Reading}
-use Rattle.bench_io.specs.declared.memory_slot.Reading.TheVariants.{Unasked, Refused, Open}
-use Rattle.bench_io.specs.declared.memory_slot.MemorySlot.{MemorySlot}
-use Rattle.bench_io.specs.declared.memory_inputs.MemoryInputs.{MemoryInputs}
-use Rattle.bench_io.specs.Inputs.{InputState}
-use Rattle.bench_io.specs.NamedBytes.{NamedBytes}
-use Rattle.bench_io.specs.Memory.{file_named, rest_of_file, MemoryState}
+use Rattle.tally_base.{specs.declared.slot.Slot.Slot, specs.declared.slot.Slot.TheVariants.{Plan, Data}}
+use Rattle.bench_io.{specs.declared.memory_slot.Reading.Reading, specs.declared.memory_slot.Reading.TheVariants.{Unasked, Refused, Open}, specs.declared.memory_slot.MemorySlot.MemorySlot, specs.declared.memory_inputs.MemoryInputs.MemoryInputs, specs.Inputs.InputState, specs.NamedBytes.NamedBytes, specs.Memory.{file_named, rest_of_file, MemoryState}}
 
 -- whether the slot was asked for
 abbrev pub was_asked : Reading → Bool

@@ -1,10 +1,8 @@
 // Two inputs that count their faults.
 ghost use Rattle.std.specs.Prelude.{◌≡◌, true, false, OnOk, OnErr};
-ghost use Rattle.std.specs.Io.{ReadsAtMost};
-ghost use Rattle.std.specs.Io.KnownBytes.{ReadConsumes};
+ghost use Rattle.std.{specs.Io.ReadsAtMost, specs.Io.KnownBytes.ReadConsumes};
 ghost use Rattle.tally_base.specs.declared.slot.Slot.{Slot};
-ghost use Rattle.bench_io.specs.TriesOnce.{TriesOnce};
-ghost use Rattle.bench_io.specs.Inputs.{InputState, IsOpened, Keeps, KeepsOther, OpensNone};
+ghost use Rattle.bench_io.{specs.TriesOnce.TriesOnce, specs.Inputs.{InputState, IsOpened, Keeps, KeepsOther, OpensNone}};
 
 use tally_base::{Failed, Slot};
 

@@ -1,11 +1,7 @@
 // Inputs in memory, which tell everything.
 ghost use Rattle.std.specs.Prelude.{◌≡◌, ◌↔◌, true, false, length, min, IsSome, IsOk, IfOk, OnErr, OnOk};
-ghost use Rattle.std.specs.Io.{ReadsAtMost};
-ghost use Rattle.std.specs.Io.KnownBytes.{ReadConsumes};
-ghost use Rattle.bench_io.specs.TriesOnce.{TriesOnce};
-ghost use Rattle.bench_io.specs.Inputs.{IsOpened, Keeps, KeepsOther, OpensNone};
-ghost use Rattle.bench_io.specs.Memory.{file_named, IsFresh, IsFailing, given_of, after_open, after_read, left_of, CountsOpening, CountsReading};
-ghost use Rattle.bench_io.specs.MemorySlots.{input_state, memory_state};
+ghost use Rattle.std.{specs.Io.ReadsAtMost, specs.Io.KnownBytes.ReadConsumes};
+ghost use Rattle.bench_io.{specs.TriesOnce.TriesOnce, specs.Inputs.{IsOpened, Keeps, KeepsOther, OpensNone}, specs.Memory.{file_named, IsFresh, IsFailing, given_of, after_open, after_read, left_of, CountsOpening, CountsReading}, specs.MemorySlots.{input_state, memory_state}};
 
 use crate::failing_calls::FailingCalls;
 use crate::inputs::Inputs;

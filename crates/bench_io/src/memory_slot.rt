@@ -1,13 +1,7 @@
 // One slot of inputs in memory.
 ghost use Rattle.std.specs.Prelude.{◌≡◌, ◌+◌, ◌^◌, ◌<◌, Some, None, true, false, length, take, min, slice_get, IsSome, IfOk, IsOk, ◌↔◌, MatchOption, OnErr, OnOk};
-ghost use Rattle.std.specs.Io.{ReadsAtMost};
-ghost use Rattle.std.specs.Io.KnownBytes.{ReadConsumes};
-ghost use Rattle.bench_io.specs.CallCounts.{CountsFailure};
-ghost use Rattle.bench_io.specs.TriesOnce.{TriesOnce};
-ghost use Rattle.bench_io.specs.Inputs.{IsOpened};
-ghost use Rattle.bench_io.specs.Turns.{limited};
-ghost use Rattle.bench_io.specs.Memory.{file_named, rest_of_file};
-ghost use Rattle.bench_io.specs.MemorySlots.{was_asked, was_opened, rest_in};
+ghost use Rattle.std.{specs.Io.ReadsAtMost, specs.Io.KnownBytes.ReadConsumes};
+ghost use Rattle.bench_io.{specs.CallCounts.CountsFailure, specs.TriesOnce.TriesOnce, specs.Inputs.IsOpened, specs.Turns.limited, specs.Memory.{file_named, rest_of_file}, specs.MemorySlots.{was_asked, was_opened, rest_in}};
 
 use crate::memory_file::MemoryFile;
 use tally_base::Failed;

@@ -1,14 +1,8 @@
 -- The pairs of different places, element by element.
-use Rattle.std.proofs.Common.{◌≡◌, ◌∙◌, ℕ, suc, ◌+◌, Bool, false, ◌&&◌, not, eqb, List, [], ◌∷◌, length, refl, ap, arith, rules, tests}
-use Rattle.std.specs.declared.option.Option.{Option}
-use Rattle.std.specs.Prelude.{None, Some, count_by, sum_by}
-use Rattle.std.specs.List.{slice_get}
-use Rattle.std.proofs.lemmas.List.Sums.{sum_by-cons}
+use Rattle.std.proofs.Common.{◌≡◌, ◌∙◌, ℕ, suc, ◌+◌, Bool, false, ◌&&◌, not, eqb, List, [], ◌∷◌, length, refl, ap, arith, rules, tests, None, Some, count_by, sum_by}
+use Rattle.std.{specs.declared.option.Option.Option, specs.List.slice_get, proofs.lemmas.List.Sums.sum_by-cons}
 use Rattle.lag_ring.proofs.Sums.{sum_by-plus}
-use Rattle.coincidence.specs.Pairs.{both_pass, places_of, are_apart, pairs_apart}
-use Rattle.coincidence.proofs.Hits.{pairs_in}
-use Rattle.coincidence.proofs.Intervals.{one_if}
-use Rattle.coincidence.proofs.Places.{sum-places, sum-agree}
+use Rattle.coincidence.{specs.Pairs.{both_pass, places_of, are_apart, pairs_apart}, proofs.Hits.pairs_in, proofs.Intervals.one_if, proofs.Places.{sum-places, sum-agree}}
 
 -- there is an item, and it passes the test
 abbrev one_passes : {X : Type 0} → (X → Bool) → Option X → Bool

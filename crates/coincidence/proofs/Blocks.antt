@@ -1,17 +1,7 @@
 -- One event more for the intervals.
-use Rattle.std.proofs.Common.{◌≡◌, ◌∙◌, ℕ, ◌+◌, ◌-◌, ◌/◌, ◌<◌, ◌≤◌, Bool, true, false, ◌&&◌, List, [], ◌∷◌, ◌++◌, sym, refl, arith}
-use Rattle.std.specs.Prelude.{None, Some, nat_le, ◌==◌, slice_index, if◌then◌else◌}
-use Rattle.tally_base.specs.declared.event.Event.{Event}
-use Rattle.tally_base.specs.Events.{is_photon, is_in}
-use Rattle.tally_base.specs.Settings.{StartStopView}
-use Rattle.tally_base.specs.Tally.{History}
-use Rattle.coincidence.specs.declared.start.Start.{Start}
-use Rattle.coincidence.specs.Counted.{Counted}
-use Rattle.coincidence.specs.Ends.{ended}
-use Rattle.coincidence.specs.Intervals.{count_intervals}
-use Rattle.coincidence.specs.Starts.{start_in, since_in}
-use Rattle.coincidence.proofs.Ends.{ends_as}
-use Rattle.coincidence.proofs.Intervals.{count-photon, start-photon, count-marker, start-marker}
+use Rattle.std.proofs.Common.{◌≡◌, ◌∙◌, ℕ, ◌+◌, ◌-◌, ◌/◌, ◌<◌, ◌≤◌, Bool, true, false, ◌&&◌, List, [], ◌∷◌, ◌++◌, sym, refl, arith, None, Some, nat_le, ◌==◌, slice_index, if◌then◌else◌}
+use Rattle.tally_base.{specs.declared.event.Event.Event, specs.Events.{is_photon, is_in}, specs.Settings.StartStopView, specs.Tally.History}
+use Rattle.coincidence.{specs.declared.start.Start.Start, specs.Counted.Counted, specs.Ends.ended, specs.Intervals.count_intervals, specs.Starts.{start_in, since_in}, proofs.Ends.ends_as, proofs.Intervals.{count-photon, start-photon, count-marker, start-marker}}
 
 pub photon_step : (set : StartStopView) (cells cells' : List ℕ) (over over' bin more : ℕ) (start start' : Start) (h : History) (x : Event × ℕ) (starts stops : Bool) → is_photon x.0 ≡ true → is_in x.1 set.start ≡ starts → is_in x.1 set.stop ≡ stops
     → bin ≡ (x.0.time - since_in start) / set.width → more ≡ ended stops (start_in start)

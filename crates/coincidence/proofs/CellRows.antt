@@ -1,15 +1,9 @@
 -- The sums of a strip, row by row.
 use Rattle.std.proofs.Common.{◌≡◌, ◌≢◌, ◌∙◌, ℕ, ◌+◌, ◌-◌, ◌*◌, ◌/◌, ◌<◌, ◌≤◌, true, false, ◌&&◌, leb, ltb, eqb, cond, List, length, get_or, take, drop, refl, sym, ap, arith, length-drop}
-use Rattle.std.specs.List.{sum_by, range_with_len}
-use Rattle.std.proofs.lemmas.Grind.{common_steps}
-use Rattle.std.proofs.lemmas.Bool.Decides.{nat_tests}
-use Rattle.std.proofs.lemmas.List.{get_or-drop, get_or_past, take_all}
+use Rattle.std.{specs.List.{sum_by, range_with_len}, proofs.lemmas.Grind.common_steps, proofs.lemmas.Bool.Decides.nat_tests, proofs.lemmas.List.{get_or-drop, get_or_past, take_all}}
 use Rattle.tally_base.specs.Settings.{CoincidenceView}
-use Rattle.lag_ring.specs.Cells.{upwards_at, downwards_at}
-use Rattle.lag_ring.proofs.Sums.{sum_by-agree, sum_by-same}
-use Rattle.coincidence.specs.declared.pairing.Direction.TheVariants.{Forward, Backward}
-use Rattle.coincidence.specs.Closing.{strip_pairs}
-use Rattle.coincidence.proofs.LagPairs.{at_one, range-within}
+use Rattle.lag_ring.{specs.Cells.{upwards_at, downwards_at}, proofs.Sums.{sum_by-agree, sum_by-same}}
+use Rattle.coincidence.{specs.declared.pairing.Direction.TheVariants.{Forward, Backward}, specs.Closing.strip_pairs, proofs.LagPairs.{at_one, range-within}}
 
 -- a place of the last sums
 last-at : (sums : List ℕ) (count j : ℕ) → get_or (drop (64 - count) sums) j 0 ≡ get_or sums (64 - count + j) 0

@@ -1,29 +1,9 @@
 -- Bins that are closed together bring what they bring one by one.
 use Rattle.std.proofs.Common.{◌≡◌, ◌∙◌, ℕ, ◌+◌, ◌-◌, ◌*◌, ◌^◌, ◌<◌, ◌≤◌, Bool, true, false, leb, cond, List, [], ◌∷◌, ◌++◌, length, get_or, refl, sym, arith, append-nil, append_assoc, length-append}
-use Rattle.std.specs.List.{sum_by, filter, AllByRecursion}
-use Rattle.std.proofs.Math.Nat.{mul-le-mul, mul-le-mul_right}
-use Rattle.std.proofs.lemmas.Grind.{common_steps}
-use Rattle.std.proofs.lemmas.List.Sums.{sum_by-cons, sum_by_push}
-use Rattle.tally_base.specs.Settings.{CoincidenceView, coincidence_cells}
-use Rattle.tally_base.specs.Tally.{History}
-use Rattle.tally_base.specs.Limits.{record_limit}
-use Rattle.lag_ring.specs.declared.ring.Entry.{Entry}
-use Rattle.lag_ring.specs.Cells.{Cells}
-use Rattle.lag_ring.specs.Ring.{Ring, ring, IsRising}
-use Rattle.lag_ring.proofs.Lists.{all_front, all_back, all_filter, of_some}
-use Rattle.lag_ring.proofs.Rising.{rising_push}
-use Rattle.lag_ring.proofs.Sums.{sum_by-same, sum_by-filter}
-use Rattle.coincidence.specs.declared.pairing.Bin.{Bin}
-use Rattle.coincidence.specs.declared.pairing.Direction.{Direction}
-use Rattle.coincidence.specs.declared.pairing.Direction.TheVariants.{Forward, Backward}
-use Rattle.coincidence.specs.Pairs.{is_coincidence, coincidences}
-use Rattle.coincidence.specs.Pairing.{pairs_of, pairs_of_all, bin_pairs, RingIs, CellsAre, CanKeep}
-use Rattle.coincidence.specs.Closing.{weights_in, all_pairs, BinsAre, CanShutAll}
-use Rattle.coincidence.proofs.LagPairs.{in_turn}
-use Rattle.coincidence.proofs.Apart.{pairs_apart-in}
-use Rattle.coincidence.proofs.Hits.{pairs_in-le}
-use Rattle.coincidence.proofs.Shut.{grown, ring_shut}
-use Rattle.coincidence.proofs.Visits.{pairs_far}
+use Rattle.std.{specs.List.{sum_by, filter, AllByRecursion}, proofs.Math.Nat.{mul-le-mul, mul-le-mul_right}, proofs.lemmas.Grind.common_steps, proofs.lemmas.List.Sums.{sum_by-cons, sum_by_push}}
+use Rattle.tally_base.{specs.Settings.{CoincidenceView, coincidence_cells}, specs.Tally.History, specs.Limits.record_limit}
+use Rattle.lag_ring.{specs.declared.ring.Entry.Entry, specs.Cells.Cells, specs.Ring.{Ring, ring, IsRising}, proofs.Lists.{all_front, all_back, all_filter, of_some}, proofs.Rising.rising_push, proofs.Sums.{sum_by-same, sum_by-filter}}
+use Rattle.coincidence.{specs.declared.pairing.Bin.Bin, specs.declared.pairing.Direction.Direction, specs.declared.pairing.Direction.TheVariants.{Forward, Backward}, specs.Pairs.{is_coincidence, coincidences}, specs.Pairing.{pairs_of, pairs_of_all, bin_pairs, RingIs, CellsAre, CanKeep}, specs.Closing.{weights_in, all_pairs, BinsAre, CanShutAll}, proofs.LagPairs.in_turn, proofs.Apart.pairs_apart-in, proofs.Hits.pairs_in-le, proofs.Shut.{grown, ring_shut}, proofs.Visits.pairs_far}
 
 rising_filter : (p : Entry → Bool) (es : List Entry) → IsRising es → IsRising (filter p es)
 rising_filter p [] rising = tt

@@ -1,11 +1,7 @@
 -- What a photon ends, by a bin and a number.
-use Rattle.std.proofs.Common.{◌≡◌, ℕ, ◌-◌, Bool, true, false, ◌&&◌, ◌||◌, refl}
+use Rattle.std.proofs.Common.{◌≡◌, ℕ, ◌-◌, Bool, true, false, ◌&&◌, ◌||◌, refl, None, Some, not, if◌then◌else◌}
 use Rattle.std.specs.declared.option.Option.{Option}
-use Rattle.std.specs.Prelude.{None, Some, not, if◌then◌else◌}
-use Rattle.coincidence.specs.declared.start.Start.{Start}
-use Rattle.coincidence.specs.Starts.{start_in, since_in}
-use Rattle.coincidence.specs.Ends.{ended}
-use Rattle.coincidence.proofs.Intervals.{ends}
+use Rattle.coincidence.{specs.declared.start.Start.Start, specs.Starts.{start_in, since_in}, specs.Ends.ended, proofs.Intervals.ends}
 
 none_either : (b : Bool) → ◌≡◌ {A = ℕ} 0 (if b then 0 else 0)
 none_either true = refl

@@ -1,22 +1,8 @@
 -- The events of a block whose bins are gathered.
-use Rattle.std.proofs.Common.{◌≡◌, ◌∙◌, ℕ, ◌+◌, ◌<◌, Bool, true, false, ◌&&◌, ◌||◌, List, [], ◌∷◌, ◌++◌, length, refl, sym, ap, arith, append-nil, length-append}
-use Rattle.std.specs.Prelude.{nat_lt, Option}
-use Rattle.tally_base.specs.Events.{is_photon, is_in}
-use Rattle.tally_base.specs.Settings.{CoincidenceView}
-use Rattle.tally_base.specs.Tally.{History}
-use Rattle.event_block.specs.declared.block.Block.{Block}
-use Rattle.event_block.specs.Columns.{rows, item, event_at, code_at, groups_at, time_at, gathered, events_in}
-use Rattle.event_block.proofs.Back.{moves_row}
-use Rattle.event_block.proofs.Rows.{length-rows}
-use Rattle.coincidence.specs.declared.pairing.Bin.{Bin}
-use Rattle.coincidence.specs.declared.pairing.Pairing.{Pairing}
-use Rattle.coincidence.specs.Pairs.{photons_of_groups}
-use Rattle.coincidence.specs.Pairing.{bin_of, OpenIs}
-use Rattle.coincidence.specs.StandsFor.{CanTake}
-use Rattle.coincidence.specs.Closing.{Gathered, CanGather, CanShutAll}
-use Rattle.coincidence.proofs.Blocks.{in_group}
-use Rattle.coincidence.proofs.Blockwise.{found_photon, photons-same, one_more, row_after}
-use Rattle.coincidence.proofs.Gives.{one_photon, none_after, few_photons, photons-push}
+use Rattle.std.proofs.Common.{◌≡◌, ◌∙◌, ℕ, ◌+◌, ◌<◌, Bool, true, false, ◌&&◌, ◌||◌, List, [], ◌∷◌, ◌++◌, length, refl, sym, ap, arith, append-nil, length-append, nat_lt, Option}
+use Rattle.tally_base.{specs.Events.{is_photon, is_in}, specs.Settings.CoincidenceView, specs.Tally.History}
+use Rattle.event_block.{specs.declared.block.Block.Block, specs.Columns.{rows, item, event_at, code_at, groups_at, time_at, gathered, events_in}, proofs.Back.moves_row, proofs.Rows.length-rows}
+use Rattle.coincidence.{specs.declared.pairing.Bin.Bin, specs.declared.pairing.Pairing.Pairing, specs.Pairs.photons_of_groups, specs.Pairing.{bin_of, OpenIs}, specs.StandsFor.CanTake, specs.Closing.{Gathered, CanGather, CanShutAll}, proofs.Blocks.in_group, proofs.Blockwise.{found_photon, photons-same, one_more, row_after}, proofs.Gives.{one_photon, none_after, few_photons, photons-push}}
 
 -- where no group is found, an event brings no photon
 pub gathered_same : (set : CoincidenceView) (last : Option Bin) (bins : List Bin) (closed : History) (b : Block) (h : History) (at : ℕ) (found other : Bool) → found ≡ (is_in (groups_at b at) set.first && nat_lt (code_at b at) 256) → other ≡ (is_in (groups_at b at) set.second && nat_lt (code_at b at) 256) → (found || other) ≡ false

@@ -1,14 +1,8 @@
 -- Photons that come behind gathered bins.
 use Rattle.std.proofs.Common.{◌≡◌, ◌≢◌, ◌∙◌, ◌+◌, ◌^◌, ◌<◌, Some, None, ◌&&◌, List, [], ◌∷◌, ◌++◌, length, refl, sym, ap, arith, append-nil, append_assoc, length-append}
-use Rattle.std.specs.List.{AllByRecursion}
-use Rattle.std.proofs.lemmas.List.Sums.{count_by-le-length}
-use Rattle.tally_base.specs.Settings.{CoincidenceView}
-use Rattle.tally_base.specs.Tally.{History}
-use Rattle.coincidence.specs.declared.pairing.Bin.{Bin}
-use Rattle.coincidence.specs.Pairs.{in_first, in_second}
-use Rattle.coincidence.specs.Pairing.{joined, BinIs}
-use Rattle.coincidence.specs.Closing.{BinsAre, Gathered, CanGather}
-use Rattle.coincidence.proofs.Puts.{joined_is, behind_bin}
+use Rattle.std.{specs.List.AllByRecursion, proofs.lemmas.List.Sums.count_by-le-length}
+use Rattle.tally_base.{specs.Settings.CoincidenceView, specs.Tally.History}
+use Rattle.coincidence.{specs.declared.pairing.Bin.Bin, specs.Pairs.{in_first, in_second}, specs.Pairing.{joined, BinIs}, specs.Closing.{BinsAre, Gathered, CanGather}, proofs.Puts.{joined_is, behind_bin}}
 
 module _ (set : CoincidenceView) where
   -- a bin more behind the others

@@ -1,20 +1,9 @@
 -- What an event does to the photons of the two groups.
-use Rattle.std.proofs.Common.{◌≡◌, ℕ, ◌+◌, ◌<◌, ◌≤◌, max, Bool, true, false, ◌&&◌, ◌||◌, cond, ◌⊎◌, inl, inr, [], ◌∷◌, ◌++◌, length, fold, refl, sym, ap, ◌∙◌, arith, length-append, zero-add}
-use Rattle.std.specs.Prelude.{IsTrue}
-use Rattle.std.specs.List.{AllByRecursion}
-use Rattle.std.proofs.lemmas.Bool.{false≢true}
-use Rattle.std.proofs.lemmas.List.Elements.{filter-append}
-use Rattle.std.proofs.lemmas.List.Sums.{length-filter, count_by-le-length, fold_push}
-use Rattle.tally_base.specs.declared.event.Event.{Event}
-use Rattle.tally_base.specs.Events.{is_photon, is_in}
-use Rattle.tally_base.specs.Settings.{CoincidenceView}
-use Rattle.tally_base.specs.Tally.{History, moves_floor, greatest_time}
-use Rattle.tally_base.specs.Limits.{record_limit}
+use Rattle.std.proofs.Common.{◌≡◌, ℕ, ◌+◌, ◌<◌, ◌≤◌, max, Bool, true, false, ◌&&◌, ◌||◌, cond, ◌⊎◌, inl, inr, [], ◌∷◌, ◌++◌, length, fold, refl, sym, ap, ◌∙◌, arith, length-append, zero-add, IsTrue}
+use Rattle.std.{specs.List.AllByRecursion, proofs.lemmas.Bool.false≢true, proofs.lemmas.List.Elements.filter-append, proofs.lemmas.List.Sums.{length-filter, count_by-le-length, fold_push}}
+use Rattle.tally_base.{specs.declared.event.Event.Event, specs.Events.{is_photon, is_in}, specs.Settings.CoincidenceView, specs.Tally.{History, moves_floor, greatest_time}, specs.Limits.record_limit}
 use Rattle.lag_ring.proofs.Lists.{all_both, all_filter, all_passed}
-use Rattle.coincidence.specs.declared.pairing.Pairing.{Pairing}
-use Rattle.coincidence.specs.StandsFor.{CanGive, StandsFor}
-use Rattle.coincidence.specs.Pairs.{in_first, in_second, photons_of_groups}
-use Rattle.coincidence.specs.Pairing.{bin_of, BinIs, CanPut, CanEnd, Came, PairingDone}
+use Rattle.coincidence.{specs.declared.pairing.Pairing.Pairing, specs.StandsFor.{CanGive, StandsFor}, specs.Pairs.{in_first, in_second, photons_of_groups}, specs.Pairing.{bin_of, BinIs, CanPut, CanEnd, Came, PairingDone}}
 
 abbrev pub mine : CoincidenceView → Event × ℕ → Bool
 mine set x = in_first set x || in_second set x

@@ -1,8 +1,6 @@
 -- What a bin brings to the pairs of different places.
 use Rattle.std.proofs.Common.{◌≡◌, ℕ, ◌+◌, ◌*◌, ◌≤◌, Bool, true, false, ◌&&◌, cond, List, [], ◌∷◌, ◌++◌, length, refl, ◌∙◌, arith}
-use Rattle.std.specs.List.{sum_by, count_by, AllByRecursion}
-use Rattle.std.proofs.Math.Nat.{mul_comm}
-use Rattle.std.proofs.lemmas.List.Sums.{sum_by-cons, sum_by-append, count_by-le-length}
+use Rattle.std.{specs.List.{sum_by, count_by, AllByRecursion}, proofs.Math.Nat.mul_comm, proofs.lemmas.List.Sums.{sum_by-cons, sum_by-append, count_by-le-length}}
 use Rattle.lag_ring.proofs.Sums.{cross, sum_by-agree, sum_by-same, sum_by-times, sum_by-plus}
 
 -- how many ordered pairs of an element and another one pass the test

@@ -1,17 +1,8 @@
 -- One more photon, and the intervals.
-use Rattle.std.proofs.Common.{◌≡◌, ◌∙◌, ℕ, ◌+◌, ◌-◌, Bool, true, false, ◌&&◌, ◌||◌, cond, List, [], ◌∷◌, ◌++◌, refl, ap, sym, arith}
-use Rattle.std.specs.declared.option.Option.{Option}
-use Rattle.std.specs.Prelude.{None, Some, count_by}
-use Rattle.std.specs.List.{filter, last_or}
-use Rattle.std.specs.Option.{option_map_or, option_and_then}
-use Rattle.std.proofs.lemmas.List.{append-nil}
-use Rattle.std.proofs.lemmas.List.Elements.{filter-append}
-use Rattle.tally_base.specs.declared.event.Event.{Event}
-use Rattle.tally_base.specs.Events.{is_photon, is_in}
-use Rattle.tally_base.specs.Settings.{StartStopView}
-use Rattle.tally_base.specs.Tally.{History}
-use Rattle.coincidence.specs.Intervals.{neighbours, is_of_either, photons_of_either, is_interval, count_intervals, start_of, open_start}
-use Rattle.coincidence.proofs.Neighbours.{last_or-push, count-neighbours-push}
+use Rattle.std.proofs.Common.{◌≡◌, ◌∙◌, ℕ, ◌+◌, ◌-◌, Bool, true, false, ◌&&◌, ◌||◌, cond, List, [], ◌∷◌, ◌++◌, refl, ap, sym, arith, None, Some, count_by}
+use Rattle.std.{specs.declared.option.Option.Option, specs.List.{filter, last_or}, specs.Option.{option_map_or, option_and_then}, proofs.lemmas.List.append-nil, proofs.lemmas.List.Elements.filter-append}
+use Rattle.tally_base.{specs.declared.event.Event.Event, specs.Events.{is_photon, is_in}, specs.Settings.StartStopView, specs.Tally.History}
+use Rattle.coincidence.{specs.Intervals.{neighbours, is_of_either, photons_of_either, is_interval, count_intervals, start_of, open_start}, proofs.Neighbours.{last_or-push, count-neighbours-push}}
 
 abbrev pub one_if : Bool → ℕ
 one_if test = cond test 1 0

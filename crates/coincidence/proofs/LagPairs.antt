@@ -1,23 +1,9 @@
 -- Pairs summed lag by lag.
 use Rattle.std.proofs.Common.{◌≡◌, ◌≢◌, ◌∙◌, ℕ, zero, suc, ◌+◌, ◌-◌, ◌*◌, ◌/◌, ◌<◌, ◌≤◌, Bool, true, false, ◌&&◌, leb, ltb, eqb, cond, List, [], ◌∷◌, ◌++◌, refl, sym, ap, arith, append_assoc}
-use Rattle.std.specs.List.{sum_by, range_with_len, AllByRecursion}
-use Rattle.std.proofs.lemmas.Grind.{common_steps}
-use Rattle.std.proofs.lemmas.Bool.Decides.{nat_tests}
-use Rattle.std.proofs.lemmas.List.Sums.{sum_by-cons, sum_by-append}
+use Rattle.std.{specs.List.{sum_by, range_with_len, AllByRecursion}, proofs.lemmas.Grind.common_steps, proofs.lemmas.Bool.Decides.nat_tests, proofs.lemmas.List.Sums.{sum_by-cons, sum_by-append}}
 use Rattle.tally_base.specs.Settings.{CoincidenceView}
-use Rattle.lag_ring.specs.declared.ring.Entry.{Entry}
-use Rattle.lag_ring.specs.declared.window.Side.{Side}
-use Rattle.lag_ring.specs.Window.{weight_of, weight_before}
-use Rattle.lag_ring.specs.Ring.{IsRising}
-use Rattle.lag_ring.proofs.Lists.{all_both}
-use Rattle.lag_ring.proofs.Rising.{all_weaker, all_push}
-use Rattle.lag_ring.proofs.Sums.{sum_by-same, sum_by-agree, sum_by-plus, sum_by-times, sum_by-zero}
-use Rattle.coincidence.specs.declared.pairing.Direction.{Direction}
-use Rattle.coincidence.specs.declared.pairing.Direction.TheVariants.{Forward, Backward}
-use Rattle.coincidence.specs.Pairing.{shifted_by, earlier_weight, pairs_of, pairs_of_all}
-use Rattle.coincidence.specs.Closing.{earlier_side, later_side, lag_pairs}
-use Rattle.coincidence.proofs.Hits.{zeros}
-use Rattle.coincidence.proofs.Visits.{pairs_near, pairs_far}
+use Rattle.lag_ring.{specs.declared.ring.Entry.Entry, specs.declared.window.Side.Side, specs.Window.{weight_of, weight_before}, specs.Ring.IsRising, proofs.Lists.all_both, proofs.Rising.{all_weaker, all_push}, proofs.Sums.{sum_by-same, sum_by-agree, sum_by-plus, sum_by-times, sum_by-zero}}
+use Rattle.coincidence.{specs.declared.pairing.Direction.Direction, specs.declared.pairing.Direction.TheVariants.{Forward, Backward}, specs.Pairing.{shifted_by, earlier_weight, pairs_of, pairs_of_all}, specs.Closing.{earlier_side, later_side, lag_pairs}, proofs.Hits.zeros, proofs.Visits.{pairs_near, pairs_far}}
 
 -- sums over two lists in either order
 swapped : {X Y : Type 0} (f : X → Y → ℕ) (xs : List X) (ys : List Y) → sum_by (λ x. sum_by (f x) ys) xs ≡ sum_by (λ y. sum_by (λ x. f x y) xs) ys

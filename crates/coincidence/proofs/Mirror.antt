@@ -1,14 +1,9 @@
 -- Exchanged groups turn the differences.
 use Rattle.std.proofs.Common.{◌≡◌, ◌∙◌, ℕ, ◌+◌, ◌-◌, ◌*◌, ◌≤◌, Bool, ◌&&◌, leb, eqb, cond, List, [], ◌∷◌, refl, sym, arith}
-use Rattle.std.specs.List.{count_by}
-use Rattle.std.proofs.Math.Nat.{div-one}
-use Rattle.std.proofs.lemmas.Grind.{common_steps}
+use Rattle.std.{specs.List.count_by, proofs.Math.Nat.div-one, proofs.lemmas.Grind.common_steps}
 use Rattle.lag_ring.proofs.Sums.{sum_by-same}
-use Rattle.tally_base.specs.Settings.{CoincidenceView}
-use Rattle.tally_base.specs.Tally.{History}
-use Rattle.coincidence.specs.Pairs.{in_first, in_second, is_in_cell, is_coincidence, coincidences, exchanged}
-use Rattle.coincidence.proofs.Hits.{pairs_in}
-use Rattle.coincidence.proofs.Apart.{pairs_apart-in}
+use Rattle.tally_base.{specs.Settings.CoincidenceView, specs.Tally.History}
+use Rattle.coincidence.{specs.Pairs.{in_first, in_second, is_in_cell, is_coincidence, coincidences, exchanged}, proofs.Hits.pairs_in, proofs.Apart.pairs_apart-in}
 
 -- the same pairs, from their second elements
 turned : {X : Type 0} (r s : X → X → Bool) → ((x y : X) → r x y ≡ s y x) → (xs : List X) → pairs_in r xs ≡ pairs_in s xs

@@ -1,11 +1,6 @@
 -- One more item, and the neighbours.
-use Rattle.std.proofs.Common.{◌≡◌, ◌∙◌, ◌+◌, Bool, cond, List, [], ◌∷◌, ◌++◌, refl, ap, arith}
-use Rattle.std.specs.declared.option.Option.{Option}
-use Rattle.std.specs.Prelude.{None, Some, count_by}
-use Rattle.std.specs.List.{last_or}
-use Rattle.std.specs.Option.{option_map_or}
-use Rattle.std.proofs.lemmas.List.{append-nil}
-use Rattle.std.proofs.lemmas.List.Sums.{sum_by_push}
+use Rattle.std.proofs.Common.{◌≡◌, ◌∙◌, ◌+◌, Bool, cond, List, [], ◌∷◌, ◌++◌, refl, ap, arith, None, Some, count_by}
+use Rattle.std.{specs.declared.option.Option.Option, specs.List.last_or, specs.Option.option_map_or, proofs.lemmas.List.append-nil, proofs.lemmas.List.Sums.sum_by_push}
 use Rattle.coincidence.specs.Intervals.{neighbours}
 
 -- the pair of a last item, if there is one, and the item behind it

@@ -1,16 +1,9 @@
 -- The photons of the two groups make all the pairs.
 use Rattle.std.proofs.Common.{◌≡◌, ℕ, ◌<◌, Bool, true, false, cond, List, [], ◌∷◌, get_or, refl, sym, ◌∙◌, arith}
-use Rattle.std.specs.List.{count_by, filter}
-use Rattle.std.proofs.lemmas.Bool.{false≢true}
+use Rattle.std.{specs.List.{count_by, filter}, proofs.lemmas.Bool.false≢true}
 use Rattle.lag_ring.proofs.Sums.{sum_by-same, sum_by-filter}
-use Rattle.tally_base.specs.Settings.{CoincidenceView, coincidence_cells}
-use Rattle.tally_base.specs.Tally.{History}
-use Rattle.coincidence.specs.declared.pairing.Pairing.{Pairing}
-use Rattle.coincidence.specs.Pairs.{is_coincidence, coincidences, photons_of_groups}
-use Rattle.coincidence.specs.StandsFor.{StandsFor}
-use Rattle.coincidence.proofs.Gives.{mine}
-use Rattle.coincidence.proofs.Hits.{pairs_in, zeros}
-use Rattle.coincidence.proofs.Apart.{pairs_apart-in}
+use Rattle.tally_base.{specs.Settings.{CoincidenceView, coincidence_cells}, specs.Tally.History}
+use Rattle.coincidence.{specs.declared.pairing.Pairing.Pairing, specs.Pairs.{is_coincidence, coincidences, photons_of_groups}, specs.StandsFor.StandsFor, proofs.Gives.mine, proofs.Hits.{pairs_in, zeros}, proofs.Apart.pairs_apart-in}
 
 module _ {X : Type 0} (p : X → Bool) (r : X → X → Bool) (left : (x y : X) → p x ≡ false → r x y ≡ false) (right : (x y : X) → p y ≡ false → r x y ≡ false) where
   kept : (s : X → Bool) → ((y : X) → p y ≡ false → s y ≡ false) → (xs : List X) → count_by s (filter p xs) ≡ count_by s xs

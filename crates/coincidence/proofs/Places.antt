@@ -1,18 +1,8 @@
 -- The neighbours are the pairs of places.
-use Rattle.std.proofs.Common.{◌≡◌, ◌∙◌, ℕ, zero, suc, ◌+◌, ◌-◌, Bool, true, false, ◌&&◌, ◌||◌, not, cond, List, [], ◌∷◌, length, take, refl, ap, arith, rules, tests}
-use Rattle.std.specs.declared.option.Option.{Option}
-use Rattle.std.specs.Prelude.{None, Some, nat_lt, count_by, sum_by}
-use Rattle.std.specs.List.{list_any, range_with_len, slice_get}
-use Rattle.std.specs.Option.{option_map_or}
-use Rattle.std.proofs.Math.Numerals.{add-one}
-use Rattle.std.proofs.lemmas.List.Sums.{sum_by-cons}
-use Rattle.tally_base.specs.declared.event.Event.{Event}
-use Rattle.tally_base.specs.Events.{is_photon, is_in}
-use Rattle.tally_base.specs.Settings.{StartStopView}
-use Rattle.tally_base.specs.Tally.{History}
-use Rattle.coincidence.specs.Intervals.{neighbours, is_of_either, photons_of_either, is_interval, count_intervals}
-use Rattle.coincidence.specs.Places.{places, is_clear_between, are_ends, is_pair, count_pairs}
-use Rattle.coincidence.proofs.Intervals.{one_if}
+use Rattle.std.proofs.Common.{◌≡◌, ◌∙◌, ℕ, zero, suc, ◌+◌, ◌-◌, Bool, true, false, ◌&&◌, ◌||◌, not, cond, List, [], ◌∷◌, length, take, refl, ap, arith, rules, tests, None, Some, nat_lt, count_by, sum_by}
+use Rattle.std.{specs.declared.option.Option.Option, specs.List.{list_any, range_with_len, slice_get}, specs.Option.option_map_or, proofs.Math.Numerals.add-one, proofs.lemmas.List.Sums.sum_by-cons}
+use Rattle.tally_base.{specs.declared.event.Event.Event, specs.Events.{is_photon, is_in}, specs.Settings.StartStopView, specs.Tally.History}
+use Rattle.coincidence.{specs.Intervals.{neighbours, is_of_either, photons_of_either, is_interval, count_intervals}, specs.Places.{places, is_clear_between, are_ends, is_pair, count_pairs}, proofs.Intervals.one_if}
 
 sum-shift : (f : ℕ → ℕ) (a n : ℕ) → sum_by f (range_with_len (a + 1) n) ≡ sum_by (λ i. f (suc i)) (range_with_len a n)
 sum-shift f a zero = refl

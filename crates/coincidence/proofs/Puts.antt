@@ -1,15 +1,9 @@
 -- What photons that come do to the bins.
 use Rattle.std.proofs.Common.{◌≡◌, ◌≢◌, ◌+◌, ◌<◌, ◌≤◌, Some, ◌++◌, length, sym, arith, length-append, append_assoc}
-use Rattle.std.specs.List.{AllByRecursion}
-use Rattle.std.proofs.lemmas.List.Sums.{sum_by-append}
-use Rattle.tally_base.specs.Settings.{CoincidenceView}
-use Rattle.tally_base.specs.Tally.{History}
-use Rattle.tally_base.specs.Limits.{record_limit}
-use Rattle.lag_ring.proofs.Rising.{all_weaker}
-use Rattle.lag_ring.proofs.Lists.{all_back, all_join, of_some}
-use Rattle.coincidence.specs.declared.pairing.Bin.{Bin}
-use Rattle.coincidence.specs.declared.pairing.Pairing.{Pairing}
-use Rattle.coincidence.specs.Pairing.{joined, BinIs, PairingIs, CanShut, CanPut, CanEnd, Came}
+use Rattle.std.{specs.List.AllByRecursion, proofs.lemmas.List.Sums.sum_by-append}
+use Rattle.tally_base.{specs.Settings.CoincidenceView, specs.Tally.History, specs.Limits.record_limit}
+use Rattle.lag_ring.{proofs.Rising.all_weaker, proofs.Lists.{all_back, all_join, of_some}}
+use Rattle.coincidence.{specs.declared.pairing.Bin.Bin, specs.declared.pairing.Pairing.Pairing, specs.Pairing.{joined, BinIs, PairingIs, CanShut, CanPut, CanEnd, Came}}
 
 module _ (set : CoincidenceView) where
   -- two runs of photons of one tick

@@ -1,26 +1,9 @@
 -- What a bin brings when it is closed.
 use Rattle.std.proofs.Common.{◌≡◌, ℕ, ◌+◌, ◌-◌, ◌*◌, ◌/◌, ◌^◌, ◌<◌, ◌≤◌, Bool, true, false, ◌&&◌, leb, eqb, cond, List, [], ◌∷◌, ◌++◌, length, get_or, refl, sym, ◌∙◌, arith, length-append}
-use Rattle.std.specs.List.{sum_by, filter, AllByRecursion}
-use Rattle.std.proofs.Math.Nat.{mul-le-mul, mul-le-mul_right}
-use Rattle.std.proofs.lemmas.Grind.{common_steps}
-use Rattle.tally_base.specs.Settings.{CoincidenceView, coincidence_cells}
-use Rattle.tally_base.specs.Tally.{History}
-use Rattle.tally_base.specs.Limits.{record_limit}
-use Rattle.lag_ring.specs.declared.ring.Entry.{Entry}
-use Rattle.lag_ring.specs.Cells.{Cells}
-use Rattle.lag_ring.specs.Ring.{Ring, ring, IsRising}
-use Rattle.lag_ring.specs.Kept.{weight_where, IsInReach}
-use Rattle.lag_ring.proofs.Kept.{room_after, kept_after}
-use Rattle.lag_ring.proofs.Rising.{all_weaker}
-use Rattle.lag_ring.proofs.Sums.{sum_by-same, sum_by-times, sum_by-zero}
-use Rattle.coincidence.specs.declared.pairing.Bin.{Bin}
-use Rattle.coincidence.specs.declared.pairing.Direction.{Direction}
-use Rattle.coincidence.specs.declared.pairing.Direction.TheVariants.{Forward, Backward}
-use Rattle.coincidence.specs.Pairs.{in_first, in_second, is_in_cell, is_coincidence, coincidences}
-use Rattle.coincidence.specs.Pairing.{pairs_of, pairs_of_all, pairs_with, bin_pairs, RingIs, CellsAre, CanKeep, CanShut}
-use Rattle.coincidence.proofs.Hits.{pairs_in, hits-append, pairs_in-one, pairs_in-le}
-use Rattle.coincidence.proofs.Apart.{pairs_apart-in}
-use Rattle.coincidence.proofs.Visits.{pairs_far}
+use Rattle.std.{specs.List.{sum_by, filter, AllByRecursion}, proofs.Math.Nat.{mul-le-mul, mul-le-mul_right}, proofs.lemmas.Grind.common_steps}
+use Rattle.tally_base.{specs.Settings.{CoincidenceView, coincidence_cells}, specs.Tally.History, specs.Limits.record_limit}
+use Rattle.lag_ring.{specs.declared.ring.Entry.Entry, specs.Cells.Cells, specs.Ring.{Ring, ring, IsRising}, specs.Kept.{weight_where, IsInReach}, proofs.Kept.{room_after, kept_after}, proofs.Rising.all_weaker, proofs.Sums.{sum_by-same, sum_by-times, sum_by-zero}}
+use Rattle.coincidence.{specs.declared.pairing.Bin.Bin, specs.declared.pairing.Direction.Direction, specs.declared.pairing.Direction.TheVariants.{Forward, Backward}, specs.Pairs.{in_first, in_second, is_in_cell, is_coincidence, coincidences}, specs.Pairing.{pairs_of, pairs_of_all, pairs_with, bin_pairs, RingIs, CellsAre, CanKeep, CanShut}, proofs.Hits.{pairs_in, hits-append, pairs_in-one, pairs_in-le}, proofs.Apart.pairs_apart-in, proofs.Visits.pairs_far}
 
 scaled : (b : Bool) (n w : ℕ) → cond b (n * w) 0 ≡ cond b n 0 * w
 scaled true n w = refl

@@ -1,17 +1,9 @@
 -- Bins that are closed one after another, or together.
 use Rattle.std.proofs.Common.{◌≡◌, ◌∙◌, ℕ, ◌+◌, ◌<◌, List, [], ◌∷◌, ◌++◌, length, get_or, drop, sym, ap, arith, add-one, drop-cons, append_assoc, length-append}
 use Rattle.std.specs.List.{sum_by, range_with_len}
-use Rattle.tally_base.specs.Settings.{CoincidenceView}
-use Rattle.tally_base.specs.Tally.{History}
-use Rattle.lag_ring.specs.declared.ring.Entry.{Entry}
-use Rattle.lag_ring.specs.Cells.{Cells}
-use Rattle.lag_ring.specs.Ring.{Ring}
-use Rattle.coincidence.specs.declared.pairing.Bin.{Bin}
-use Rattle.coincidence.specs.declared.pairing.Direction.TheVariants.{Forward, Backward}
-use Rattle.coincidence.specs.Pairing.{bin_pairs, RingIs, CellsAre, CanKeep, CanShut}
-use Rattle.coincidence.specs.Closing.{weights_in, all_pairs, lag_pairs, BinsAre, CanKeepAll, CanShutAll}
-use Rattle.coincidence.proofs.Chain.{bins_rising, bins_above, all_parts}
-use Rattle.coincidence.proofs.LagPairs.{lags_in_turn}
+use Rattle.tally_base.{specs.Settings.CoincidenceView, specs.Tally.History}
+use Rattle.lag_ring.{specs.declared.ring.Entry.Entry, specs.Cells.Cells, specs.Ring.Ring}
+use Rattle.coincidence.{specs.declared.pairing.Bin.Bin, specs.declared.pairing.Direction.TheVariants.{Forward, Backward}, specs.Pairing.{bin_pairs, RingIs, CellsAre, CanKeep, CanShut}, specs.Closing.{weights_in, all_pairs, lag_pairs, BinsAre, CanKeepAll, CanShutAll}, proofs.Chain.{bins_rising, bins_above, all_parts}, proofs.LagPairs.lags_in_turn}
 
 module _ (set : CoincidenceView) (r : Ring) (bins : List Bin) (i : ℕ) (d : Bin) (closed rest : History) (inside : i < length bins) where
   cons : drop i bins ≡ get_or bins i d ∷ drop (i + 1) bins

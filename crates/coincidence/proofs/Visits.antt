@@ -1,13 +1,9 @@
 -- One entry more in the loops over a ring.
 use Rattle.std.proofs.Common.{false, ◌≡◌, ℕ, ◌+◌, ◌-◌, ◌*◌, ◌/◌, ◌<◌, ◌≤◌, true, eqb, leb, cond, List, [], ◌∷◌, refl, arith}
-use Rattle.std.proofs.lemmas.Grind.{common_steps}
-use Rattle.std.proofs.lemmas.List.Sums.{sum_by-cons}
+use Rattle.std.{proofs.lemmas.Grind.common_steps, proofs.lemmas.List.Sums.sum_by-cons}
 use Rattle.tally_base.specs.Settings.{CoincidenceView}
 use Rattle.lag_ring.specs.declared.ring.Entry.{Entry}
-use Rattle.coincidence.specs.declared.pairing.Direction.{Direction}
-use Rattle.coincidence.specs.declared.pairing.Direction.TheVariants.{Forward, Backward}
-use Rattle.coincidence.specs.Pairs.{is_in_cell}
-use Rattle.coincidence.specs.Pairing.{shifted_by, earlier_weight, pairs_of, pairs_of_all}
+use Rattle.coincidence.{specs.declared.pairing.Direction.Direction, specs.declared.pairing.Direction.TheVariants.{Forward, Backward}, specs.Pairs.is_in_cell, specs.Pairing.{shifted_by, earlier_weight, pairs_of, pairs_of_all}}
 
 module _ (set : CoincidenceView) (index : ℕ) (earlier : Entry) (after : earlier.index < index) (near : index - earlier.index ≤ set.reach) where
   in_forward : (c : ℕ) → is_in_cell set c earlier.index index ≡ eqb ((set.reach + (index - earlier.index)) / set.width) c

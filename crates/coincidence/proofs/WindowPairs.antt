@@ -1,19 +1,9 @@
 -- Pairs in windows.
 use Rattle.std.proofs.Common.{◌≡◌, ◌∙◌, ℕ, zero, suc, ◌+◌, ◌-◌, ◌*◌, ◌/◌, ◌^◌, ◌<◌, ◌≤◌, true, ltb, eqb, cond, List, ◌∷◌, ◌++◌, length, get_or, refl, sym, ap, arith}
-use Rattle.std.specs.List.{sum_by, filter, range_with_len, AllByRecursion}
-use Rattle.std.proofs.lemmas.Bool.Decides.{nat_tests}
-use Rattle.std.proofs.lemmas.List.Sums.{sum_by-append, sum_by_push, sum_by-le-sum_by}
+use Rattle.std.{specs.List.{sum_by, filter, range_with_len, AllByRecursion}, proofs.lemmas.Bool.Decides.nat_tests, proofs.lemmas.List.Sums.{sum_by-append, sum_by_push, sum_by-le-sum_by}}
 use Rattle.tally_base.specs.Settings.{CoincidenceView}
-use Rattle.lag_ring.specs.declared.ring.Entry.{Entry}
-use Rattle.lag_ring.specs.declared.window.Side.{Side}
-use Rattle.lag_ring.specs.Window.{weight_of, weight_before, weight_at, product_at}
-use Rattle.lag_ring.proofs.Sums.{sum_by-same, sum_by-agree, sum_by-filter}
-use Rattle.lag_ring.proofs.Windows.{window-before, part-le}
-use Rattle.coincidence.specs.declared.pairing.Direction.{Direction}
-use Rattle.coincidence.specs.declared.pairing.Direction.TheVariants.{Forward, Backward}
-use Rattle.coincidence.specs.Pairing.{shifted_by}
-use Rattle.coincidence.specs.Closing.{earlier_side, later_side, strip_pairs, window_pairs, lag_pairs, FitsWindow}
-use Rattle.coincidence.proofs.LagPairs.{range-within}
+use Rattle.lag_ring.{specs.declared.ring.Entry.Entry, specs.declared.window.Side.Side, specs.Window.{weight_of, weight_before, weight_at, product_at}, proofs.Sums.{sum_by-same, sum_by-agree, sum_by-filter}, proofs.Windows.{window-before, part-le}}
+use Rattle.coincidence.{specs.declared.pairing.Direction.Direction, specs.declared.pairing.Direction.TheVariants.{Forward, Backward}, specs.Pairing.shifted_by, specs.Closing.{earlier_side, later_side, strip_pairs, window_pairs, lag_pairs, FitsWindow}, proofs.LagPairs.range-within}
 
 -- a range and the one behind it
 pub range-append : (a m n : ℕ) → range_with_len a (m + n) ≡ range_with_len a m ++ range_with_len (a + m) n

@@ -1,12 +1,8 @@
 -- What a table of coincidences stands for.
 use Rattle.std.specs.Prelude.{ℕ, Bool, ◌+◌, is_some, length, if◌then◌else◌}
-use Rattle.tally_base.specs.declared.settings.CoincidenceSet.{CoincidenceSet}
-use Rattle.tally_base.specs.Settings.{PartSettings, coincidence_view}
-use Rattle.tally_base.specs.Settings.PartSettings.{CoincidenceSettings}
-use Rattle.tally_base.specs.Tally.{History}
+use Rattle.tally_base.{specs.declared.settings.CoincidenceSet.CoincidenceSet, specs.Settings.{PartSettings, coincidence_view}, specs.Settings.PartSettings.CoincidenceSettings, specs.Tally.History}
 use Rattle.lag_ring.specs.Cells.{Cells}
-use Rattle.coincidence.specs.declared.coincidence.Coincidence.{Coincidence}
-use Rattle.coincidence.specs.StandsFor.{StandsFor}
+use Rattle.coincidence.{specs.declared.coincidence.Coincidence.Coincidence, specs.StandsFor.StandsFor}
 
 -- what it was opened with
 abbrev pub set_of : Coincidence → CoincidenceSet

@@ -1,15 +1,9 @@
 -- What holds of every table of coincidences.
 use Rattle.std.specs.Prelude.{◌≡◌, ◌+◌, ◌≤◌, Bool, true, false, is_some, length}
 use Rattle.std.proofs.Common.{cond, arith}
-use Rattle.std.proofs.Math.Logic.{∥∥₁_elim}
-use Rattle.std.proofs.Props.{props}
-use Rattle.tally_base.specs.Settings.{CoincidenceView, coincidence_cells, entries}
-use Rattle.tally_base.specs.Tally.{History, greatest_time}
-use Rattle.coincidence.specs.declared.coincidence.Coincidence.{Coincidence}
-use Rattle.coincidence.specs.declared.pairing.Pairing.{Pairing}
-use Rattle.coincidence.specs.Coincidence.{Holds, set_of, settings, held, bins_kept}
-use Rattle.coincidence.specs.StandsFor.{HasPhotons}
-use Rattle.coincidence.specs.Pairing.{RingIs, CellsAre}
+use Rattle.std.{proofs.Math.Logic.∥∥₁_elim, proofs.Props.props}
+use Rattle.tally_base.{specs.Settings.{CoincidenceView, coincidence_cells, entries}, specs.Tally.{History, greatest_time}}
+use Rattle.coincidence.{specs.declared.coincidence.Coincidence.Coincidence, specs.declared.pairing.Pairing.Pairing, specs.Coincidence.{Holds, set_of, settings, held, bins_kept}, specs.StandsFor.HasPhotons, specs.Pairing.{RingIs, CellsAre}}
 
 pub taken_is : (t : Coincidence) (h : History) → Holds t h → t.taken ≡ length h
 taken_is t h is = is.taken

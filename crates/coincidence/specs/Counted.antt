@@ -1,10 +1,7 @@
 -- The intervals over events.
 use Rattle.std.specs.Prelude.{◌≡◌, ℕ, ◌<◌, List, slice_index}
-use Rattle.tally_base.specs.Settings.{StartStopView}
-use Rattle.tally_base.specs.Tally.{History}
-use Rattle.coincidence.specs.declared.start.Start.{Start}
-use Rattle.coincidence.specs.Intervals.{in_interval, count_over, open_start}
-use Rattle.coincidence.specs.Starts.{start_in}
+use Rattle.tally_base.{specs.Settings.StartStopView, specs.Tally.History}
+use Rattle.coincidence.{specs.declared.start.Start.Start, specs.Intervals.{in_interval, count_over, open_start}, specs.Starts.start_in}
 
 -- Each of these cells is the count over the events, and the start is the one that they leave open.
 pub record Counted (set : StartStopView) (bins : ℕ) (cells : List ℕ) (over : ℕ) (start : Start) (h : History) : Type 0 where

@@ -1,10 +1,8 @@
 -- What holds of every start-stop table.
 use Rattle.std.specs.Prelude.{◌≡◌, ◌≤◌, ◌+◌, false, length}
 use Rattle.std.proofs.Common.{rules}
-use Rattle.tally_base.specs.Settings.{entries}
-use Rattle.tally_base.specs.Tally.{History, greatest_time}
-use Rattle.coincidence.specs.declared.start_stop.StartStop.{StartStop}
-use Rattle.coincidence.specs.StartStop.{Holds, settings}
+use Rattle.tally_base.{specs.Settings.entries, specs.Tally.{History, greatest_time}}
+use Rattle.coincidence.{specs.declared.start_stop.StartStop.StartStop, specs.StartStop.{Holds, settings}}
 
 pub taken_is : (t : StartStop) (h : History) → Holds t h → t.taken ≡ length h
 taken_is t h is = is.taken

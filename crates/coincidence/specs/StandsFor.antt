@@ -1,18 +1,9 @@
 -- What the fields of a table of coincidences stand for.
 use Rattle.std.specs.Prelude.{◌≡◌, ℕ, ◌+◌, ◌<◌, ◌≤◌, Bool, true, false, IsTrue, Option, List, ◌++◌, length}
-use Rattle.tally_base.specs.declared.event.Event.{Event}
-use Rattle.tally_base.specs.Events.{is_photon}
-use Rattle.tally_base.specs.Settings.{CoincidenceView}
-use Rattle.tally_base.specs.Tally.{History, greatest_time}
-use Rattle.tally_base.specs.Limits.{record_limit}
+use Rattle.tally_base.{specs.declared.event.Event.Event, specs.Events.is_photon, specs.Settings.CoincidenceView, specs.Tally.{History, greatest_time}, specs.Limits.record_limit}
 use Rattle.event_block.specs.Order.{InOrder}
-use Rattle.lag_ring.specs.Cells.{Cells}
-use Rattle.lag_ring.specs.Ring.{Ring}
-use Rattle.coincidence.specs.declared.pairing.Bin.{Bin}
-use Rattle.coincidence.specs.declared.pairing.Pairing.{Pairing}
-use Rattle.coincidence.specs.Pairs.{photons_of_groups}
-use Rattle.coincidence.specs.Pairing.{Came, PairingDone, pairing_of}
-use Rattle.coincidence.specs.Closing.{Gathered}
+use Rattle.lag_ring.{specs.Cells.Cells, specs.Ring.Ring}
+use Rattle.coincidence.{specs.declared.pairing.Bin.Bin, specs.declared.pairing.Pairing.Pairing, specs.Pairs.photons_of_groups, specs.Pairing.{Came, PairingDone, pairing_of}, specs.Closing.Gathered}
 
 -- the photons came, and in a closed table all of them are in closed bins
 abbrev pub HasPhotons : Bool → CoincidenceView → Pairing → History → Type 0

@@ -1,12 +1,7 @@
 -- What a start-stop table stands for.
 use Rattle.std.specs.Prelude.{◌≡◌, ℕ, ◌<◌, false, slice_index, length}
-use Rattle.tally_base.specs.declared.settings.StartStopSet.{StartStopSet}
-use Rattle.tally_base.specs.Settings.{PartSettings, startstop_view}
-use Rattle.tally_base.specs.Settings.PartSettings.{StartStopSettings}
-use Rattle.tally_base.specs.Tally.{History, greatest_time}
-use Rattle.coincidence.specs.declared.start_stop.StartStop.{StartStop}
-use Rattle.coincidence.specs.Intervals.{in_interval, count_over, open_start}
-use Rattle.coincidence.specs.Starts.{start_in}
+use Rattle.tally_base.{specs.declared.settings.StartStopSet.StartStopSet, specs.Settings.{PartSettings, startstop_view}, specs.Settings.PartSettings.StartStopSettings, specs.Tally.{History, greatest_time}}
+use Rattle.coincidence.{specs.declared.start_stop.StartStop.StartStop, specs.Intervals.{in_interval, count_over, open_start}, specs.Starts.start_in}
 
 -- what it was opened with
 abbrev pub set_of : StartStop → StartStopSet

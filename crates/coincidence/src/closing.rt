@@ -1,13 +1,9 @@
 // Bins that are closed together.
 ghost use Rattle.std.specs.Prelude.{◌≡◌, ℕ, ◌+◌, ◌-◌, ◌^◌, ◌<◌, ◌≤◌, ◌++◌, [], IsTrue, length, slice_index, sum_by};
 ghost use Rattle.std.specs.List.{AllByRecursion};
-ghost use Rattle.tally_base.specs.Settings.{coincidence_view, coincidence_cells};
-ghost use Rattle.tally_base.specs.Tally.{History};
-ghost use Rattle.lag_ring.specs.Ring.{IsRising};
-ghost use Rattle.lag_ring.specs.Window.{weight_of};
-ghost use Rattle.lag_ring.specs.Cells.{Spends};
-ghost use Rattle.coincidence.specs.Pairing.{RingIs, CellsAre, bin_pairs, HasRoom, CountsMore};
-ghost use Rattle.coincidence.specs.Closing.{weights_in, BinsAre, CanKeepAll, CanShutAll, FitsWindow};
+ghost use Rattle.tally_base.{specs.Settings.{coincidence_view, coincidence_cells}, specs.Tally.History};
+ghost use Rattle.lag_ring.{specs.Ring.IsRising, specs.Window.weight_of, specs.Cells.Spends};
+ghost use Rattle.coincidence.{specs.Pairing.{RingIs, CellsAre, bin_pairs, HasRoom, CountsMore}, specs.Closing.{weights_in, BinsAre, CanKeepAll, CanShutAll, FitsWindow}};
 
 use crate::lags::{TOP, are_near, pair_lags};
 use crate::pairing::{Bin, Direction, keep, pair_inside, shut};

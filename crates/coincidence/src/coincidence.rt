@@ -1,11 +1,7 @@
 // A table of the pairs of photons of two groups by the difference of their times.
 ghost use Rattle.std.specs.Prelude.{◌≡◌, ◌+◌, ◌≤◌, [], ◌∷◌, ◌++◌, if◌then◌else◌, false};
-ghost use Rattle.tally_base.specs.Settings.{coincidence_view};
-ghost use Rattle.tally_base.specs.Tally.{History};
-ghost use Rattle.tally_base.specs.Limits.{record_limit, time_limit};
-ghost use Rattle.coincidence.specs.StandsFor.{StandsFor, CanGive};
-ghost use Rattle.coincidence.specs.Pairing.{Came};
-ghost use Rattle.coincidence.specs.Pairs.{photons_of_groups};
+ghost use Rattle.tally_base.{specs.Settings.coincidence_view, specs.Tally.History, specs.Limits.{record_limit, time_limit}};
+ghost use Rattle.coincidence.{specs.StandsFor.{StandsFor, CanGive}, specs.Pairing.Came, specs.Pairs.photons_of_groups};
 
 use crate::pairing::{Bin, Pairing, cells_of};
 use crate::taking::take_block;
@@ -34,12 +30,9 @@ pub struct Coincidence {
 
 impl Coincidence {
     ghost use Rattle.std.specs.Prelude.{◌<◌, IfOk, length, slice_index, true};
-    ghost use Rattle.tally_base.specs.Settings.{coincidence_cells};
-    ghost use Rattle.tally_base.specs.Settings.PartSettings.{CoincidenceSettings};
-    ghost use Rattle.event_block.specs.Columns.{gathered, events_in, IsSorted};
-    ghost use Rattle.event_block.specs.Tables.{MayTake, HasTaken};
-    ghost use Rattle.coincidence.specs.Coincidence.{Holds, set_of, settings, is_closed, taken_by, floor_by, cells_in, spent_by};
-    ghost use Rattle.coincidence.specs.Pairs.{coincidences};
+    ghost use Rattle.tally_base.{specs.Settings.coincidence_cells, specs.Settings.PartSettings.CoincidenceSettings};
+    ghost use Rattle.event_block.{specs.Columns.{gathered, events_in, IsSorted}, specs.Tables.{MayTake, HasTaken}};
+    ghost use Rattle.coincidence.{specs.Coincidence.{Holds, set_of, settings, is_closed, taken_by, floor_by, cells_in, spent_by}, specs.Pairs.coincidences};
 
     /// A table of no events, with all the memory that it ever takes, or `AllocError` where it is wanting.
     pub fn open(alloc: Global, set: CoincidenceSet) -> Result<Coincidence, AllocError>
@@ -128,8 +121,7 @@ fn put_photon<L: Ledger>(
 impl Tally for Coincidence {
     ghost use Rattle.std.specs.Prelude.{◌≡◌, ◌+◌, ◌<◌, ◌≤◌, ◌++◌, ◌∷◌, [], true, false, IsTrue, if◌then◌else◌};
     ghost use Rattle.tally_base.specs.Tally.{moves_floor};
-    ghost use Rattle.coincidence.specs.Coincidence.{Holds, set_of, settings, is_closed, taken_by, floor_by, held, spent_by};
-    ghost use Rattle.coincidence.specs.CoincidenceLaws.{taken_is, floor_is, within_bound};
+    ghost use Rattle.coincidence.{specs.Coincidence.{Holds, set_of, settings, is_closed, taken_by, floor_by, held, spent_by}, specs.CoincidenceLaws.{taken_is, floor_is, within_bound}};
 
     ghost holds = { Holds };
 

@@ -1,12 +1,8 @@
 // The intervals that the photons of a block end.
 ghost use Rattle.std.specs.Prelude.{◌≡◌, ◌+◌, ◌/◌, ◌^◌, ◌<◌, ◌≤◌, ◌++◌, ◌==◌, ℕ, false, length, nat_le, slice_index, sum, if◌then◌else◌};
-ghost use Rattle.tally_base.specs.Settings.{startstop_view};
-ghost use Rattle.tally_base.specs.Tally.{History};
-ghost use Rattle.tally_base.specs.Limits.{record_limit};
-ghost use Rattle.event_block.specs.Columns.{gathered, events_in, IsSorted};
-ghost use Rattle.event_block.specs.Order.{floor_after, InOrder};
-ghost use Rattle.coincidence.specs.Counted.{Counted};
-ghost use Rattle.coincidence.specs.Starts.{since_in};
+ghost use Rattle.tally_base.{specs.Settings.startstop_view, specs.Tally.History, specs.Limits.record_limit};
+ghost use Rattle.event_block.{specs.Columns.{gathered, events_in, IsSorted}, specs.Order.{floor_after, InOrder}};
+ghost use Rattle.coincidence.{specs.Counted.Counted, specs.Starts.since_in};
 
 use crate::start::{Start, ended, start_behind};
 use event_block::{BLOCK_SIZE, Block};

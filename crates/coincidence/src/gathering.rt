@@ -1,14 +1,10 @@
 // Bins that the photons of a block close.
 ghost use Rattle.std.specs.Prelude.{◌≡◌, ◌+◌, ◌<◌, ◌≤◌, ◌++◌, []};
-ghost use Rattle.tally_base.specs.Settings.{CoincidenceView, coincidence_view};
-ghost use Rattle.tally_base.specs.Tally.{History};
-ghost use Rattle.lag_ring.specs.Cells.{Cells};
-ghost use Rattle.lag_ring.specs.Ring.{Ring};
+ghost use Rattle.tally_base.{specs.Settings.{CoincidenceView, coincidence_view}, specs.Tally.History};
+ghost use Rattle.lag_ring.{specs.Cells.Cells, specs.Ring.Ring};
 ghost use Rattle.arrayvec.specs.ArrayVec.{array_vec_len};
 ghost use Rattle.event_block.specs.Columns.{gathered, events_in, IsSorted};
-ghost use Rattle.coincidence.specs.StandsFor.{CanTake, Gathers};
-ghost use Rattle.coincidence.specs.Pairing.{pairing_of};
-ghost use Rattle.coincidence.specs.Closing.{Gathered, CanGather};
+ghost use Rattle.coincidence.{specs.StandsFor.{CanTake, Gathers}, specs.Pairing.pairing_of, specs.Closing.{Gathered, CanGather}};
 
 use crate::pairing::Bin;
 use arrayvec::ArrayVec;

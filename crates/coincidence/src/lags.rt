@@ -2,10 +2,8 @@
 ghost use Rattle.std.specs.Prelude.{◌≡◌, ℕ, ◌+◌, ◌-◌, ◌%◌, ◌^◌, ◌<◌, ◌≤◌, ◌++◌, IsTrue, filter, length, nat_lt, slice_index, sum_by};
 ghost use Rattle.std.specs.List.{AllByRecursion};
 ghost use Rattle.tally_base.specs.Settings.{coincidence_view, coincidence_cells};
-ghost use Rattle.lag_ring.specs.Window.{weight_of, weight_at, ServesLater};
-ghost use Rattle.lag_ring.specs.Cells.{Spends};
-ghost use Rattle.coincidence.specs.Pairing.{HasRoom, CountsMore};
-ghost use Rattle.coincidence.specs.Closing.{earlier_side, later_side, strip_sum, window_sum, lag_sum, FitsWindow};
+ghost use Rattle.lag_ring.{specs.Window.{weight_of, weight_at, ServesLater}, specs.Cells.Spends};
+ghost use Rattle.coincidence.{specs.Pairing.{HasRoom, CountsMore}, specs.Closing.{earlier_side, later_side, strip_sum, window_sum, lag_sum, FitsWindow}};
 
 use crate::pairing::{Direction, add_pairs};
 use arrayvec::ArrayVec;

@@ -1,8 +1,7 @@
 // The bins of a table of coincidences, the ring of the last closed ones, and the cells.
 ghost use Rattle.std.specs.Prelude.{◌≡◌, ℕ, ◌+◌, ◌-◌, ◌*◌, ◌/◌, ◌^◌, ◌<◌, ◌≤◌, [], ◌++◌, length, slice_index, if◌then◌else◌, ◌==◌, nat_le};
 ghost use Rattle.std.specs.List.{AllByRecursion};
-ghost use Rattle.tally_base.specs.Settings.{coincidence_view, coincidence_cells};
-ghost use Rattle.tally_base.specs.Tally.{History};
+ghost use Rattle.tally_base.{specs.Settings.{coincidence_view, coincidence_cells}, specs.Tally.History};
 ghost use Rattle.lag_ring.specs.Cells.{Spends};
 ghost use Rattle.coincidence.specs.Pairing.{pairs_of, pairs_of_all, pairs_with, bin_pairs, pairing_of, RingIs, CellsAre, CanKeep, CanShut, CanPut, Puts, HasRoom, CountsMore};
 

@@ -1,8 +1,7 @@
 // A table of the times from a photon of one group to the next of another.
 ghost use Rattle.std.specs.Prelude.{◌≡◌, ◌+◌, ◌≤◌, vec_len, sum};
 ghost use Rattle.coincidence.specs.Starts.{since_in};
-ghost use Rattle.tally_base.specs.Tally.{History};
-ghost use Rattle.tally_base.specs.Limits.{record_limit};
+ghost use Rattle.tally_base.{specs.Tally.History, specs.Limits.record_limit};
 
 use crate::counting::{bin_of, count_block, put};
 use crate::start::{Start, ended, no_start, start_behind};
@@ -34,12 +33,9 @@ pub struct StartStop {
 
 impl StartStop {
     ghost use Rattle.std.specs.Prelude.{◌<◌, ◌++◌, length, IfOk, [], false};
-    ghost use Rattle.event_block.specs.Columns.{gathered, events_in, IsSorted};
-    ghost use Rattle.event_block.specs.Tables.{MayTake, HasTaken};
-    ghost use Rattle.tally_base.specs.Settings.{startstop_view};
-    ghost use Rattle.tally_base.specs.Settings.PartSettings.{StartStopSettings};
-    ghost use Rattle.coincidence.specs.Intervals.{in_interval, count_over};
-    ghost use Rattle.coincidence.specs.StartStop.{Holds, set_of};
+    ghost use Rattle.event_block.{specs.Columns.{gathered, events_in, IsSorted}, specs.Tables.{MayTake, HasTaken}};
+    ghost use Rattle.tally_base.{specs.Settings.startstop_view, specs.Settings.PartSettings.StartStopSettings};
+    ghost use Rattle.coincidence.{specs.Intervals.{in_interval, count_over}, specs.StartStop.{Holds, set_of}};
 
     /// A table of no events, with all the memory that it ever takes.
     pub fn open(alloc: Global, set: StartStopSet) -> Result<StartStop, AllocError>
@@ -105,8 +101,7 @@ impl StartStop {
 
 impl Tally for StartStop {
     ghost use Rattle.std.specs.Prelude.{◌+◌, length};
-    ghost use Rattle.coincidence.specs.StartStop.{Holds, settings};
-    ghost use Rattle.coincidence.specs.Laws.{taken_is, floor_is, within_bound};
+    ghost use Rattle.coincidence.{specs.StartStop.{Holds, settings}, specs.Laws.{taken_is, floor_is, within_bound}};
 
     ghost holds = { Holds };
 

@@ -1,7 +1,6 @@
 // The photons of a block, for a table of coincidences.
 ghost use Rattle.std.specs.Prelude.{◌≡◌, ◌+◌};
-ghost use Rattle.tally_base.specs.Settings.{coincidence_view};
-ghost use Rattle.tally_base.specs.Tally.{History};
+ghost use Rattle.tally_base.{specs.Settings.coincidence_view, specs.Tally.History};
 ghost use Rattle.event_block.specs.Columns.{gathered, events_in, IsSorted};
 ghost use Rattle.coincidence.specs.StandsFor.{CanTake, TakesOn};
 

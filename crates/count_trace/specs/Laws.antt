@@ -1,10 +1,8 @@
 -- What holds of every trace.
 use Rattle.std.specs.Prelude.{◌≡◌, ◌≤◌, ◌+◌, false, length}
 use Rattle.std.proofs.Common.{rules}
-use Rattle.tally_base.specs.Settings.{entries}
-use Rattle.tally_base.specs.Tally.{History, greatest_time}
-use Rattle.count_trace.specs.declared.trace.Trace.{Trace}
-use Rattle.count_trace.specs.Trace.{Holds, settings}
+use Rattle.tally_base.{specs.Settings.entries, specs.Tally.{History, greatest_time}}
+use Rattle.count_trace.{specs.declared.trace.Trace.Trace, specs.Trace.{Holds, settings}}
 
 pub taken_is : (t : Trace) (h : History) → Holds t h → t.taken ≡ length h
 taken_is t h is = is.taken

@@ -1,11 +1,7 @@
 -- What a trace stands for.
 use Rattle.std.specs.Prelude.{◌≡◌, ℕ, ◌<◌, false, slice_index, length}
-use Rattle.tally_base.specs.declared.settings.TraceSet.{TraceSet}
-use Rattle.tally_base.specs.Settings.{PartSettings, trace_view}
-use Rattle.tally_base.specs.Settings.PartSettings.{TraceSettings}
-use Rattle.tally_base.specs.Tally.{History, greatest_time}
-use Rattle.count_trace.specs.declared.trace.Trace.{Trace}
-use Rattle.count_trace.specs.TraceCounts.{in_trace_bin, count_before, count_beyond}
+use Rattle.tally_base.{specs.declared.settings.TraceSet.TraceSet, specs.Settings.{PartSettings, trace_view}, specs.Settings.PartSettings.TraceSettings, specs.Tally.{History, greatest_time}}
+use Rattle.count_trace.{specs.declared.trace.Trace.Trace, specs.TraceCounts.{in_trace_bin, count_before, count_beyond}}
 
 -- what it was opened with
 abbrev pub set_of : Trace → TraceSet

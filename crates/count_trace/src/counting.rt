@@ -1,7 +1,6 @@
 // The photons of a block, counted by their times.
 ghost use Rattle.std.specs.Prelude.{◌≡◌, ◌+◌, ◌*◌, ◌^◌, ◌<◌, ◌≤◌, ◌==◌, ℕ, length, nat_le, slice_index, sum, if◌then◌else◌};
-ghost use Rattle.tally_base.specs.Settings.{trace_view};
-ghost use Rattle.tally_base.specs.Limits.{record_limit};
+ghost use Rattle.tally_base.{specs.Settings.trace_view, specs.Limits.record_limit};
 ghost use Rattle.event_block.specs.Columns.{gathered, events_in, IsSorted};
 ghost use Rattle.count_trace.specs.TraceCounts.{in_trace_bin, count_before, count_beyond};
 

@@ -1,7 +1,6 @@
 // A trace of photons over the time of the file.
 ghost use Rattle.std.specs.Prelude.{◌≡◌, ◌+◌, ◌*◌, ◌≤◌, vec_len, sum};
-ghost use Rattle.tally_base.specs.Tally.{History};
-ghost use Rattle.tally_base.specs.Limits.{record_limit};
+ghost use Rattle.tally_base.{specs.Tally.History, specs.Limits.record_limit};
 
 use crate::bin::Bin;
 use crate::counting::{Outside, count_block};
@@ -32,12 +31,9 @@ pub struct Trace {
 
 impl Trace {
     ghost use Rattle.std.specs.Prelude.{◌<◌, ◌++◌, length, IfOk, [], false};
-    ghost use Rattle.event_block.specs.Columns.{gathered, events_in, IsSorted};
-    ghost use Rattle.event_block.specs.Tables.{MayTake, HasTaken};
-    ghost use Rattle.tally_base.specs.Settings.{trace_view};
-    ghost use Rattle.tally_base.specs.Settings.PartSettings.{TraceSettings};
-    ghost use Rattle.count_trace.specs.TraceCounts.{in_trace_bin, count_before, count_beyond};
-    ghost use Rattle.count_trace.specs.Trace.{Holds, set_of};
+    ghost use Rattle.event_block.{specs.Columns.{gathered, events_in, IsSorted}, specs.Tables.{MayTake, HasTaken}};
+    ghost use Rattle.tally_base.{specs.Settings.trace_view, specs.Settings.PartSettings.TraceSettings};
+    ghost use Rattle.count_trace.{specs.TraceCounts.{in_trace_bin, count_before, count_beyond}, specs.Trace.{Holds, set_of}};
 
     /// A trace of no events, with all the memory that it ever takes, or `AllocError` where it is wanting.
     pub fn open(alloc: Global, set: TraceSet) -> Result<Trace, AllocError>
@@ -122,8 +118,7 @@ impl Trace {
 
 impl Tally for Trace {
     ghost use Rattle.std.specs.Prelude.{◌+◌, length};
-    ghost use Rattle.count_trace.specs.Trace.{Holds, settings};
-    ghost use Rattle.count_trace.specs.Laws.{taken_is, floor_is, within_bound};
+    ghost use Rattle.count_trace.{specs.Trace.{Holds, settings}, specs.Laws.{taken_is, floor_is, within_bound}};
 
     ghost holds = { Holds };
 

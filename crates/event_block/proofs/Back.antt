@@ -1,13 +1,7 @@
 -- The last row of a block, and the floor.
-use Rattle.std.proofs.Common.{◌≡◌, ◌∙◌, ℕ, ◌+◌, ◌-◌, ◌<◌, Bool, true, false, ◌||◌, ap, refl, arith}
-use Rattle.std.specs.Prelude.{nat_lt, if◌then◌else◌, slice_index}
-use Rattle.tally_base.specs.declared.event.EventKind.TheVariants.{Photon, Marker}
-use Rattle.tally_base.specs.Events.{is_photon_kind}
-use Rattle.tally_base.specs.Tally.{moves_floor}
-use Rattle.event_block.specs.Columns.{rows, event_at, code_at, dtime_at}
-use Rattle.event_block.specs.declared.block.Block.{Block}
-use Rattle.event_block.specs.Order.{floor_after}
-use Rattle.event_block.proofs.Order.{floor-more}
+use Rattle.std.proofs.Common.{◌≡◌, ◌∙◌, ℕ, ◌+◌, ◌-◌, ◌<◌, Bool, true, false, ◌||◌, ap, refl, arith, nat_lt, if◌then◌else◌, slice_index}
+use Rattle.tally_base.{specs.declared.event.EventKind.TheVariants.{Photon, Marker}, specs.Events.is_photon_kind, specs.Tally.moves_floor}
+use Rattle.event_block.{specs.Columns.{rows, event_at, code_at, dtime_at}, specs.declared.block.Block.Block, specs.Order.floor_after, proofs.Order.floor-more}
 
 photon_if : (b : Bool) (input dtime bits : ℕ) → is_photon_kind (if b then Photon input dtime else Marker bits) ≡ b
 photon_if true input dtime bits = refl

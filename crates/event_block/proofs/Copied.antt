@@ -2,8 +2,7 @@
 use Rattle.std.proofs.Common.{◌≡◌, ◌∙◌, ℕ, zero, suc, ◌+◌, ◌<◌, ◌≤◌, List, ◌∷◌, [], ◌++◌, length, get_or, take, ap, refl, sym, arith, append_assoc, append-nil, length-take-le, get_or-take, get_or-append-add}
 use lib.ListN.{get_or-append}
 use borrow.Rule.Slice.PartMut.{post_of, put_mid}
-use Rattle.event_block.specs.Columns.{row, rows}
-use Rattle.event_block.proofs.Rows.{more_rows, same-rows}
+use Rattle.event_block.{specs.Columns.{row, rows}, proofs.Rows.{more_rows, same-rows}}
 
 -- a column before the part that is written, and in it
 before-part : (a k : ℕ) (xs ys : List ℕ) (i : ℕ) → i < a → a ≤ length xs → get_or (put_mid a k xs ys) i 0 ≡ get_or xs i 0

@@ -1,12 +1,8 @@
 -- The greatest time of events in order is that of the last.
-use Rattle.std.proofs.Common.{◌≡◌, ◌∙◌, ℕ, zero, suc, ◌≤◌, Bool, true, false, max, [], ◌∷◌, ◌++◌, ap, sym, refl, arith, append-nil, append_assoc}
-use Rattle.std.specs.Prelude.{IsTrue, if◌then◌else◌}
+use Rattle.std.proofs.Common.{◌≡◌, ◌∙◌, ℕ, zero, suc, ◌≤◌, Bool, true, false, max, [], ◌∷◌, ◌++◌, ap, sym, refl, arith, append-nil, append_assoc, IsTrue, if◌then◌else◌}
 use Rattle.std.proofs.lemmas.List.Sums.{fold-append}
-use Rattle.tally_base.specs.declared.event.Event.{Event}
-use Rattle.tally_base.specs.Tally.{History, moves_floor, greatest_time}
-use Rattle.event_block.specs.Columns.{rows}
-use Rattle.event_block.specs.Order.{floor_after, InOrder}
-use Rattle.event_block.proofs.Order.{floor-push, order-front, order-last}
+use Rattle.tally_base.{specs.declared.event.Event.Event, specs.Tally.{History, moves_floor, greatest_time}}
+use Rattle.event_block.{specs.Columns.rows, specs.Order.{floor_after, InOrder}, proofs.Order.{floor-push, order-front, order-last}}
 
 later : (b : Bool) (floor time : ℕ) → (IsTrue b → floor ≤ time) → (if b then max floor time else floor) ≡ (if b then time else floor)
 later true floor time order = let h : floor ≤ time = order refl in omega (arith, h)

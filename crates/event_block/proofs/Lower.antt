@@ -1,8 +1,6 @@
 -- Events in order behind a floor are in order behind a lower one.
-use Rattle.std.proofs.Common.{◌≡◌, ℕ, ◌≤◌, Bool, true, false, List, [], ◌∷◌, refl, arith}
-use Rattle.std.specs.Prelude.{IsTrue, if◌then◌else◌}
-use Rattle.tally_base.specs.declared.event.Event.{Event}
-use Rattle.tally_base.specs.Tally.{moves_floor}
+use Rattle.std.proofs.Common.{◌≡◌, ℕ, ◌≤◌, Bool, true, false, List, [], ◌∷◌, refl, arith, IsTrue, if◌then◌else◌}
+use Rattle.tally_base.{specs.declared.event.Event.Event, specs.Tally.moves_floor}
 use Rattle.event_block.specs.Order.{floor_after, InOrder}
 
 lower : (b : Bool) (low floor time : ℕ) → low ≤ floor → (if b then time else low) ≤ (if b then time else floor)

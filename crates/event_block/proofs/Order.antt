@@ -1,12 +1,7 @@
 -- Events in order, one by one.
-use Rattle.std.proofs.Common.{◌≡◌, ◌∙◌, ℕ, zero, suc, ◌+◌, ◌<◌, ◌≤◌, Bool, List, [], ◌∷◌, ◌++◌, ap, refl, arith, ◌⊎◌, ⊎_elim}
-use Rattle.std.specs.Prelude.{IsTrue, if◌then◌else◌}
-use Rattle.tally_base.specs.declared.event.Event.{Event}
-use Rattle.tally_base.specs.Tally.{moves_floor}
-use Rattle.tally_base.specs.Limits.{time_limit}
-use Rattle.event_block.specs.Columns.{rows}
-use Rattle.event_block.specs.Order.{floor_after, InOrder}
-use Rattle.event_block.proofs.Rows.{more_rows}
+use Rattle.std.proofs.Common.{◌≡◌, ◌∙◌, ℕ, zero, suc, ◌+◌, ◌<◌, ◌≤◌, Bool, List, [], ◌∷◌, ◌++◌, ap, refl, arith, ◌⊎◌, ⊎_elim, IsTrue, if◌then◌else◌}
+use Rattle.tally_base.{specs.declared.event.Event.Event, specs.Tally.moves_floor, specs.Limits.time_limit}
+use Rattle.event_block.{specs.Columns.rows, specs.Order.{floor_after, InOrder}, proofs.Rows.more_rows}
 
 pub floor-push : (strict : Bool) (floor : ℕ) (es : List Event) (e : Event) → floor_after strict floor (es ++ e ∷ []) ≡ (if moves_floor strict e then e.time else floor_after strict floor es)
 floor-push strict floor [] e = refl

@@ -1,9 +1,7 @@
 -- That events are in order is a proposition.
-use Rattle.std.proofs.Common.{ℕ, Bool, List, [], ◌∷◌}
+use Rattle.std.proofs.Common.{ℕ, Bool, List, [], ◌∷◌, if◌then◌else◌}
 use Rattle.std.proofs.Props.{props}
-use Rattle.std.specs.Prelude.{if◌then◌else◌}
-use Rattle.tally_base.specs.declared.event.Event.{Event}
-use Rattle.tally_base.specs.Tally.{moves_floor}
+use Rattle.tally_base.{specs.declared.event.Event.Event, specs.Tally.moves_floor}
 use Rattle.event_block.specs.Order.{InOrder}
 
 pub in_order-prop : (strict : Bool) (floor : ℕ) (es : List Event) → IsProp (InOrder strict floor es)

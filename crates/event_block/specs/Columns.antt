@@ -1,9 +1,7 @@
 -- The events of a block.
 use Rattle.std.specs.Prelude.{◌≡◌, ℕ, zero, suc, List, [], ◌∷◌, ◌++◌, slice_index}
-use Rattle.tally_base.specs.declared.event.Event.{Event}
-use Rattle.tally_base.specs.Tally.{History}
-use Rattle.event_block.specs.Codes.{kind_of, code_in, dtime_in}
-use Rattle.event_block.specs.declared.block.Block.{Block}
+use Rattle.tally_base.{specs.declared.event.Event.Event, specs.Tally.History}
+use Rattle.event_block.{specs.Codes.{kind_of, code_in, dtime_in}, specs.declared.block.Block.Block}
 
 -- the event in row i of the columns
 abbrev pub row : List ℕ → List ℕ → List ℕ → ℕ → Event

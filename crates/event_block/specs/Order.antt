@@ -1,8 +1,6 @@
 -- Events behind other events.
 use Rattle.std.specs.Prelude.{ℕ, ◌≤◌, Bool, IsTrue, List, [], ◌∷◌, if◌then◌else◌}
-use Rattle.tally_base.specs.declared.event.Event.{Event}
-use Rattle.tally_base.specs.Tally.{moves_floor}
-use Rattle.tally_base.specs.Limits.{time_limit}
+use Rattle.tally_base.{specs.declared.event.Event.Event, specs.Tally.moves_floor, specs.Limits.time_limit}
 
 -- the time of the last event that comes in order, or this one
 abbrev pub floor_after : Bool → ℕ → List Event → ℕ

@@ -1,10 +1,6 @@
 -- What a table asks of the events that it is given, and what it is behind them.
 use Rattle.std.specs.Prelude.{◌≡◌, ◌+◌, ◌≤◌, false, List, ◌++◌, length}
-use Rattle.tally_base.specs.declared.event.Event.{Event}
-use Rattle.tally_base.specs.declared.tally.Tally.{Ghosts}
-use Rattle.tally_base.specs.Limits.{record_limit}
-use Rattle.tally_base.specs.Settings.{is_strict}
-use Rattle.tally_base.specs.Tally.{History}
+use Rattle.tally_base.{specs.declared.event.Event.Event, specs.declared.tally.Tally.Ghosts, specs.Limits.record_limit, specs.Settings.is_strict, specs.Tally.History}
 use Rattle.event_block.specs.Order.{floor_after, InOrder}
 
 module _ {T : Type 0} (g : Ghosts T) where

@@ -1,7 +1,6 @@
 // Events in columns.
 ghost use Rattle.std.specs.Prelude.{◌≡◌, ◌≤◌};
-ghost use Rattle.event_block.specs.Size.{block_size};
-ghost use Rattle.event_block.specs.Codes.{code_of, dtime_of, kind_of, joined, code_in, dtime_in, IsByte, InNoGroup};
+ghost use Rattle.event_block.{specs.Size.block_size, specs.Codes.{code_of, dtime_of, kind_of, joined, code_in, dtime_in, IsByte, InNoGroup}};
 
 use tally_base::{Event, EventKind, is_in};
 
@@ -28,8 +27,7 @@ pub struct Block {
 impl Block {
     ghost use Rattle.std.specs.Prelude.{◌≡◌, ◌≢◌, ◌+◌, ◌<◌, ◌++◌, ◌∷◌, ◌&&◌, [], length, ℕ, nat_lt, slice_index, if◌then◌else◌};
     ghost use Rattle.tally_base.specs.Events.{is_in};
-    ghost use Rattle.event_block.specs.Columns.{count, sorted, event_at, groups_at, code_at, dtime_at, time_at, item, gathered, event_by, written};
-    ghost use Rattle.event_block.specs.Order.{floor_after};
+    ghost use Rattle.event_block.{specs.Columns.{count, sorted, event_at, groups_at, code_at, dtime_at, time_at, item, gathered, event_by, written}, specs.Order.floor_after};
 
     /// No events.
     pub fn new() -> Block

@@ -1,15 +1,9 @@
 -- One more event, and the counts of a cube.
-use Rattle.std.proofs.Common.{◌≡◌, ◌∙◌, ℕ, ◌+◌, Bool, true, false, ◌&&◌, cond, [], ◌∷◌, ◌++◌, ap, arith}
-use Rattle.std.specs.Prelude.{Option}
-use Rattle.tally_base.specs.declared.event.Event.{Event}
-use Rattle.tally_base.specs.declared.event.EventKind.TheVariants.{Photon, Marker}
-use Rattle.tally_base.specs.Events.{is_in}
-use Rattle.tally_base.specs.Settings.{ImageView}
-use Rattle.tally_base.specs.Tally.{History}
+use Rattle.std.proofs.Common.{◌≡◌, ◌∙◌, ℕ, ◌+◌, Bool, true, false, ◌&&◌, cond, [], ◌∷◌, ◌++◌, ap, arith, Option}
+use Rattle.tally_base.{specs.declared.event.Event.Event, specs.declared.event.EventKind.TheVariants.{Photon, Marker}, specs.Events.is_in, specs.Settings.ImageView, specs.Tally.History}
 use Rattle.tcspc_hist.specs.HistogramCounts.{dtime_passes}
 use Rattle.marker_map.specs.Places.{place_of}
-use Rattle.scan_image.specs.ImageCounts.{markers}
-use Rattle.scan_image.proofs.Behind.{count_behind-push}
+use Rattle.scan_image.{specs.ImageCounts.markers, proofs.Behind.count_behind-push}
 use Rattle.flim_cube.specs.CubeCounts.{is_met, count_met}
 
 added : (n more : ℕ) (group passes test : Bool) → more ≡ cond group 1 0 → passes ≡ test → n + cond (group && passes) 1 0 ≡ n + cond test more 0

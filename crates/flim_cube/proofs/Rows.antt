@@ -1,14 +1,8 @@
 -- The definitions at known events.
-use Rattle.std.proofs.Common.{◌≡◌, ℕ, refl}
-use Rattle.std.specs.Prelude.{false, [], ◌∷◌, None, Some}
-use Rattle.tally_base.specs.declared.event.Event.{Event}
-use Rattle.tally_base.specs.declared.event.EventKind.TheVariants.{Photon, Marker}
-use Rattle.tally_base.specs.Settings.{ImageView, CubeView}
-use Rattle.tally_base.specs.Tally.{History}
-use Rattle.scan_image.specs.ImageCounts.{count_outside}
-use Rattle.scan_image.specs.Totals.{in_all_cells}
-use Rattle.flim_cube.specs.CubeCounts.{in_cell, count_over}
-use Rattle.flim_cube.specs.Totals.{in_whole_cube}
+use Rattle.std.proofs.Common.{◌≡◌, ℕ, refl, false, [], ◌∷◌, None, Some}
+use Rattle.tally_base.{specs.declared.event.Event.Event, specs.declared.event.EventKind.TheVariants.{Photon, Marker}, specs.Settings.{ImageView, CubeView}, specs.Tally.History}
+use Rattle.scan_image.{specs.ImageCounts.count_outside, specs.Totals.in_all_cells}
+use Rattle.flim_cube.{specs.CubeCounts.{in_cell, count_over}, specs.Totals.in_whole_cube}
 
 -- A photon of the first group with this dtime, and a marker of all groups.
 abbrev photon : ℕ → ℕ → Event × ℕ

@@ -1,21 +1,9 @@
 -- One event more for the counts.
-use Rattle.std.proofs.Common.{◌≡◌, ◌∙◌, ℕ, ◌+◌, ◌*◌, ◌/◌, ◌<◌, Bool, true, false, ◌&&◌, cond, List, [], ◌∷◌, ◌++◌, ap, sym, subst, arith}
-use Rattle.std.specs.Prelude.{Option, is_none, slice_index, if◌then◌else◌}
-use Rattle.tally_base.specs.declared.event.Event.{Event}
-use Rattle.tally_base.specs.declared.event.EventKind.TheVariants.{Photon, Marker}
-use Rattle.tally_base.specs.Events.{is_photon, is_photon_kind, is_in}
-use Rattle.tally_base.specs.Settings.{CubeView}
-use Rattle.tally_base.specs.Tally.{History}
-use Rattle.marker_map.specs.declared.lines.Lines.{Lines}
-use Rattle.marker_map.specs.Lines.{Saw}
-use Rattle.marker_map.specs.Marks.{Mark, mark}
-use Rattle.marker_map.specs.Places.{place_of}
-use Rattle.scan_image.specs.ImageCounts.{markers}
-use Rattle.scan_image.proofs.Counts.{markers-marker, markers-photon, placed-added, placed-other}
-use Rattle.flim_cube.specs.declared.count.Rest.{Rest}
-use Rattle.flim_cube.specs.Counted.{Counted}
-use Rattle.flim_cube.specs.CubeCounts.{is_in_cell, is_over}
-use Rattle.flim_cube.proofs.Counts.{met-photon, met-marker}
+use Rattle.std.proofs.Common.{◌≡◌, ◌∙◌, ℕ, ◌+◌, ◌*◌, ◌/◌, ◌<◌, Bool, true, false, ◌&&◌, cond, List, [], ◌∷◌, ◌++◌, ap, sym, subst, arith, Option, is_none, slice_index, if◌then◌else◌}
+use Rattle.tally_base.{specs.declared.event.Event.Event, specs.declared.event.EventKind.TheVariants.{Photon, Marker}, specs.Events.{is_photon, is_photon_kind, is_in}, specs.Settings.CubeView, specs.Tally.History}
+use Rattle.marker_map.{specs.declared.lines.Lines.Lines, specs.Lines.Saw, specs.Marks.{Mark, mark}, specs.Places.place_of}
+use Rattle.scan_image.{specs.ImageCounts.markers, proofs.Counts.{markers-marker, markers-photon, placed-added, placed-other}}
+use Rattle.flim_cube.{specs.declared.count.Rest.Rest, specs.Counted.Counted, specs.CubeCounts.{is_in_cell, is_over}, proofs.Counts.{met-photon, met-marker}}
 
 pub photon_step : (set : CubeView) (lines : Lines) (cells cells' : List ℕ) (rest rest' : Rest) (more : ℕ) (place : Option (ℕ × ℕ)) (h : History) (x : Event × ℕ) (input dtime : ℕ) → x.0.kind ≡ Photon input dtime → more ≡ cond (is_in x.1 set.image.group) 1 0
     → ((ms : List Mark) → Saw lines ms → place_of set.image x.0.time ms ≡ place)

@@ -1,25 +1,10 @@
 -- The bins of a cube and what is past them add up to the image.
-use Rattle.std.proofs.Common.{◌≡◌, ◌∙◌, ℕ, zero, suc, ◌+◌, ◌/◌, ◌<◌, ◌≤◌, Bool, true, false, ◌&&◌, cond, eqb, ltb, List, [], ◌∷◌, ◌++◌, refl, ap, sym, arith}
-use Rattle.std.specs.declared.option.Option.{Option}
-use Rattle.std.specs.Prelude.{None, Some, sum_by, nat_le}
-use Rattle.std.specs.List.{range_with_len}
-use Rattle.std.proofs.lemmas.Grind.{common_steps}
-use Rattle.std.proofs.lemmas.Bool.Decides.{nat_tests}
-use Rattle.std.proofs.lemmas.List.Sums.{sum_by-cons}
-use Rattle.tally_base.specs.declared.event.Event.{Event}
-use Rattle.tally_base.specs.declared.event.EventKind.{EventKind}
-use Rattle.tally_base.specs.declared.event.EventKind.TheVariants.{Photon, Marker}
-use Rattle.tally_base.specs.Events.{is_photon, is_photon_kind, is_in}
-use Rattle.tally_base.specs.Settings.{ImageView, CubeView}
-use Rattle.tally_base.specs.Tally.{History}
+use Rattle.std.proofs.Common.{◌≡◌, ◌∙◌, ℕ, zero, suc, ◌+◌, ◌/◌, ◌<◌, ◌≤◌, Bool, true, false, ◌&&◌, cond, eqb, ltb, List, [], ◌∷◌, ◌++◌, refl, ap, sym, arith, None, Some, sum_by, nat_le}
+use Rattle.std.{specs.declared.option.Option.Option, specs.List.range_with_len, proofs.lemmas.Grind.common_steps, proofs.lemmas.Bool.Decides.nat_tests, proofs.lemmas.List.Sums.sum_by-cons}
+use Rattle.tally_base.{specs.declared.event.Event.Event, specs.declared.event.EventKind.EventKind, specs.declared.event.EventKind.TheVariants.{Photon, Marker}, specs.Events.{is_photon, is_photon_kind, is_in}, specs.Settings.{ImageView, CubeView}, specs.Tally.History}
 use Rattle.marker_map.specs.Places.{place_of}
-use Rattle.scan_image.specs.ImageCounts.{markers, is_at, in_cell}
-use Rattle.scan_image.specs.Totals.{in_all_cells}
-use Rattle.scan_image.proofs.Counts.{placed-added, placed-other}
-use Rattle.scan_image.proofs.Totals.{Inside, sum-agree, sum-plus, sum-none, in-range, place-inside, by-pushes, cells-more}
-use Rattle.flim_cube.specs.CubeCounts.{is_in_cell, is_over, count_over, in_cell as in_bin}
-use Rattle.flim_cube.specs.Totals.{in_pixel, in_whole_cube}
-use Rattle.flim_cube.proofs.Counts.{met-photon, met-marker}
+use Rattle.scan_image.{specs.ImageCounts.{markers, is_at, in_cell}, specs.Totals.in_all_cells, proofs.Counts.{placed-added, placed-other}, proofs.Totals.{Inside, sum-agree, sum-plus, sum-none, in-range, place-inside, by-pushes, cells-more}}
+use Rattle.flim_cube.{specs.CubeCounts.{is_in_cell, is_over, count_over}, specs.CubeCounts.in_cell as in_bin, specs.Totals.{in_pixel, in_whole_cube}, proofs.Counts.{met-photon, met-marker}}
 
 -- a sum over the pixels of an image
 abbrev over_pixels : ImageView → (ℕ → ℕ → ℕ) → ℕ

@@ -2,8 +2,7 @@
 use Rattle.std.specs.Prelude.{ℕ, ◌+◌, ◌*◌, ◌≤◌, List, length}
 use Rattle.std.proofs.Common.{arith}
 use Rattle.std.proofs.lemmas.Nat.{mul-le}
-use Rattle.flim_cube.specs.declared.spread.Cells.{Cells}
-use Rattle.flim_cube.specs.Bytes.{byte_in, counts_in, length_counts}
+use Rattle.flim_cube.{specs.declared.spread.Cells.Cells, specs.Bytes.{byte_in, counts_in, length_counts}}
 
 -- the count of each cell
 abbrev pub counts_of : Cells → List ℕ

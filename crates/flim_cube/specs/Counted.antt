@@ -1,14 +1,10 @@
 -- The counts of a cube over events.
 use Rattle.std.specs.Prelude.{◌≡◌, ℕ, ◌+◌, ◌*◌, ◌<◌, List, slice_index}
-use Rattle.tally_base.specs.Settings.{CubeView}
-use Rattle.tally_base.specs.Tally.{History}
+use Rattle.tally_base.{specs.Settings.CubeView, specs.Tally.History}
 use Rattle.event_block.specs.declared.block.Block.{Block}
-use Rattle.marker_map.specs.declared.lines.Lines.{Lines}
-use Rattle.marker_map.specs.Lines.{Saw}
-use Rattle.scan_image.specs.Counted.{with_front}
-use Rattle.scan_image.specs.ImageCounts.{markers, count_outside}
-use Rattle.flim_cube.specs.declared.count.Rest.{Rest}
-use Rattle.flim_cube.specs.CubeCounts.{in_cell, count_over}
+use Rattle.marker_map.{specs.declared.lines.Lines.Lines, specs.Lines.Saw}
+use Rattle.scan_image.{specs.Counted.with_front, specs.ImageCounts.{markers, count_outside}}
+use Rattle.flim_cube.{specs.declared.count.Rest.Rest, specs.CubeCounts.{in_cell, count_over}}
 
 -- how many photons of the group are in no cell
 abbrev pub in_rest : Rest → ℕ

@@ -1,14 +1,9 @@
 -- What a cube stands for.
 use Rattle.std.specs.Prelude.{◌≡◌, ℕ, ◌+◌, ◌*◌, ◌<◌, true, slice_index, length}
-use Rattle.tally_base.specs.declared.settings.CubeSet.{CubeSet}
-use Rattle.tally_base.specs.Settings.{PartSettings, image_view, cube_view}
-use Rattle.tally_base.specs.Settings.PartSettings.{CubeSettings}
-use Rattle.tally_base.specs.Tally.{History, greatest_time}
+use Rattle.tally_base.{specs.declared.settings.CubeSet.CubeSet, specs.Settings.{PartSettings, image_view, cube_view}, specs.Settings.PartSettings.CubeSettings, specs.Tally.{History, greatest_time}}
 use Rattle.marker_map.specs.Lines.{Saw}
 use Rattle.scan_image.specs.ImageCounts.{markers, count_outside}
-use Rattle.flim_cube.specs.declared.cube.FlimCube.{FlimCube}
-use Rattle.flim_cube.specs.Cells.{counts_of}
-use Rattle.flim_cube.specs.CubeCounts.{in_cell, count_over}
+use Rattle.flim_cube.{specs.declared.cube.FlimCube.FlimCube, specs.Cells.counts_of, specs.CubeCounts.{in_cell, count_over}}
 
 -- what it was opened with
 abbrev pub set_of : FlimCube → CubeSet

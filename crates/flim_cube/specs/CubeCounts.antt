@@ -1,9 +1,6 @@
 -- The counts of a cube over the events that it is given.
 use Rattle.std.specs.Prelude.{ℕ, Bool, false, true, ◌&&◌, ◌==◌, nat_le, ◌/◌, Option, None, Some, is_none}
-use Rattle.tally_base.specs.declared.event.Event.{Event}
-use Rattle.tally_base.specs.Events.{is_in}
-use Rattle.tally_base.specs.Settings.{ImageView, CubeView}
-use Rattle.tally_base.specs.Tally.{History}
+use Rattle.tally_base.{specs.declared.event.Event.Event, specs.Events.is_in, specs.Settings.{ImageView, CubeView}, specs.Tally.History}
 use Rattle.tcspc_hist.specs.HistogramCounts.{dtime_passes}
 use Rattle.marker_map.specs.Places.{place_of}
 use Rattle.scan_image.specs.ImageCounts.{markers, count_behind, is_at}

@@ -1,11 +1,8 @@
 -- What holds of every cube.
 use Rattle.std.specs.Prelude.{◌≡◌, ◌≤◌, ◌+◌, true, length}
 use Rattle.std.proofs.Common.{rules}
-use Rattle.tally_base.specs.Settings.{entries}
-use Rattle.tally_base.specs.Tally.{History, greatest_time}
-use Rattle.flim_cube.specs.declared.cube.FlimCube.{FlimCube}
-use Rattle.flim_cube.specs.Cells.{entries_of, few_entries}
-use Rattle.flim_cube.specs.Cube.{Holds, settings}
+use Rattle.tally_base.{specs.Settings.entries, specs.Tally.{History, greatest_time}}
+use Rattle.flim_cube.{specs.declared.cube.FlimCube.FlimCube, specs.Cells.{entries_of, few_entries}, specs.Cube.{Holds, settings}}
 
 pub taken_is : (t : FlimCube) (h : History) → Holds t h → t.taken ≡ length h
 taken_is t h is = is.taken

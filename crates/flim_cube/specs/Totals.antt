@@ -1,8 +1,7 @@
 -- The sums of the counts of a cube.
 use Rattle.std.specs.Prelude.{ℕ, sum_by}
 use Rattle.std.specs.List.{range_with_len}
-use Rattle.tally_base.specs.Settings.{CubeView}
-use Rattle.tally_base.specs.Tally.{History}
+use Rattle.tally_base.{specs.Settings.CubeView, specs.Tally.History}
 use Rattle.flim_cube.specs.CubeCounts.{in_cell}
 
 -- the sum over the bins of a pixel

@@ -1,18 +1,10 @@
 // The photons of a block, counted by their places and their dtimes.
 ghost use Rattle.std.specs.Prelude.{◌≡◌, ◌+◌, ◌*◌, ◌/◌, ◌^◌, ◌<◌, ◌≤◌, ◌++◌, ℕ, true, sum, length, slice_index, is_none, IfSome, if◌then◌else◌};
-ghost use Rattle.tally_base.specs.Settings.{image_view, cube_view};
-ghost use Rattle.tally_base.specs.Tally.{History};
-ghost use Rattle.tally_base.specs.Limits.{record_limit};
-ghost use Rattle.tally_base.specs.Divisors.{divisor_of};
-ghost use Rattle.event_block.specs.Columns.{count, code_at, time_at, gathered, events_in, IsSorted};
-ghost use Rattle.event_block.specs.Order.{floor_after, InOrder};
-ghost use Rattle.marker_map.specs.Lines.{image_of, markers_given, line_start};
-ghost use Rattle.marker_map.specs.declared.lines.Lines.{Lines};
-ghost use Rattle.marker_map.specs.Strips.{start_of};
+ghost use Rattle.tally_base.{specs.Settings.{image_view, cube_view}, specs.Tally.History, specs.Limits.record_limit, specs.Divisors.divisor_of};
+ghost use Rattle.event_block.{specs.Columns.{count, code_at, time_at, gathered, events_in, IsSorted}, specs.Order.{floor_after, InOrder}};
+ghost use Rattle.marker_map.{specs.Lines.{image_of, markers_given, line_start}, specs.declared.lines.Lines.Lines, specs.Strips.start_of};
 ghost use Rattle.scan_image.specs.Counted.{IsStripOf, IsOfSize};
-ghost use Rattle.flim_cube.specs.Cells.{counts_of};
-ghost use Rattle.flim_cube.specs.CubeCounts.{is_in_cell, is_over};
-ghost use Rattle.flim_cube.specs.Counted.{Counted, CountsOn, in_rest};
+ghost use Rattle.flim_cube.{specs.Cells.counts_of, specs.CubeCounts.{is_in_cell, is_over}, specs.Counted.{Counted, CountsOn, in_rest}};
 
 use crate::spread::Cells;
 use event_block::{BLOCK_SIZE, Block};

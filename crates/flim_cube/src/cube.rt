@@ -1,7 +1,6 @@
 // A cube: an image of a scan with a histogram in each pixel.
 ghost use Rattle.std.specs.Prelude.{◌≡◌, ◌+◌, ◌*◌, ◌<◌, ◌≤◌, length, sum};
-ghost use Rattle.tally_base.specs.Settings.{image_view, cube_view};
-ghost use Rattle.tally_base.specs.Tally.{History};
+ghost use Rattle.tally_base.{specs.Settings.{image_view, cube_view}, specs.Tally.History};
 ghost use Rattle.marker_map.specs.Lines.{image_of, markers_given, line_start};
 ghost use Rattle.flim_cube.specs.Cells.{counts_of};
 
@@ -38,12 +37,10 @@ pub struct FlimCube {
 
 impl FlimCube {
     ghost use Rattle.std.specs.Prelude.{◌++◌, length, true, IfOk, [], false};
-    ghost use Rattle.event_block.specs.Columns.{gathered, events_in, IsSorted};
-    ghost use Rattle.event_block.specs.Tables.{MayTake, HasTaken};
+    ghost use Rattle.event_block.{specs.Columns.{gathered, events_in, IsSorted}, specs.Tables.{MayTake, HasTaken}};
     ghost use Rattle.tally_base.specs.Settings.PartSettings.{CubeSettings};
     ghost use Rattle.scan_image.specs.ImageCounts.{count_outside};
-    ghost use Rattle.flim_cube.specs.CubeCounts.{in_cell, count_over};
-    ghost use Rattle.flim_cube.specs.Cube.{Holds, set_of};
+    ghost use Rattle.flim_cube.{specs.CubeCounts.{in_cell, count_over}, specs.Cube.{Holds, set_of}};
 
     /// A cube of no events, with all the memory that it ever takes, or `AllocError` where it is wanting.
     pub fn open(alloc: Global, set: CubeSet) -> Result<FlimCube, AllocError>
@@ -123,9 +120,7 @@ impl FlimCube {
 }
 
 impl Tally for FlimCube {
-    ghost use Rattle.flim_cube.specs.Cells.{entries_of};
-    ghost use Rattle.flim_cube.specs.Cube.{Holds, settings};
-    ghost use Rattle.flim_cube.specs.Laws.{taken_is, floor_is, within_bound};
+    ghost use Rattle.flim_cube.{specs.Cells.entries_of, specs.Cube.{Holds, settings}, specs.Laws.{taken_is, floor_is, within_bound}};
 
     ghost holds = { Holds };
 

@@ -1,14 +1,7 @@
 -- The photons of bins.
 use Rattle.std.proofs.Common.{◌≡◌, ◌∙◌, ℕ, zero, suc, ◌+◌, ◌<◌, ◌≤◌, Bool, true, false, ◌&&◌, cond, ltb, leb, eqb, List, [], ◌∷◌, ◌++◌, length, get_or, take, drop, filter, refl, ap, arith}
-use Rattle.std.specs.List.{sum_by, AllByRecursion}
-use Rattle.std.proofs.lemmas.Bool.Decides.{nat_tests}
-use Rattle.std.proofs.lemmas.List.Sums.{sum_by-cons, sum_by-append, sum_by_push, sum_by_more, sum_by-take-drop, sum_by-take-le, length-filter, count_by-le-length}
-use Rattle.lag_ring.specs.declared.ring.Entry.{Entry}
-use Rattle.lag_ring.specs.Ring.{IsRising}
-use Rattle.lag_ring.proofs.Rising.{all_weaker}
-use Rattle.lag_ring.proofs.Lists.{all_filter, all_passed}
-use Rattle.lag_ring.proofs.Between.{few_kept}
-use Rattle.lag_ring.proofs.Sums.{sum_by-zero, sum_by-filter, sum_by-same, sum_by-agree}
+use Rattle.std.{specs.List.{sum_by, AllByRecursion}, proofs.lemmas.Bool.Decides.nat_tests, proofs.lemmas.List.Sums.{sum_by-cons, sum_by-append, sum_by_push, sum_by_more, sum_by-take-drop, sum_by-take-le, length-filter, count_by-le-length}}
+use Rattle.lag_ring.{specs.declared.ring.Entry.Entry, specs.Ring.IsRising, proofs.Rising.all_weaker, proofs.Lists.{all_filter, all_passed}, proofs.Between.few_kept, proofs.Sums.{sum_by-zero, sum_by-filter, sum_by-same, sum_by-agree}}
 use Rattle.fold_count.specs.Folded.{photons_in, photons_of, photons_where}
 
 some_or_none : (b : Bool) (n : ℕ) → cond b n 0 ≤ n

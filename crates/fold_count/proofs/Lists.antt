@@ -1,8 +1,6 @@
 -- Tests that agree on a list.
 use Rattle.std.proofs.Common.{◌≡◌, ◌∙◌, ◌+◌, Bool, true, false, ◌||◌, cond, List, [], ◌∷◌, ◌++◌, refl, ap, arith}
-use Rattle.std.specs.List.{list_any, count_by, AllByRecursion}
-use Rattle.std.proofs.lemmas.List.Sums.{sum_by-cons, sum_by_push}
-use Rattle.std.proofs.lemmas.List.Folds.{list_any-append}
+use Rattle.std.{specs.List.{list_any, count_by, AllByRecursion}, proofs.lemmas.List.Sums.{sum_by-cons, sum_by_push}, proofs.lemmas.List.Folds.list_any-append}
 
 pub any_agree : {X : Type 0} (P : X → Type 0) (p q : X → Bool) (xs : List X) → AllByRecursion P xs → ((x : X) → P x → p x ≡ q x) → list_any p xs ≡ list_any q xs
 any_agree P p q [] all same = refl

@@ -1,16 +1,8 @@
 -- Bins in which the groups of those behind them were met too.
-use Rattle.std.proofs.Common.{◌≡◌, ◌∙◌, ℕ, zero, suc, ◌-◌, ◌^◌, ◌<◌, Bool, true, false, cond, List, [], ◌∷◌, ◌++◌, filter, length, refl, sym, ap, arith, slice_get, Some}
-use Rattle.std.specs.Prelude.{bit_or, slice_set}
-use Rattle.std.specs.Int.Bits.{or_zero_r}
-use Rattle.std.specs.List.{AllByRecursion}
-use Rattle.std.proofs.lemmas.List.Sums.{sum_by-cons}
-use Rattle.std.proofs.lemmas.Nat.{or_lt}
-use Rattle.lag_ring.specs.declared.ring.Entry.{Entry}
-use Rattle.lag_ring.specs.Ring.{Ring, ring}
-use Rattle.lag_ring.proofs.Rising.{all_push, all_weaker, all_at}
-use Rattle.lag_ring.proofs.Lists.{all_map, all_filter}
-use Rattle.fold_count.specs.Folded.{joined, photons_in, photons_where, IsNested}
-use Rattle.fold_count.proofs.Unions.{or_assoc, or_again, or_within, or_both}
+use Rattle.std.proofs.Common.{◌≡◌, ◌∙◌, ℕ, zero, suc, ◌-◌, ◌^◌, ◌<◌, Bool, true, false, cond, List, [], ◌∷◌, ◌++◌, filter, length, refl, sym, ap, arith, slice_get, Some, bit_or, slice_set}
+use Rattle.std.{specs.Int.Bits.or_zero_r, specs.List.AllByRecursion, proofs.lemmas.List.Sums.sum_by-cons, proofs.lemmas.Nat.or_lt}
+use Rattle.lag_ring.{specs.declared.ring.Entry.Entry, specs.Ring.{Ring, ring}, proofs.Rising.{all_push, all_weaker, all_at}, proofs.Lists.{all_map, all_filter}}
+use Rattle.fold_count.{specs.Folded.{joined, photons_in, photons_where, IsNested}, proofs.Unions.{or_assoc, or_again, or_within, or_both}}
 
 -- ## Bins with more groups
 

@@ -1,10 +1,8 @@
 -- Sets as numbers.
 use Rattle.std.proofs.Common.{◌≡◌, ◌∙◌, ℕ, zero, suc, ◌+◌, ◌*◌, ◌^◌, ◌<◌, Bool, true, false, ◌||◌, cond, List, [], ◌∷◌, length, get_or, take, refl, ap, arith}
-use Rattle.std.specs.List.{list_any}
-use Rattle.std.proofs.lemmas.Grind.{pow_more}
+use Rattle.std.{specs.List.list_any, proofs.lemmas.Grind.pow_more}
 use Rattle.tally_base.specs.Gates.{AreGroups}
-use Rattle.fold_count.specs.FoldCounts.{number_of}
-use Rattle.fold_count.specs.Folded.{AreNumbers}
+use Rattle.fold_count.{specs.FoldCounts.number_of, specs.Folded.AreNumbers}
 
 pow_suc : (i : ℕ) → 2 ^ suc i ≡ 2 * 2 ^ i
 pow_suc i = grind arith

@@ -1,22 +1,9 @@
 -- The bins before a tick are counted.
-use Rattle.std.proofs.Common.{◌≡◌, ◌∙◌, ℕ, ◌+◌, ◌^◌, ◌<◌, ◌≤◌, Bool, true, false, ◌&&◌, cond, ltb, leb, eqb, List, [], ◌∷◌, ◌++◌, filter, length, get_or, refl, sym, arith, ⊎_elim}
-use Rattle.std.specs.Prelude.{slice_index}
-use Rattle.std.specs.List.{list_any, count_by, AllByRecursion}
-use Rattle.std.proofs.lemmas.Bool.{cases_lt}
-use Rattle.std.proofs.lemmas.Bool.Decides.{nat_tests}
-use Rattle.std.proofs.lemmas.List.Folds.{list_any_at}
-use Rattle.tally_base.specs.declared.event.Event.{Event}
-use Rattle.tally_base.specs.Events.{is_photon, is_in}
-use Rattle.tally_base.specs.Settings.{FoldView}
-use Rattle.tally_base.specs.Tally.{History}
-use Rattle.lag_ring.specs.declared.ring.Entry.{Entry}
-use Rattle.lag_ring.proofs.Rising.{all_push, all_weaker}
-use Rattle.lag_ring.proofs.Lists.{all_filter}
-use Rattle.fold_count.specs.FoldCounts.{is_of, is_of_any, is_seen, seen_set}
-use Rattle.fold_count.specs.Folded.{photons_of, photons_where, is_from, met_from, Parted, AreCounts}
-use Rattle.fold_count.proofs.Numbers.{number_agree, number_none}
-use Rattle.fold_count.proofs.Lists.{any_agree, any_none, count_agree, count_parts}
-use Rattle.fold_count.proofs.Bins.{where_push, where_kept, of_known}
+use Rattle.std.proofs.Common.{◌≡◌, ◌∙◌, ℕ, ◌+◌, ◌^◌, ◌<◌, ◌≤◌, Bool, true, false, ◌&&◌, cond, ltb, leb, eqb, List, [], ◌∷◌, ◌++◌, filter, length, get_or, refl, sym, arith, ⊎_elim, slice_index}
+use Rattle.std.{specs.List.{list_any, count_by, AllByRecursion}, proofs.lemmas.Bool.cases_lt, proofs.lemmas.Bool.Decides.nat_tests, proofs.lemmas.List.Folds.list_any_at}
+use Rattle.tally_base.{specs.declared.event.Event.Event, specs.Events.{is_photon, is_in}, specs.Settings.FoldView, specs.Tally.History}
+use Rattle.lag_ring.{specs.declared.ring.Entry.Entry, proofs.Rising.{all_push, all_weaker}, proofs.Lists.all_filter}
+use Rattle.fold_count.{specs.FoldCounts.{is_of, is_of_any, is_seen, seen_set}, specs.Folded.{photons_of, photons_where, is_from, met_from, Parted, AreCounts}, proofs.Numbers.{number_agree, number_none}, proofs.Lists.{any_agree, any_none, count_agree, count_parts}, proofs.Bins.{where_push, where_kept, of_known}}
 
 both_true : (a b : Bool) → (a && b) ≡ true → (a ≡ true) × (b ≡ true)
 both_true true true is = (refl, refl)

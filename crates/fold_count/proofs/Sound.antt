@@ -1,16 +1,9 @@
 -- What is kept stays sound.
 use Rattle.std.proofs.Common.{◌≡◌, ◌∙◌, ℕ, ◌^◌, ◌<◌, ◌≤◌, Bool, true, List, filter, length, ap, arith, leb}
-use Rattle.std.specs.List.{AllByRecursion}
-use Rattle.std.proofs.lemmas.Bool.Decides.{nat_tests}
-use Rattle.std.proofs.lemmas.Nat.{pow_pos}
-use Rattle.tally_base.specs.Settings.{FoldView}
-use Rattle.tally_base.specs.Limits.{time_limit}
-use Rattle.lag_ring.specs.declared.ring.Entry.{Entry}
-use Rattle.lag_ring.specs.Ring.{Ring, ring as ring_of}
-use Rattle.lag_ring.proofs.Lists.{all_both, all_filter, all_passed}
-use Rattle.lag_ring.proofs.Rising.{all_push, all_weaker}
-use Rattle.fold_count.specs.Folded.{IsSound, as_met, joined}
-use Rattle.fold_count.proofs.Nested.{below_joined, sets_joined, nested_met, nested_filter}
+use Rattle.std.{specs.List.AllByRecursion, proofs.lemmas.Bool.Decides.nat_tests, proofs.lemmas.Nat.pow_pos}
+use Rattle.tally_base.{specs.Settings.FoldView, specs.Limits.time_limit}
+use Rattle.lag_ring.{specs.declared.ring.Entry.Entry, specs.Ring.Ring, specs.Ring.ring as ring_of, proofs.Lists.{all_both, all_filter, all_passed}, proofs.Rising.{all_push, all_weaker}}
+use Rattle.fold_count.{specs.Folded.{IsSound, as_met, joined}, proofs.Nested.{below_joined, sets_joined, nested_met, nested_filter}}
 
 -- the ticks of the bins that wait
 pub upto_open : (ring : Ring) (bin : Entry) → AllByRecursion (λ e. e.index < bin.index) ring.entries → AllByRecursion (λ e. e.index ≤ bin.index) (as_met ring bin)

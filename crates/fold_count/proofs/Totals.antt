@@ -1,19 +1,9 @@
 -- The cells of a fold add up, and the first of them is 0.
 use Rattle.std.proofs.Common.{◌≡◌, ◌∙◌, ℕ, zero, suc, ◌+◌, ◌*◌, ◌^◌, ◌<◌, ◌≤◌, Bool, true, false, ◌&&◌, ◌||◌, cond, eqb, leb, List, [], ◌∷◌, ◌++◌, length, refl, ap, arith, append_assoc}
-use Rattle.std.specs.List.{list_any, count_by, sum_by, range_with_len, AllByRecursion}
-use Rattle.std.proofs.lemmas.Grind.{common_steps}
-use Rattle.std.proofs.lemmas.Bool.Decides.{nat_tests}
-use Rattle.std.proofs.lemmas.List.Sums.{sum_by-cons}
-use Rattle.std.proofs.lemmas.List.Folds.{list_any-append}
-use Rattle.tally_base.specs.declared.event.Event.{Event}
-use Rattle.tally_base.specs.Events.{is_photon, is_in}
-use Rattle.tally_base.specs.Settings.{FoldView}
-use Rattle.tally_base.specs.Tally.{History}
+use Rattle.std.{specs.List.{list_any, count_by, sum_by, range_with_len, AllByRecursion}, proofs.lemmas.Grind.common_steps, proofs.lemmas.Bool.Decides.nat_tests, proofs.lemmas.List.Sums.sum_by-cons, proofs.lemmas.List.Folds.list_any-append}
+use Rattle.tally_base.{specs.declared.event.Event.Event, specs.Events.{is_photon, is_in}, specs.Settings.FoldView, specs.Tally.History}
 use Rattle.lag_ring.proofs.Sums.{sum_by-plus, sum_by-same}
-use Rattle.fold_count.specs.FoldCounts.{is_of_any, is_seen, number_of, seen_set, in_set}
-use Rattle.fold_count.specs.Totals.{in_all_sets}
-use Rattle.fold_count.proofs.Numbers.{number_below}
-use Rattle.fold_count.proofs.Lists.{count_agree}
+use Rattle.fold_count.{specs.FoldCounts.{is_of_any, is_seen, number_of, seen_set, in_set}, specs.Totals.in_all_sets, proofs.Numbers.number_below, proofs.Lists.count_agree}
 
 no_sum : (xs : List ℕ) → sum_by (λ s. 0) xs ≡ 0
 no_sum [] = refl

@@ -1,9 +1,6 @@
 -- Sets taken together, as numbers.
-use Rattle.std.proofs.Common.{◌≡◌, ◌∙◌, ℕ, ◌+◌, ◌*◌, ◌/◌, ◌%◌, max, Bool, true, false, ◌||◌, cond, List, [], ◌∷◌, refl, sym, ap, arith}
-use Rattle.std.specs.Prelude.{bit_or}
-use Rattle.std.specs.Int.Bits.{or_step, or_self}
-use Rattle.std.proofs.Math.Arith.{bin_ind}
-use Rattle.std.proofs.lemmas.Nat.{or_shr, or_comm}
+use Rattle.std.proofs.Common.{◌≡◌, ◌∙◌, ℕ, ◌+◌, ◌*◌, ◌/◌, ◌%◌, max, Bool, true, false, ◌||◌, cond, List, [], ◌∷◌, refl, sym, ap, arith, bit_or}
+use Rattle.std.{specs.Int.Bits.{or_step, or_self}, proofs.Math.Arith.bin_ind, proofs.lemmas.Nat.{or_shr, or_comm}}
 use Rattle.fold_count.specs.FoldCounts.{number_of}
 
 pub or_assoc : (a b c : ℕ) → bit_or (bit_or a b) c ≡ bit_or a (bit_or b c)

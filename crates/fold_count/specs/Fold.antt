@@ -1,11 +1,7 @@
 -- What a fold stands for.
 use Rattle.std.specs.Prelude.{◌≡◌, ℕ, ◌+◌, false, length}
-use Rattle.tally_base.specs.declared.settings.FoldSet.{FoldSet}
-use Rattle.tally_base.specs.Settings.{PartSettings, fold_view}
-use Rattle.tally_base.specs.Settings.PartSettings.{FoldSettings}
-use Rattle.tally_base.specs.Tally.{History, greatest_time}
-use Rattle.fold_count.specs.declared.fold.Fold.{Fold}
-use Rattle.fold_count.specs.Folded.{Counts}
+use Rattle.tally_base.{specs.declared.settings.FoldSet.FoldSet, specs.Settings.{PartSettings, fold_view}, specs.Settings.PartSettings.FoldSettings, specs.Tally.{History, greatest_time}}
+use Rattle.fold_count.{specs.declared.fold.Fold.Fold, specs.Folded.Counts}
 
 -- what it was opened with
 abbrev pub set_of : Fold → FoldSet

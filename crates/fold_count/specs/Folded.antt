@@ -1,15 +1,8 @@
 -- What the numbers that a fold keeps stand for.
 use Rattle.std.specs.Prelude.{◌≡◌, ℕ, ◌-◌, ◌^◌, ◌<◌, ◌≤◌, ⊤, Bool, true, false, ◌&&◌, ◌==◌, nat_le, nat_lt, List, [], ◌∷◌, ◌++◌, length, map, slice_index, count_by, sum_by, bit_or, if◌then◌else◌}
-use Rattle.std.specs.Coded.{Unit-prop}
-use Rattle.std.specs.List.{list_any, AllByRecursion}
-use Rattle.std.proofs.Props.{props}
-use Rattle.tally_base.specs.declared.event.Event.{Event}
-use Rattle.tally_base.specs.Settings.{FoldView}
-use Rattle.tally_base.specs.Tally.{History}
-use Rattle.tally_base.specs.Limits.{time_limit}
-use Rattle.lag_ring.specs.declared.ring.Entry.{Entry}
-use Rattle.lag_ring.specs.Ring.{Ring}
-use Rattle.lag_ring.specs.Kept.{weight_where}
+use Rattle.std.{specs.Coded.Unit-prop, specs.List.{list_any, AllByRecursion}, proofs.Props.props}
+use Rattle.tally_base.{specs.declared.event.Event.Event, specs.Settings.FoldView, specs.Tally.History, specs.Limits.time_limit}
+use Rattle.lag_ring.{specs.declared.ring.Entry.Entry, specs.Ring.Ring, specs.Kept.weight_where}
 use Rattle.fold_count.specs.FoldCounts.{is_of, is_of_any, number_of, seen_set, in_set}
 
 -- the bins that wait to be counted, the open one last

@@ -1,10 +1,8 @@
 -- What holds of every fold.
 use Rattle.std.specs.Prelude.{◌≡◌, ◌≤◌, false, length}
 use Rattle.std.proofs.Common.{arith}
-use Rattle.tally_base.specs.Settings.{entries}
-use Rattle.tally_base.specs.Tally.{History, greatest_time}
-use Rattle.fold_count.specs.declared.fold.Fold.{Fold}
-use Rattle.fold_count.specs.Fold.{Holds, settings, held}
+use Rattle.tally_base.{specs.Settings.entries, specs.Tally.{History, greatest_time}}
+use Rattle.fold_count.{specs.declared.fold.Fold.Fold, specs.Fold.{Holds, settings, held}}
 
 pub taken_is : (t : Fold) (h : History) → Holds t h → t.taken ≡ length h
 taken_is t h is = is.taken

@@ -1,8 +1,6 @@
 // A fold: the sets of groups that have a photon in a window.
 ghost use Rattle.std.specs.Prelude.{◌≡◌, ◌+◌, ◌≤◌, false, sum};
-ghost use Rattle.tally_base.specs.Settings.{fold_view};
-ghost use Rattle.tally_base.specs.Tally.{History};
-ghost use Rattle.tally_base.specs.Limits.{record_limit};
+ghost use Rattle.tally_base.{specs.Settings.fold_view, specs.Tally.History, specs.Limits.record_limit};
 ghost use Rattle.fold_count.specs.Folded.{IsSound, IsSound-prop, waiting, photons_in};
 
 use crate::taking::{count_all, put_block, put_event};
@@ -38,11 +36,9 @@ pub struct Fold {
 
 impl Fold {
     ghost use Rattle.std.specs.Prelude.{◌<◌, ◌++◌, ◌^◌, length, true, IfOk, []};
-    ghost use Rattle.event_block.specs.Columns.{gathered, events_in, IsSorted};
-    ghost use Rattle.event_block.specs.Tables.{MayTake, HasTaken};
+    ghost use Rattle.event_block.{specs.Columns.{gathered, events_in, IsSorted}, specs.Tables.{MayTake, HasTaken}};
     ghost use Rattle.tally_base.specs.Settings.PartSettings.{FoldSettings};
-    ghost use Rattle.fold_count.specs.FoldCounts.{in_set};
-    ghost use Rattle.fold_count.specs.Fold.{Holds, set_of};
+    ghost use Rattle.fold_count.{specs.FoldCounts.in_set, specs.Fold.{Holds, set_of}};
 
     /// A fold of no events, with all the memory that it ever takes, or `AllocError` where it is wanting.
     pub fn open(alloc: Global, set: FoldSet) -> Result<Fold, AllocError>
@@ -108,8 +104,7 @@ impl Fold {
 
 impl Tally for Fold {
     ghost use Rattle.std.specs.Prelude.{length};
-    ghost use Rattle.fold_count.specs.Fold.{Holds, settings, held};
-    ghost use Rattle.fold_count.specs.Laws.{taken_is, floor_is, within_bound};
+    ghost use Rattle.fold_count.{specs.Fold.{Holds, settings, held}, specs.Laws.{taken_is, floor_is, within_bound}};
 
     ghost holds = { Holds };
 

@@ -1,14 +1,8 @@
 // The events that a fold is given.
 ghost use Rattle.std.specs.Prelude.{◌≡◌, ◌+◌, ◌<◌, ◌≤◌, ◌++◌, ◌∷◌, [], ℕ, true, false, ◌^◌, IsTrue, length, sum, if◌then◌else◌};
-ghost use Rattle.tally_base.specs.declared.event.Event.{Event};
-ghost use Rattle.tally_base.specs.Events.{is_photon, is_in};
-ghost use Rattle.tally_base.specs.Settings.{fold_view};
-ghost use Rattle.tally_base.specs.Tally.{History};
-ghost use Rattle.tally_base.specs.Limits.{record_limit, time_limit};
-ghost use Rattle.event_block.specs.Columns.{gathered, events_in, IsSorted};
-ghost use Rattle.event_block.specs.Order.{floor_after, InOrder};
-ghost use Rattle.fold_count.specs.FoldCounts.{is_of_any, number_of};
-ghost use Rattle.fold_count.specs.Folded.{IsSound, Stands, AreCounts, waiting, photons_in};
+ghost use Rattle.tally_base.{specs.declared.event.Event.Event, specs.Events.{is_photon, is_in}, specs.Settings.fold_view, specs.Tally.History, specs.Limits.{record_limit, time_limit}};
+ghost use Rattle.event_block.{specs.Columns.{gathered, events_in, IsSorted}, specs.Order.{floor_after, InOrder}};
+ghost use Rattle.fold_count.{specs.FoldCounts.{is_of_any, number_of}, specs.Folded.{IsSound, Stands, AreCounts, waiting, photons_in}};
 
 use crate::groups::set_in;
 use crate::waiting::settle;

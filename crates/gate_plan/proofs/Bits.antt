@@ -1,15 +1,8 @@
 -- A number by its bits.
 use Rattle.std.proofs.Common.{◌≡◌, ap, sym, refl, ◌∙◌, ℕ, zero, suc, ◌+◌, ◌*◌, ◌/◌, ◌^◌, ◌<◌, ◌≤◌, Bool, true, false, ◌==◌, List, [], ◌∷◌, map, drop, length, get_or, set, arith}
-use Rattle.std.proofs.lemmas.Grind.{common_steps}
-use Rattle.std.specs.Int.{bit_at}
-use Rattle.std.proofs.lemmas.Nat.Bits.{bit_at-zero, bit_at-suc, bit_at_lowest}
-use Rattle.std.proofs.lemmas.List.{drop_more}
-use Rattle.tally_base.specs.declared.settings.Group.{Group}
-use Rattle.std.proofs.lemmas.Grind.{pow_more}
-use Rattle.std.proofs.Math.Pow.{pow_mono}
-use Rattle.tally_base.specs.Settings.{group_view}
+use Rattle.std.{proofs.lemmas.Grind.{common_steps, pow_more}, specs.Int.bit_at, proofs.lemmas.Nat.Bits.{bit_at-zero, bit_at-suc, bit_at_lowest}, proofs.lemmas.List.drop_more, proofs.Math.Pow.pow_mono}
+use Rattle.tally_base.{specs.declared.settings.Group.Group, specs.Settings.{group_view, GroupView}}
 use Rattle.gate_plan.specs.Taking.{one_if, bits_of}
-use Rattle.tally_base.specs.Settings.{GroupView}
 
 pub bit_of_bits : (tests : List Bool) (i : ℕ) → bit_at (bits_of tests) i ≡ one_if (get_or tests i false)
 bit_of_bits [] i = bit_at-zero i

@@ -1,10 +1,7 @@
 -- The shifts of inputs, one after the other.
 use Rattle.std.proofs.Common.{◌≡◌, ◌∙◌, ap, sym, ℕ, ◌+◌, ◌<◌, ◌==◌, List, map, drop, length, get_or, set, None, Some, cond, arith}
-use Rattle.std.proofs.lemmas.Grind.{common_steps}
-use Rattle.std.proofs.lemmas.List.{drop_more}
-use Rattle.std.specs.declared.option.Option.{Option}
-use Rattle.tally_base.specs.declared.settings.ShiftSet.{ShiftSet}
-use Rattle.tally_base.specs.Settings.{shift_view}
+use Rattle.std.{proofs.lemmas.Grind.common_steps, proofs.lemmas.List.drop_more, specs.declared.option.Option.Option}
+use Rattle.tally_base.{specs.declared.settings.ShiftSet.ShiftSet, specs.Settings.shift_view}
 use Rattle.gate_plan.specs.Shifting.{shift_of}
 
 -- the shift of the first of those that are left, or of the others

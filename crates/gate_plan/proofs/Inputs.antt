@@ -1,9 +1,6 @@
 -- A table of inputs.
 use Rattle.std.proofs.Common.{◌≡◌, ℕ, zero, suc, ◌+◌, ◌^◌, ◌<◌, ◌≤◌, Bool, false, List, [], ◌∷◌, length, get_or, set, refl, arith, ◌⊎◌, ⊎_elim}
-use Rattle.std.proofs.lemmas.Bool.Decides.{nat_tests}
-use Rattle.std.proofs.lemmas.Grind.{common_steps}
-use Rattle.std.proofs.lemmas.List.{get_or-set_same}
-use Rattle.std.proofs.lemmas.Nat.Bits.{bit_at_above}
+use Rattle.std.{proofs.lemmas.Bool.Decides.nat_tests, proofs.lemmas.Grind.common_steps, proofs.lemmas.List.get_or-set_same, proofs.lemmas.Nat.Bits.bit_at_above}
 use Rattle.gate_plan.specs.Taking.{is_among}
 
 beyond : (has : List Bool) (i : ℕ) → length has ≤ i → get_or has i false ≡ false

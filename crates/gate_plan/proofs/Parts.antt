@@ -1,17 +1,8 @@
 -- The groups without a gate and those with gates, apart, are all groups.
 use Rattle.std.proofs.Common.{◌≡◌, ℕ, ◌+◌, ◌*◌, ◌^◌, ◌<◌, ◌≤◌, Bool, true, false, ◌&&◌, ◌||◌, ◌==◌, List, [], ◌∷◌, map, drop, get_or, length, refl, arith, ap, sym, ◌∙◌}
-use Rattle.std.proofs.lemmas.List.{length-map}
-use Rattle.std.proofs.lemmas.List.{drop_more}
-use Rattle.std.proofs.lemmas.Grind.{common_steps}
-use Rattle.std.proofs.Math.Pow.{pow_mono}
-use Rattle.tally_base.specs.declared.event.Event.{Event}
-use Rattle.tally_base.specs.declared.event.EventKind.TheVariants.{Photon, Marker}
-use Rattle.tally_base.specs.declared.settings.Group.{Group}
-use Rattle.tally_base.specs.Settings.{GroupView, group_view}
-use Rattle.gate_plan.specs.Shifting.{Sorting, shifted_kind, shifted_dtime}
-use Rattle.gate_plan.specs.Taking.{is_among, is_in_gate, is_in_gates, takes_kind, groups_by, groups_in, one_if, bits_of}
-use Rattle.gate_plan.specs.Parting.{is_open, passes, takes_gated, plain_bits, gated_bits}
-use Rattle.gate_plan.proofs.Bits.{bits_below, bits_kept}
+use Rattle.std.{proofs.lemmas.List.{length-map, drop_more}, proofs.lemmas.Grind.common_steps, proofs.Math.Pow.pow_mono}
+use Rattle.tally_base.{specs.declared.event.Event.Event, specs.declared.event.EventKind.TheVariants.{Photon, Marker}, specs.declared.settings.Group.Group, specs.Settings.{GroupView, group_view}}
+use Rattle.gate_plan.{specs.Shifting.{Sorting, shifted_kind, shifted_dtime}, specs.Taking.{is_among, is_in_gate, is_in_gates, takes_kind, groups_by, groups_in, one_if, bits_of}, specs.Parting.{is_open, passes, takes_gated, plain_bits, gated_bits}, proofs.Bits.{bits_below, bits_kept}}
 
 one_of : (among : Bool) (gates : List (ℕ × ℕ)) (dtime : ℕ) → one_if (among && is_in_gates gates dtime) ≡ one_if (among && is_open gates) + one_if (among && passes gates dtime)
 one_of true [] dtime = omega arith

@@ -1,10 +1,7 @@
 -- Shifted dtimes, events at the ends of gates, and in several groups.
 use Rattle.std.proofs.Common.{◌≡◌, refl, [], ◌∷◌}
-use Rattle.tally_base.specs.declared.event.Event.{Event}
-use Rattle.tally_base.specs.declared.event.EventKind.{EventKind}
-use Rattle.tally_base.specs.declared.event.EventKind.TheVariants.{Photon, Marker}
-use Rattle.gate_plan.specs.Shifting.{Sorting, shifted}
-use Rattle.gate_plan.specs.Taking.{groups_in}
+use Rattle.tally_base.{specs.declared.event.Event.Event, specs.declared.event.EventKind.EventKind, specs.declared.event.EventKind.TheVariants.{Photon, Marker}}
+use Rattle.gate_plan.{specs.Shifting.{Sorting, shifted}, specs.Taking.groups_in}
 
 abbrev event : EventKind → Event
 event kind = record { place = 1; kind = kind; time = 0 }

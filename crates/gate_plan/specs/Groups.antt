@@ -1,8 +1,7 @@
 -- How gates sort events.
 use Rattle.std.specs.Prelude.{map}
 use Rattle.tally_base.specs.Settings.{group_view, shift_view}
-use Rattle.gate_plan.specs.Shifting.{Sorting}
-use Rattle.gate_plan.specs.declared.gates.Gates.{Gates}
+use Rattle.gate_plan.{specs.Shifting.Sorting, specs.declared.gates.Gates.Gates}
 
 -- the shifts and the groups that they were made of
 abbrev pub sorting_of : Gates → Sorting

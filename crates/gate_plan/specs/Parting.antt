@@ -2,9 +2,7 @@
 use Rattle.std.specs.Prelude.{ℕ, ◌≡◌, ◌<◌, ◌+◌, ◌*◌, ◌^◌, Bool, true, false, ◌&&◌, List, [], ◌∷◌, map, sum_by, slice_index, slice_index_or}
 use Rattle.std.specs.List.{list_any}
 use Rattle.tally_base.specs.Settings.{GroupView}
-use Rattle.gate_plan.specs.Taking.{is_among, is_in_gate, one_if, bits_of}
-use Rattle.gate_plan.specs.declared.gated.Gated.{Gated}
-use Rattle.gate_plan.specs.declared.only_gate.OnlyGate.{OnlyGate}
+use Rattle.gate_plan.{specs.Taking.{is_among, is_in_gate, one_if, bits_of}, specs.declared.gated.Gated.Gated, specs.declared.only_gate.OnlyGate.OnlyGate}
 
 abbrev pub is_open : List (ℕ × ℕ) → Bool
 is_open [] = true

@@ -2,8 +2,7 @@
 ghost use Rattle.std.specs.Prelude.{◌≡◌, ◌<◌, ◌≤◌, ℕ, map, length, None, slice_index, slice_index_or};
 ghost use Rattle.std.specs.Option.{ForSome};
 ghost use Rattle.tally_base.specs.Settings.{group_view, shift_view};
-ghost use Rattle.gate_plan.specs.Shifting.{shift_of};
-ghost use Rattle.gate_plan.specs.Parting.{plain_bits, gated_bits, gated_sum, TellsGroups};
+ghost use Rattle.gate_plan.{specs.Shifting.shift_of, specs.Parting.{plain_bits, gated_bits, gated_sum, TellsGroups}};
 
 use crate::copies::groups_again;
 use crate::gated::Gated;
@@ -43,9 +42,7 @@ impl Gates {
     ghost use Rattle.std.specs.Prelude.{◌+◌, ◌-◌, [], get_or, false};
     ghost use Rattle.tally_base.specs.Events.{is_in};
     ghost use Rattle.plan_text.specs.Reading.{plan_view};
-    ghost use Rattle.gate_plan.specs.Shifting.{sorting, shifted, shifted_dtime};
-    ghost use Rattle.gate_plan.specs.Taking.{takes, groups_in};
-    ghost use Rattle.gate_plan.specs.Groups.{sorting_of};
+    ghost use Rattle.gate_plan.{specs.Shifting.{sorting, shifted, shifted_dtime}, specs.Taking.{takes, groups_in}, specs.Groups.sorting_of};
 
     /// The shifts and the groups of a plan.
     pub fn of(plan: &Plan) -> Gates

@@ -1,7 +1,6 @@
 // The only gate of a plan.
 ghost use Rattle.std.specs.Prelude.{◌≡◌, ℕ, slice_index, if◌then◌else◌};
-ghost use Rattle.gate_plan.specs.Taking.{is_in_gate};
-ghost use Rattle.gate_plan.specs.Parting.{groups_behind};
+ghost use Rattle.gate_plan.{specs.Taking.is_in_gate, specs.Parting.groups_behind};
 
 /// The only gate of a plan, with the groups of each input behind it.
 #[derive(Clone, Copy)]

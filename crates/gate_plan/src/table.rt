@@ -1,10 +1,8 @@
 // The groups without a gate by input, and those with gates.
 ghost use Rattle.std.specs.Prelude.{◌≡◌, ◌<◌, ◌≤◌, ◌+◌, ◌-◌, ◌*◌, ◌^◌, ℕ, min, map, length, slice_index, slice_index_or, false};
-ghost use Rattle.std.specs.Int.{bit_at};
-ghost use Rattle.std.specs.Option.{ForSome};
+ghost use Rattle.std.{specs.Int.bit_at, specs.Option.ForSome};
 ghost use Rattle.tally_base.specs.Settings.{group_view};
-ghost use Rattle.gate_plan.specs.Taking.{is_among, is_in_gate, one_if};
-ghost use Rattle.gate_plan.specs.Parting.{takes_plainly, takes_gated, passes, gates_of, plain_bits, gated_bits, gated_bit, gated_sum, groups_behind};
+ghost use Rattle.gate_plan.{specs.Taking.{is_among, is_in_gate, one_if}, specs.Parting.{takes_plainly, takes_gated, passes, gates_of, plain_bits, gated_bits, gated_bit, gated_sum, groups_behind}};
 
 use crate::copies::gates_again;
 use crate::gated::Gated;

@@ -1,13 +1,7 @@
 -- How many entries have an index in a range.
 use Rattle.std.proofs.Common.{◌≡◌, ℕ, ◌+◌, ◌-◌, ◌<◌, ◌≤◌, Bool, true, ◌&&◌, ltb, leb, List, [], ◌∷◌, length, cond, sym, ap, ◌∙◌, arith}
-use Rattle.std.specs.List.{count_by, AllByRecursion}
-use Rattle.std.proofs.lemmas.Grind.{common_steps}
-use Rattle.std.proofs.lemmas.List.Sums.{sum_by-cons, length-filter}
-use Rattle.lag_ring.specs.declared.ring.Entry.{Entry}
-use Rattle.lag_ring.specs.Ring.{IsRising}
-use Rattle.lag_ring.proofs.Rising.{filter_passed}
-use Rattle.lag_ring.proofs.Lists.{all_both}
-use Rattle.lag_ring.proofs.Sums.{sum_by-agree}
+use Rattle.std.{specs.List.{count_by, AllByRecursion}, proofs.lemmas.Grind.common_steps, proofs.lemmas.List.Sums.{sum_by-cons, length-filter}}
+use Rattle.lag_ring.{specs.declared.ring.Entry.Entry, specs.Ring.IsRising, proofs.Rising.filter_passed, proofs.Lists.all_both, proofs.Sums.sum_by-agree}
 
 abbrev pub between : ℕ → ℕ → Entry → Bool
 between low high e = leb low e.index && ltb e.index high

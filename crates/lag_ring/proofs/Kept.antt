@@ -1,15 +1,7 @@
 -- What a ring keeps once a bin more is put into it.
 use Rattle.std.proofs.Common.{◌≡◌, ℕ, ◌+◌, ◌-◌, ◌<◌, ◌≤◌, Bool, true, false, ◌&&◌, leb, cond, List, [], ◌∷◌, ◌++◌, length, refl, ◌∙◌, arith}
-use Rattle.std.specs.List.{sum_by, count_by, filter, AllByRecursion}
-use Rattle.std.proofs.lemmas.Grind.{common_steps}
-use Rattle.std.proofs.lemmas.List.Sums.{sum_by-append, sum_by_push}
-use Rattle.lag_ring.specs.declared.ring.Entry.{Entry}
-use Rattle.lag_ring.specs.Ring.{Ring, ring, IsRising}
-use Rattle.lag_ring.specs.Kept.{weight_where, IsInReach, Weighs, Keeps}
-use Rattle.lag_ring.proofs.Rising.{all_push}
-use Rattle.lag_ring.proofs.Lists.{all_front, all_back, all_filter, all_passed, of_some}
-use Rattle.lag_ring.proofs.Sums.{sum_by-agree, sum_by-same, sum_by-zero, sum_by-filter}
-use Rattle.lag_ring.proofs.Between.{few_kept}
+use Rattle.std.{specs.List.{sum_by, count_by, filter, AllByRecursion}, proofs.lemmas.Grind.common_steps, proofs.lemmas.List.Sums.{sum_by-append, sum_by_push}}
+use Rattle.lag_ring.{specs.declared.ring.Entry.Entry, specs.Ring.{Ring, ring, IsRising}, specs.Kept.{weight_where, IsInReach, Weighs, Keeps}, proofs.Rising.all_push, proofs.Lists.{all_front, all_back, all_filter, all_passed, of_some}, proofs.Sums.{sum_by-agree, sum_by-same, sum_by-zero, sum_by-filter}, proofs.Between.few_kept}
 
 -- A ring of no entries has what there is of no elements.
 pub nothing_kept : {X : Type 0} (first second : X → Bool) (at : X → ℕ) (reach : ℕ) → Keeps first second at (ring [] reach) []

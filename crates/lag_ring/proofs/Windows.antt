@@ -1,14 +1,7 @@
 -- Weights by tick.
 use Rattle.std.proofs.Common.{◌≡◌, ◌∙◌, ℕ, ◌+◌, ◌-◌, ◌*◌, ◌^◌, ◌<◌, ◌≤◌, Bool, true, false, eqb, cond, List, [], ◌∷◌, length, get_or, take, drop, ap, arith}
-use Rattle.std.specs.List.{sum_by, AllByRecursion}
-use Rattle.std.proofs.Math.Nat.{mul-le-mul_right}
-use Rattle.std.proofs.lemmas.List.{get_or-take, get_or-drop}
-use Rattle.std.proofs.lemmas.Bool.Decides.{nat_tests}
-use Rattle.std.proofs.lemmas.List.Sums.{sum_by-cons, sum_by_more_le, sum_by-le-sum_by}
-use Rattle.lag_ring.specs.declared.ring.Entry.{Entry}
-use Rattle.lag_ring.specs.declared.window.Side.{Side}
-use Rattle.lag_ring.specs.Window.{weight_of, weight_before, weight_at, product_at}
-use Rattle.lag_ring.proofs.Sums.{sum_by-same}
+use Rattle.std.{specs.List.{sum_by, AllByRecursion}, proofs.Math.Nat.mul-le-mul_right, proofs.lemmas.List.{get_or-take, get_or-drop}, proofs.lemmas.Bool.Decides.nat_tests, proofs.lemmas.List.Sums.{sum_by-cons, sum_by_more_le, sum_by-le-sum_by}}
+use Rattle.lag_ring.{specs.declared.ring.Entry.Entry, specs.declared.window.Side.Side, specs.Window.{weight_of, weight_before, weight_at, product_at}, proofs.Sums.sum_by-same}
 
 pub part-le : (b : Bool) (w : ℕ) → cond b w 0 ≤ w
 part-le true w = omega arith

@@ -1,10 +1,7 @@
 -- Weights by tick.
 use Rattle.std.specs.Prelude.{ℕ, ◌≡◌, ◌+◌, ◌-◌, ◌*◌, ◌^◌, ◌<◌, ◌≤◌, ◌==◌, List, length, slice_index, sum_by}
 use Rattle.std.specs.List.{AllByRecursion}
-use Rattle.lag_ring.specs.declared.ring.Entry.{Entry}
-use Rattle.lag_ring.specs.declared.window.Side.{Side}
-use Rattle.lag_ring.specs.declared.window.Side.TheVariants.{First, Second}
-use Rattle.lag_ring.specs.Kept.{weight_where}
+use Rattle.lag_ring.{specs.declared.ring.Entry.Entry, specs.declared.window.Side.Side, specs.declared.window.Side.TheVariants.{First, Second}, specs.Kept.weight_where}
 
 abbrev pub weight_of : Side → Entry → ℕ
 weight_of First e = e.a

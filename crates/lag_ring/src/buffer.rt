@@ -30,8 +30,7 @@ impl Model for Buffered {
 }
 
 impl Buffered {
-    ghost use Rattle.lag_ring.specs.declared.ring.Entry.{Entry};
-    ghost use Rattle.lag_ring.specs.Ring.{ring};
+    ghost use Rattle.lag_ring.{specs.declared.ring.Entry.Entry, specs.Ring.ring};
 
     /// No entries, with room for `reach`, or `AllocError` where memory for them is wanting.
     pub(crate) fn open(alloc: Global, reach: u32) -> Result<Buffered, AllocError>

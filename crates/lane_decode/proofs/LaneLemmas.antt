@@ -1,11 +1,6 @@
 -- What a shift and a mask give in each lane.
-use Rattle.std.proofs.Common.{◌≡◌, ◌<◌, ◌≤◌, ◌/◌, ◌^◌, ℕ, List, length, get_or, replicate, ap, ◌∙◌, arith}
-use Rattle.std.specs.Prelude.{bit_and}
-use Rattle.std.specs.Simd.Lanes.{zip2}
-use Rattle.std.proofs.Math.Nat.{pow-le-pow_right}
-use Rattle.std.proofs.lemmas.Nat.{div_below, pow_pos, and_le_r}
-use Rattle.std.proofs.lemmas.List.{get_or-map}
-use Rattle.std.proofs.lemmas.Simd.{zip2_splat, length-zip2}
+use Rattle.std.proofs.Common.{◌≡◌, ◌<◌, ◌≤◌, ◌/◌, ◌^◌, ℕ, List, length, get_or, replicate, ap, ◌∙◌, arith, bit_and}
+use Rattle.std.{specs.Simd.Lanes.zip2, proofs.Math.Nat.pow-le-pow_right, proofs.lemmas.Nat.{div_below, pow_pos, and_le_r}, proofs.lemmas.List.get_or-map, proofs.lemmas.Simd.{zip2_splat, length-zip2}}
 
 -- an operation on each lane and one number
 lane-at : (f : ℕ → ℕ → ℕ) (words : List ℕ) (y place : ℕ) → length words ≡ 8 → place < 8

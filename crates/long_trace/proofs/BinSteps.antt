@@ -1,16 +1,9 @@
 -- What one event more does to the numbers that are kept, and to the lines.
-use Rattle.std.proofs.Common.{◌≡◌, ◌∙◌, ℕ, ◌+◌, ◌-◌, ◌/◌, ◌*◌, ◌<◌, ◌≤◌, Bool, true, false, ◌&&◌, List, [], ◌∷◌, ◌++◌, max, refl, sym, ap, arith, append-nil, append_assoc}
-use Rattle.std.specs.Prelude.{IsTrue, nat_lt, nat_le, ◌==◌, slice_index, if◌then◌else◌}
-use Rattle.std.proofs.lemmas.Bool.Decides.{nat_tests}
-use Rattle.std.proofs.lemmas.Nat.{div-mul-add, le-div}
-use Rattle.tally_base.specs.declared.event.Event.{Event}
-use Rattle.tally_base.specs.Events.{is_photon, is_in}
-use Rattle.tally_base.specs.Settings.{TraceView}
-use Rattle.tally_base.specs.Tally.{History}
+use Rattle.std.proofs.Common.{◌≡◌, ◌∙◌, ℕ, ◌+◌, ◌-◌, ◌/◌, ◌*◌, ◌<◌, ◌≤◌, Bool, true, false, ◌&&◌, List, [], ◌∷◌, ◌++◌, max, refl, sym, ap, arith, append-nil, append_assoc, IsTrue, nat_lt, nat_le, ◌==◌, slice_index, if◌then◌else◌}
+use Rattle.std.{proofs.lemmas.Bool.Decides.nat_tests, proofs.lemmas.Nat.{div-mul-add, le-div}}
+use Rattle.tally_base.{specs.declared.event.Event.Event, specs.Events.{is_photon, is_in}, specs.Settings.TraceView, specs.Tally.History}
 use Rattle.count_trace.specs.TraceCounts.{count_before}
-use Rattle.long_trace.specs.Texts.{frequency_limit, is_binned, bin_at, bin_line, closed_lines}
-use Rattle.long_trace.specs.Bins.{BinState, CountsOn}
-use Rattle.long_trace.proofs.Steps.{of_group, times-group, none-follows, none-closes, same-follows, same-closes, next-follows, next-closes}
+use Rattle.long_trace.{specs.Texts.{frequency_limit, is_binned, bin_at, bin_line, closed_lines}, specs.Bins.{BinState, CountsOn}, proofs.Steps.{of_group, times-group, none-follows, none-closes, same-follows, same-closes, next-follows, next-closes}}
 
 binned : (p g l : Bool) → (p && (g && l)) ≡ ((p && g) && l)
 binned true g l = refl

@@ -1,18 +1,10 @@
 -- What is behind the lines of the bins that are closed.
-use Rattle.std.proofs.Common.{◌≡◌, ◌∙◌, ℕ, ◌+◌, ◌-◌, ◌<◌, Bool, true, false, ◌&&◌, inl, inr, cond, List, ◌++◌, refl, sym, ap, subst, arith, append-nil, append_assoc}
-use Rattle.std.specs.Prelude.{nat_lt, ◌==◌, count_by, if◌then◌else◌}
-use Rattle.std.proofs.lemmas.Bool.{cases_eq}
-use Rattle.std.proofs.lemmas.Bool.Decides.{nat_tests}
-use Rattle.std.specs.declared.option.Option.{Option}
-use Rattle.bench_io.specs.Sinks.{AppendsShort, PassesOn}
-use Rattle.bench_io.proofs.Bytes.{PassesOn-trans, AppendsShort-passed, AppendsShort-more, AppendsShort-same}
-use Rattle.tally_base.specs.Settings.{TraceView}
-use Rattle.tally_base.specs.Tally.{History}
+use Rattle.std.proofs.Common.{◌≡◌, ◌∙◌, ℕ, ◌+◌, ◌-◌, ◌<◌, Bool, true, false, ◌&&◌, inl, inr, cond, List, ◌++◌, refl, sym, ap, subst, arith, append-nil, append_assoc, nat_lt, ◌==◌, count_by, if◌then◌else◌}
+use Rattle.std.{proofs.lemmas.Bool.cases_eq, proofs.lemmas.Bool.Decides.nat_tests, specs.declared.option.Option.Option}
+use Rattle.bench_io.{specs.Sinks.{AppendsShort, PassesOn}, proofs.Bytes.{PassesOn-trans, AppendsShort-passed, AppendsShort-more, AppendsShort-same}}
+use Rattle.tally_base.{specs.Settings.TraceView, specs.Tally.History}
 use Rattle.count_trace.specs.TraceCounts.{in_trace_bin, count_before}
-use Rattle.long_trace.specs.Texts.{frequency_limit, span, bin_line, bin_lines, closed_lines, counts, frequency, frequency_line, frequency_lines, frequencies_text, summary_text, first_line, open_text, whole_text}
-use Rattle.long_trace.specs.Bins.{BinState, CountsBins}
-use Rattle.long_trace.proofs.Firsts.{lines-more, lines-front, count-more}
-use Rattle.long_trace.proofs.Steps.{closed-is}
+use Rattle.long_trace.{specs.Texts.{frequency_limit, span, bin_line, bin_lines, closed_lines, counts, frequency, frequency_line, frequency_lines, frequencies_text, summary_text, first_line, open_text, whole_text}, specs.Bins.{BinState, CountsBins}, proofs.Firsts.{lines-more, lines-front, count-more}, proofs.Steps.closed-is}
 
 none_more : (n : ℕ) → n + 0 ≡ n
 none_more n = omega arith

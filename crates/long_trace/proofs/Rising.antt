@@ -1,16 +1,9 @@
 -- The lines of bins that are closed stay, where the times of photons don't fall.
-use Rattle.std.proofs.Common.{◌≡◌, ◌∙◌, ℕ, ◌+◌, ◌-◌, ◌*◌, ◌<◌, ◌≤◌, Bool, true, false, ◌&&◌, List, [], ◌∷◌, ◌++◌, max, refl, sym, ap, arith, append-nil, append_assoc}
-use Rattle.std.specs.Prelude.{IsTrue, nat_le, if◌then◌else◌}
-use Rattle.std.proofs.lemmas.Nat.{le-div}
-use Rattle.std.proofs.Math.Nat.{div-mul-le_self}
-use Rattle.tally_base.specs.declared.event.Event.{Event}
-use Rattle.tally_base.specs.Events.{is_photon, is_in}
-use Rattle.tally_base.specs.Settings.{TraceView}
-use Rattle.tally_base.specs.Tally.{History}
+use Rattle.std.proofs.Common.{◌≡◌, ◌∙◌, ℕ, ◌+◌, ◌-◌, ◌*◌, ◌<◌, ◌≤◌, Bool, true, false, ◌&&◌, List, [], ◌∷◌, ◌++◌, max, refl, sym, ap, arith, append-nil, append_assoc, IsTrue, nat_le, if◌then◌else◌}
+use Rattle.std.{proofs.lemmas.Nat.le-div, proofs.Math.Nat.div-mul-le_self}
+use Rattle.tally_base.{specs.declared.event.Event.Event, specs.Events.{is_photon, is_in}, specs.Settings.TraceView, specs.Tally.History}
 use Rattle.count_trace.specs.TraceCounts.{in_trace_bin, count_before}
-use Rattle.long_trace.specs.Texts.{is_binned, bin_at, span, bin_line, bin_lines, closed_lines, counts, summary_text, first_line, open_text, whole_text}
-use Rattle.long_trace.proofs.Firsts.{lines-front, lines-same}
-use Rattle.long_trace.proofs.Steps.{bin-none, bin-other, span-push}
+use Rattle.long_trace.{specs.Texts.{is_binned, bin_at, span, bin_line, bin_lines, closed_lines, counts, summary_text, first_line, open_text, whole_text}, proofs.Firsts.{lines-front, lines-same}, proofs.Steps.{bin-none, bin-other, span-push}}
 
 -- the time of the last photon, or this one
 abbrev pub last_time : ℕ → History → ℕ

@@ -1,11 +1,7 @@
 -- Known traces.
-use Rattle.std.proofs.Common.{◌≡◌, ℕ, [], ◌∷◌, refl}
-use Rattle.std.specs.Prelude.{codes}
+use Rattle.std.proofs.Common.{◌≡◌, ℕ, [], ◌∷◌, refl, codes}
 use Rattle.std.specs.Fmt.{digits}
-use Rattle.tally_base.specs.declared.event.Event.{Event}
-use Rattle.tally_base.specs.declared.event.EventKind.TheVariants.{Photon, Marker}
-use Rattle.tally_base.specs.Settings.{TraceView}
-use Rattle.tally_base.specs.Tally.{History}
+use Rattle.tally_base.{specs.declared.event.Event.Event, specs.declared.event.EventKind.TheVariants.{Photon, Marker}, specs.Settings.TraceView, specs.Tally.History}
 use Rattle.long_trace.specs.Texts.{span, frequencies_text, open_text, whole_text}
 
 -- a photon of the first group

@@ -1,16 +1,9 @@
 -- One event more.
-use Rattle.std.proofs.Common.{◌≡◌, ◌∙◌, ℕ, ◌+◌, ◌-◌, ◌/◌, ◌<◌, Bool, true, false, ◌&&◌, cond, List, [], ◌∷◌, ◌++◌, max, refl, sym, ap, arith, append-nil}
-use Rattle.std.specs.Prelude.{nat_le, ◌==◌, slice_index, count_by, if◌then◌else◌}
-use Rattle.std.proofs.lemmas.Bool.Decides.{nat_tests}
-use Rattle.std.proofs.lemmas.List.Sums.{sum_by_push, fold_push}
-use Rattle.tally_base.specs.declared.event.Event.{Event}
-use Rattle.tally_base.specs.Events.{is_photon, is_in}
-use Rattle.tally_base.specs.Settings.{TraceView}
-use Rattle.tally_base.specs.Tally.{History}
+use Rattle.std.proofs.Common.{◌≡◌, ◌∙◌, ℕ, ◌+◌, ◌-◌, ◌/◌, ◌<◌, Bool, true, false, ◌&&◌, cond, List, [], ◌∷◌, ◌++◌, max, refl, sym, ap, arith, append-nil, nat_le, ◌==◌, slice_index, count_by, if◌then◌else◌}
+use Rattle.std.{proofs.lemmas.Bool.Decides.nat_tests, proofs.lemmas.List.Sums.{sum_by_push, fold_push}}
+use Rattle.tally_base.{specs.declared.event.Event.Event, specs.Events.{is_photon, is_in}, specs.Settings.TraceView, specs.Tally.History}
 use Rattle.count_trace.specs.TraceCounts.{count_times, in_trace_bin}
-use Rattle.long_trace.specs.Texts.{frequency_limit, is_binned, bin_at, span, bin_line, bin_lines, closed_lines, counts, frequency, above}
-use Rattle.long_trace.specs.Bins.{BinState, CountsBins}
-use Rattle.long_trace.proofs.Firsts.{first-same, lines-same, count-skip, lines-skip}
+use Rattle.long_trace.{specs.Texts.{frequency_limit, is_binned, bin_at, span, bin_line, bin_lines, closed_lines, counts, frequency, above}, specs.Bins.{BinState, CountsBins}, proofs.Firsts.{first-same, lines-same, count-skip, lines-skip}}
 
 -- it is a photon of the group
 abbrev pub of_group : TraceView → Event × ℕ → Bool

@@ -1,7 +1,6 @@
 -- What the numbers that a trace without end keeps say of the events that it was given.
 use Rattle.std.specs.Prelude.{◌≡◌, ℕ, ◌+◌, ◌<◌, ◌==◌, List, ◌++◌, slice_index, if◌then◌else◌}
-use Rattle.tally_base.specs.Settings.{TraceView}
-use Rattle.tally_base.specs.Tally.{History}
+use Rattle.tally_base.{specs.Settings.TraceView, specs.Tally.History}
 use Rattle.count_trace.specs.TraceCounts.{in_trace_bin}
 use Rattle.long_trace.specs.Texts.{frequency_limit, span, closed_lines, counts, frequency, above}
 

@@ -1,13 +1,8 @@
 -- What a trace without end stands for.
 use Rattle.std.specs.Prelude.{◌≡◌, ℕ, ◌+◌, List, ◌++◌, false, length}
-use Rattle.tally_base.specs.declared.settings.TraceSet.{TraceSet}
-use Rattle.tally_base.specs.Settings.{trace_view}
-use Rattle.tally_base.specs.Tally.{History, greatest_time}
+use Rattle.tally_base.{specs.declared.settings.TraceSet.TraceSet, specs.Settings.trace_view, specs.Tally.{History, greatest_time}}
 use Rattle.count_trace.specs.TraceCounts.{count_before}
-use Rattle.long_trace.specs.declared.trace.LongTrace.{LongTrace}
-use Rattle.long_trace.specs.Bins.{CountsBins}
-use Rattle.long_trace.specs.States.{state_of}
-use Rattle.long_trace.specs.Texts.{open_text}
+use Rattle.long_trace.{specs.declared.trace.LongTrace.LongTrace, specs.Bins.CountsBins, specs.States.state_of, specs.Texts.open_text}
 
 -- what it was made with
 abbrev pub set_of : LongTrace → TraceSet

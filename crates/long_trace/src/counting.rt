@@ -1,16 +1,10 @@
 // The photons of a trace, counted by their times.
 ghost use Rattle.std.specs.Prelude.{◌≡◌, ℕ, ◌+◌, ◌*◌, ◌^◌, ◌<◌, ◌≤◌, ◌++◌, ◌∷◌, ◌&&◌, [], false, true, max, nat_lt, nat_le, ◌==◌, slice_index, sum, length, if◌then◌else◌};
 ghost use Rattle.arrayvec.specs.ArrayVec.{array_vec_len};
-ghost use Rattle.event_block.specs.Columns.{gathered, events_in, IsSorted};
-ghost use Rattle.event_block.specs.Order.{floor_after, InOrder};
-ghost use Rattle.tally_base.specs.declared.event.Event.{Event};
-ghost use Rattle.tally_base.specs.Events.{is_photon, is_in};
-ghost use Rattle.tally_base.specs.Limits.{record_limit};
-ghost use Rattle.tally_base.specs.Settings.{trace_view};
+ghost use Rattle.event_block.{specs.Columns.{gathered, events_in, IsSorted}, specs.Order.{floor_after, InOrder}};
+ghost use Rattle.tally_base.{specs.declared.event.Event.Event, specs.Events.{is_photon, is_in}, specs.Limits.record_limit, specs.Settings.trace_view};
 ghost use Rattle.count_trace.specs.TraceCounts.{count_before};
-ghost use Rattle.long_trace.specs.Texts.{frequency_limit};
-ghost use Rattle.long_trace.specs.Bins.{CountsOn};
-ghost use Rattle.long_trace.specs.States.{state_of};
+ghost use Rattle.long_trace.{specs.Texts.frequency_limit, specs.Bins.CountsOn, specs.States.state_of};
 
 use crate::closed::Closed;
 use crate::lines::{LINE_SIZE, LINES_SIZE, put_bin};

@@ -1,8 +1,7 @@
 // What a trace without end prints at the end.
 ghost use Rattle.std.specs.Prelude.{◌≡◌, ◌+◌, ◌<◌, ◌≤◌, ◌++◌, ℕ, List, length, slice_index, OnOk, OnErr};
 ghost use Rattle.std.specs.Io.KnownBytes.{Appends};
-ghost use Rattle.bench_io.specs.TriesOnce.{TriesOnce};
-ghost use Rattle.bench_io.specs.Sinks.{AppendsShort, PassesOn};
+ghost use Rattle.bench_io.{specs.TriesOnce.TriesOnce, specs.Sinks.{AppendsShort, PassesOn}};
 ghost use Rattle.long_trace.specs.Texts.{frequency_limit, bin_line, frequency, frequencies_text, above, before_line, above_line, summary_text};
 
 use crate::closed::{Closed, FREQUENCIES};

@@ -1,8 +1,7 @@
 // A trace without end.
 ghost use Rattle.std.specs.Prelude.{◌≡◌, ◌+◌, ◌*◌, ◌<◌, ◌≤◌, ◌&&◌, if◌then◌else◌, IfErr, OnOk, OnErr, max, slice_index, sum};
 ghost use Rattle.std.specs.Io.KnownBytes.{Appends};
-ghost use Rattle.bench_io.specs.TriesOnce.{TriesOnce};
-ghost use Rattle.bench_io.specs.Sinks.{AppendsShort};
+ghost use Rattle.bench_io.{specs.TriesOnce.TriesOnce, specs.Sinks.AppendsShort};
 ghost use Rattle.tally_base.specs.Events.{is_photon, is_in};
 
 use crate::closed::Closed;
@@ -41,14 +40,9 @@ pub struct LongTrace {
 
 impl LongTrace {
     ghost use Rattle.std.specs.Prelude.{◌++◌, ◌∷◌, [], IsTrue, false, length};
-    ghost use Rattle.event_block.specs.Columns.{gathered, events_in, IsSorted};
-    ghost use Rattle.event_block.specs.Order.{floor_after, InOrder};
-    ghost use Rattle.tally_base.specs.Limits.{record_limit};
-    ghost use Rattle.tally_base.specs.Settings.{trace_view};
-    ghost use Rattle.tally_base.specs.Tally.{History};
-    ghost use Rattle.long_trace.specs.Texts.{first_line, open_text, whole_text};
-    ghost use Rattle.long_trace.specs.Written.{AppendsRest, CutsRest};
-    ghost use Rattle.long_trace.specs.LongTrace.{Holds, GivenMore, set_of, taken_of, floor_of, held};
+    ghost use Rattle.event_block.{specs.Columns.{gathered, events_in, IsSorted}, specs.Order.{floor_after, InOrder}};
+    ghost use Rattle.tally_base.{specs.Limits.record_limit, specs.Settings.trace_view, specs.Tally.History};
+    ghost use Rattle.long_trace.{specs.Texts.{first_line, open_text, whole_text}, specs.Written.{AppendsRest, CutsRest}, specs.LongTrace.{Holds, GivenMore, set_of, taken_of, floor_of, held}};
 
     /// A trace of no events. It doesn't look at the number of bins.
     pub fn new(set: &TraceSet) -> LongTrace

@@ -1,10 +1,7 @@
 -- The last element that passes parts a list.
-use Rattle.std.proofs.Common.{◌≡◌, ◌∙◌, Bool, true, false, cond, List, [], ◌∷◌, ◌++◌, refl, ap, sym, subst, append_assoc}
-use Rattle.std.specs.Prelude.{None, option_to_list}
-use Rattle.std.specs.List.{list_any, last_or}
-use Rattle.std.proofs.lemmas.List.{append-nil}
-use Rattle.marker_map.specs.Lasts.{last_that, until_last, behind_last, from_last}
-use Rattle.marker_map.proofs.Lasts.{any-passing, any-failing, last_or-push, last-passing, last-failing, until-passing, until-failing, behind-passing, behind-failing, from-passing, from-failing}
+use Rattle.std.proofs.Common.{◌≡◌, ◌∙◌, Bool, true, false, cond, List, [], ◌∷◌, ◌++◌, refl, ap, sym, subst, append_assoc, None, option_to_list}
+use Rattle.std.{specs.List.{list_any, last_or}, proofs.lemmas.List.append-nil}
+use Rattle.marker_map.{specs.Lasts.{last_that, until_last, behind_last, from_last}, proofs.Lasts.{any-passing, any-failing, last_or-push, last-passing, last-failing, until-passing, until-failing, behind-passing, behind-failing, from-passing, from-failing}}
 
 -- what the parts of a list are
 pub record Parts {X : Type 0} (p : X → Bool) (xs : List X) : Type 0 where

@@ -1,11 +1,7 @@
 -- When the open line began, with one marker more.
-use Rattle.std.proofs.Common.{◌≡◌, ◌≤◌, ℕ, Bool, true, false, max, List, [], ◌∷◌, ◌++◌, arith}
-use Rattle.std.specs.Prelude.{Option, None, Some, option_map, if◌then◌else◌}
+use Rattle.std.proofs.Common.{◌≡◌, ◌≤◌, ℕ, Bool, true, false, max, List, [], ◌∷◌, ◌++◌, arith, Option, None, Some, option_map, if◌then◌else◌}
 use Rattle.std.proofs.lemmas.Grind.{common_steps}
-use Rattle.marker_map.specs.Lines.{start_or_none}
-use Rattle.marker_map.specs.Marks.{Mark, greatest_time}
-use Rattle.marker_map.specs.Rows.{line_at}
-use Rattle.marker_map.specs.declared.lines.Line.{Line}
+use Rattle.marker_map.{specs.Lines.start_or_none, specs.Marks.{Mark, greatest_time}, specs.Rows.line_at, specs.declared.lines.Line.Line}
 
 -- a line that begins here begins no later
 pub start-begins : (time : ℕ) (row : Option ℕ) (line : Option Line) → line ≡ option_map (line_at time) row → start_or_none line ≤ time

@@ -1,18 +1,8 @@
 -- One more marker, and the line and the rows.
-use Rattle.std.proofs.Common.{◌≡◌, ◌∙◌, ℕ, ◌+◌, ◌-◌, ◌%◌, ◌<◌, Bool, true, false, ◌&&◌, cond, eqb, List, [], ◌∷◌, ◌++◌, refl, ap, arith}
-use Rattle.std.specs.Prelude.{Option, None, Some, is_none, option_map, option_and_then}
-use Rattle.std.specs.List.{list_any}
-use Rattle.std.proofs.lemmas.Grind.{common_steps}
-use Rattle.std.proofs.Math.Numerals.{add-one}
-use Rattle.std.proofs.lemmas.Nat.{mod_below}
-use Rattle.std.proofs.Math.Nat.{suc-mod, mod_self, mod-eq_of_lt}
-use Rattle.std.proofs.lemmas.List.Sums.{sum_by_push}
+use Rattle.std.proofs.Common.{◌≡◌, ◌∙◌, ℕ, ◌+◌, ◌-◌, ◌%◌, ◌<◌, Bool, true, false, ◌&&◌, cond, eqb, List, [], ◌∷◌, ◌++◌, refl, ap, arith, Option, None, Some, is_none, option_map, option_and_then}
+use Rattle.std.{specs.List.list_any, proofs.lemmas.Grind.common_steps, proofs.Math.Numerals.add-one, proofs.lemmas.Nat.mod_below, proofs.Math.Nat.{suc-mod, mod_self, mod-eq_of_lt}, proofs.lemmas.List.Sums.sum_by_push}
 use Rattle.tally_base.specs.Settings.{ImageView}
-use Rattle.marker_map.specs.Lasts.{last_that, behind_last, from_last}
-use Rattle.marker_map.specs.Marks.{Mark, has_named_bit}
-use Rattle.marker_map.specs.Places.{is_line, is_stop, is_frame, line_of, lines_in, row_at, row_of}
-use Rattle.marker_map.specs.Rows.{line_at, open_line, next_row, next_row_by, row_after}
-use Rattle.marker_map.proofs.Lasts.{any-passing, any-failing, last-passing, last-failing, until-passing, until-failing, behind-passing, behind-failing, from-passing, from-failing}
+use Rattle.marker_map.{specs.Lasts.{last_that, behind_last, from_last}, specs.Marks.{Mark, has_named_bit}, specs.Places.{is_line, is_stop, is_frame, line_of, lines_in, row_at, row_of}, specs.Rows.{line_at, open_line, next_row, next_row_by, row_after}, proofs.Lasts.{any-passing, any-failing, last-passing, last-failing, until-passing, until-failing, behind-passing, behind-failing, from-passing, from-failing}}
 
 lines_in-push : (set : ImageView) (ms : List Mark) (m : Mark) (begins : Bool) → is_line set m ≡ begins → lines_in set (ms ++ m ∷ []) ≡ lines_in set ms + cond begins 1 0
 lines_in-push set ms m begins is = sum_by_push (λ m. cond (is_line set m) 1 0) ms m ∙ ap (λ b. lines_in set ms + cond b 1 0) is

@@ -1,13 +1,8 @@
 -- The place of a photon, by the open line.
-use Rattle.std.proofs.Common.{◌≡◌, ◌∙◌, ℕ, ◌-◌, ◌/◌, ◌<◌, ◌≤◌, Bool, true, false, ◌&&◌, List, refl, ap, arith}
-use Rattle.std.specs.Prelude.{Option, None, Some, nat_lt, option_map, option_and_then, if◌then◌else◌}
+use Rattle.std.proofs.Common.{◌≡◌, ◌∙◌, ℕ, ◌-◌, ◌/◌, ◌<◌, ◌≤◌, Bool, true, false, ◌&&◌, List, refl, ap, arith, Option, None, Some, nat_lt, option_map, option_and_then, if◌then◌else◌}
 use Rattle.std.proofs.lemmas.Bool.Decides.{nat_tests}
 use Rattle.tally_base.specs.Settings.{ImageView}
-use Rattle.marker_map.specs.Marks.{Mark}
-use Rattle.marker_map.specs.Places.{line_of, row_of, column_in, within, place_of}
-use Rattle.marker_map.specs.PlacesBy.{place_by}
-use Rattle.marker_map.specs.Rows.{line_at, open_line}
-use Rattle.marker_map.specs.declared.lines.Line.{Line}
+use Rattle.marker_map.{specs.Marks.Mark, specs.Places.{line_of, row_of, column_in, within, place_of}, specs.PlacesBy.place_by, specs.Rows.{line_at, open_line}, specs.declared.lines.Line.Line}
 
 by_parts : (set : ImageView) (time : ℕ) (line : Option Mark) (row : Option ℕ) → place_by set time (option_and_then (λ line. option_map (line_at line.time) row) line) ≡ option_and_then (λ line. option_and_then (within set ((time - line.time) / set.dwell)) row) line
 by_parts set time None row = refl

@@ -2,10 +2,7 @@
 use Rattle.std.specs.Prelude.{◌≡◌, ◌≤◌, ℕ, List, length, Option}
 use Rattle.std.specs.Option.{option_map_or}
 use Rattle.tally_base.specs.Settings.{ImageView, image_view}
-use Rattle.marker_map.specs.Marks.{Mark, greatest_time}
-use Rattle.marker_map.specs.Rows.{open_line, next_row}
-use Rattle.marker_map.specs.declared.lines.Line.{Line}
-use Rattle.marker_map.specs.declared.lines.Lines.{Lines}
+use Rattle.marker_map.{specs.Marks.{Mark, greatest_time}, specs.Rows.{open_line, next_row}, specs.declared.lines.Line.Line, specs.declared.lines.Lines.Lines}
 
 -- the image that they are of
 abbrev pub image_of : Lines → ImageView

@@ -2,8 +2,7 @@
 use Rattle.std.specs.Prelude.{ℕ, Bool, ◌-◌, ◌/◌, ◌%◌, ◌&&◌, ◌==◌, nat_lt, List, Option, None, Some, count_by, option_and_then, if◌then◌else◌}
 use Rattle.std.specs.List.{list_any}
 use Rattle.tally_base.specs.Settings.{ImageView}
-use Rattle.marker_map.specs.Lasts.{last_that, until_last, behind_last, from_last}
-use Rattle.marker_map.specs.Marks.{Mark, has_bit, has_named_bit}
+use Rattle.marker_map.{specs.Lasts.{last_that, until_last, behind_last, from_last}, specs.Marks.{Mark, has_bit, has_named_bit}}
 
 abbrev pub is_line : ImageView → Mark → Bool
 is_line set m = has_bit set.line m.bits

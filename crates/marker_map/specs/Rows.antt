@@ -2,10 +2,7 @@
 use Rattle.std.specs.Prelude.{ℕ, ◌+◌, ◌%◌, ◌==◌, ◌&&◌, List, Option, None, Some, is_none, option_map, option_and_then, if◌then◌else◌}
 use Rattle.std.specs.List.{list_any}
 use Rattle.tally_base.specs.Settings.{ImageView}
-use Rattle.marker_map.specs.Lasts.{from_last}
-use Rattle.marker_map.specs.Marks.{Mark}
-use Rattle.marker_map.specs.Places.{is_frame, line_of, lines_in, row_of}
-use Rattle.marker_map.specs.declared.lines.Line.{Line}
+use Rattle.marker_map.{specs.Lasts.from_last, specs.Marks.Mark, specs.Places.{is_frame, line_of, lines_in, row_of}, specs.declared.lines.Line.Line}
 
 abbrev pub line_at : ℕ → ℕ → Line
 line_at start row = record { start = start; row = row }

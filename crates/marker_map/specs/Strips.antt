@@ -1,9 +1,7 @@
 -- Where photons are on the line that is open.
 use Rattle.std.specs.Prelude.{ℕ, Bool, true, false, ◌-◌, ◌/◌, nat_lt, Option, None, Some, if◌then◌else◌}
 use Rattle.tally_base.specs.Divisors.{divisor_of}
-use Rattle.marker_map.specs.declared.strip.Strip.{Strip}
-use Rattle.marker_map.specs.declared.strip.Way.{Way}
-use Rattle.marker_map.specs.declared.strip.Way.TheVariants.{Forwards, Backwards}
+use Rattle.marker_map.{specs.declared.strip.Strip.Strip, specs.declared.strip.Way.Way, specs.declared.strip.Way.TheVariants.{Forwards, Backwards}}
 
 -- the time of the marker of the line
 abbrev pub start_of : Strip → ℕ

@@ -1,11 +1,8 @@
 // The lines of a scan.
 ghost use Rattle.std.specs.Prelude.{◌≡◌, ◌+◌, ◌<◌, ◌≤◌, None, Some, option_map, if◌then◌else◌};
 ghost use Rattle.std.specs.Option.{ForSome};
-ghost use Rattle.tally_base.specs.Settings.{image_view};
-ghost use Rattle.tally_base.specs.Limits.{record_limit};
-ghost use Rattle.marker_map.specs.Places.{runs_back};
-ghost use Rattle.marker_map.specs.Rows.{line_at, row_after};
-ghost use Rattle.tally_base.specs.Divisors.{divisor_of};
+ghost use Rattle.tally_base.{specs.Settings.image_view, specs.Limits.record_limit, specs.Divisors.divisor_of};
+ghost use Rattle.marker_map.{specs.Places.runs_back, specs.Rows.{line_at, row_after}};
 
 use crate::bits::{has_bit, has_named_bit};
 use crate::strip::Strip;
@@ -86,11 +83,7 @@ fn runs_back(set: &ImageSet, row: u64) -> bool
 
 impl Lines {
     ghost use Rattle.std.specs.Prelude.{ℕ, List, [], ◌∷◌, ◌++◌, IfSome, max};
-    ghost use Rattle.marker_map.specs.Marks.{Mark, mark};
-    ghost use Rattle.marker_map.specs.Places.{place_of};
-    ghost use Rattle.marker_map.specs.Strips.{place_on, start_of, width_of, height_of};
-    ghost use Rattle.marker_map.specs.PlacesBy.{place_by};
-    ghost use Rattle.marker_map.specs.Lines.{Saw, image_of, markers_given, line_start};
+    ghost use Rattle.marker_map.{specs.Marks.{Mark, mark}, specs.Places.place_of, specs.Strips.{place_on, start_of, width_of, height_of}, specs.PlacesBy.place_by, specs.Lines.{Saw, image_of, markers_given, line_start}};
 
     /// The lines of an image, before any marker.
     pub fn new(set: &ImageSet) -> Lines

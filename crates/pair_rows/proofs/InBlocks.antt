@@ -1,14 +1,7 @@
 -- One event more in a block.
-use Rattle.std.proofs.Common.{◌≡◌, ℕ, ◌+◌, ◌≤◌, ◌++◌, ◌∷◌, [], Bool, true, false, length, ap, arith, length-append}
-use Rattle.std.specs.Prelude.{if◌then◌else◌}
-use Rattle.tally_base.specs.declared.event.Event.{Event}
-use Rattle.tally_base.specs.Tally.{moves_floor}
-use Rattle.tally_base.specs.Limits.{time_limit}
-use Rattle.event_block.specs.declared.block.Block.{Block}
-use Rattle.event_block.specs.Columns.{event_at, gathered}
-use Rattle.event_block.specs.Order.{floor_after, InOrder}
-use Rattle.event_block.proofs.Order.{floor-push, order-push}
-use Rattle.event_block.proofs.Rows.{length-rows}
+use Rattle.std.proofs.Common.{◌≡◌, ℕ, ◌+◌, ◌≤◌, ◌++◌, ◌∷◌, [], Bool, true, false, length, ap, arith, length-append, if◌then◌else◌}
+use Rattle.tally_base.{specs.declared.event.Event.Event, specs.Tally.moves_floor, specs.Limits.time_limit}
+use Rattle.event_block.{specs.declared.block.Block.Block, specs.Columns.{event_at, gathered}, specs.Order.{floor_after, InOrder}, proofs.Order.{floor-push, order-push}, proofs.Rows.length-rows}
 
 pub len-push : (b b' : Block) (e : Event) → gathered b' ≡ gathered b ++ e ∷ [] → b'.len ≡ b.len + 1
 len-push b b' e more = omega (arith, length-rows (event_at b') b'.len, length-rows (event_at b) b.len, ap length more, length-append (gathered b) (e ∷ []))

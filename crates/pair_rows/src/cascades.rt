@@ -1,7 +1,6 @@
 // Cells of known events, where memory is had.
 ghost use Rattle.std.specs.Prelude.{◌≡◌, ◌+◌, ◌<◌, ◌≤◌, ◌%◌, ◌∷◌, ◌++◌, [], IfOk, length, true, false};
-ghost use Rattle.event_block.specs.Columns.{gathered, IsSorted};
-ghost use Rattle.event_block.specs.Order.{floor_after, InOrder};
+ghost use Rattle.event_block.{specs.Columns.{gathered, IsSorted}, specs.Order.{floor_after, InOrder}};
 ghost use Rattle.tau_cascade.specs.Cascade.{set_of};
 
 use crate::given::{END, Given, put_event};

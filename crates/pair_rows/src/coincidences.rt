@@ -1,7 +1,6 @@
 // Coincidences of known events, where memory is had.
 ghost use Rattle.std.specs.Prelude.{◌≡◌, true, false, ◌+◌, ◌<◌, ◌≤◌, ◌^◌, ◌∷◌, ◌++◌, [], IfOk, length};
-ghost use Rattle.event_block.specs.Columns.{gathered, IsSorted};
-ghost use Rattle.event_block.specs.Order.{floor_after, InOrder};
+ghost use Rattle.event_block.{specs.Columns.{gathered, IsSorted}, specs.Order.{floor_after, InOrder}};
 ghost use Rattle.coincidence.specs.Coincidence.{set_of};
 
 use crate::given::{END, Given, put_event};

@@ -1,31 +1,12 @@
 -- A block of events more for a picker.
-use Rattle.std.proofs.Common.{◌≡◌, ◌∙◌, ℕ, ◌+◌, ◌<◌, ◌≤◌, Bool, true, false, List, [], ◌∷◌, ◌++◌, Some, cond, ap, sym, subst, refl, arith, append_assoc, append-nil, inl, inr, max, length, length-append, ⊎_elim}
-use Rattle.std.specs.Prelude.{IsTrue, if◌then◌else◌}
-use Rattle.std.specs.List.{filter}
-use Rattle.std.proofs.lemmas.List.Elements.{filter-append}
-use Rattle.tally_base.specs.declared.event.Event.{Event}
-use Rattle.tally_base.specs.declared.fault.Fault.{Fault}
-use Rattle.tally_base.specs.declared.header.Mode.{Mode}
-use Rattle.tally_base.specs.Events.{is_photon, is_ordered}
-use Rattle.tally_base.specs.FaultCounts.{Rose}
-use Rattle.tally_base.specs.Tally.{moves_floor}
-use Rattle.ptu_definitions.specs.Kept.{Marked, floor_of}
-use Rattle.ptu_definitions.specs.Prefixes.{each_after}
-use Rattle.ptu_definitions.specs.Settled.{not_marked}
-use Rattle.ptu_definitions.proofs.DeliveredLaws.{not_marked-append, not_marked-false}
-use Rattle.ptu_definitions.proofs.PrefixLemmas.{each_after-append}
+use Rattle.std.proofs.Common.{◌≡◌, ◌∙◌, ℕ, ◌+◌, ◌<◌, ◌≤◌, Bool, true, false, List, [], ◌∷◌, ◌++◌, Some, cond, ap, sym, subst, refl, arith, append_assoc, append-nil, inl, inr, max, length, length-append, ⊎_elim, IsTrue, if◌then◌else◌}
+use Rattle.std.{specs.List.filter, proofs.lemmas.List.Elements.filter-append}
+use Rattle.tally_base.{specs.declared.event.Event.Event, specs.declared.fault.Fault.Fault, specs.declared.header.Mode.Mode, specs.Events.{is_photon, is_ordered}, specs.FaultCounts.Rose, specs.Tally.moves_floor}
+use Rattle.ptu_definitions.{specs.Kept.{Marked, floor_of}, specs.Prefixes.each_after, specs.Settled.not_marked, proofs.DeliveredLaws.{not_marked-append, not_marked-false}, proofs.PrefixLemmas.each_after-append}
 use Rattle.event_block.specs.Order.{floor_after, InOrder}
-use Rattle.record_stream.specs.Blocks.{orders_markers, on_time}
-use Rattle.record_stream.proofs.Adding.{moves_by}
-use Rattle.record_stream.proofs.Eaches.{not_late, ordered-moves}
-use Rattle.record_stream.proofs.Floors.{moved_floor-push}
-use Rattle.record_write.specs.Picked.{is_too_late, photon_words}
-use Rattle.record_write.specs.Picker.{mode_of, HasPicked}
-use Rattle.record_write.specs.Writing.{PutsWords, CutsWords}
-use Rattle.record_write.proofs.Puts.{puts-more, cuts-behind}
-use Rattle.photon_pick.specs.Giving.{Pen, pen, Gave, Stopped}
-use Rattle.photon_pick.specs.Late.{too_late}
-use Rattle.photon_pick.specs.Taking.{Stand, Took, Refused, chosen_of}
+use Rattle.record_stream.{specs.Blocks.{orders_markers, on_time}, proofs.Adding.moves_by, proofs.Eaches.{not_late, ordered-moves}, proofs.Floors.moved_floor-push}
+use Rattle.record_write.{specs.Picked.{is_too_late, photon_words}, specs.Picker.{mode_of, HasPicked}, specs.Writing.{PutsWords, CutsWords}, proofs.Puts.{puts-more, cuts-behind}}
+use Rattle.photon_pick.{specs.Giving.{Pen, pen, Gave, Stopped}, specs.Late.too_late, specs.Taking.{Stand, Took, Refused, chosen_of}}
 
 -- ## The order of those that are chosen
 

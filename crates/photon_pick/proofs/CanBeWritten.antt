@@ -1,43 +1,11 @@
 -- The photons of a group of a file can be written, up to the first that is too late.
-use Rattle.std.proofs.Common.{◌≡◌, ◌∙◌, ◌-◌, ℕ, ◌+◌, List, [], ◌∷◌, ◌++◌, Bool, true, false, Ok, Err, cond, length, take, drop, map, refl, sym, ap, subst}
-use Rattle.std.specs.Prelude.{Result, ◌==◌}
-use Rattle.std.specs.List.{All, AllByRecursion, filter}
-use Rattle.std.proofs.lemmas.Bool.{eqb-true}
-use Rattle.std.proofs.lemmas.List.{take-append-drop}
-use Rattle.std.proofs.lemmas.List.Elements.{All-nil, All-cons, All-head, All-tail, All-append, All-filter, All-from_recursion, filter-append}
-use Rattle.std.proofs.lemmas.List.Sorted.{All-permutation}
-use Rattle.tally_base.specs.declared.event.Event.{Event}
-use Rattle.tally_base.specs.declared.event.EventKind.TheVariants.{Marker as MarkerEvent}
-use Rattle.tally_base.specs.declared.event.Policy.{Policy}
-use Rattle.tally_base.specs.declared.fault.Fault.{Fault}
-use Rattle.tally_base.specs.declared.header.Mode.{Mode}
-use Rattle.tally_base.specs.declared.header.Mode.TheVariants.{T2, T3}
-use Rattle.tally_base.specs.declared.header.RecordType.{RecordType}
-use Rattle.tally_base.specs.Events.{is_photon, is_ordered}
-use Rattle.tally_base.specs.RecordTypes.{mode_of}
-use Rattle.ptu_definitions.specs.declared.records.Raw.{Raw}
-use Rattle.ptu_definitions.specs.declared.records.Raw.TheVariants.{Photon, Marker, Wrap, Reserved}
-use Rattle.ptu_definitions.specs.declared.records.Summary.{Summary}
-use Rattle.ptu_definitions.specs.Fitting.{Fits, KindFits}
-use Rattle.ptu_definitions.specs.Kept.{kept}
-use Rattle.ptu_definitions.specs.Layouts.{meaning_of}
-use Rattle.ptu_definitions.specs.Prefixes.{each_after}
-use Rattle.ptu_definitions.specs.Settled.{is_overtaken, unless_overtaken, not_overtaken, in_time, ordered, kept_by, Rises}
-use Rattle.ptu_definitions.specs.Streams.{Reading, reading, unrefused_after, given, streamed}
-use Rattle.ptu_definitions.specs.Times.{event_of, event_after, events}
-use Rattle.ptu_definitions.specs.Words.{words_of}
-use Rattle.ptu_definitions.proofs.DeliveredLaws.{in_time-kept, delivered-settled}
-use Rattle.ptu_definitions.proofs.FittingLemmas.{meaning-fits}
-use Rattle.ptu_definitions.proofs.SettledLaws.{in_time-permutation, Rises-put_all}
-use Rattle.ptu_definitions.proofs.SettledLemmas.{Rises-lower, IsNonDecreasingBy-Rises}
+use Rattle.std.proofs.Common.{◌≡◌, ◌∙◌, ◌-◌, ℕ, ◌+◌, List, [], ◌∷◌, ◌++◌, Bool, true, false, Ok, Err, cond, length, take, drop, map, refl, sym, ap, subst, Result, ◌==◌}
+use Rattle.std.{specs.List.{All, AllByRecursion, filter}, proofs.lemmas.Bool.eqb-true, proofs.lemmas.List.take-append-drop, proofs.lemmas.List.Elements.{All-nil, All-cons, All-head, All-tail, All-append, All-filter, All-from_recursion, filter-append}, proofs.lemmas.List.Sorted.All-permutation}
+use Rattle.tally_base.{specs.declared.event.Event.Event, specs.declared.event.EventKind.TheVariants.Marker as MarkerEvent, specs.declared.event.Policy.Policy, specs.declared.fault.Fault.Fault, specs.declared.header.Mode.Mode, specs.declared.header.Mode.TheVariants.{T2, T3}, specs.declared.header.RecordType.RecordType, specs.Events.{is_photon, is_ordered}, specs.RecordTypes.mode_of}
+use Rattle.ptu_definitions.{specs.declared.records.Raw.Raw, specs.declared.records.Raw.TheVariants.{Photon, Marker, Wrap, Reserved}, specs.declared.records.Summary.Summary, specs.Fitting.{Fits, KindFits}, specs.Kept.kept, specs.Layouts.meaning_of, specs.Prefixes.each_after, specs.Settled.{is_overtaken, unless_overtaken, not_overtaken, in_time, ordered, kept_by, Rises}, specs.Streams.{Reading, reading, unrefused_after, given, streamed}, specs.Times.{event_of, event_after, events}, specs.Words.words_of, proofs.DeliveredLaws.{in_time-kept, delivered-settled}, proofs.FittingLemmas.meaning-fits, proofs.SettledLaws.{in_time-permutation, Rises-put_all}, proofs.SettledLemmas.{Rises-lower, IsNonDecreasingBy-Rises}}
 use Rattle.gate_plan.specs.Shifting.{Sorting}
 use Rattle.record_write.specs.Picked.{is_too_late, IsPhotonOf, CanBePicked}
-use Rattle.photon_pick.specs.Chosen.{is_chosen}
-use Rattle.photon_pick.specs.Late.{too_late, writable}
-use Rattle.photon_pick.specs.Texts.{photons_in}
-use Rattle.photon_pick.specs.Ends.{photons_kept, photons_by, photons_of}
-use Rattle.photon_pick.proofs.Parts.{writable-all}
-use Rattle.photon_pick.proofs.Wanted.{first-of, ordered-photon}
+use Rattle.photon_pick.{specs.Chosen.is_chosen, specs.Late.{too_late, writable}, specs.Texts.photons_in, specs.Ends.{photons_kept, photons_by, photons_of}, proofs.Parts.writable-all, proofs.Wanted.{first-of, ordered-photon}}
 
 -- ## Events fit the mode of their records
 

@@ -1,33 +1,14 @@
 -- What the end of a stream writes of the photons of a group.
-use Rattle.std.proofs.Common.{◌≡◌, ◌∙◌, ℕ, List, [], ◌++◌, Bool, None, Some, Ok, Err, map, refl, sym, ap, inl, inr, ⊎_elim, arith, append-nil}
-use Rattle.std.specs.Prelude.{Result}
-use Rattle.std.specs.List.{filter}
-use Rattle.std.specs.declared.option.Option.{Option}
-use Rattle.std.specs.Io.KnownBytes.{Appends}
-use Rattle.tally_base.specs.declared.event.Event.{Event}
-use Rattle.tally_base.specs.declared.fault.Fault.{Fault}
-use Rattle.tally_base.specs.declared.fault.Fault.TheVariants.{WriteFault}
-use Rattle.tally_base.specs.FaultCounts.{Rose}
-use Rattle.bench_io.specs.Sinks.{AppendsShort}
-use Rattle.bench_io.proofs.Bytes.{Appends-flushed, AppendsShort-flushed, AppendsShort-more, AppendsShort-kept, Keeps-from_none}
-use Rattle.ptu_definitions.specs.declared.records.Summary.{Summary}
-use Rattle.ptu_definitions.specs.Kept.{Marked}
-use Rattle.ptu_definitions.specs.Prefixes.{each_after}
-use Rattle.ptu_definitions.specs.Settled.{not_marked, delivered, delivered_last}
-use Rattle.ptu_definitions.specs.Streams.{Reading, record_refusal, last_in, streamed, summary}
-use Rattle.ptu_definitions.specs.Times.{events}
-use Rattle.ptu_definitions.specs.Words.{words_of, rest_of}
-use Rattle.ptu_definitions.proofs.DeliveredLaws.{delivered-kept}
-use Rattle.ptu_definitions.proofs.Firsts.{given-all}
-use Rattle.record_stream.specs.declared.taker.EventTaker.{Ghosts}
-use Rattle.record_stream.specs.Ending.{GaveRest, BrokeFirst, Ended}
+use Rattle.std.proofs.Common.{◌≡◌, ◌∙◌, ℕ, List, [], ◌++◌, Bool, None, Some, Ok, Err, map, refl, sym, ap, inl, inr, ⊎_elim, arith, append-nil, Result}
+use Rattle.std.{specs.List.filter, specs.declared.option.Option.Option, specs.Io.KnownBytes.Appends}
+use Rattle.tally_base.{specs.declared.event.Event.Event, specs.declared.fault.Fault.Fault, specs.declared.fault.Fault.TheVariants.WriteFault, specs.FaultCounts.Rose}
+use Rattle.bench_io.{specs.Sinks.AppendsShort, proofs.Bytes.{Appends-flushed, AppendsShort-flushed, AppendsShort-more, AppendsShort-kept, Keeps-from_none}}
+use Rattle.ptu_definitions.{specs.declared.records.Summary.Summary, specs.Kept.Marked, specs.Prefixes.each_after, specs.Settled.{not_marked, delivered, delivered_last}, specs.Streams.{Reading, record_refusal, last_in, streamed, summary}, specs.Times.events, specs.Words.{words_of, rest_of}, proofs.DeliveredLaws.delivered-kept, proofs.Firsts.given-all}
+use Rattle.record_stream.{specs.declared.taker.EventTaker.Ghosts, specs.Ending.{GaveRest, BrokeFirst, Ended}}
 use Rattle.short_file.specs.ShortFiles.{bytes_in}
 use Rattle.record_write.specs.Picked.{photon_words}
 use Rattle.told_text.specs.Texts.{WroteText, CutText}
-use Rattle.photon_pick.specs.Taking.{Stand, Took, Refused, RefusedLate, RefusedCut}
-use Rattle.photon_pick.specs.Texts.{photons_in, text_in, answer_by, HasPickedIn}
-use Rattle.photon_pick.specs.Ends.{photons_kept, photons_by, end_text, end_fault, WritesEnd}
-use Rattle.photon_pick.proofs.Parts.{AppendsShort-none, chosen-more, bytes_of, took-clear, took-bytes, took-put, late-first, late-bytes, late-put, cut-bytes, cut-short}
+use Rattle.photon_pick.{specs.Taking.{Stand, Took, Refused, RefusedLate, RefusedCut}, specs.Texts.{photons_in, text_in, answer_by, HasPickedIn}, specs.Ends.{photons_kept, photons_by, end_text, end_fault, WritesEnd}, proofs.Parts.{AppendsShort-none, chosen-more, bytes_of, took-clear, took-bytes, took-put, late-first, late-bytes, late-put, cut-bytes, cut-short}}
 
 -- the kept list has what was given, and what is given at the end
 pub kept-are : (chooses : Event → Bool) (how : Reading) (words : List ℕ) → record_refusal how words ≡ None → photons_kept chooses how words ≡ photons_in chooses how words ++ filter chooses (not_marked (last_in how words))

@@ -1,24 +1,12 @@
 -- What a piece writes of the photons of a group.
-use Rattle.std.proofs.Common.{◌≡◌, ◌∙◌, ℕ, List, [], ◌++◌, Bool, None, Some, Ok, Err, refl, ap, inl, inr, ⊎_elim, arith}
-use Rattle.std.specs.Prelude.{Result, OnOk}
-use Rattle.std.specs.List.{filter}
-use Rattle.std.specs.declared.option.Option.{Option}
-use Rattle.std.specs.Io.KnownBytes.{Appends}
-use Rattle.tally_base.specs.declared.event.Event.{Event}
-use Rattle.tally_base.specs.declared.fault.Fault.{Fault}
-use Rattle.tally_base.specs.declared.fault.Fault.TheVariants.{WriteFault}
-use Rattle.tally_base.specs.FaultCounts.{Rose}
-use Rattle.bench_io.specs.Sinks.{AppendsShort}
-use Rattle.bench_io.proofs.Bytes.{Appends-flushed, AppendsShort-flushed, AppendsShort-more, AppendsShort-kept, Keeps-from_none}
-use Rattle.ptu_definitions.specs.Kept.{Marked}
-use Rattle.ptu_definitions.specs.Settled.{not_marked}
-use Rattle.ptu_definitions.specs.Streams.{Reading, record_refusal, given}
-use Rattle.record_stream.specs.declared.taker.EventTaker.{Ghosts}
-use Rattle.record_stream.specs.Feeding.{GaveOn, BrokeOn, Fed}
-use Rattle.photon_pick.specs.Taking.{Stand, Took, Refused, RefusedLate, RefusedCut}
+use Rattle.std.proofs.Common.{◌≡◌, ◌∙◌, ℕ, List, [], ◌++◌, Bool, None, Some, Ok, Err, refl, ap, inl, inr, ⊎_elim, arith, Result, OnOk}
+use Rattle.std.{specs.List.filter, specs.declared.option.Option.Option, specs.Io.KnownBytes.Appends}
+use Rattle.tally_base.{specs.declared.event.Event.Event, specs.declared.fault.Fault.Fault, specs.declared.fault.Fault.TheVariants.WriteFault, specs.FaultCounts.Rose}
+use Rattle.bench_io.{specs.Sinks.AppendsShort, proofs.Bytes.{Appends-flushed, AppendsShort-flushed, AppendsShort-more, AppendsShort-kept, Keeps-from_none}}
+use Rattle.ptu_definitions.{specs.Kept.Marked, specs.Settled.not_marked, specs.Streams.{Reading, record_refusal, given}}
+use Rattle.record_stream.{specs.declared.taker.EventTaker.Ghosts, specs.Feeding.{GaveOn, BrokeOn, Fed}}
+use Rattle.photon_pick.{specs.Taking.{Stand, Took, Refused, RefusedLate, RefusedCut}, specs.Texts.{photons_in, text_in, refusal_in, answer_by, HasPickedIn}, proofs.Parts.{AppendsShort-none, chosen-more, took-clear, took-bytes, took-put, took-picked, late-first, late-bytes, late-put, cut-bytes, cut-short}}
 use Rattle.told_text.specs.Texts.{WroteText, CutText, WritesText}
-use Rattle.photon_pick.specs.Texts.{photons_in, text_in, refusal_in, answer_by, HasPickedIn}
-use Rattle.photon_pick.proofs.Parts.{AppendsShort-none, chosen-more, took-clear, took-bytes, took-put, took-picked, late-first, late-bytes, late-put, cut-bytes, cut-short}
 
 pub photons-more : (chooses : Event → Bool) (how : Reading) (words now : List ℕ) (more : Marked) → given how now ≡ given how words ++ more → photons_in chooses how now ≡ photons_in chooses how words ++ filter chooses (not_marked more)
 photons-more chooses how words now more adds = ap (λ l. filter chooses (not_marked l)) adds ∙ chosen-more chooses (given how words) more

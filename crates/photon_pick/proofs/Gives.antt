@@ -1,22 +1,11 @@
 -- One photon more for a picker.
 use Rattle.std.proofs.Common.{◌≡◌, ◌∙◌, ℕ, ◌+◌, ◌<◌, ◌≤◌, true, false, List, [], ◌∷◌, ◌++◌, ap, sym, subst, refl, arith, append_assoc, append-nil, inl, inr}
 use Rattle.std.proofs.lemmas.List.Elements.{filter-append}
-use Rattle.tally_base.specs.declared.event.Event.{Event}
-use Rattle.tally_base.specs.declared.fault.Fault.{Fault}
-use Rattle.tally_base.specs.declared.fault.Fault.TheVariants.{PickTime, WriteFault}
-use Rattle.tally_base.specs.FaultCounts.{Rose}
-use Rattle.ptu_definitions.specs.Prefixes.{each_after}
-use Rattle.ptu_definitions.proofs.PrefixLemmas.{each_after-append}
-use Rattle.event_block.specs.Columns.{rows}
-use Rattle.event_block.specs.Order.{floor_after, InOrder}
-use Rattle.event_block.proofs.Rows.{rows-split, more_rows}
-use Rattle.event_block.proofs.Order.{floor-push, floor-append, order-parts}
-use Rattle.record_write.specs.Picked.{is_too_late, photon_words}
-use Rattle.record_write.specs.Picker.{mode_of, last_by, HasPicked}
-use Rattle.record_write.specs.Writing.{PutsWords, CutsWords}
-use Rattle.record_write.proofs.Puts.{puts-more, cuts-behind}
-use Rattle.photon_pick.specs.Late.{too_late}
-use Rattle.photon_pick.specs.Giving.{Pen, Gave, Stopped, words_behind}
+use Rattle.tally_base.{specs.declared.event.Event.Event, specs.declared.fault.Fault.Fault, specs.declared.fault.Fault.TheVariants.{PickTime, WriteFault}, specs.FaultCounts.Rose}
+use Rattle.ptu_definitions.{specs.Prefixes.each_after, proofs.PrefixLemmas.each_after-append}
+use Rattle.event_block.{specs.Columns.rows, specs.Order.{floor_after, InOrder}, proofs.Rows.{rows-split, more_rows}, proofs.Order.{floor-push, floor-append, order-parts}}
+use Rattle.record_write.{specs.Picked.{is_too_late, photon_words}, specs.Picker.{mode_of, last_by, HasPicked}, specs.Writing.{PutsWords, CutsWords}, proofs.Puts.{puts-more, cuts-behind}}
+use Rattle.photon_pick.{specs.Late.too_late, specs.Giving.{Pen, Gave, Stopped, words_behind}}
 
 -- the words of one photon more
 words-more : (p : Pen) (behind ps : List Event) (e : Event) → words_behind p behind (ps ++ e ∷ []) ≡ words_behind p behind ps ++ photon_words (mode_of p.picker) (behind ++ ps) e

@@ -1,22 +1,12 @@
 -- What was put of photons behind others, and what is left of them.
 use Rattle.std.proofs.Common.{◌≡◌, ◌∙◌, ℕ, List, [], ◌∷◌, ◌++◌, Bool, true, false, Some, cond, refl, sym, ap, subst, append_assoc, append-nil, arith, length, length-append}
-use Rattle.std.specs.List.{filter}
-use Rattle.std.specs.declared.option.Option.{Option}
-use Rattle.std.proofs.lemmas.List.Elements.{filter-append}
-use Rattle.tally_base.specs.declared.event.Event.{Event}
-use Rattle.tally_base.specs.declared.header.Mode.{Mode}
+use Rattle.std.{specs.List.filter, specs.declared.option.Option.Option, proofs.lemmas.List.Elements.filter-append}
+use Rattle.tally_base.{specs.declared.event.Event.Event, specs.declared.header.Mode.Mode}
 use Rattle.bench_io.specs.Sinks.{AppendsShort, PassesOn}
-use Rattle.ptu_definitions.specs.Kept.{Marked}
-use Rattle.ptu_definitions.specs.Prefixes.{each_after, first}
-use Rattle.ptu_definitions.specs.Settled.{not_marked}
-use Rattle.ptu_definitions.proofs.DeliveredLaws.{not_marked-append}
-use Rattle.ptu_definitions.proofs.PrefixLemmas.{each_after-append}
-use Rattle.short_file.specs.ShortFiles.{bytes_in}
-use Rattle.short_file.proofs.WordBytes.{bytes_in-append}
-use Rattle.record_write.specs.Picked.{is_too_late, photon_words, picked_words}
-use Rattle.record_write.specs.Picker.{HasPicked}
-use Rattle.photon_pick.specs.Late.{too_late, writable}
-use Rattle.photon_pick.specs.Taking.{Stand, Took, Refused, RefusedLate, RefusedCut, PutsPhotons}
+use Rattle.ptu_definitions.{specs.Kept.Marked, specs.Prefixes.{each_after, first}, specs.Settled.not_marked, proofs.DeliveredLaws.not_marked-append, proofs.PrefixLemmas.each_after-append}
+use Rattle.short_file.{specs.ShortFiles.bytes_in, proofs.WordBytes.bytes_in-append}
+use Rattle.record_write.{specs.Picked.{is_too_late, photon_words, picked_words}, specs.Picker.HasPicked}
+use Rattle.photon_pick.{specs.Late.{too_late, writable}, specs.Taking.{Stand, Took, Refused, RefusedLate, RefusedCut, PutsPhotons}}
 
 -- ## Photons that are too late
 

@@ -1,35 +1,12 @@
 -- What is written of the photons of bytes is written of them with more behind, and a refusal stays.
-use Rattle.std.proofs.Common.{◌≡◌, ◌∙◌, ℕ, List, [], ◌∷◌, ◌++◌, Bool, true, false, None, Some, Ok, Err, cond, refl, sym, ap, append_assoc, append-nil}
-use Rattle.std.specs.Prelude.{Result, if◌then◌else◌}
-use Rattle.std.specs.List.{filter}
-use Rattle.std.specs.declared.option.Option.{Option}
-use Rattle.std.proofs.lemmas.List.Elements.{filter-append}
-use Rattle.tally_base.specs.declared.event.Event.{Event}
-use Rattle.tally_base.specs.declared.fault.Fault.{Fault}
-use Rattle.tally_base.specs.declared.fault.Fault.TheVariants.{PickTime}
-use Rattle.tally_base.specs.declared.header.Mode.{Mode}
-use Rattle.tally_base.specs.Faults.{is_outside, fault_in}
-use Rattle.ptu_definitions.specs.declared.records.Summary.{Summary}
-use Rattle.ptu_definitions.specs.Prefixes.{each_after, first}
-use Rattle.ptu_definitions.specs.Settled.{not_marked}
-use Rattle.ptu_definitions.specs.Streams.{Reading, record_refusal, last_in, streamed}
-use Rattle.ptu_definitions.specs.Words.{words_of, rest_of}
-use Rattle.ptu_definitions.proofs.Firsts.{record_refusal-inside}
-use Rattle.ptu_definitions.proofs.PrefixLemmas.{first-append}
-use Rattle.ptu_definitions.proofs.StreamLemmas.{given-front, given-stays}
-use Rattle.ptu_definitions.proofs.WordsLemmas.{words_of-append}
+use Rattle.std.proofs.Common.{◌≡◌, ◌∙◌, ℕ, List, [], ◌∷◌, ◌++◌, Bool, true, false, None, Some, Ok, Err, cond, refl, sym, ap, append_assoc, append-nil, Result, if◌then◌else◌}
+use Rattle.std.{specs.List.filter, specs.declared.option.Option.Option, proofs.lemmas.List.Elements.filter-append}
+use Rattle.tally_base.{specs.declared.event.Event.Event, specs.declared.fault.Fault.Fault, specs.declared.fault.Fault.TheVariants.PickTime, specs.declared.header.Mode.Mode, specs.Faults.{is_outside, fault_in}}
+use Rattle.ptu_definitions.{specs.declared.records.Summary.Summary, specs.Prefixes.{each_after, first}, specs.Settled.not_marked, specs.Streams.{Reading, record_refusal, last_in, streamed}, specs.Words.{words_of, rest_of}, proofs.Firsts.record_refusal-inside, proofs.PrefixLemmas.first-append, proofs.StreamLemmas.{given-front, given-stays}, proofs.WordsLemmas.words_of-append}
 use Rattle.record_stream.proofs.Lasts.{streamed-shown}
 use Rattle.short_file.specs.ShortFiles.{bytes_in}
-use Rattle.record_write.specs.declared.picker.Picker.{Picker}
-use Rattle.record_write.specs.Picked.{is_too_late, photon_words, picked_words}
-use Rattle.record_write.specs.Picker.{HasPicked}
-use Rattle.photon_pick.specs.Late.{too_late, writable}
-use Rattle.photon_pick.specs.Texts.{photons_in, text_in, late_or, refusal_in, HasPickedIn}
-use Rattle.photon_pick.specs.Ends.{photons_by, photons_of, end_text, end_fault}
-use Rattle.photon_pick.proofs.Parts.{words-more, bytes_of}
-use Rattle.photon_pick.proofs.Feeds.{photons-more}
-use Rattle.photon_pick.proofs.Ends.{kept-are}
-use Rattle.photon_pick.proofs.Streams.{given-none, clear-from_ok, streamed-inside}
+use Rattle.record_write.{specs.declared.picker.Picker.Picker, specs.Picked.{is_too_late, photon_words, picked_words}, specs.Picker.HasPicked}
+use Rattle.photon_pick.{specs.Late.{too_late, writable}, specs.Texts.{photons_in, text_in, late_or, refusal_in, HasPickedIn}, specs.Ends.{photons_by, photons_of, end_text, end_fault}, proofs.Parts.{words-more, bytes_of}, proofs.Feeds.photons-more, proofs.Ends.kept-are, proofs.Streams.{given-none, clear-from_ok, streamed-inside}}
 
 -- ## Photons behind others
 

@@ -1,27 +1,11 @@
 -- One event more for a picker.
-use Rattle.std.proofs.Common.{◌≡◌, ◌∙◌, ◌+◌, ◌≤◌, ℕ, List, [], ◌∷◌, ◌++◌, Bool, true, false, Some, refl, ap, inl, inr, append_assoc, append-nil, arith, length-append, max}
-use Rattle.std.specs.Prelude.{◌&&◌, not, IsTrue}
-use Rattle.std.specs.List.{filter}
-use Rattle.std.specs.declared.option.Option.{Option}
-use Rattle.std.proofs.lemmas.List.Elements.{filter-append}
-use Rattle.tally_base.specs.declared.event.Event.{Event}
-use Rattle.tally_base.specs.declared.fault.Fault.TheVariants.{PickTime, WriteFault}
-use Rattle.tally_base.specs.FaultCounts.{Rose}
-use Rattle.tally_base.specs.Events.{is_ordered}
-use Rattle.ptu_definitions.specs.Kept.{Marked, floor_of}
-use Rattle.ptu_definitions.specs.Prefixes.{each_after}
-use Rattle.ptu_definitions.specs.Settled.{not_marked}
-use Rattle.ptu_definitions.proofs.DeliveredLaws.{not_marked-append}
-use Rattle.ptu_definitions.proofs.PrefixLemmas.{each_after-append}
-use Rattle.record_stream.specs.Floors.{moved_floor}
-use Rattle.record_stream.proofs.Floors.{moved_floor-push}
-use Rattle.record_write.specs.declared.picker.Picker.{Picker}
-use Rattle.record_write.specs.Picked.{is_too_late, photon_words}
-use Rattle.record_write.specs.Picker.{HasPicked}
-use Rattle.record_write.specs.Writing.{PutsWords, CutsWords}
-use Rattle.record_write.proofs.Puts.{puts-more, cuts-behind}
-use Rattle.photon_pick.specs.Late.{too_late}
-use Rattle.photon_pick.specs.Taking.{Stand, Took, Refused, chosen_of}
+use Rattle.std.proofs.Common.{◌≡◌, ◌∙◌, ◌+◌, ◌≤◌, ℕ, List, [], ◌∷◌, ◌++◌, Bool, true, false, Some, refl, ap, inl, inr, append_assoc, append-nil, arith, length-append, max, ◌&&◌, not, IsTrue}
+use Rattle.std.{specs.List.filter, specs.declared.option.Option.Option, proofs.lemmas.List.Elements.filter-append}
+use Rattle.tally_base.{specs.declared.event.Event.Event, specs.declared.fault.Fault.TheVariants.{PickTime, WriteFault}, specs.FaultCounts.Rose, specs.Events.is_ordered}
+use Rattle.ptu_definitions.{specs.Kept.{Marked, floor_of}, specs.Prefixes.each_after, specs.Settled.not_marked, proofs.DeliveredLaws.not_marked-append, proofs.PrefixLemmas.each_after-append}
+use Rattle.record_stream.{specs.Floors.moved_floor, proofs.Floors.moved_floor-push}
+use Rattle.record_write.{specs.declared.picker.Picker.Picker, specs.Picked.{is_too_late, photon_words}, specs.Picker.HasPicked, specs.Writing.{PutsWords, CutsWords}, proofs.Puts.{puts-more, cuts-behind}}
+use Rattle.photon_pick.{specs.Late.too_late, specs.Taking.{Stand, Took, Refused, chosen_of}}
 
 -- ## Which events are wanted
 

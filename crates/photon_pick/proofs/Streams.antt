@@ -1,16 +1,8 @@
 -- What a stream of bytes answers.
-use Rattle.std.proofs.Common.{◌≡◌, ℕ, List, [], None, Some, Ok, Err, length, refl}
-use Rattle.std.specs.Prelude.{Result, ◌==◌, Bool, true, false, if◌then◌else◌}
+use Rattle.std.proofs.Common.{◌≡◌, ℕ, List, [], None, Some, Ok, Err, length, refl, Result, ◌==◌, Bool, true, false, if◌then◌else◌}
 use Rattle.std.specs.declared.option.Option.{Option}
-use Rattle.tally_base.specs.declared.fault.Fault.{Fault}
-use Rattle.tally_base.specs.declared.fault.Fault.TheVariants.{TruncatedRecord}
-use Rattle.tally_base.specs.Faults.{is_outside, fault_in}
-use Rattle.ptu_definitions.specs.declared.records.Summary.{Summary}
-use Rattle.ptu_definitions.specs.Words.{words_of, rest_of}
-use Rattle.ptu_definitions.specs.Streams.{Reading, or_refusal, record_refusal, summary, given, streamed}
-use Rattle.ptu_definitions.specs.Times.{events}
-use Rattle.ptu_definitions.proofs.DeliveredLaws.{delivered-none}
-use Rattle.ptu_definitions.proofs.Firsts.{record_refusal-inside}
+use Rattle.tally_base.{specs.declared.fault.Fault.Fault, specs.declared.fault.Fault.TheVariants.TruncatedRecord, specs.Faults.{is_outside, fault_in}}
+use Rattle.ptu_definitions.{specs.declared.records.Summary.Summary, specs.Words.{words_of, rest_of}, specs.Streams.{Reading, or_refusal, record_refusal, summary, given, streamed}, specs.Times.events, proofs.DeliveredLaws.delivered-none, proofs.Firsts.record_refusal-inside}
 
 -- no words give nothing
 pub given-none : (how : Reading) → given how [] ≡ []

@@ -1,9 +1,7 @@
 -- The photons of a group.
 use Rattle.std.specs.Prelude.{ℕ, ◌&&◌, Bool}
-use Rattle.tally_base.specs.declared.event.Event.{Event}
-use Rattle.tally_base.specs.Events.{is_photon, is_in}
-use Rattle.gate_plan.specs.Shifting.{Sorting}
-use Rattle.gate_plan.specs.Taking.{groups_in}
+use Rattle.tally_base.{specs.declared.event.Event.Event, specs.Events.{is_photon, is_in}}
+use Rattle.gate_plan.{specs.Shifting.Sorting, specs.Taking.groups_in}
 
 -- The event is a photon of the group, by its shifted dtime.
 abbrev pub is_chosen : Sorting → ℕ → Event → Bool

@@ -1,21 +1,12 @@
 -- What all bytes behind a header write of the photons that are chosen.
 use Rattle.std.specs.Prelude.{ℕ, Bool, List, map, Result, Ok, Err}
-use Rattle.std.specs.List.{filter}
-use Rattle.std.specs.declared.option.Option.{Option}
-use Rattle.tally_base.specs.declared.event.Event.{Event}
-use Rattle.tally_base.specs.declared.fault.Fault.{Fault}
-use Rattle.tally_base.specs.Faults.{fault_in}
-use Rattle.ptu_definitions.specs.declared.records.Summary.{Summary}
-use Rattle.ptu_definitions.specs.Prefixes.{first}
-use Rattle.ptu_definitions.specs.Settled.{kept_by}
-use Rattle.ptu_definitions.specs.Streams.{Reading, streamed}
-use Rattle.ptu_definitions.specs.Times.{events}
-use Rattle.ptu_definitions.specs.Words.{words_of}
+use Rattle.std.{specs.List.filter, specs.declared.option.Option.Option}
+use Rattle.tally_base.{specs.declared.event.Event.Event, specs.declared.fault.Fault.Fault, specs.Faults.fault_in}
+use Rattle.ptu_definitions.{specs.declared.records.Summary.Summary, specs.Prefixes.first, specs.Settled.kept_by, specs.Streams.{Reading, streamed}, specs.Times.events, specs.Words.words_of}
 use Rattle.told_text.specs.Texts.{WritesText}
 use Rattle.short_file.specs.ShortFiles.{bytes_in}
 use Rattle.record_write.specs.Picked.{picked_words}
-use Rattle.photon_pick.specs.Late.{too_late, writable}
-use Rattle.photon_pick.specs.Texts.{photons_in, text_in, late_or}
+use Rattle.photon_pick.{specs.Late.{too_late, writable}, specs.Texts.{photons_in, text_in, late_or}}
 
 -- the photons that are chosen of the kept list
 abbrev pub photons_kept : (Event → Bool) → Reading → List ℕ → List Event

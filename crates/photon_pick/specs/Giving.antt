@@ -1,16 +1,10 @@
 -- What giving photons to a picker writes.
 use Rattle.std.specs.Prelude.{ℕ, ◌≡◌, ◌⊎◌, true, false, List, [], ◌∷◌, ◌++◌}
 use Rattle.std.specs.declared.option.Option.{Option}
-use Rattle.tally_base.specs.declared.event.Event.{Event}
-use Rattle.tally_base.specs.declared.fault.Fault.{Fault}
-use Rattle.tally_base.specs.declared.fault.Fault.TheVariants.{PickTime, WriteFault}
-use Rattle.tally_base.specs.FaultCounts.{Rose}
+use Rattle.tally_base.{specs.declared.event.Event.Event, specs.declared.fault.Fault.Fault, specs.declared.fault.Fault.TheVariants.{PickTime, WriteFault}, specs.FaultCounts.Rose}
 use Rattle.ptu_definitions.specs.Prefixes.{each_after}
 use Rattle.event_block.specs.Order.{floor_after}
-use Rattle.record_write.specs.declared.picker.Picker.{Picker}
-use Rattle.record_write.specs.Picked.{is_too_late, photon_words}
-use Rattle.record_write.specs.Picker.{mode_of, last_by, HasPicked}
-use Rattle.record_write.specs.Writing.{PutsWords, CutsWords}
+use Rattle.record_write.{specs.declared.picker.Picker.Picker, specs.Picked.{is_too_late, photon_words}, specs.Picker.{mode_of, last_by, HasPicked}, specs.Writing.{PutsWords, CutsWords}}
 use Rattle.photon_pick.specs.Late.{too_late}
 
 -- A picker, the bytes that its sink tells, those that its block holds, and how often a write has failed.

@@ -1,13 +1,10 @@
 -- What feeding a piece writes of the photons that are chosen.
 use Rattle.std.specs.Prelude.{ℕ, ◌≡◌, ◌≤◌, Bool, List, ◌++◌, OnOk, None, Result}
-use Rattle.tally_base.specs.declared.event.Event.{Event}
-use Rattle.tally_base.specs.declared.fault.Fault.{Fault}
+use Rattle.tally_base.{specs.declared.event.Event.Event, specs.declared.fault.Fault.Fault}
 use Rattle.bench_io.specs.declared.sink.Sink.{Ghosts}
 use Rattle.ptu_definitions.specs.Words.{words_of}
-use Rattle.record_stream.specs.declared.stream.RecordStream.{RecordStream}
-use Rattle.record_stream.specs.Standing.{how_of, greatest_of, refused_with, HasStreamed}
-use Rattle.record_write.specs.declared.picker.Picker.{Picker}
-use Rattle.record_write.specs.Picker.{mode_of, last_by}
+use Rattle.record_stream.{specs.declared.stream.RecordStream.RecordStream, specs.Standing.{how_of, greatest_of, refused_with, HasStreamed}}
+use Rattle.record_write.{specs.declared.picker.Picker.Picker, specs.Picker.{mode_of, last_by}}
 use Rattle.told_text.specs.Texts.{WritesText}
 use Rattle.photon_pick.specs.Texts.{text_in, refusal_in, HasPickedIn}
 

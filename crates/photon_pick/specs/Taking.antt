@@ -1,21 +1,11 @@
 -- What a taker that gives photons to a picker got.
 use Rattle.std.specs.Prelude.{ℕ, ◌≡◌, ◌+◌, ◌⊎◌, max, Bool, true, false, List, [], ◌∷◌, ◌++◌, Some, length, refl}
-use Rattle.std.specs.List.{filter}
+use Rattle.std.{specs.List.filter, specs.declared.option.Option.Option}
 use Rattle.std.proofs.Common.{append-nil, arith}
-use Rattle.std.specs.declared.option.Option.{Option}
-use Rattle.tally_base.specs.declared.event.Event.{Event}
-use Rattle.tally_base.specs.declared.fault.Fault.{Fault}
-use Rattle.tally_base.specs.declared.fault.Fault.TheVariants.{PickTime, WriteFault}
-use Rattle.tally_base.specs.declared.header.Mode.{Mode}
+use Rattle.tally_base.{specs.declared.event.Event.Event, specs.declared.fault.Fault.Fault, specs.declared.fault.Fault.TheVariants.{PickTime, WriteFault}, specs.declared.header.Mode.Mode, specs.FaultCounts.Rose}
 use Rattle.bench_io.proofs.Bytes.{PassesOn-held}
-use Rattle.tally_base.specs.FaultCounts.{Rose}
-use Rattle.ptu_definitions.specs.Kept.{Marked, floor_of}
-use Rattle.ptu_definitions.specs.Prefixes.{each_after}
-use Rattle.ptu_definitions.specs.Settled.{not_marked}
-use Rattle.record_write.specs.declared.picker.Picker.{Picker}
-use Rattle.record_write.specs.Picked.{is_too_late, photon_words}
-use Rattle.record_write.specs.Picker.{HasPicked}
-use Rattle.record_write.specs.Writing.{PutsWords, CutsWords}
+use Rattle.ptu_definitions.{specs.Kept.{Marked, floor_of}, specs.Prefixes.each_after, specs.Settled.not_marked}
+use Rattle.record_write.{specs.declared.picker.Picker.Picker, specs.Picked.{is_too_late, photon_words}, specs.Picker.HasPicked, specs.Writing.{PutsWords, CutsWords}}
 use Rattle.photon_pick.specs.Late.{too_late}
 
 -- Where such a taker stands.

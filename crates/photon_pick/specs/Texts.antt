@@ -1,17 +1,10 @@
 -- What the words of a file write of the photons that are chosen.
 use Rattle.std.specs.Prelude.{ℕ, ◌≡◌, Bool, List, [], None, Some, Result, Ok, Err}
-use Rattle.std.specs.List.{filter}
-use Rattle.std.specs.declared.option.Option.{Option}
-use Rattle.tally_base.specs.declared.event.Event.{Event}
-use Rattle.tally_base.specs.declared.fault.Fault.{Fault}
-use Rattle.tally_base.specs.declared.fault.Fault.TheVariants.{PickTime}
-use Rattle.ptu_definitions.specs.Prefixes.{first}
-use Rattle.ptu_definitions.specs.Settled.{not_marked}
-use Rattle.ptu_definitions.specs.Streams.{Reading, record_refusal, given}
+use Rattle.std.{specs.List.filter, specs.declared.option.Option.Option}
+use Rattle.tally_base.{specs.declared.event.Event.Event, specs.declared.fault.Fault.Fault, specs.declared.fault.Fault.TheVariants.PickTime}
+use Rattle.ptu_definitions.{specs.Prefixes.first, specs.Settled.not_marked, specs.Streams.{Reading, record_refusal, given}}
 use Rattle.short_file.specs.ShortFiles.{bytes_in}
-use Rattle.record_write.specs.declared.picker.Picker.{Picker}
-use Rattle.record_write.specs.Picked.{picked_words}
-use Rattle.record_write.specs.Picker.{HasPicked}
+use Rattle.record_write.{specs.declared.picker.Picker.Picker, specs.Picked.picked_words, specs.Picker.HasPicked}
 use Rattle.photon_pick.specs.Late.{too_late, writable}
 
 -- the photons that are chosen of those given by the words before the first that is refused, but for the late ones

@@ -1,11 +1,8 @@
 // Which events of a block are photons of a group.
 ghost use Rattle.std.specs.Prelude.{◌≡◌, ◌<◌, ◌≤◌, ◌&&◌, ℕ, false, filter, slice_index};
 ghost use Rattle.event_block.specs.Columns.{count, gathered};
-ghost use Rattle.gate_plan.specs.Groups.{sorting_of};
-ghost use Rattle.gate_plan.specs.Parting.{gated_bits};
-ghost use Rattle.gate_plan.specs.Taking.{groups_in};
-ghost use Rattle.photon_pick.specs.Chosen.{is_chosen};
-ghost use Rattle.photon_pick.specs.Places.{events_at};
+ghost use Rattle.gate_plan.{specs.Groups.sorting_of, specs.Parting.gated_bits, specs.Taking.groups_in};
+ghost use Rattle.photon_pick.{specs.Chosen.is_chosen, specs.Places.events_at};
 
 use event_block::{BLOCK_SIZE, Block};
 use gate_plan::Gates;

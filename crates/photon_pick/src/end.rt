@@ -3,10 +3,7 @@ ghost use Rattle.std.specs.Prelude.{◌≡◌, ◌<◌, ◌≤◌, List, ℕ, []
 ghost use Rattle.ptu_definitions.specs.Words.{words_of};
 ghost use Rattle.gate_plan.specs.Groups.{sorting_of};
 ghost use Rattle.record_stream.specs.Standing.{how_of, given_by, greatest_of, refused_with, HasStreamed};
-ghost use Rattle.photon_pick.specs.Chosen.{is_chosen};
-ghost use Rattle.photon_pick.specs.Texts.{answer_by, HasPickedIn};
-ghost use Rattle.photon_pick.specs.Pieces.{IsNoFurther};
-ghost use Rattle.photon_pick.specs.Ends.{WritesEnd};
+ghost use Rattle.photon_pick.{specs.Chosen.is_chosen, specs.Texts.{answer_by, HasPickedIn}, specs.Pieces.IsNoFurther, specs.Ends.WritesEnd};
 
 use crate::taker::Picks;
 use bench_io::{Block, Sink};

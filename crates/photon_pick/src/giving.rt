@@ -1,12 +1,10 @@
 // Photons of a block, given to a picker.
 ghost use Rattle.std.specs.Prelude.{◌≡◌, ◌<◌, ◌≤◌, ℕ, All, true, slice_index, OnOk, IfErr};
 ghost use Rattle.tally_base.specs.Events.{is_photon};
-ghost use Rattle.event_block.specs.Columns.{count, gathered};
-ghost use Rattle.event_block.specs.Order.{floor_after, InOrder};
+ghost use Rattle.event_block.{specs.Columns.{count, gathered}, specs.Order.{floor_after, InOrder}};
 ghost use Rattle.record_stream.specs.Blocks.{AllFit};
 ghost use Rattle.record_write.specs.Picker.{mode_of, last_by};
-ghost use Rattle.photon_pick.specs.Places.{events_at};
-ghost use Rattle.photon_pick.specs.Giving.{pen, Gave, Stopped};
+ghost use Rattle.photon_pick.{specs.Places.events_at, specs.Giving.{pen, Gave, Stopped}};
 
 use bench_io::{Block, Sink};
 use event_block::BLOCK_SIZE;

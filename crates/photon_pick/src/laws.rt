@@ -1,15 +1,10 @@
 // The law of the photons that are picked, as the contract of a function that does nothing.
 ghost use Rattle.std.specs.Prelude.{◌≡◌, ℕ, List, []};
-ghost use Rattle.tally_base.specs.declared.event.Policy.{Policy};
-ghost use Rattle.tally_base.specs.declared.header.RecordType.{RecordType};
-ghost use Rattle.tally_base.specs.RecordTypes.{mode_of};
+ghost use Rattle.tally_base.{specs.declared.event.Policy.Policy, specs.declared.header.RecordType.RecordType, specs.RecordTypes.mode_of};
 ghost use Rattle.ptu_definitions.specs.Streams.{reading};
 ghost use Rattle.gate_plan.specs.Shifting.{Sorting};
 ghost use Rattle.record_write.specs.Picked.{CanBePicked};
-ghost use Rattle.photon_pick.specs.Chosen.{is_chosen};
-ghost use Rattle.photon_pick.specs.Late.{too_late, writable};
-ghost use Rattle.photon_pick.specs.Texts.{photons_in};
-ghost use Rattle.photon_pick.specs.Ends.{photons_kept, photons_of};
+ghost use Rattle.photon_pick.{specs.Chosen.is_chosen, specs.Late.{too_late, writable}, specs.Texts.photons_in, specs.Ends.{photons_kept, photons_of}};
 
 /// The photons of a group in the kept list of any words can be written where none of them is too late:
 /// they fit the mode of the record type, and their times never fall, whether late events are left out or

@@ -3,9 +3,7 @@ ghost use Rattle.std.specs.Prelude.{◌≡◌, ◌+◌, ◌*◌, ◌<◌, ◌≤
 ghost use Rattle.ptu_definitions.specs.Counted.{record_limit};
 ghost use Rattle.gate_plan.specs.Groups.{sorting_of};
 ghost use Rattle.record_stream.specs.Standing.{how_of, given_by, greatest_of, refused_with, bytes_in, HasStreamed};
-ghost use Rattle.photon_pick.specs.Chosen.{is_chosen};
-ghost use Rattle.photon_pick.specs.Texts.{answer_by};
-ghost use Rattle.photon_pick.specs.Pieces.{PicksPiece, IsNoFurther};
+ghost use Rattle.photon_pick.{specs.Chosen.is_chosen, specs.Texts.answer_by, specs.Pieces.{PicksPiece, IsNoFurther}};
 
 use crate::taker::Picks;
 use bench_io::{Block, Sink};

@@ -1,24 +1,10 @@
 -- The bound of a plan that keeps the rules.
 use Rattle.std.proofs.Common.{◌≡◌, refl, ℕ, suc, ◌+◌, ◌*◌, ◌≤◌, true, List, [], ◌∷◌, length, map, filter_map, codes, Option, Some, None, unwrap_or, Ok, inl, inr, arith}
-use Rattle.std.specs.List.{sum_by, cons_option, flat_map, AllByRecursion}
-use Rattle.std.proofs.lemmas.List.Sums.{sum_by-append, sum_by-cons}
-use Rattle.std.proofs.lemmas.Nat.{mul-le}
-use Rattle.std.proofs.lemmas.Bool.Decides.{nat_tests}
+use Rattle.std.{specs.List.{sum_by, cons_option, flat_map, AllByRecursion}, proofs.lemmas.List.Sums.{sum_by-append, sum_by-cons}, proofs.lemmas.Nat.mul-le, proofs.lemmas.Bool.Decides.nat_tests}
 use Rattle.toml.specs.Data.{Data, table, get}
 use Rattle.tally_base.specs.Settings.{PartSettings, entries}
-use Rattle.toml_rules.specs.Rules.{AllHold, each}
-use Rattle.toml_rules.specs.Values.{number_or, list_at}
-use Rattle.plan_text.specs.Kind.{Kind, tables, list_of_kind}
-use Rattle.plan_text.specs.Kinds.{kinds, lists, table_lists}
-use Rattle.plan_text.specs.TableList.{TableList}
-use Rattle.plan_text.specs.Settle.{settle, settle_or_none}
-use Rattle.plan_text.specs.Document.{document_rules, rule_of_lengths, has_at_most, AreShort}
-use Rattle.plan_text.specs.Plan.{PlanView, plan, plan_rules}
-use Rattle.plan_text.specs.Reading.{plan_answer}
-use Rattle.plan_text.specs.Bound.{bound, greatest_bound, most_entries}
-use Rattle.plan_text.proofs.Whole.{all_before, each_holds, kinds_of_lists}
-use Rattle.plan_text.proofs.ByKind.{integer_most, KeepsFew, kinds_keep_few}
-use Rattle.plan_text.proofs.Called.{valid, plans}
+use Rattle.toml_rules.{specs.Rules.{AllHold, each}, specs.Values.{number_or, list_at}}
+use Rattle.plan_text.{specs.Kind.{Kind, tables, list_of_kind}, specs.Kinds.{kinds, lists, table_lists}, specs.TableList.TableList, specs.Settle.{settle, settle_or_none}, specs.Document.{document_rules, rule_of_lengths, has_at_most, AreShort}, specs.Plan.{PlanView, plan, plan_rules}, specs.Reading.plan_answer, specs.Bound.{bound, greatest_bound, most_entries}, proofs.Whole.{all_before, each_holds, kinds_of_lists}, proofs.ByKind.{integer_most, KeepsFew, kinds_keep_few}, proofs.Called.{valid, plans}}
 
 -- ## Tables of one kind
 

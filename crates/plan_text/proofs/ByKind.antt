@@ -1,32 +1,11 @@
 -- What proofs ask of each kind of table: its place in the order of the report, and that none of its tables keeps more
 -- than one of the greatest settings.
 use Rattle.std.proofs.Common.{◌≡◌, refl, ℕ, zero, suc, ◌+◌, ◌-◌, ◌*◌, ◌/◌, ◌^◌, ◌≤◌, Bool, true, false, cond, List, [], ◌∷◌, map, codes, ◌&&◌, nat_le, length, Option, Some, None, arith, pos}
-use Rattle.std.specs.List.{AllByRecursion}
-use Rattle.std.specs.Option.{option_and_then, option_map}
-use Rattle.std.proofs.lemmas.Nat.{mul-le}
-use Rattle.std.proofs.Math.Nat.{div-le_of_le-mul}
-use Rattle.std.proofs.Math.Pow.{pow_mono}
-use Rattle.std.proofs.lemmas.Bool.Decides.{nat_tests}
+use Rattle.std.{specs.List.AllByRecursion, specs.Option.{option_and_then, option_map}, proofs.lemmas.Nat.mul-le, proofs.Math.Nat.div-le_of_le-mul, proofs.Math.Pow.pow_mono, proofs.lemmas.Bool.Decides.nat_tests}
 use Rattle.toml.specs.Data.{Data, Items, as_array, get, integer}
-use Rattle.tally_base.specs.Settings.{PartSettings, ImageView, entries}
-use Rattle.tally_base.specs.Settings.PartSettings.{HistSettings, TraceSettings, StartStopSettings, CoincidenceSettings, ImageSettings, CorrelationSettings, CubeSettings, FoldSettings}
-use Rattle.tally_base.specs.Limits.{wrap_limit}
+use Rattle.tally_base.{specs.Settings.{PartSettings, ImageView, entries, hist_view, trace_view, startstop_view, coincidence_view, image_view, correlation_view, cube_view, fold_view}, specs.Settings.PartSettings.{HistSettings, TraceSettings, StartStopSettings, CoincidenceSettings, ImageSettings, CorrelationSettings, CubeSettings, FoldSettings}, specs.Limits.wrap_limit}
 use Rattle.toml_rules.specs.Values.{list_of, integer_in, number_in}
-use Rattle.plan_text.specs.Kind.{Kind}
-use Rattle.plan_text.specs.Kinds.{kinds, lists}
-use Rattle.plan_text.specs.Groups.{groups, group_number}
-use Rattle.plan_text.specs.Histograms.{histogram, hist_of}
-use Rattle.plan_text.specs.Traces.{trace, trace_of, origin}
-use Rattle.plan_text.specs.StartStops.{startstop, startstop_of}
-use Rattle.plan_text.specs.Coincidences.{coincidence, coincidence_of}
-use Rattle.plan_text.specs.Images.{image, image_values, image_of, raster, raster_of, bits, serpentine}
-use Rattle.plan_text.specs.Correlations.{correlation, correlation_of, lags, if_even}
-use Rattle.plan_text.specs.Cubes.{cube, cube_of, bins, has_few_bins}
-use Rattle.plan_text.specs.Folds.{fold_settings, fold_of, numbers, numbers_in, numbers_among, numbers_from}
-use Rattle.plan_text.specs.Plan.{plan}
-use Rattle.tally_base.specs.Settings.{hist_view, trace_view, startstop_view, coincidence_view, image_view, correlation_view, cube_view, fold_view}
-use Rattle.plan_text.specs.declared.plan.Plan.{Plan}
-use Rattle.plan_text.specs.Kinds.{part_lists}
+use Rattle.plan_text.{specs.Kind.Kind, specs.Kinds.{kinds, lists, part_lists}, specs.Groups.{groups, group_number}, specs.Histograms.{histogram, hist_of}, specs.Traces.{trace, trace_of, origin}, specs.StartStops.{startstop, startstop_of}, specs.Coincidences.{coincidence, coincidence_of}, specs.Images.{image, image_values, image_of, raster, raster_of, bits, serpentine}, specs.Correlations.{correlation, correlation_of, lags, if_even}, specs.Cubes.{cube, cube_of, bins, has_few_bins}, specs.Folds.{fold_settings, fold_of, numbers, numbers_in, numbers_among, numbers_from}, specs.Plan.plan, specs.declared.plan.Plan.Plan}
 
 -- ## Its place
 

@@ -1,17 +1,10 @@
 -- What bytes answer as a plan, and what they call for.
-use Rattle.std.proofs.Common.{◌≡◌, ◌<◌, ◌≤◌, ◌∙◌, refl, sym, ap, ℕ, List, length, Option, None, Some, Ok, Err, inl, inr, arith}
-use Rattle.std.specs.Prelude.{◌≢◌, ◌⊎◌, Result}
+use Rattle.std.proofs.Common.{◌≡◌, ◌<◌, ◌≤◌, ◌∙◌, refl, sym, ap, ℕ, List, length, Option, None, Some, Ok, Err, inl, inr, arith, ◌≢◌, ◌⊎◌, Result}
 use Rattle.std.proofs.lemmas.Bool.{cases_lt}
-use Rattle.tally_base.specs.declared.fault.Fault.{Fault}
-use Rattle.tally_base.specs.declared.fault.Fault.TheVariants.{OutOfMemory, PlanTooLong, PlanSyntax, PlanRule}
+use Rattle.tally_base.{specs.declared.fault.Fault.Fault, specs.declared.fault.Fault.TheVariants.{OutOfMemory, PlanTooLong, PlanSyntax, PlanRule}}
 use Rattle.toml.specs.Data.{table, Members}
-use Rattle.toml_rules.specs.Rules.{Rule, all_kept, AllHold, IsLeast, Names}
-use Rattle.toml_rules.proofs.Least.{names_least, all_kept_nowhere}
-use Rattle.plan_text.specs.Plan.{PlanView, plan_rules, plan}
-use Rattle.plan_text.specs.Reading.{text_limit, document, if_kept, plan_of_document, plan_answer, IsCalledFor, IsValid}
-use Rattle.plan_text.proofs.Documents.{plan_answer_long, answer_in_time, answer_none, answer_some}
-use Rattle.plan_text.proofs.Rise.{plan_rules_rise}
-use Rattle.plan_text.proofs.Whole.{plan_is_whole}
+use Rattle.toml_rules.{specs.Rules.{Rule, all_kept, AllHold, IsLeast, Names}, proofs.Least.{names_least, all_kept_nowhere}}
+use Rattle.plan_text.{specs.Plan.{PlanView, plan_rules, plan}, specs.Reading.{text_limit, document, if_kept, plan_of_document, plan_answer, IsCalledFor, IsValid}, proofs.Documents.{plan_answer_long, answer_in_time, answer_none, answer_some}, proofs.Rise.plan_rules_rise, proofs.Whole.plan_is_whole}
 
 abbrev Calls : List ℕ → Fault → Type 0
 Calls bytes fault = IsCalledFor bytes fault × (fault ≢ OutOfMemory)

@@ -1,15 +1,11 @@
 -- What bytes are as a document, and what reading them as a plan answers.
 use Rattle.std.proofs.Common.{◌≡◌, ap, refl, ◌∙◌, ℕ, ◌<◌, ◌≤◌, false, List, length, nat_le, le-leb, Some, None, Err, inl, inr, IsUtf8, arith}
-use Rattle.std.specs.Str.{is_utf8}
-use Rattle.std.proofs.lemmas.Str.{IsUtf8-from_is_utf8, is_utf8-from_IsUtf8}
-use Rattle.std.proofs.lemmas.Bool.{cases_Bool}
-use Rattle.std.proofs.lemmas.Bool.Decides.{nat_tests}
+use Rattle.std.{specs.Str.is_utf8, proofs.lemmas.Str.{IsUtf8-from_is_utf8, is_utf8-from_IsUtf8}, proofs.lemmas.Bool.cases_Bool, proofs.lemmas.Bool.Decides.nat_tests}
 use Rattle.tally_base.specs.declared.fault.Fault.TheVariants.{PlanTooLong, PlanSyntax}
 use Rattle.toml.specs.Data.{Data, table, Members}
 use Rattle.toml.specs.Parse.{parse_document}
 use Rattle.toml_rules.specs.Rules.{all_kept}
-use Rattle.plan_text.specs.Plan.{plan_rules, plan}
-use Rattle.plan_text.specs.Reading.{text_limit, document, if_kept, plan_of_document, plan_answer}
+use Rattle.plan_text.{specs.Plan.{plan_rules, plan}, specs.Reading.{text_limit, document, if_kept, plan_of_document, plan_answer}}
 
 pub document_of_text : (bytes : List ℕ) → IsUtf8 bytes → document bytes ≡ parse_document bytes
 unfolding document

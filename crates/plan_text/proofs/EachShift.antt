@@ -2,13 +2,9 @@
 use Rattle.std.proofs.Common.{◌≡◌, ℕ, ◌+◌, ◌<◌, true, List, map, drop, length, get_or, Option, None, Some, is_some, option_map, refl, Result}
 use Rattle.toml.specs.declared.value.Value.{Value}
 use Rattle.toml.specs.View.{view}
-use Rattle.tally_base.specs.declared.fault.Fault.{Fault}
-use Rattle.tally_base.specs.declared.fault.Fault.TheVariants.{PlanRule}
-use Rattle.tally_base.specs.declared.settings.ShiftSet.{ShiftSet}
-use Rattle.tally_base.specs.Settings.{shift_view}
+use Rattle.tally_base.{specs.declared.fault.Fault.Fault, specs.declared.fault.Fault.TheVariants.PlanRule, specs.declared.settings.ShiftSet.ShiftSet, specs.Settings.shift_view}
 use Rattle.toml_rules.specs.Rules.{held_from}
-use Rattle.plan_text.specs.Shifts.{shift, input_behind, shifts_from}
-use Rattle.plan_text.proofs.Inputs.{first_of}
+use Rattle.plan_text.{specs.Shifts.{shift, input_behind, shifts_from}, proofs.Inputs.first_of}
 
 some_seen : (set : Option ShiftSet) → is_some set ≡ true → is_some (option_map shift_view set) ≡ true
 some_seen None some = some

@@ -4,8 +4,7 @@ use Rattle.toml.specs.Data.{Data, as_array}
 use Rattle.toml.specs.declared.value.Value.{Value}
 use Rattle.toml.specs.View.{view}
 use Rattle.tally_base.specs.Gates.{AreGates}
-use Rattle.plan_text.specs.Groups.{range_among, ranges_from}
-use Rattle.plan_text.proofs.Inputs.{first_of}
+use Rattle.plan_text.{specs.Groups.{range_among, ranges_from}, proofs.Inputs.first_of}
 
 -- Ranges that rise from low on, and end at last.
 abbrev pub RiseTo : ℕ → ℕ → List (ℕ × ℕ) → Type 0

@@ -1,8 +1,6 @@
 -- The bit set of inputs, one input at a time.
 use Rattle.std.proofs.Common.{◌≡◌, ap, sym, refl, ◌∙◌, ℕ, ◌+◌, ◌<◌, ◌≤◌, ◌^◌, List, ◌∷◌, map, drop, length, get_or, Option, Some, None, option_map, arith}
-use Rattle.std.proofs.Math.Pow.{pow_mono}
-use Rattle.std.proofs.lemmas.Grind.{pow_more}
-use Rattle.std.proofs.lemmas.List.{drop_more}
+use Rattle.std.{proofs.Math.Pow.pow_mono, proofs.lemmas.Grind.pow_more, proofs.lemmas.List.drop_more}
 use Rattle.toml.specs.Data.{Data}
 use Rattle.toml.specs.declared.value.Value.{Value}
 use Rattle.toml.specs.View.{view}

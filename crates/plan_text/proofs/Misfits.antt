@@ -1,19 +1,9 @@
 -- What `fits` refuses is the first part that doesn't suit the mode.
 use Rattle.std.proofs.Common.{◌≡◌, refl, ap, ◌∙◌, ℕ, ◌+◌, List, [], ◌∷◌, ◌++◌, ◌<◌, length, map, Bool, Option, None, Some, Result, Ok, Err, inl, inr, arith, rules}
-use Rattle.std.specs.List.{AllByRecursion}
-use Rattle.std.proofs.lemmas.Result.{IfErr-at_err}
-use Rattle.tally_base.specs.declared.fault.Fault.{Fault}
-use Rattle.tally_base.specs.declared.fault.Fault.TheVariants.{PlanMode}
-use Rattle.tally_base.specs.declared.header.Mode.{Mode}
-use Rattle.tally_base.specs.declared.header.Mode.TheVariants.{T2, T3}
-use Rattle.tally_base.specs.declared.part.PartKind.{PartKind}
-use Rattle.tally_base.specs.declared.part.PartKind.TheVariants.{Gate, Shift}
-use Rattle.tally_base.specs.declared.settings.ShiftSet.{ShiftSet}
-use Rattle.tally_base.specs.Settings.{PartSettings, shift_view}
-use Rattle.toml_rules.specs.Rules.{or_next, held_from, BreaksFirst, BreaksAt}
-use Rattle.toml_rules.proofs.Least.{or_next_err, breaks_first, kept_nowhere}
-use Rattle.plan_text.specs.Plan.{PlanView}
-use Rattle.plan_text.specs.Fits.{fits, misfit, refusal, group_suits, shift_suits, groups_fit, shifts_fit, parts_fit, IsFirstMisfit, IsMisfit}
+use Rattle.std.{specs.List.AllByRecursion, proofs.lemmas.Result.IfErr-at_err}
+use Rattle.tally_base.{specs.declared.fault.Fault.Fault, specs.declared.fault.Fault.TheVariants.PlanMode, specs.declared.header.Mode.Mode, specs.declared.header.Mode.TheVariants.{T2, T3}, specs.declared.part.PartKind.PartKind, specs.declared.part.PartKind.TheVariants.{Gate, Shift}, specs.declared.settings.ShiftSet.ShiftSet, specs.Settings.{PartSettings, shift_view}}
+use Rattle.toml_rules.{specs.Rules.{or_next, held_from, BreaksFirst, BreaksAt}, proofs.Least.{or_next_err, breaks_first, kept_nowhere}}
+use Rattle.plan_text.{specs.Plan.PlanView, specs.Fits.{fits, misfit, refusal, group_suits, shift_suits, groups_fit, shifts_fit, parts_fit, IsFirstMisfit, IsMisfit}}
 
 pub or_next_assoc : (a b c : Result (Unit {0}) Fault) → or_next a (or_next b c) ≡ or_next (or_next a b) c
 or_next_assoc (Ok done) b c = refl

@@ -5,8 +5,7 @@ use Rattle.toml.specs.declared.value.Value.{Value}
 use Rattle.toml.specs.View.{view}
 use Rattle.tally_base.specs.Gates.{AreGroups}
 use Rattle.toml_rules.specs.Values.{integer_in}
-use Rattle.plan_text.specs.Folds.{numbers_from}
-use Rattle.plan_text.proofs.Inputs.{first_of}
+use Rattle.plan_text.{specs.Folds.numbers_from, proofs.Inputs.first_of}
 
 -- Numbers that rise, each above low, and are below last.
 abbrev pub NumbersTo : ℕ → ℕ → List ℕ → Type 0

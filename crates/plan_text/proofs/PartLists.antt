@@ -2,10 +2,7 @@
 use Rattle.std.proofs.Common.{◌≡◌, refl, sym, ap, ℕ, ◌+◌, ◌≤◌, List, [], ◌∷◌, ◌++◌, length, arith}
 use Rattle.std.specs.List.{AllByRecursion, flat_map}
 use Rattle.tally_base.specs.Settings.{PartSettings}
-use Rattle.plan_text.specs.declared.plan.Plan.{Plan}
-use Rattle.plan_text.specs.Kinds.{part_lists}
-use Rattle.plan_text.specs.Reading.{HaveSameTables}
-use Rattle.plan_text.proofs.ByKind.{kind_at, AreAt, AreByKinds, by_kinds}
+use Rattle.plan_text.{specs.declared.plan.Plan.Plan, specs.Kinds.part_lists, specs.Reading.HaveSameTables, proofs.ByKind.{kind_at, AreAt, AreByKinds, by_kinds}}
 
 -- each part is of the kind at this place or of a later one
 abbrev AreFrom : ℕ → List PartSettings → Type 0

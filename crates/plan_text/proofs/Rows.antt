@@ -1,16 +1,9 @@
 -- Plans with one bad thing, and small plans that are read.
 use Rattle.std.proofs.Common.{◌≡◌, ◌^◌, refl, codes, ℕ, List, Ok, Err, Some, None, [], ◌∷◌, true, false}
-use Rattle.tally_base.specs.declared.fault.Fault.TheVariants.{PlanSyntax, PlanRule, PlanMode}
-use Rattle.tally_base.specs.declared.header.Mode.TheVariants.{T2}
-use Rattle.tally_base.specs.declared.part.PartKind.TheVariants.{Gate, Shift}
+use Rattle.tally_base.{specs.declared.fault.Fault.TheVariants.{PlanSyntax, PlanRule, PlanMode}, specs.declared.header.Mode.TheVariants.T2, specs.declared.part.PartKind.TheVariants.{Gate, Shift}, specs.Settings.ShiftView, specs.Settings.PartSettings.{TraceSettings, StartStopSettings, CoincidenceSettings, ImageSettings, CorrelationSettings, CubeSettings, FoldSettings}}
 use Rattle.tally_base.specs.declared.event.Order.TheVariants as orders
 use Rattle.tally_base.specs.declared.event.OnReserved.TheVariants as choices
-use Rattle.tally_base.specs.Settings.{ShiftView}
-use Rattle.tally_base.specs.Settings.PartSettings.{TraceSettings, StartStopSettings, CoincidenceSettings, ImageSettings, CorrelationSettings, CubeSettings, FoldSettings}
-use Rattle.plan_text.specs.Plan.{PlanView}
-use Rattle.plan_text.specs.Fits.{fits}
-use Rattle.plan_text.specs.Reading.{plan_answer}
-use Rattle.plan_text.proofs.OnLiterals.{plan_on_literals}
+use Rattle.plan_text.{specs.Plan.PlanView, specs.Fits.fits, specs.Reading.plan_answer, proofs.OnLiterals.plan_on_literals}
 
 pub row_byte : plan_answer (255 ∷ []) ≡ Err PlanSyntax
 unfolding plan_on_literals

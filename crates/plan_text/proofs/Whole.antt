@@ -1,18 +1,9 @@
 -- Where each rule holds, each table of a list is in the plan.
 use Rattle.std.proofs.Common.{◌≡◌, ap, refl, ℕ, ◌+◌, Bool, true, List, [], ◌∷◌, ◌++◌, map, filter_map, ◌∙◌, Option, Some, None, is_some, inl, inr}
-use Rattle.std.proofs.lemmas.Bool.{cases_Bool, false≢true}
-use Rattle.std.proofs.lemmas.List.{map-append}
-use Rattle.std.specs.List.{AllByRecursion, cons_option, flat_map}
+use Rattle.std.{proofs.lemmas.Bool.{cases_Bool, false≢true}, proofs.lemmas.List.map-append, specs.List.{AllByRecursion, cons_option, flat_map}}
 use Rattle.toml.specs.Data.{Data}
-use Rattle.toml_rules.specs.Rules.{Rule, BreaksAt, IsBroken, AllHold, or_next, all_kept}
-use Rattle.toml_rules.proofs.Least.{all_kept_after}
-use Rattle.plan_text.specs.Plan.{plan_rules, lists_kept, plan, IsWhole}
-use Rattle.plan_text.specs.Document.{document_rules}
-use Rattle.plan_text.specs.Kind.{Kind, tables, last_rule, kind_rules, list_of_kind}
-use Rattle.plan_text.specs.Kinds.{kinds, first_kinds, second_kinds, first_lists, second_lists, table_lists}
-use Rattle.plan_text.specs.Groups.{group_rules, groups, group, group_of, inputs, gates}
-use Rattle.plan_text.specs.Shifts.{shift_rules, all_shifts}
-use Rattle.plan_text.specs.TableList.{TableList}
+use Rattle.toml_rules.{specs.Rules.{Rule, BreaksAt, IsBroken, AllHold, or_next, all_kept}, proofs.Least.all_kept_after}
+use Rattle.plan_text.{specs.Plan.{plan_rules, lists_kept, plan, IsWhole}, specs.Document.document_rules, specs.Kind.{Kind, tables, last_rule, kind_rules, list_of_kind}, specs.Kinds.{kinds, first_kinds, second_kinds, first_lists, second_lists, table_lists}, specs.Groups.{group_rules, groups, group, group_of, inputs, gates}, specs.Shifts.{shift_rules, all_shifts}, specs.TableList.TableList}
 
 -- rules of a part are rules of the whole
 broken_after : (before after : List Rule) (n at : ℕ) → IsBroken after n at → IsBroken (before ++ after) n at

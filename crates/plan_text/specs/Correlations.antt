@@ -1,12 +1,9 @@
 -- What the tables of correlations say, and the rules on them.
 use Rattle.std.specs.Prelude.{ℕ, ◌%◌, ◌==◌, Bool, List, [], ◌∷◌, codes, Option, None, Some, option_and_then, if◌then◌else◌}
 use Rattle.toml.specs.Data.{Data, get}
-use Rattle.tally_base.specs.Settings.{PartSettings}
-use Rattle.tally_base.specs.Settings.PartSettings.{CorrelationSettings}
-use Rattle.toml_rules.specs.Rules.{each}
-use Rattle.toml_rules.specs.Values.{list_at, has_keys, number_in}
-use Rattle.plan_text.specs.Groups.{group_number}
-use Rattle.plan_text.specs.Kind.{Kind}
+use Rattle.tally_base.{specs.Settings.PartSettings, specs.Settings.PartSettings.CorrelationSettings}
+use Rattle.toml_rules.{specs.Rules.each, specs.Values.{list_at, has_keys, number_in}}
+use Rattle.plan_text.{specs.Groups.group_number, specs.Kind.Kind}
 
 -- the tables of correlations
 abbrev pub correlations : Data → List Data

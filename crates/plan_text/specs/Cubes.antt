@@ -1,12 +1,9 @@
 -- What the tables of cubes say, and the rules on them.
 use Rattle.std.specs.Prelude.{ℕ, ◌*◌, ◌^◌, ◌&&◌, Bool, false, nat_le, List, [], ◌∷◌, codes, Option, None, Some, is_some, if◌then◌else◌}
 use Rattle.toml.specs.Data.{Data, get}
-use Rattle.tally_base.specs.Settings.{PartSettings, ImageView}
-use Rattle.tally_base.specs.Settings.PartSettings.{CubeSettings}
-use Rattle.toml_rules.specs.Rules.{each}
-use Rattle.toml_rules.specs.Values.{list_at, has_keys, number_in}
-use Rattle.plan_text.specs.Images.{image_values}
-use Rattle.plan_text.specs.Kind.{Kind}
+use Rattle.tally_base.{specs.Settings.{PartSettings, ImageView}, specs.Settings.PartSettings.CubeSettings}
+use Rattle.toml_rules.{specs.Rules.each, specs.Values.{list_at, has_keys, number_in}}
+use Rattle.plan_text.{specs.Images.image_values, specs.Kind.Kind}
 
 -- the tables of cubes
 abbrev pub cubes : Data → List Data

@@ -3,10 +3,8 @@ use Rattle.std.specs.Prelude.{ℕ, ◌≤◌, Bool, nat_le, List, [], ◌∷◌,
 use Rattle.std.specs.List.{AllByRecursion}
 use Rattle.tally_base.specs.Limits.{record_limit}
 use Rattle.toml.specs.Data.{Data, get}
-use Rattle.toml_rules.specs.Rules.{Rule, whole, each}
-use Rattle.toml_rules.specs.Values.{list_at, may_be_tables, has_keys, number_or, second_of}
-use Rattle.plan_text.specs.Kinds.{first_lists, second_lists, keys_of, lists}
-use Rattle.plan_text.specs.Version.{version, is_second}
+use Rattle.toml_rules.{specs.Rules.{Rule, whole, each}, specs.Values.{list_at, may_be_tables, has_keys, number_or, second_of}}
+use Rattle.plan_text.{specs.Kinds.{first_lists, second_lists, keys_of, lists}, specs.Version.{version, is_second}}
 
 -- whether late events are refused
 unfoldable pub order : Data → Option Bool

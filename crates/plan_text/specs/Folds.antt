@@ -1,12 +1,9 @@
 -- What the tables of folds say, and the rules on them.
 use Rattle.std.specs.Prelude.{ℕ, ◌+◌, ◌^◌, ◌&&◌, Bool, nat_le, List, [], ◌∷◌, length, codes, Option, None, Some, option_map, option_and_then, if◌then◌else◌}
 use Rattle.toml.specs.Data.{Data, Items, as_array, get}
-use Rattle.tally_base.specs.Settings.{PartSettings}
-use Rattle.tally_base.specs.Settings.PartSettings.{FoldSettings}
-use Rattle.toml_rules.specs.Rules.{each}
-use Rattle.toml_rules.specs.Values.{list_of, list_at, has_keys, integer_in, number_in}
-use Rattle.plan_text.specs.Groups.{groups}
-use Rattle.plan_text.specs.Kind.{Kind}
+use Rattle.tally_base.{specs.Settings.PartSettings, specs.Settings.PartSettings.FoldSettings}
+use Rattle.toml_rules.{specs.Rules.each, specs.Values.{list_of, list_at, has_keys, integer_in, number_in}}
+use Rattle.plan_text.{specs.Groups.groups, specs.Kind.Kind}
 
 -- the tables of folds
 abbrev pub folds : Data → List Data

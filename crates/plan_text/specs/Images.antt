@@ -1,14 +1,9 @@
 -- What the tables of images say, and the rules on them.
 use Rattle.std.specs.Prelude.{ℕ, Bool, false, List, [], ◌∷◌, codes, Option, None, Some, option_map, if◌then◌else◌}
 use Rattle.toml.specs.Data.{Data, get}
-use Rattle.tally_base.specs.Settings.{PartSettings, ImageView}
-use Rattle.tally_base.specs.Settings.PartSettings.{ImageSettings}
-use Rattle.tally_base.specs.Limits.{wrap_limit}
-use Rattle.toml_rules.specs.Rules.{each}
-use Rattle.toml_rules.specs.Values.{list_at, has_keys, integer_in, number_in, truth_or}
-use Rattle.plan_text.specs.Groups.{group_number}
-use Rattle.plan_text.specs.Kind.{Kind}
-use Rattle.plan_text.specs.Version.{is_second}
+use Rattle.tally_base.{specs.Settings.{PartSettings, ImageView}, specs.Settings.PartSettings.ImageSettings, specs.Limits.wrap_limit}
+use Rattle.toml_rules.{specs.Rules.each, specs.Values.{list_at, has_keys, integer_in, number_in, truth_or}}
+use Rattle.plan_text.{specs.Groups.group_number, specs.Kind.Kind, specs.Version.is_second}
 
 -- the tables of images
 abbrev pub images : Data → List Data

@@ -2,8 +2,7 @@
 use Rattle.std.specs.Prelude.{ℕ, List, [], ◌∷◌, ◌++◌, Option, is_some}
 use Rattle.toml.specs.Data.{Data}
 use Rattle.tally_base.specs.Settings.{PartSettings}
-use Rattle.toml_rules.specs.Rules.{Rule, each}
-use Rattle.toml_rules.specs.Values.{list_at}
+use Rattle.toml_rules.{specs.Rules.{Rule, each}, specs.Values.list_at}
 use Rattle.plan_text.specs.TableList.{TableList}
 
 -- One kind of tables.

@@ -1,20 +1,7 @@
 -- The kinds of tables that a plan may have, all lists of tables, and the tables of each kind.
 use Rattle.std.specs.Prelude.{ℕ, List, [], ◌∷◌, ◌++◌, map}
-use Rattle.tally_base.specs.Settings.{PartSettings, hist_view, trace_view, startstop_view, coincidence_view, image_view, correlation_view, cube_view, fold_view}
-use Rattle.tally_base.specs.Settings.PartSettings.{HistSettings, TraceSettings, StartStopSettings, CoincidenceSettings, ImageSettings, CorrelationSettings, CubeSettings, FoldSettings}
-use Rattle.plan_text.specs.Kind.{Kind, list_of_kind}
-use Rattle.plan_text.specs.TableList.{TableList}
-use Rattle.plan_text.specs.Groups.{group_list}
-use Rattle.plan_text.specs.Histograms.{histogram_kind}
-use Rattle.plan_text.specs.Traces.{trace_kind}
-use Rattle.plan_text.specs.StartStops.{startstop_kind}
-use Rattle.plan_text.specs.Coincidences.{coincidence_kind}
-use Rattle.plan_text.specs.Images.{image_kind}
-use Rattle.plan_text.specs.Correlations.{correlation_kind}
-use Rattle.plan_text.specs.Cubes.{cube_kind}
-use Rattle.plan_text.specs.Folds.{fold_kind}
-use Rattle.plan_text.specs.Shifts.{shift_list}
-use Rattle.plan_text.specs.declared.plan.Plan.{Plan}
+use Rattle.tally_base.{specs.Settings.{PartSettings, hist_view, trace_view, startstop_view, coincidence_view, image_view, correlation_view, cube_view, fold_view}, specs.Settings.PartSettings.{HistSettings, TraceSettings, StartStopSettings, CoincidenceSettings, ImageSettings, CorrelationSettings, CubeSettings, FoldSettings}}
+use Rattle.plan_text.{specs.Kind.{Kind, list_of_kind}, specs.TableList.TableList, specs.Groups.group_list, specs.Histograms.histogram_kind, specs.Traces.trace_kind, specs.StartStops.startstop_kind, specs.Coincidences.coincidence_kind, specs.Images.image_kind, specs.Correlations.correlation_kind, specs.Cubes.cube_kind, specs.Folds.fold_kind, specs.Shifts.shift_list, specs.declared.plan.Plan.Plan}
 
 -- the kinds that a plan of either version may have
 abbrev pub first_kinds : List Kind

@@ -1,21 +1,11 @@
 -- All rules of a plan, and the plan that a document gives.
 use Rattle.std.specs.Prelude.{◌≡◌, map, ℕ, Bool, true, false, List, [], ◌∷◌, ◌++◌, Result, Ok, Option, None, Some, unwrap_or, filter_map, flat_map}
 use Rattle.toml.specs.Data.{Data}
-use Rattle.tally_base.specs.declared.fault.Fault.{Fault}
-use Rattle.tally_base.specs.declared.event.Order.{Order}
+use Rattle.tally_base.{specs.declared.fault.Fault.Fault, specs.declared.event.Order.Order, specs.declared.event.OnReserved.OnReserved, specs.Settings.{GroupView, ShiftView, PartSettings}, specs.Limits.record_limit}
 use Rattle.tally_base.specs.declared.event.Order.TheVariants as orders
-use Rattle.tally_base.specs.declared.event.OnReserved.{OnReserved}
 use Rattle.tally_base.specs.declared.event.OnReserved.TheVariants as choices
-use Rattle.tally_base.specs.Settings.{GroupView, ShiftView, PartSettings}
-use Rattle.tally_base.specs.Limits.{record_limit}
 use Rattle.toml_rules.specs.Rules.{Rule, or_next, all_kept}
-use Rattle.plan_text.specs.Document.{order, reserved, records, document_rules}
-use Rattle.plan_text.specs.Groups.{groups, group}
-use Rattle.plan_text.specs.Kind.{tables}
-use Rattle.plan_text.specs.Kinds.{kinds, table_lists}
-use Rattle.plan_text.specs.Settle.{settle_or_none}
-use Rattle.plan_text.specs.Shifts.{period_or_one, all_shifts}
-use Rattle.plan_text.specs.TableList.{TableList}
+use Rattle.plan_text.{specs.Document.{order, reserved, records, document_rules}, specs.Groups.{groups, group}, specs.Kind.tables, specs.Kinds.{kinds, table_lists}, specs.Settle.settle_or_none, specs.Shifts.{period_or_one, all_shifts}, specs.TableList.TableList}
 
 -- all rules, in their order
 unfoldable pub plan_rules : Data → List Rule

@@ -2,10 +2,8 @@
 use Rattle.std.specs.Prelude.{ℕ, ◌+◌, ◌-◌, ◌==◌, Bool, List, [], ◌∷◌, length, codes, Option, None, Some, is_some, unwrap_or, if◌then◌else◌}
 use Rattle.toml.specs.Data.{Data, get}
 use Rattle.tally_base.specs.Settings.{ShiftView}
-use Rattle.toml_rules.specs.Rules.{Rule, whole, each}
-use Rattle.toml_rules.specs.Values.{list_at, has_keys, integer_in, number_in}
-use Rattle.plan_text.specs.Settle.{settle}
-use Rattle.plan_text.specs.TableList.{TableList}
+use Rattle.toml_rules.{specs.Rules.{Rule, whole, each}, specs.Values.{list_at, has_keys, integer_in, number_in}}
+use Rattle.plan_text.{specs.Settle.settle, specs.TableList.TableList}
 
 -- the tables of shifts
 abbrev pub shifts : Data → List Data

@@ -1,10 +1,8 @@
 // The coincidences of a plan.
 ghost use Rattle.std.specs.Prelude.{◌≡◌, ◌≤◌, length, option_map};
 ghost use Rattle.toml.specs.View.{view};
-ghost use Rattle.tally_base.specs.Settings.{coincidence_view};
-ghost use Rattle.tally_base.specs.Settings.PartSettings.{CoincidenceSettings};
-ghost use Rattle.plan_text.specs.Coincidences.{coincidence, has_coincidence_keys, coincidence_kind};
-ghost use Rattle.plan_text.specs.Groups.{groups};
+ghost use Rattle.tally_base.{specs.Settings.coincidence_view, specs.Settings.PartSettings.CoincidenceSettings};
+ghost use Rattle.plan_text.{specs.Coincidences.{coincidence, has_coincidence_keys, coincidence_kind}, specs.Groups.groups};
 
 use crate::groups::group_number;
 use crate::kind::PlanKind;

@@ -1,10 +1,8 @@
 // The correlations of a plan.
 ghost use Rattle.std.specs.Prelude.{◌≡◌, ◌≤◌, ◌%◌, length, option_map, IfSome};
 ghost use Rattle.toml.specs.View.{view};
-ghost use Rattle.tally_base.specs.Settings.{correlation_view};
-ghost use Rattle.tally_base.specs.Settings.PartSettings.{CorrelationSettings};
-ghost use Rattle.plan_text.specs.Correlations.{lags, correlation, has_correlation_keys, correlation_kind};
-ghost use Rattle.plan_text.specs.Groups.{groups};
+ghost use Rattle.tally_base.{specs.Settings.correlation_view, specs.Settings.PartSettings.CorrelationSettings};
+ghost use Rattle.plan_text.{specs.Correlations.{lags, correlation, has_correlation_keys, correlation_kind}, specs.Groups.groups};
 
 use crate::groups::group_number;
 use crate::kind::PlanKind;

@@ -1,10 +1,8 @@
 // The cubes of a plan.
 ghost use Rattle.std.specs.Prelude.{◌≡◌, ◌<◌, ◌≤◌, length, option_map, IfSome};
 ghost use Rattle.toml.specs.View.{view};
-ghost use Rattle.tally_base.specs.Settings.{cube_view};
-ghost use Rattle.tally_base.specs.Settings.PartSettings.{CubeSettings};
-ghost use Rattle.plan_text.specs.Groups.{groups};
-ghost use Rattle.plan_text.specs.Cubes.{bins, has_cube_values, cube, has_cube_keys, cube_kind};
+ghost use Rattle.tally_base.{specs.Settings.cube_view, specs.Settings.PartSettings.CubeSettings};
+ghost use Rattle.plan_text.{specs.Groups.groups, specs.Cubes.{bins, has_cube_values, cube, has_cube_keys, cube_kind}};
 
 use crate::images::{has_image_values, image};
 use crate::kind::PlanKind;

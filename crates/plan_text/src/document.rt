@@ -2,10 +2,8 @@
 ghost use Rattle.std.specs.Prelude.{◌≡◌, ◌<◌, ◌≤◌, IfSome, OnOk, map, length, true, false, [], ◌∷◌};
 ghost use Rattle.tally_base.specs.Limits.{record_limit};
 ghost use Rattle.toml.specs.View.{view};
-ghost use Rattle.toml_rules.specs.Rules.{all_kept, kept};
-ghost use Rattle.toml_rules.specs.Values.{list_at, has_keys};
-ghost use Rattle.plan_text.specs.Kinds.{lists};
-ghost use Rattle.plan_text.specs.Document.{order, reserved, records, has_known_keys, may_have_tables, has_at_most, rule_of_lists, rule_of_lengths, document_rules, AreShort, HasFewTables};
+ghost use Rattle.toml_rules.{specs.Rules.{all_kept, kept}, specs.Values.{list_at, has_keys}};
+ghost use Rattle.plan_text.{specs.Kinds.lists, specs.Document.{order, reserved, records, has_known_keys, may_have_tables, has_at_most, rule_of_lists, rule_of_lengths, document_rules, AreShort, HasFewTables}};
 
 use crate::version::{is_second, version};
 use tally_base::{Fault, RECORD_LIMIT};

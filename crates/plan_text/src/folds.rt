@@ -1,11 +1,8 @@
 // The folds of a plan.
 ghost use Rattle.std.specs.Prelude.{◌≡◌, ◌<◌, ◌≤◌, length, map, option_map, IfSome};
 ghost use Rattle.toml.specs.View.{view};
-ghost use Rattle.tally_base.specs.Gates.{AreGroups};
-ghost use Rattle.tally_base.specs.Settings.{fold_view};
-ghost use Rattle.tally_base.specs.Settings.PartSettings.{FoldSettings};
-ghost use Rattle.plan_text.specs.Groups.{groups};
-ghost use Rattle.plan_text.specs.Folds.{numbers_from, numbers_among, numbers, fold_settings, has_fold_keys, fold_kind};
+ghost use Rattle.tally_base.{specs.Gates.AreGroups, specs.Settings.fold_view, specs.Settings.PartSettings.FoldSettings};
+ghost use Rattle.plan_text.{specs.Groups.groups, specs.Folds.{numbers_from, numbers_among, numbers, fold_settings, has_fold_keys, fold_kind}};
 
 use crate::kind::PlanKind;
 use arrayvec::ArrayVec;

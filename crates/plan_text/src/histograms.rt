@@ -1,10 +1,8 @@
 // The histograms of a plan.
 ghost use Rattle.std.specs.Prelude.{◌≡◌, ◌≤◌, length, option_map};
 ghost use Rattle.toml.specs.View.{view};
-ghost use Rattle.tally_base.specs.Settings.{hist_view};
-ghost use Rattle.tally_base.specs.Settings.PartSettings.{HistSettings};
-ghost use Rattle.plan_text.specs.Groups.{groups};
-ghost use Rattle.plan_text.specs.Histograms.{has_histogram_keys, histogram_kind, histogram};
+ghost use Rattle.tally_base.{specs.Settings.hist_view, specs.Settings.PartSettings.HistSettings};
+ghost use Rattle.plan_text.{specs.Groups.groups, specs.Histograms.{has_histogram_keys, histogram_kind, histogram}};
 
 use crate::groups::group_number;
 use crate::kind::PlanKind;

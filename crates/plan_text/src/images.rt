@@ -1,11 +1,8 @@
 // The images of a plan.
 ghost use Rattle.std.specs.Prelude.{◌≡◌, ◌<◌, ◌≤◌, length, option_map, is_some, IfSome};
 ghost use Rattle.toml.specs.View.{view};
-ghost use Rattle.tally_base.specs.Settings.{image_view};
-ghost use Rattle.tally_base.specs.Settings.PartSettings.{ImageSettings};
-ghost use Rattle.tally_base.specs.Limits.{wrap_limit};
-ghost use Rattle.plan_text.specs.Groups.{groups};
-ghost use Rattle.plan_text.specs.Images.{bit, raster, bits, serpentine, image_values, has_image_keys, image_kind};
+ghost use Rattle.tally_base.{specs.Settings.image_view, specs.Settings.PartSettings.ImageSettings, specs.Limits.wrap_limit};
+ghost use Rattle.plan_text.{specs.Groups.groups, specs.Images.{bit, raster, bits, serpentine, image_values, has_image_keys, image_kind}};
 
 use crate::groups::group_number;
 use crate::kind::PlanKind;

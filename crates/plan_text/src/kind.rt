@@ -3,9 +3,7 @@ ghost use Rattle.std.specs.Prelude.{◌≡◌, ◌+◌, ◌≤◌, Option, map, 
 ghost use Rattle.toml.specs.View.{view};
 ghost use Rattle.tally_base.specs.Settings.{PartSettings};
 ghost use Rattle.toml_rules.specs.Rules.{all_kept, kept, each};
-ghost use Rattle.plan_text.specs.Fits.{misfit, parts_fit};
-ghost use Rattle.plan_text.specs.Groups.{groups};
-ghost use Rattle.plan_text.specs.Kind.{Kind, tables, kind_rules};
+ghost use Rattle.plan_text.{specs.Fits.{misfit, parts_fit}, specs.Groups.groups, specs.Kind.{Kind, tables, kind_rules}};
 
 use arrayvec::ArrayVec;
 use tally_base::{Fault, Mode, PartKind};

@@ -1,14 +1,8 @@
 // Laws of plans, as the contracts of functions that do nothing.
 ghost use Rattle.std.specs.Prelude.{◌≡◌, ◌≢◌, ◌↔◌, ◌≤◌, ℕ, List, Some, Ok, Err};
 ghost use Rattle.toml.specs.Data.{Members, table};
-ghost use Rattle.tally_base.specs.declared.fault.Fault.{Fault};
-ghost use Rattle.tally_base.specs.declared.fault.Fault.TheVariants.{OutOfMemory};
-ghost use Rattle.tally_base.specs.declared.header.Mode.{Mode};
-ghost use Rattle.plan_text.specs.declared.plan.Plan.{Plan};
-ghost use Rattle.plan_text.specs.Plan.{PlanView, plan};
-ghost use Rattle.plan_text.specs.Reading.{document, plan_answer, IsCalledFor, IsValid, HaveSameTables};
-ghost use Rattle.plan_text.specs.Fits.{fits, IsMisfit};
-ghost use Rattle.plan_text.specs.Bound.{bound, greatest_bound};
+ghost use Rattle.tally_base.{specs.declared.fault.Fault.Fault, specs.declared.fault.Fault.TheVariants.OutOfMemory, specs.declared.header.Mode.Mode};
+ghost use Rattle.plan_text.{specs.declared.plan.Plan.Plan, specs.Plan.{PlanView, plan}, specs.Reading.{document, plan_answer, IsCalledFor, IsValid, HaveSameTables}, specs.Fits.{fits, IsMisfit}, specs.Bound.{bound, greatest_bound}};
 
 /// What bytes answer as a plan is the one fault that they call for, or the plan of a document that breaks
 /// no rule.

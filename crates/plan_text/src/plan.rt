@@ -42,9 +42,7 @@ pub struct Plan {
 
 impl Plan {
     ghost use Rattle.std.specs.Prelude.{◌≡◌};
-    ghost use Rattle.plan_text.specs.Fits.{parts_fit};
-    ghost use Rattle.plan_text.specs.Plan.{parts_of};
-    ghost use Rattle.plan_text.specs.Reading.{plan_view};
+    ghost use Rattle.plan_text.{specs.Fits.parts_fit, specs.Plan.parts_of, specs.Reading.plan_view};
 
     /// Goes through the tables of each kind, in the order of the report.
     #[tactic(auto, using(crate::proofs::Misfits::parts_fit_after))]

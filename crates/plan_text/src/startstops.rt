@@ -1,10 +1,8 @@
 // The start-stops of a plan.
 ghost use Rattle.std.specs.Prelude.{◌≡◌, ◌≤◌, length, option_map};
 ghost use Rattle.toml.specs.View.{view};
-ghost use Rattle.tally_base.specs.Settings.{startstop_view};
-ghost use Rattle.tally_base.specs.Settings.PartSettings.{StartStopSettings};
-ghost use Rattle.plan_text.specs.Groups.{groups};
-ghost use Rattle.plan_text.specs.StartStops.{startstop, has_startstop_keys, startstop_kind};
+ghost use Rattle.tally_base.{specs.Settings.startstop_view, specs.Settings.PartSettings.StartStopSettings};
+ghost use Rattle.plan_text.{specs.Groups.groups, specs.StartStops.{startstop, has_startstop_keys, startstop_kind}};
 
 use crate::groups::group_number;
 use crate::kind::PlanKind;

@@ -1,11 +1,8 @@
 // The traces of a plan.
 ghost use Rattle.std.specs.Prelude.{◌≡◌, ◌≤◌, length, option_map, IfSome};
 ghost use Rattle.toml.specs.View.{view};
-ghost use Rattle.tally_base.specs.Settings.{trace_view};
-ghost use Rattle.tally_base.specs.Settings.PartSettings.{TraceSettings};
-ghost use Rattle.tally_base.specs.Limits.{wrap_limit};
-ghost use Rattle.plan_text.specs.Groups.{groups};
-ghost use Rattle.plan_text.specs.Traces.{origin, trace, has_trace_keys, trace_kind};
+ghost use Rattle.tally_base.{specs.Settings.trace_view, specs.Settings.PartSettings.TraceSettings, specs.Limits.wrap_limit};
+ghost use Rattle.plan_text.{specs.Groups.groups, specs.Traces.{origin, trace, has_trace_keys, trace_kind}};
 
 use crate::groups::group_number;
 use crate::kind::PlanKind;

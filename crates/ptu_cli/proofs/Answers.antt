@@ -1,15 +1,10 @@
 -- What holds over some files that may be those of the words holds over files that are told.
-use Rattle.std.proofs.Common.{◌≡◌, ℕ, List, true, None, Some, Ok, Err, refl, ap, ◌∙◌, inl, inr, subst}
-use Rattle.std.specs.Prelude.{◌⊎◌, Result, IsErrAnd}
+use Rattle.std.proofs.Common.{◌≡◌, ℕ, List, true, None, Some, Ok, Err, refl, ap, ◌∙◌, inl, inr, subst, ◌⊎◌, Result, IsErrAnd}
 use Rattle.std.specs.declared.option.Option.{Option}
-use Rattle.tally_base.specs.declared.fault.Fault.{Fault}
-use Rattle.tally_base.specs.Faults.{is_outside, fault_in}
+use Rattle.tally_base.{specs.declared.fault.Fault.Fault, specs.Faults.{is_outside, fault_in}}
 use Rattle.bench_io.specs.Inputs.{File, InputState}
-use Rattle.plan_text.specs.Plan.{PlanView}
-use Rattle.plan_text.specs.Reading.{plan_answer}
-use Rattle.ptu_cli.specs.Outcomes.{Outcome}
-use Rattle.ptu_cli.specs.Behaviours.{Work, Behaviour, NoCommand, Alone, OnFile, ByPlan}
-use Rattle.ptu_cli.specs.Endings.{on_file, unless, by_plan, outcome, MayBeFiles, ForSomeFiles, Tells, EndsWith, Answers}
+use Rattle.plan_text.{specs.Plan.PlanView, specs.Reading.plan_answer}
+use Rattle.ptu_cli.{specs.Outcomes.Outcome, specs.Behaviours.{Work, Behaviour, NoCommand, Alone, OnFile, ByPlan}, specs.Endings.{on_file, unless, by_plan, outcome, MayBeFiles, ForSomeFiles, Tells, EndsWith, Answers}}
 
 pub alone-answers : (end : Outcome) (before after : InputState) (r : Result (Unit {0}) Fault) (old new : Option (List ℕ)) → IsErrAnd r (λ fault. is_outside fault ≡ true) ⊎ EndsWith end (fault_in r) old new → Answers (Alone end) before after r old new
 unfolding outcome

@@ -1,11 +1,8 @@
 -- What is said of a request is said of what the words ask for.
-use Rattle.std.proofs.Common.{◌≡◌, ℕ, List, Some, subst}
-use Rattle.std.specs.Prelude.{Result}
+use Rattle.std.proofs.Common.{◌≡◌, ℕ, List, Some, subst, Result}
 use Rattle.std.specs.declared.option.Option.{Option}
 use Rattle.tally_base.specs.declared.fault.Fault.{Fault}
-use Rattle.ptu_cli.specs.Commands.{Request}
-use Rattle.ptu_cli.specs.Behaviours.{behaviour}
-use Rattle.ptu_cli.specs.Endings.{Span, Does, TellsFault}
+use Rattle.ptu_cli.{specs.Commands.Request, specs.Behaviours.behaviour, specs.Endings.{Span, Does, TellsFault}}
 
 pub does_as : (r : Result (Unit {0}) Fault) (a b : Option Request) (span : Span) → a ≡ b → Does (behaviour a) span r → Does (behaviour b) span r
 does_as r a b span e h = subst (λ (request : Option Request). Does (behaviour request) span r) e h

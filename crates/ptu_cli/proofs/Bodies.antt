@@ -1,12 +1,9 @@
 -- A body that is printed byte by byte.
 use Rattle.std.proofs.Common.{◌≡◌, ◌+◌, ◌<◌, ℕ, List, [], ◌∷◌, ◌++◌, length, take, drop, get_or, sym, ap, ◌∙◌, append_assoc, take-append-drop}
-use Rattle.std.specs.declared.option.Option.{Option}
-use Rattle.std.proofs.lemmas.List.{take_more}
-use Rattle.bench_io.specs.Sinks.{AppendsShort, PassesOn}
-use Rattle.bench_io.proofs.Bytes.{PassesOn-trans, AppendsShort-passed, AppendsShort-more, AppendsShort-same}
+use Rattle.std.{specs.declared.option.Option.Option, proofs.lemmas.List.take_more}
+use Rattle.bench_io.{specs.Sinks.{AppendsShort, PassesOn}, proofs.Bytes.{PassesOn-trans, AppendsShort-passed, AppendsShort-more, AppendsShort-same}}
 use Rattle.ptu_tag.specs.declared.kind.TagKind.{TagKind}
-use Rattle.table_out.specs.HeaderText.{body_text}
-use Rattle.table_out.proofs.Growing.{body_text-grows}
+use Rattle.table_out.{specs.HeaderText.body_text, proofs.Growing.body_text-grows}
 use Rattle.ptu_cli.specs.BodyPieces.{PutsBody, CutsBody}
 
 -- one byte more

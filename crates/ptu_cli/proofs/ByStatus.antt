@@ -1,9 +1,6 @@
 -- A status names its fault.
 use Rattle.std.proofs.Common.{◌≡◌, refl}
-use Rattle.tally_base.specs.declared.slot.Slot.{Slot}
-use Rattle.tally_base.specs.declared.fault.Fault.{Fault}
-use Rattle.tally_base.specs.declared.fault.Fault.TheVariants.{OpenFault, ReadFault, WriteFault, OutOfMemory}
-use Rattle.tally_base.specs.Faults.{status_of, HasReason}
+use Rattle.tally_base.{specs.declared.slot.Slot.Slot, specs.declared.fault.Fault.Fault, specs.declared.fault.Fault.TheVariants.{OpenFault, ReadFault, WriteFault, OutOfMemory}, specs.Faults.{status_of, HasReason}}
 
 module _ (opening reading : Slot → Type 0) (writing memory : Type 0) where
   abbrev Reason : Fault → Type 0

@@ -1,33 +1,9 @@
 -- No refusal of bytes is that of a bad command line.
-use Rattle.std.proofs.Common.{◌≡◌, ℕ, ◌+◌, List, [], ◌∷◌, ◌++◌, subst, Bool, true, false, None, Some, Ok, Err, refl, arith}
-use Rattle.std.specs.Prelude.{◌≢◌, ◌==◌, ◌&&◌, map, Result, length, nat_lt, nat_le, if◌then◌else◌}
+use Rattle.std.proofs.Common.{◌≡◌, ℕ, ◌+◌, List, [], ◌∷◌, ◌++◌, subst, Bool, true, false, None, Some, Ok, Err, refl, arith, ◌≢◌, ◌==◌, ◌&&◌, map, Result, length, nat_lt, nat_le, if◌then◌else◌}
 use Rattle.std.specs.declared.option.Option.{Option}
-use Rattle.tally_base.specs.declared.fault.Fault.{Fault}
-use Rattle.tally_base.specs.declared.fault.Fault.TheVariants.{HeaderLimit, TruncatedHeader, RecordLimit, TruncatedRecord, ReservedRecord, TimeLimit, BackwardTime}
-use Rattle.tally_base.specs.declared.header.Header.{Header}
-use Rattle.tally_base.specs.declared.header.RecordType.{RecordType}
-use Rattle.tally_base.specs.Faults.{status_of}
-use Rattle.ptu_definitions.specs.declared.found.Found.{Found}
-use Rattle.ptu_definitions.specs.declared.records.KindCounts.{KindCounts}
-use Rattle.ptu_definitions.specs.Words.{words_of, rest_of}
-use Rattle.ptu_definitions.specs.Kinds.{counts_of}
-use Rattle.ptu_definitions.specs.Counted.{counted, records_of, record_limit}
-use Rattle.ptu_definitions.specs.Endings.{Ending, OtherFile, BadType, BadLength, Whole, Open, ending}
-use Rattle.ptu_definitions.specs.Fields.{found_in, header_of, version_in, with_type, with_value}
-use Rattle.ptu_definitions.specs.Headers.{header_answer, head_of, answer_as, with_rest, header_limit}
-use Rattle.tally_base.specs.declared.event.Event.{Event}
-use Rattle.tally_base.specs.declared.header.Mode.{Mode}
-use Rattle.tally_base.specs.Events.{stops_late, stops_reserved}
-use Rattle.ptu_definitions.specs.declared.records.Summary.{Summary}
-use Rattle.ptu_definitions.specs.Kinds.{is_reserved}
-use Rattle.ptu_definitions.specs.Times.{events, event_after, passes}
-use Rattle.ptu_definitions.specs.Kept.{greatest}
-use Rattle.ptu_definitions.specs.Settled.{is_late_by}
-use Rattle.ptu_definitions.specs.Streams.{Reading, late_refusal, refusal, record_refusal, or_refusal, summary, streamed}
-use Rattle.ptu_definitions.proofs.Firsts.{first-refusal}
-use Rattle.tally_base.specs.Faults.{fault_in}
+use Rattle.tally_base.{specs.declared.fault.Fault.Fault, specs.declared.fault.Fault.TheVariants.{HeaderLimit, TruncatedHeader, RecordLimit, TruncatedRecord, ReservedRecord, TimeLimit, BackwardTime}, specs.declared.header.Header.Header, specs.declared.header.RecordType.RecordType, specs.Faults.{status_of, fault_in}, specs.declared.event.Event.Event, specs.declared.header.Mode.Mode, specs.Events.{stops_late, stops_reserved}}
+use Rattle.ptu_definitions.{specs.declared.found.Found.Found, specs.declared.records.KindCounts.KindCounts, specs.Words.{words_of, rest_of}, specs.Kinds.{counts_of, is_reserved}, specs.Counted.{counted, records_of, record_limit}, specs.Endings.{Ending, OtherFile, BadType, BadLength, Whole, Open, ending}, specs.Fields.{found_in, header_of, version_in, with_type, with_value}, specs.Headers.{header_answer, head_of, answer_as, with_rest, header_limit}, specs.declared.records.Summary.Summary, specs.Times.{events, event_after, passes}, specs.Kept.greatest, specs.Settled.is_late_by, specs.Streams.{Reading, late_refusal, refusal, record_refusal, or_refusal, summary, streamed}, proofs.Firsts.first-refusal}
 use Rattle.ptu_cli.specs.Outcomes.{status, with_counts, counts_behind, count_outcome, listing, events_behind}
-use Rattle.tally_base.specs.Faults.{fault_in}
 
 -- A refusal is not that of a bad command line.
 abbrev pub IsOfBytes : {A : Type 0} → Result A Fault → Type 0

@@ -1,27 +1,12 @@
 -- What is shown of a command for the cases of its shape, and that its outcome then is what they call for.
-use Rattle.std.proofs.Common.{◌≡◌, ℕ, List, None, Some, Ok, Err, refl, sym, ap, ◌∙◌, subst, inl, inr}
-use Rattle.std.specs.Prelude.{◌⊎◌, Result}
+use Rattle.std.proofs.Common.{◌≡◌, ℕ, List, None, Some, Ok, Err, refl, sym, ap, ◌∙◌, subst, inl, inr, ◌⊎◌, Result}
 use Rattle.std.specs.declared.option.Option.{Option}
 use Rattle.toml.specs.Data.{table}
-use Rattle.tally_base.specs.declared.fault.Fault.{Fault}
-use Rattle.tally_base.specs.declared.header.Header.{Header}
-use Rattle.tally_base.specs.Faults.{status_of}
-use Rattle.tally_base.specs.RecordTypes.{mode_of}
+use Rattle.tally_base.{specs.declared.fault.Fault.Fault, specs.declared.header.Header.Header, specs.Faults.status_of, specs.RecordTypes.mode_of}
 use Rattle.bench_io.specs.Inputs.{File}
 use Rattle.ptu_definitions.specs.Headers.{header_answer}
-use Rattle.plan_text.specs.Plan.{PlanView, plan}
-use Rattle.plan_text.specs.Reading.{plan_answer}
-use Rattle.plan_text.specs.Fits.{fits}
-use Rattle.plan_text.proofs.Called.{called, valid, answers, plans}
-use Rattle.plan_text.proofs.Misfits.{misfit_named, is_first}
-use Rattle.ptu_cli.specs.Outcomes.{Outcome, refused, written, header_outcome}
-use Rattle.ptu_cli.specs.Behaviours.{Work, Behaviour, Alone, OnFile, ByPlan}
-use Rattle.ptu_cli.specs.Endings.{on_file, unless, by_plan, outcome}
-use Rattle.ptu_cli.specs.Cases.{FileCase, HeaderCase, PrintCase}
-use Rattle.ptu_cli.specs.CommandCases.{RecordCases, Need, CommandCases, Writes, ReadsHeader, ReadsRecords, ReadsByPlan, Has, Lacks, SuitCase, NeedCase, PlanCase, ShapeCase}
-use Rattle.ptu_cli.specs.Causes.{EndsCut, StatusIn}
-use Rattle.ptu_cli.proofs.CaseSteps.{Answer, file-holds, file-only, header-holds, header-only, not_fit}
-use Rattle.ptu_cli.proofs.Prints.{print-holds, print-only}
+use Rattle.plan_text.{specs.Plan.{PlanView, plan}, specs.Reading.plan_answer, specs.Fits.fits, proofs.Called.{called, valid, answers, plans}, proofs.Misfits.{misfit_named, is_first}}
+use Rattle.ptu_cli.{specs.Outcomes.{Outcome, refused, written, header_outcome}, specs.Behaviours.{Work, Behaviour, Alone, OnFile, ByPlan}, specs.Endings.{on_file, unless, by_plan, outcome}, specs.Cases.{FileCase, HeaderCase, PrintCase}, specs.CommandCases.{RecordCases, Need, CommandCases, Writes, ReadsHeader, ReadsRecords, ReadsByPlan, Has, Lacks, SuitCase, NeedCase, PlanCase, ShapeCase}, specs.Causes.{EndsCut, StatusIn}, proofs.CaseSteps.{Answer, file-holds, file-only, header-holds, header-only, not_fit}, proofs.Prints.{print-holds, print-only}}
 
 -- why records end a run with a fault
 abbrev pub RecordCause : RecordCases → Header → List ℕ → Fault → Type 0

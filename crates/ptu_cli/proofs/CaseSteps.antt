@@ -1,21 +1,10 @@
 -- Steps that the tables of cases of all commands share.
-use Rattle.std.proofs.Common.{◌≡◌, ℕ, List, [], ◌∷◌, length, Bool, true, false, None, Some, Ok, Err, refl, sym, ap, ◌∙◌, inl, inr, ◌≢◌, ◌<◌, ◌≤◌, arith}
-use Rattle.std.specs.Prelude.{◌==◌, Result, nat_lt, if◌then◌else◌}
-use Rattle.std.specs.declared.option.Option.{Option}
-use Rattle.std.proofs.lemmas.Bool.Decides.{nat_tests}
-use Rattle.tally_base.specs.declared.fault.Fault.{Fault}
-use Rattle.tally_base.specs.declared.fault.Fault.TheVariants.{TruncatedRecord}
-use Rattle.tally_base.specs.declared.header.Header.{Header}
+use Rattle.std.proofs.Common.{◌≡◌, ℕ, List, [], ◌∷◌, length, Bool, true, false, None, Some, Ok, Err, refl, sym, ap, ◌∙◌, inl, inr, ◌≢◌, ◌<◌, ◌≤◌, arith, ◌==◌, Result, nat_lt, if◌then◌else◌}
+use Rattle.std.{specs.declared.option.Option.Option, proofs.lemmas.Bool.Decides.nat_tests}
+use Rattle.tally_base.{specs.declared.fault.Fault.Fault, specs.declared.fault.Fault.TheVariants.TruncatedRecord, specs.declared.header.Header.Header}
 use Rattle.bench_io.specs.Inputs.{File}
-use Rattle.ptu_definitions.specs.declared.records.Summary.{Summary}
-use Rattle.ptu_definitions.specs.Headers.{header_answer}
-use Rattle.ptu_definitions.specs.Words.{words_of, rest_of}
-use Rattle.ptu_definitions.specs.Streams.{Reading, record_refusal, summary, streamed, or_refusal}
-use Rattle.ptu_definitions.proofs.Sound.{one_answer}
-use Rattle.ptu_cli.specs.Endings.{on_file}
-use Rattle.ptu_cli.specs.Outcomes.{Outcome, refused}
-use Rattle.ptu_cli.specs.Behaviours.{Work}
-use Rattle.ptu_cli.specs.Cases.{FileCase, HeaderCase}
+use Rattle.ptu_definitions.{specs.declared.records.Summary.Summary, specs.Headers.header_answer, specs.Words.{words_of, rest_of}, specs.Streams.{Reading, record_refusal, summary, streamed, or_refusal}, proofs.Sound.one_answer}
+use Rattle.ptu_cli.{specs.Endings.on_file, specs.Outcomes.{Outcome, refused}, specs.Behaviours.Work, specs.Cases.{FileCase, HeaderCase}}
 
 -- ## Tests
 

@@ -1,50 +1,17 @@
 -- What `count`, `events`, `run`, `trace` and `demo` end with is what the table of cases calls for.
-use Rattle.std.proofs.Common.{◌≡◌, ℕ, zero, suc, List, [], ◌∷◌, ◌++◌, length, Bool, true, false, None, Some, Ok, Err, refl, sym, ap, ◌∙◌, subst, inl, inr, arith}
-use Rattle.std.specs.Prelude.{◌==◌, ◌/◌, Result, nat_lt, nat_le, codes, decimal, map, if◌then◌else◌}
+use Rattle.std.proofs.Common.{◌≡◌, ℕ, zero, suc, List, [], ◌∷◌, ◌++◌, length, Bool, true, false, None, Some, Ok, Err, refl, sym, ap, ◌∙◌, subst, inl, inr, arith, ◌==◌, ◌/◌, Result, nat_lt, nat_le, codes, decimal, map, if◌then◌else◌}
 use Rattle.std.specs.declared.option.Option.{Option}
-use Rattle.tally_base.specs.declared.fault.Fault.{Fault}
-use Rattle.tally_base.specs.declared.fault.Fault.TheVariants.{RecordLimit, TruncatedRecord, NoTrace}
-use Rattle.tally_base.specs.declared.header.Header.{Header}
-use Rattle.tally_base.specs.Faults.{fault_in}
-use Rattle.tally_base.specs.Settings.{PartSettings, StartStopView, TraceView}
-use Rattle.tally_base.specs.Settings.PartSettings.{StartStopSettings}
-use Rattle.tally_base.specs.Tally.{History}
-use Rattle.ptu_definitions.specs.declared.records.Summary.{Summary}
-use Rattle.ptu_definitions.specs.Words.{words_of, rest_of}
-use Rattle.ptu_definitions.specs.Layouts.{meaning_of}
-use Rattle.ptu_definitions.specs.Kinds.{counts_of}
-use Rattle.ptu_definitions.specs.Counted.{record_limit, records_of, counted}
-use Rattle.ptu_definitions.specs.Prefixes.{each_after}
-use Rattle.ptu_definitions.specs.Firsts.{IsFirst}
-use Rattle.ptu_definitions.specs.Times.{events}
-use Rattle.ptu_definitions.specs.Streams.{Reading, record_refusal, summary, summary_of, streamed, events_in}
-use Rattle.ptu_definitions.proofs.Firsts.{first-refusal, refused-first, none-refused, given-before, given-all}
+use Rattle.tally_base.{specs.declared.fault.Fault.Fault, specs.declared.fault.Fault.TheVariants.{RecordLimit, TruncatedRecord, NoTrace}, specs.declared.header.Header.Header, specs.Faults.fault_in, specs.Settings.{PartSettings, StartStopView, TraceView}, specs.Settings.PartSettings.StartStopSettings, specs.Tally.History}
+use Rattle.ptu_definitions.{specs.declared.records.Summary.Summary, specs.Words.{words_of, rest_of}, specs.Layouts.meaning_of, specs.Kinds.counts_of, specs.Counted.{record_limit, records_of, counted}, specs.Prefixes.each_after, specs.Firsts.IsFirst, specs.Times.events, specs.Streams.{Reading, record_refusal, summary, summary_of, streamed, events_in}, proofs.Firsts.{first-refusal, refused-first, none-refused, given-before, given-all}}
 use Rattle.record_stream.proofs.Lasts.{streamed-refused}
 use Rattle.plan_text.specs.Plan.{PlanView, parts_of}
 use Rattle.coincidence.proofs.Places.{intervals-are-pairs}
 use Rattle.gate_plan.specs.Shifting.{sorting}
-use Rattle.tally_engine.specs.Histories.{history, settled_history}
-use Rattle.tally_engine.specs.Plans.{reading_by}
-use Rattle.table_out.specs.EventText.{events_text}
-use Rattle.table_out.specs.Lines.{line}
-use Rattle.table_out.specs.Printed.{texts, cell_line, cell_lines, first_line, table_lines}
-use Rattle.table_out.specs.StartStop.{startstop_printed}
-use Rattle.table_out.specs.Report.{head_text, printed, Table, table_text, report, with_events}
-use Rattle.ptu_made.specs.Generator.{made_words}
-use Rattle.ptu_made.specs.Records.{made_header}
+use Rattle.tally_engine.{specs.Histories.{history, settled_history}, specs.Plans.reading_by}
+use Rattle.table_out.{specs.EventText.events_text, specs.Lines.line, specs.Printed.{texts, cell_line, cell_lines, first_line, table_lines}, specs.StartStop.startstop_printed, specs.Report.{head_text, printed, Table, table_text, report, with_events}}
+use Rattle.ptu_made.{specs.Generator.made_words, specs.Records.made_header}
 use Rattle.long_trace.specs.Texts.{open_text}
-use Rattle.ptu_cli.specs.Reports.{report_of, if_fits, report_behind}
-use Rattle.ptu_cli.specs.CountText.{counts_text}
-use Rattle.ptu_cli.specs.TraceOutcomes.{trace_of, unless_traced, no_trace, traced, records_traced, traced_if_fits, traced_behind}
-use Rattle.ptu_cli.specs.Demo.{demo_plan, demo_report}
-use Rattle.ptu_cli.specs.Outcomes.{Outcome, refused, written, with_counts, counts_behind, count_outcome, listing, listed, events_behind, report_outcome}
-use Rattle.ptu_cli.specs.Behaviours.{any_plan, counting, listing_all, reporting, tracing}
-use Rattle.ptu_cli.specs.Cases.{WholeCase, NoneRefused, CountCase, LeftOver, ListCase, startstop_by_places, by_places, placed_text, report_by_places, words_report, StreamCase, WholeTrace, TraceCase, HasTrace, TracedCase}
-use Rattle.ptu_cli.specs.CommandCases.{IsIn, count_cases, events_cases, run_cases, trace_cases, Lacks, NeedsNothing, Needs}
-use Rattle.ptu_cli.proofs.FaultStatuses.{some-same, of-refused, of-written, of-end, whole-cause, range-as, wider, least-status, listed-status}
-use Rattle.ptu_cli.proofs.CaseSteps.{end_with, same-end, lt-true, lt-false, true-lt, false-lt, empty-true, empty-false, true-empty, false-empty, whole_answer, streamed-clear}
-use Rattle.ptu_cli.proofs.CaseShapes.{RecordCause, FileMeets, NeedMeets, PlanMeets}
-use Rattle.ptu_cli.proofs.TraceTexts.{settled-whole, settled-first}
+use Rattle.ptu_cli.{specs.Reports.{report_of, if_fits, report_behind}, specs.CountText.counts_text, specs.TraceOutcomes.{trace_of, unless_traced, no_trace, traced, records_traced, traced_if_fits, traced_behind}, specs.Demo.{demo_plan, demo_report}, specs.Outcomes.{Outcome, refused, written, with_counts, counts_behind, count_outcome, listing, listed, events_behind, report_outcome}, specs.Behaviours.{any_plan, counting, listing_all, reporting, tracing}, specs.Cases.{WholeCase, NoneRefused, CountCase, LeftOver, ListCase, startstop_by_places, by_places, placed_text, report_by_places, words_report, StreamCase, WholeTrace, TraceCase, HasTrace, TracedCase}, specs.CommandCases.{IsIn, count_cases, events_cases, run_cases, trace_cases, Lacks, NeedsNothing, Needs}, proofs.FaultStatuses.{some-same, of-refused, of-written, of-end, whole-cause, range-as, wider, least-status, listed-status}, proofs.CaseSteps.{end_with, same-end, lt-true, lt-false, true-lt, false-lt, empty-true, empty-false, true-empty, false-empty, whole_answer, streamed-clear}, proofs.CaseShapes.{RecordCause, FileMeets, NeedMeets, PlanMeets}, proofs.TraceTexts.{settled-whole, settled-first}}
 
 -- ## A report by places
 

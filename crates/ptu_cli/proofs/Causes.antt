@@ -1,46 +1,17 @@
 -- Each fault of a command has its cause, and each cause its fault, by the shape of the command.
-use Rattle.std.proofs.Common.{◌≡◌, ℕ, List, [], None, Some, Ok, Err, refl, sym, ap, ◌∙◌, subst, inl, inr, ◌<◌, append-nil, arith, length, false, ◌≤◌}
-use Rattle.std.specs.Prelude.{◌⊎◌, ◌↔◌, Result, map}
+use Rattle.std.proofs.Common.{◌≡◌, ℕ, List, [], None, Some, Ok, Err, refl, sym, ap, ◌∙◌, subst, inl, inr, ◌<◌, append-nil, arith, length, false, ◌≤◌, ◌⊎◌, ◌↔◌, Result, map}
 use Rattle.std.specs.declared.option.Option.{Option}
 use Rattle.toml.specs.Data.{table}
-use Rattle.tally_base.specs.declared.fault.Fault.{Fault}
-use Rattle.tally_base.specs.declared.header.Header.{Header}
-use Rattle.tally_base.specs.Faults.{fault_in, status_of}
-use Rattle.tally_base.specs.RecordTypes.{mode_of}
-use Rattle.tally_base.specs.declared.slot.Slot.{Slot}
-use Rattle.tally_base.specs.declared.slot.Slot.TheVariants.{Plan, Data}
-use Rattle.tally_base.specs.declared.fault.Fault.TheVariants.{Usage, OpenFault, NoGroup, PickTime}
+use Rattle.tally_base.{specs.declared.fault.Fault.Fault, specs.declared.header.Header.Header, specs.Faults.{fault_in, status_of}, specs.RecordTypes.mode_of, specs.declared.slot.Slot.Slot, specs.declared.slot.Slot.TheVariants.{Plan, Data}, specs.declared.fault.Fault.TheVariants.{Usage, OpenFault, NoGroup, PickTime}}
 use Rattle.bench_io.specs.Inputs.{File}
-use Rattle.ptu_definitions.specs.Words.{words_of}
-use Rattle.ptu_definitions.proofs.Sound.{one_answer}
-use Rattle.plan_text.specs.Plan.{PlanView, plan}
-use Rattle.plan_text.proofs.Called.{valid}
-use Rattle.ptu_definitions.specs.Headers.{HasAnswer}
-use Rattle.ptu_definitions.specs.Streams.{refusal}
-use Rattle.plan_text.specs.Reading.{IsCalledFor}
-use Rattle.plan_text.specs.Fits.{IsMisfit}
-use Rattle.photon_pick.specs.Late.{too_late}
-use Rattle.ptu_cli.specs.Endings.{outcome}
-use Rattle.ptu_cli.specs.Causes.{IsValidPlan, Headed, Unheaded, IsPlanWith, Absent, NoPlan, Misfits, NoHeader, Cut, Refused, Lacking, TooLate, IsPickable, EndsWithFault, StatusIn, MayCallFor}
-use Rattle.ptu_cli.specs.Outcomes.{Outcome, refused, header_outcome, written}
-use Rattle.ptu_cli.specs.Behaviours.{Work, Behaviour, behaviour, NoCommand, Alone, OnFile, ByPlan}
-use Rattle.ptu_cli.specs.Commands.{Request, Pick, Events}
-use Rattle.ptu_cli.specs.Cases.{FileCase, HeaderCase, PrintCase, HasGroup, settled_photons, kept_photons, FirstLate, LateAtEnd, AllPicked, pick_end}
-use Rattle.ptu_cli.specs.CommandCases.{pick_statuses, RecordCases, Need, CommandCases, NamesLate, pick_cases, cases, Lacks, Suits, SuitCase, NeedCase, PlanCase, ShapeCase, IsOutcome, Needs, BadWords, Writes, ReadsHeader, ReadsRecords, ReadsByPlan}
-use Rattle.ptu_cli.proofs.FaultStatuses.{some-same, of-refused, of-written, range-as, wider, called-status, misfit-status, unheaded-status, cut_behind-status}
-use Rattle.ptu_cli.proofs.CaseShapes.{RecordCause, RecordsMeet, PlanMeets, MeetsCases}
-use Rattle.ptu_cli.proofs.Prints.{print-holds}
-use Rattle.ptu_cli.proofs.PickPhotons.{none-or-late}
-use Rattle.ptu_cli.proofs.PickCases.{first-settled, picked-holds}
-use Rattle.ptu_cli.proofs.Proved.{proved, one-outcome}
-use Rattle.ptu_cli.proofs.PickedFiles.{listed-picked}
-use Rattle.ptu_cli.specs.PickOutcomes.{records_picked, photons_written}
-use Rattle.photon_pick.proofs.CanBeWritten.{written-can}
+use Rattle.ptu_definitions.{specs.Words.words_of, proofs.Sound.one_answer, specs.Headers.HasAnswer, specs.Streams.refusal, specs.Counted.record_limit}
+use Rattle.plan_text.{specs.Plan.{PlanView, plan}, proofs.Called.valid, specs.Reading.IsCalledFor, specs.Fits.IsMisfit}
+use Rattle.photon_pick.{specs.Late.too_late, proofs.CanBeWritten.written-can}
+use Rattle.ptu_cli.{specs.Endings.outcome, specs.Causes.{IsValidPlan, Headed, Unheaded, IsPlanWith, Absent, NoPlan, Misfits, NoHeader, Cut, Refused, Lacking, TooLate, IsPickable, EndsWithFault, StatusIn, MayCallFor}, specs.Outcomes.{Outcome, refused, header_outcome, written}, specs.Behaviours.{Work, Behaviour, behaviour, NoCommand, Alone, OnFile, ByPlan}, specs.Commands.{Request, Pick, Events}, specs.Cases.{FileCase, HeaderCase, PrintCase, HasGroup, settled_photons, kept_photons, FirstLate, LateAtEnd, AllPicked, pick_end}, specs.CommandCases.{pick_statuses, RecordCases, Need, CommandCases, NamesLate, pick_cases, cases, Lacks, Suits, SuitCase, NeedCase, PlanCase, ShapeCase, IsOutcome, Needs, BadWords, Writes, ReadsHeader, ReadsRecords, ReadsByPlan}, proofs.FaultStatuses.{some-same, of-refused, of-written, range-as, wider, called-status, misfit-status, unheaded-status, cut_behind-status}, proofs.CaseShapes.{RecordCause, RecordsMeet, PlanMeets, MeetsCases}, proofs.Prints.print-holds, proofs.PickPhotons.none-or-late, proofs.PickCases.{first-settled, picked-holds}, proofs.Proved.{proved, one-outcome}, proofs.PickedFiles.listed-picked, specs.PickOutcomes.{records_picked, photons_written}}
 use Rattle.gate_plan.specs.Shifting.{sorting}
 use Rattle.table_out.specs.EventText.{events_text}
 use Rattle.short_file.specs.ShortFiles.{short_file}
 use Rattle.record_write.specs.Picked.{picked_words, picked_file, picked_events}
-use Rattle.ptu_definitions.specs.Counted.{record_limit}
 
 -- ## From an outcome to its cause
 

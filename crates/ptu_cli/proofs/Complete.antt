@@ -1,26 +1,10 @@
 -- Good words and files end well, and only words that are no command end as a bad command line.
-use Rattle.std.proofs.Common.{◌≡◌, ◌≤◌, ◌<◌, ℕ, List, true, None, Some, Ok, Err, refl, sym, ap, ◌∙◌, subst, arith, inl, inr}
-use Rattle.std.specs.Prelude.{◌≢◌, ◌⊎◌, Result}
+use Rattle.std.proofs.Common.{◌≡◌, ◌≤◌, ◌<◌, ℕ, List, true, None, Some, Ok, Err, refl, sym, ap, ◌∙◌, subst, arith, inl, inr, ◌≢◌, ◌⊎◌, Result}
 use Rattle.std.specs.declared.option.Option.{Option}
-use Rattle.tally_base.specs.declared.slot.Slot.{Slot}
-use Rattle.tally_base.specs.declared.fault.Fault.{Fault}
-use Rattle.tally_base.specs.declared.fault.Fault.TheVariants.{Usage, OpenFault, ReadFault, WriteFault, OutOfMemory}
-use Rattle.tally_base.specs.Faults.{is_outside, status_of, HasReason}
-use Rattle.tally_base.specs.FaultCounts.{Rose}
-use Rattle.bench_io.specs.Inputs.{File, InputState}
-use Rattle.bench_io.proofs.Bytes.{Appends-nil, Keeps-from_none}
-use Rattle.plan_text.specs.Plan.{PlanView}
-use Rattle.plan_text.specs.Reading.{plan_answer}
-use Rattle.ptu_cli.specs.Commands.{Request}
-use Rattle.ptu_cli.specs.Outcomes.{Outcome, status}
-use Rattle.ptu_cli.specs.Behaviours.{Work, Behaviour, NoCommand, Alone, OnFile, ByPlan, behaviour}
-use Rattle.ptu_cli.specs.Endings.{on_file, unless, by_plan, outcome, Span, HasCauses, NoneRose, IsGood, IsGoodFor, ForSomeFiles, Answers, Tells, TellsFault, EndsBy, RunsOut, LacksMemory}
-use Rattle.ptu_cli.proofs.ByteFaults.{IsOfBytes}
-use Rattle.ptu_cli.proofs.RunFaults.{plan_answer-bytes}
-use Rattle.ptu_cli.proofs.PlanTold.{outcome-planned}
-use Rattle.ptu_cli.proofs.Answers.{files-map, holds-told}
-use Rattle.ptu_cli.proofs.Sound.{WorkIsSound, IsSound}
-use Rattle.ptu_cli.proofs.Proved.{sound}
+use Rattle.tally_base.{specs.declared.slot.Slot.Slot, specs.declared.fault.Fault.Fault, specs.declared.fault.Fault.TheVariants.{Usage, OpenFault, ReadFault, WriteFault, OutOfMemory}, specs.Faults.{is_outside, status_of, HasReason}, specs.FaultCounts.Rose}
+use Rattle.bench_io.{specs.Inputs.{File, InputState}, proofs.Bytes.{Appends-nil, Keeps-from_none}}
+use Rattle.plan_text.{specs.Plan.PlanView, specs.Reading.plan_answer}
+use Rattle.ptu_cli.{specs.Commands.Request, specs.Outcomes.{Outcome, status}, specs.Behaviours.{Work, Behaviour, NoCommand, Alone, OnFile, ByPlan, behaviour}, specs.Endings.{on_file, unless, by_plan, outcome, Span, HasCauses, NoneRose, IsGood, IsGoodFor, ForSomeFiles, Answers, Tells, TellsFault, EndsBy, RunsOut, LacksMemory}, proofs.ByteFaults.IsOfBytes, proofs.RunFaults.plan_answer-bytes, proofs.PlanTold.outcome-planned, proofs.Answers.{files-map, holds-told}, proofs.Sound.{WorkIsSound, IsSound}, proofs.Proved.sound}
 
 -- ## Good files
 

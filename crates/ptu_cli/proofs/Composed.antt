@@ -1,18 +1,9 @@
 -- A header and the counts behind it are the counts of the file.
 use Rattle.std.proofs.Common.{◌≡◌, ◌⊎◌, ℕ, List, ◌++◌, true, Ok, Err, sym, ap, ◌∙◌, append_assoc, inl, inr}
-use Rattle.std.specs.declared.option.Option.{Option}
-use Rattle.std.specs.declared.result.Result.{Result}
-use Rattle.tally_base.specs.declared.fault.Fault.{Fault}
-use Rattle.tally_base.specs.declared.header.Header.{Header}
-use Rattle.tally_base.specs.Faults.{is_outside}
-use Rattle.ptu_definitions.specs.declared.records.KindCounts.{KindCounts}
-use Rattle.ptu_definitions.specs.Headers.{header_answer}
-use Rattle.ptu_definitions.specs.Counted.{counted}
-use Rattle.ptu_cli.specs.Outcomes.{file_counts, counts_behind, with_counts}
-use Rattle.ptu_definitions.specs.Shown.{Shows}
-use Rattle.ptu_cli.specs.Told.{Says}
-use Rattle.ptu_cli.specs.Pieces.{AnswersAs}
-use Rattle.ptu_cli.proofs.Told.{Says-shown, Says-map}
+use Rattle.std.{specs.declared.option.Option.Option, specs.declared.result.Result.Result}
+use Rattle.tally_base.{specs.declared.fault.Fault.Fault, specs.declared.header.Header.Header, specs.Faults.is_outside}
+use Rattle.ptu_definitions.{specs.declared.records.KindCounts.KindCounts, specs.Headers.header_answer, specs.Counted.counted, specs.Shown.Shows}
+use Rattle.ptu_cli.{specs.Outcomes.{file_counts, counts_behind, with_counts}, specs.Told.Says, specs.Pieces.AnswersAs, proofs.Told.{Says-shown, Says-map}}
 
 -- the bytes taken are a header with these bytes behind it, whatever comes next
 abbrev pub ShowsHeader : List ℕ → Header → List ℕ → Type 0

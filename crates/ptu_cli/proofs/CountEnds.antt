@@ -1,27 +1,10 @@
 -- How `count` ends.
-use Rattle.std.proofs.Common.{◌≡◌, true, inl, inr, ℕ, List, [], Ok, Err}
-use Rattle.std.specs.Prelude.{◌⊎◌, Result, OnOk, OnErr, IfErr}
-use Rattle.std.specs.declared.option.Option.{Option}
-use Rattle.std.specs.Io.KnownBytes.{Appends, Consumes}
-use Rattle.tally_base.specs.declared.slot.Slot.TheVariants.{Data}
-use Rattle.tally_base.specs.declared.fault.Fault.{Fault}
-use Rattle.tally_base.specs.declared.fault.Fault.TheVariants.{WriteFault}
-use Rattle.tally_base.specs.declared.header.Header.{Header}
-use Rattle.tally_base.specs.FaultCounts.{Rose}
-use Rattle.tally_base.specs.Faults.{is_outside}
-use Rattle.tally_base.proofs.Reasons.{HasReason-follows, HasReason-with}
-use Rattle.bench_io.specs.Inputs.{InputState}
-use Rattle.bench_io.specs.Sinks.{AppendsShort}
+use Rattle.std.proofs.Common.{◌≡◌, true, inl, inr, ℕ, List, [], Ok, Err, ◌⊎◌, Result, OnOk, OnErr, IfErr}
+use Rattle.std.{specs.declared.option.Option.Option, specs.Io.KnownBytes.{Appends, Consumes}}
+use Rattle.tally_base.{specs.declared.slot.Slot.TheVariants.Data, specs.declared.fault.Fault.Fault, specs.declared.fault.Fault.TheVariants.WriteFault, specs.declared.header.Header.Header, specs.FaultCounts.Rose, specs.Faults.is_outside, proofs.Reasons.{HasReason-follows, HasReason-with}}
+use Rattle.bench_io.{specs.Inputs.InputState, specs.Sinks.AppendsShort}
 use Rattle.ptu_definitions.specs.declared.records.KindCounts.{KindCounts}
-use Rattle.ptu_cli.specs.Told.{Says}
-use Rattle.ptu_cli.specs.CountText.{counts_text}
-use Rattle.ptu_cli.specs.Outcomes.{count_outcome, file_counts}
-use Rattle.ptu_cli.specs.Pieces.{ReadReason, TakesOpen}
-use Rattle.ptu_cli.specs.Behaviours.{AtEnd, counting}
-use Rattle.ptu_cli.specs.Endings.{Span}
-use Rattle.ptu_cli.specs.Works.{AnswersWork, WantsNone, WorkReason}
-use Rattle.ptu_cli.proofs.Told.{Says-map}
-use Rattle.ptu_cli.proofs.WorkTold.{refused-answers, written-answers, unwritten-reason, unread-reason}
+use Rattle.ptu_cli.{specs.Told.Says, specs.CountText.counts_text, specs.Outcomes.{count_outcome, file_counts}, specs.Pieces.{ReadReason, TakesOpen}, specs.Behaviours.{AtEnd, counting}, specs.Endings.Span, specs.Works.{AnswersWork, WantsNone, WorkReason}, proofs.Told.Says-map, proofs.WorkTold.{refused-answers, written-answers, unwritten-reason, unread-reason}}
 
 -- records that are refused end the work
 pub ends-uncounted : (taken : List ℕ) (rest left old : Option (List ℕ)) (fault : Fault) → Consumes rest left taken → (is_outside fault ≡ true) ⊎ Says file_counts taken left (Err fault) → AnswersWork counting rest left old old (Err fault)

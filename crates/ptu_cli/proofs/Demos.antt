@@ -1,50 +1,15 @@
 -- What `demo` leaves.
-use Rattle.std.proofs.Common.{◌≡◌, ◌≤◌, ◌++◌, ℕ, List, None, Some, Ok, Err, true, refl, sym, ap, ◌∙◌, subst, inl, inr, arith, rules}
-use Rattle.std.specs.Prelude.{◌≢◌, ◌⊎◌, Result, IsErrAnd, OnOk, OnErr, IfErr}
-use Rattle.std.specs.declared.option.Option.{Option}
-use Rattle.std.specs.Io.KnownBytes.{Appends, Consumes}
-use Rattle.tally_base.specs.declared.fault.Fault.{Fault}
-use Rattle.tally_base.specs.declared.fault.Fault.TheVariants.{OutOfMemory, WriteFault}
-use Rattle.tally_base.specs.declared.header.Mode.TheVariants.{T2}
-use Rattle.tally_base.specs.declared.header.RecordType.TheVariants.{HydraHarp2T2}
-use Rattle.tally_base.specs.FaultCounts.{Rose}
-use Rattle.tally_base.specs.Faults.{is_outside, fault_in}
-use Rattle.tally_base.specs.RecordTypes.{mode_of}
-use Rattle.tally_base.proofs.Reasons.{HasReason-follows}
-use Rattle.bench_io.specs.Inputs.{InputState}
-use Rattle.bench_io.specs.Sinks.{AppendsShort}
-use Rattle.bench_io.proofs.Bytes.{Appends-nil, Keeps-from_none}
-use Rattle.ptu_definitions.specs.Headers.{header_answer}
-use Rattle.ptu_definitions.specs.Words.{words_of}
-use Rattle.ptu_definitions.specs.Streams.{record_refusal, streamed, summary}
-use Rattle.plan_text.specs.declared.plan.Plan.{Plan}
-use Rattle.plan_text.specs.Plan.{PlanView}
-use Rattle.plan_text.specs.Reading.{plan_view, plan_answer}
-use Rattle.plan_text.specs.Fits.{fits}
-use Rattle.plan_text.proofs.OnLiterals.{plan_on_literals}
-use Rattle.tally_engine.specs.declared.engine.Results.{Results}
-use Rattle.tally_engine.specs.Plans.{policy_of}
+use Rattle.std.proofs.Common.{◌≡◌, ◌≤◌, ◌++◌, ℕ, List, None, Some, Ok, Err, true, refl, sym, ap, ◌∙◌, subst, inl, inr, arith, rules, ◌≢◌, ◌⊎◌, Result, IsErrAnd, OnOk, OnErr, IfErr}
+use Rattle.std.{specs.declared.option.Option.Option, specs.Io.KnownBytes.{Appends, Consumes}}
+use Rattle.tally_base.{specs.declared.fault.Fault.Fault, specs.declared.fault.Fault.TheVariants.{OutOfMemory, WriteFault}, specs.declared.header.Mode.TheVariants.T2, specs.declared.header.RecordType.TheVariants.HydraHarp2T2, specs.FaultCounts.Rose, specs.Faults.{is_outside, fault_in}, specs.RecordTypes.mode_of, proofs.Reasons.HasReason-follows}
+use Rattle.bench_io.{specs.Inputs.InputState, specs.Sinks.AppendsShort, proofs.Bytes.{Appends-nil, Keeps-from_none}}
+use Rattle.ptu_definitions.{specs.Headers.header_answer, specs.Words.words_of, specs.Streams.{record_refusal, streamed, summary}}
+use Rattle.plan_text.{specs.declared.plan.Plan.Plan, specs.Plan.PlanView, specs.Reading.{plan_view, plan_answer}, specs.Fits.fits, proofs.OnLiterals.plan_on_literals}
+use Rattle.tally_engine.{specs.declared.engine.Results.Results, specs.Plans.policy_of}
 use Rattle.table_out.specs.Report.{Table, report, EachHolds}
-use Rattle.ptu_made.specs.Generator.{made_words}
-use Rattle.short_file.specs.ShortFiles.{short_header, short_file, bytes_in}
-use Rattle.ptu_made.specs.MadeFile.{made_file}
-use Rattle.ptu_made.specs.Records.{made_header}
-use Rattle.ptu_made.specs.declared.made.Made.{Made}
-use Rattle.ptu_made.specs.Made.{made_state}
-use Rattle.ptu_made.proofs.Meanings.{all-made, words-bytes}
-use Rattle.short_file.proofs.ShortHeaders.{short-answer}
-use Rattle.ptu_made.proofs.MadeEvents.{few-words}
-use Rattle.ptu_made.proofs.Unrefused.{unrefused}
-use Rattle.ptu_made.specs.Generator.{photon_limit}
-use Rattle.ptu_cli.specs.Commands.{Run, Demo}
-use Rattle.ptu_cli.specs.Demo.{demo_text, demo_plan, demo_reading, demo_report}
-use Rattle.ptu_cli.specs.Reports.{file_report}
-use Rattle.ptu_cli.specs.Told.{Says}
-use Rattle.ptu_cli.specs.Outcomes.{written}
-use Rattle.ptu_cli.specs.Behaviours.{behaviour}
-use Rattle.ptu_cli.specs.RunPieces.{IsReport, AnswersReport, RunReason}
-use Rattle.ptu_cli.specs.Endings.{EndsWith, HasCauses, outcome}
-use Rattle.ptu_cli.proofs.Told.{file-parts}
+use Rattle.ptu_made.{specs.Generator.{made_words, photon_limit}, specs.MadeFile.made_file, specs.Records.made_header, specs.declared.made.Made.Made, specs.Made.made_state, proofs.Meanings.{all-made, words-bytes}, proofs.MadeEvents.few-words, proofs.Unrefused.unrefused}
+use Rattle.short_file.{specs.ShortFiles.{short_header, short_file, bytes_in}, proofs.ShortHeaders.short-answer}
+use Rattle.ptu_cli.{specs.Commands.{Run, Demo}, specs.Demo.{demo_text, demo_plan, demo_reading, demo_report}, specs.Reports.file_report, specs.Told.Says, specs.Outcomes.written, specs.Behaviours.behaviour, specs.RunPieces.{IsReport, AnswersReport, RunReason}, specs.Endings.{EndsWith, HasCauses, outcome}, proofs.Told.file-parts}
 
 -- ## The plan
 

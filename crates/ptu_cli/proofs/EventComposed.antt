@@ -1,32 +1,11 @@
 -- A header and the lines of the events behind it.
 use Rattle.std.proofs.Common.{◌≡◌, ◌==◌, ℕ, if◌then◌else◌, Bool, List, [], ◌++◌, Err, Some, true, false, ◌⊎◌, refl, sym, ap, ◌∙◌, append_assoc, inl, inr, ⊎_elim}
-use Rattle.std.specs.declared.option.Option.{Option}
-use Rattle.std.specs.declared.result.Result.{Result}
-use Rattle.std.specs.Io.KnownBytes.{Consumes}
-use Rattle.tally_base.specs.declared.fault.Fault.{Fault}
-use Rattle.tally_base.specs.declared.fault.Fault.TheVariants.{WriteFault}
-use Rattle.tally_base.specs.declared.header.Header.{Header}
-use Rattle.tally_base.specs.declared.header.Mode.{Mode}
+use Rattle.std.{specs.declared.option.Option.Option, specs.declared.result.Result.Result, specs.Io.KnownBytes.Consumes}
+use Rattle.tally_base.{specs.declared.fault.Fault.Fault, specs.declared.fault.Fault.TheVariants.WriteFault, specs.declared.header.Header.Header, specs.declared.header.Mode.Mode, specs.Faults.{is_outside, fault_in}}
 use Rattle.bench_io.proofs.Bytes.{Appends-nil, Appends-trans, Consumes-trans}
-use Rattle.tally_base.specs.Faults.{is_outside}
-use Rattle.ptu_definitions.specs.Headers.{header_answer}
-use Rattle.ptu_cli.specs.Told.{Says}
-use Rattle.ptu_definitions.specs.Words.{words_of}
-use Rattle.ptu_definitions.specs.Times.{events}
-use Rattle.ptu_definitions.specs.Kept.{marked}
-use Rattle.ptu_definitions.specs.Prefixes.{each}
-use Rattle.ptu_definitions.specs.Settled.{ordered, settles, delivered}
-use Rattle.ptu_definitions.specs.Streams.{Reading, record_refusal, given}
-use Rattle.tally_base.specs.Faults.{fault_in}
-use Rattle.ptu_cli.specs.EventPieces.{Wrote, WroteShort, Writes}
+use Rattle.ptu_definitions.{specs.Headers.header_answer, specs.Words.words_of, specs.Times.events, specs.Kept.marked, specs.Prefixes.each, specs.Settled.{ordered, settles, delivered}, specs.Streams.{Reading, record_refusal, given}}
+use Rattle.ptu_cli.{specs.Told.Says, specs.EventPieces.{Wrote, WroteShort, Writes}, specs.EventRuns.{SaysLines, AnswersLines}, specs.Behaviours.listing_all, specs.Works.AnswersWork, specs.Outcomes.{listing, listed, events_outcome, events_behind}, proofs.Told.{Says-shown, Says-map}, proofs.Composed.ShowsHeader, proofs.EventEnds.says-refused}
 use Rattle.table_out.specs.EventText.{events_text, lines_of}
-use Rattle.ptu_cli.specs.EventRuns.{SaysLines, AnswersLines}
-use Rattle.ptu_cli.specs.Behaviours.{listing_all}
-use Rattle.ptu_cli.specs.Works.{AnswersWork}
-use Rattle.ptu_cli.specs.Outcomes.{listing, listed, events_outcome, events_behind}
-use Rattle.ptu_cli.proofs.Told.{Says-shown, Says-map}
-use Rattle.ptu_cli.proofs.Composed.{ShowsHeader}
-use Rattle.ptu_cli.proofs.EventEnds.{says-refused}
 
 none-delivered : (zero : Bool) (k : ℕ) (mode : Mode) → (if zero then marked mode [] else each (settles k) (ordered mode [])) ≡ []
 unfolding marked

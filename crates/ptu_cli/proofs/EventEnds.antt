@@ -1,36 +1,14 @@
 -- Lines of bytes that grow.
 use Rattle.std.proofs.Common.{◌≡◌, ◌≢◌, ◌<◌, ℕ, List, [], ◌++◌, length, map, None, Some, Ok, Err, refl, sym, arith, ap, ◌∙◌, inl, inr, ⊎_elim, append_assoc, append-nil, length-append}
-use Rattle.std.specs.declared.option.Option.{Option}
-use Rattle.std.specs.declared.result.Result.{Result}
-use Rattle.std.specs.Io.KnownBytes.{Consumes, IsAtEnd}
-use Rattle.tally_base.specs.declared.fault.Fault.{Fault}
-use Rattle.tally_base.specs.declared.fault.Fault.TheVariants.{WriteFault}
-use Rattle.tally_base.specs.Faults.{HasReason}
-use Rattle.tally_base.specs.declared.slot.Slot.{Slot}
-use Rattle.tally_base.proofs.Reasons.{HasReason-inside}
-use Rattle.ptu_definitions.specs.declared.records.Summary.{Summary}
-use Rattle.ptu_definitions.proofs.Firsts.{record_refusal-inside}
+use Rattle.std.{specs.declared.option.Option.Option, specs.declared.result.Result.Result, specs.Io.KnownBytes.{Consumes, IsAtEnd}}
+use Rattle.tally_base.{specs.declared.fault.Fault.Fault, specs.declared.fault.Fault.TheVariants.WriteFault, specs.Faults.{HasReason, fault_in}, specs.declared.slot.Slot.Slot, proofs.Reasons.HasReason-inside}
+use Rattle.ptu_definitions.{specs.declared.records.Summary.Summary, proofs.Firsts.record_refusal-inside, specs.Words.words_of, specs.Kept.Marked, specs.Times.events, specs.Streams.{Reading, last_in, record_refusal, streamed}, proofs.DeliveredLaws.delivered_last-0, proofs.WordsLemmas.words_of-append, proofs.StreamLemmas.given-stays}
 use Rattle.abs_time.specs.declared.clock.Clock.{Clock}
-use Rattle.tally_base.specs.Faults.{fault_in}
 use Rattle.bench_io.proofs.Bytes.{Appends-nil, Appends-trans, AppendsShort-behind}
-use Rattle.ptu_definitions.specs.Words.{words_of}
-use Rattle.ptu_definitions.specs.Kept.{Marked}
-use Rattle.ptu_definitions.specs.Times.{events}
-use Rattle.ptu_definitions.specs.Streams.{Reading, last_in, record_refusal, streamed}
-use Rattle.ptu_definitions.proofs.DeliveredLaws.{delivered_last-0}
-use Rattle.ptu_definitions.proofs.WordsLemmas.{words_of-append}
-use Rattle.ptu_definitions.proofs.StreamLemmas.{given-stays}
 use Rattle.settle.specs.declared.settle.Settle.{Settle}
-use Rattle.record_stream.specs.declared.taker.EventTaker.{Ghosts}
-use Rattle.record_stream.specs.Ending.{Ended}
-use Rattle.record_stream.specs.Standing.{Stands}
-use Rattle.tally_base.specs.Faults.{fault_in}
-use Rattle.record_stream.proofs.Lasts.{unrefused, streamed-shown}
-use Rattle.table_out.specs.EventText.{events_text}
-use Rattle.ptu_cli.specs.EventPieces.{Wrote, WroteShort, Writes}
-use Rattle.table_out.specs.EventText.{lines_of}
-use Rattle.ptu_cli.specs.EventRuns.{SaysLines, AnswersLines, CutsLines}
-use Rattle.ptu_cli.proofs.Told.{some_left, none_left}
+use Rattle.record_stream.{specs.declared.taker.EventTaker.Ghosts, specs.Ending.Ended, specs.Standing.Stands, proofs.Lasts.{unrefused, streamed-shown}}
+use Rattle.table_out.specs.EventText.{events_text, lines_of}
+use Rattle.ptu_cli.{specs.EventPieces.{Wrote, WroteShort, Writes}, specs.EventRuns.{SaysLines, AnswersLines, CutsLines}, proofs.Told.{some_left, none_left}}
 
 pub Wrote-none : (how : Reading) (a : Option (List ℕ)) (words : List ℕ) → Wrote how a a words words
 Wrote-none how a words = record { more = []; adds = sym (append-nil (lines_of how words)); text = Appends-nil a }

@@ -1,30 +1,11 @@
 -- What is written where listing the events of a file fails.
-use Rattle.std.proofs.Common.{◌≡◌, ℕ, List, [], ◌++◌, None, length, refl, sym, ap, ◌∙◌, subst, append_assoc, inl, inr}
-use Rattle.std.specs.Prelude.{nat_eq}
-use Rattle.std.specs.declared.option.Option.{Option}
-use Rattle.std.specs.Io.KnownBytes.{Appends, Consumes}
-use Rattle.std.proofs.lemmas.Bool.{cases_Bool}
-use Rattle.tally_base.specs.declared.header.Header.{Header}
-use Rattle.bench_io.specs.Sinks.{AppendsShort}
-use Rattle.bench_io.proofs.Bytes.{Appends-nil, Appends-same, Appends-trans, Consumes-trans, AppendsShort-same, AppendsShort-more, AppendsShort-behind}
-use Rattle.ptu_definitions.specs.Words.{words_of, rest_of}
-use Rattle.ptu_definitions.specs.Streams.{Reading, record_refusal, given, streamed}
-use Rattle.ptu_definitions.proofs.WordsLemmas.{words_of-append}
-use Rattle.ptu_definitions.proofs.StreamLemmas.{given-front}
-use Rattle.tally_base.specs.Faults.{fault_in}
-use Rattle.table_out.specs.EventText.{events_text}
-use Rattle.ptu_cli.specs.Outcomes.{Outcome, IsCut}
-use Rattle.ptu_cli.specs.EventPieces.{Wrote, WroteShort}
-use Rattle.table_out.specs.EventText.{lines_of}
-use Rattle.ptu_cli.specs.EventRuns.{ReadsLines, CutsLines}
-use Rattle.ptu_cli.specs.Behaviours.{AsItReads, events_so_far, listing_all}
-use Rattle.ptu_cli.specs.Works.{CutsWork, ReadsWork}
-use Rattle.ptu_cli.specs.Outcomes.{MayChange}
-use Rattle.ptu_cli.specs.Outcomes.{listing, listed, events_outcome, events_behind}
-use Rattle.ptu_cli.proofs.Told.{some_left}
-use Rattle.ptu_cli.proofs.Composed.{ShowsHeader}
-use Rattle.ptu_cli.proofs.Listing.{events_text-append}
-use Rattle.ptu_cli.proofs.EventComposed.{lines_of-none}
+use Rattle.std.proofs.Common.{◌≡◌, ℕ, List, [], ◌++◌, None, length, refl, sym, ap, ◌∙◌, subst, append_assoc, inl, inr, nat_eq}
+use Rattle.std.{specs.declared.option.Option.Option, specs.Io.KnownBytes.{Appends, Consumes}, proofs.lemmas.Bool.cases_Bool}
+use Rattle.tally_base.{specs.declared.header.Header.Header, specs.Faults.fault_in}
+use Rattle.bench_io.{specs.Sinks.AppendsShort, proofs.Bytes.{Appends-nil, Appends-same, Appends-trans, Consumes-trans, AppendsShort-same, AppendsShort-more, AppendsShort-behind}}
+use Rattle.ptu_definitions.{specs.Words.{words_of, rest_of}, specs.Streams.{Reading, record_refusal, given, streamed}, proofs.WordsLemmas.words_of-append, proofs.StreamLemmas.given-front}
+use Rattle.table_out.specs.EventText.{events_text, lines_of}
+use Rattle.ptu_cli.{specs.Outcomes.{Outcome, IsCut, MayChange, listing, listed, events_outcome, events_behind}, specs.EventPieces.{Wrote, WroteShort}, specs.EventRuns.{ReadsLines, CutsLines}, specs.Behaviours.{AsItReads, events_so_far, listing_all}, specs.Works.{CutsWork, ReadsWork}, proofs.Told.some_left, proofs.Composed.ShowsHeader, proofs.Listing.events_text-append, proofs.EventComposed.lines_of-none}
 
 pub streamed-open : (how : Reading) (bytes : List ℕ) → record_refusal how (words_of bytes) ≡ None → MayChange (fault_in (streamed how bytes))
 unfolding streamed

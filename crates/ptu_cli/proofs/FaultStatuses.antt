@@ -1,33 +1,11 @@
 -- What the faults of refusals are, and their statuses.
-use Rattle.std.proofs.Common.{◌≡◌, ℕ, List, [], ◌∷◌, length, Bool, true, false, None, Some, Ok, Err, refl, sym, ap, ◌∙◌, subst, inl, inr, ◌≢◌, ◌+◌, ◌≤◌, arith}
-use Rattle.std.specs.Prelude.{◌==◌, Result, nat_le, map, if◌then◌else◌, ◌&&◌}
+use Rattle.std.proofs.Common.{◌≡◌, ℕ, List, [], ◌∷◌, length, Bool, true, false, None, Some, Ok, Err, refl, sym, ap, ◌∙◌, subst, inl, inr, ◌≢◌, ◌+◌, ◌≤◌, arith, ◌==◌, Result, nat_le, map, if◌then◌else◌, ◌&&◌}
 use Rattle.std.specs.declared.option.Option.{Option}
-use Rattle.tally_base.specs.declared.fault.Fault.{Fault}
-use Rattle.tally_base.specs.declared.fault.Fault.TheVariants.{RecordLimit, TruncatedRecord, OutOfMemory, PlanTooLong, PlanSyntax, PlanRule, HeaderLimit, TruncatedHeader, ReservedRecord, TimeLimit, BackwardTime}
-use Rattle.tally_base.specs.declared.header.Header.{Header}
-use Rattle.tally_base.specs.declared.event.Event.{Event}
-use Rattle.tally_base.specs.declared.header.Mode.{Mode}
-use Rattle.tally_base.specs.declared.header.RecordType.{RecordType}
-use Rattle.tally_base.specs.Events.{stops_late, stops_reserved}
+use Rattle.tally_base.{specs.declared.fault.Fault.Fault, specs.declared.fault.Fault.TheVariants.{RecordLimit, TruncatedRecord, OutOfMemory, PlanTooLong, PlanSyntax, PlanRule, HeaderLimit, TruncatedHeader, ReservedRecord, TimeLimit, BackwardTime}, specs.declared.header.Header.Header, specs.declared.event.Event.Event, specs.declared.header.Mode.Mode, specs.declared.header.RecordType.RecordType, specs.Events.{stops_late, stops_reserved}}
 use Rattle.bench_io.specs.Inputs.{File}
-use Rattle.ptu_definitions.specs.Headers.{head_of, answer_as, with_rest, header_limit}
-use Rattle.ptu_definitions.specs.Words.{rest_of}
-use Rattle.ptu_definitions.specs.Times.{events, event_after, passes}
-use Rattle.ptu_definitions.specs.Streams.{Reading, late_refusal, refusal}
-use Rattle.plan_text.specs.Plan.{PlanView}
-use Rattle.ptu_definitions.specs.declared.found.Found.{Found}
-use Rattle.ptu_definitions.specs.Endings.{Ending, OtherFile, BadType, BadLength, Whole, Open}
-use Rattle.ptu_definitions.specs.Fields.{found_in, header_of, version_in, with_type, with_value}
-use Rattle.ptu_definitions.specs.Kinds.{is_reserved}
-use Rattle.ptu_definitions.specs.Kept.{greatest}
-use Rattle.ptu_definitions.specs.Settled.{is_late_by}
-use Rattle.plan_text.specs.Reading.{IsCalledFor}
-use Rattle.plan_text.specs.Fits.{IsMisfit}
-use Rattle.plan_text.proofs.Misfits.{names_part}
-use Rattle.ptu_cli.specs.Causes.{Unheaded, StatusIn}
-use Rattle.ptu_cli.specs.Outcomes.{Outcome, refused, written, listing}
-use Rattle.ptu_cli.specs.Cases.{WholeCase}
-use Rattle.ptu_cli.specs.CommandCases.{RefusedIn}
+use Rattle.ptu_definitions.{specs.Headers.{head_of, answer_as, with_rest, header_limit}, specs.Words.rest_of, specs.Times.{events, event_after, passes}, specs.Streams.{Reading, late_refusal, refusal}, specs.declared.found.Found.Found, specs.Endings.{Ending, OtherFile, BadType, BadLength, Whole, Open}, specs.Fields.{found_in, header_of, version_in, with_type, with_value}, specs.Kinds.is_reserved, specs.Kept.greatest, specs.Settled.is_late_by}
+use Rattle.plan_text.{specs.Plan.PlanView, specs.Reading.IsCalledFor, specs.Fits.IsMisfit, proofs.Misfits.names_part}
+use Rattle.ptu_cli.{specs.Causes.{Unheaded, StatusIn}, specs.Outcomes.{Outcome, refused, written, listing}, specs.Cases.WholeCase, specs.CommandCases.RefusedIn}
 
 -- ## The fault of an outcome
 

@@ -1,15 +1,9 @@
 -- No more is taken than one read behind bytes that call for no end by themselves.
-use Rattle.std.proofs.Common.{◌≡◌, ◌≤◌, ℕ, List, [], ◌++◌, Bool, true, false, Ok, Err, length, take, sym, subst, arith, append-nil, append_assoc}
-use Rattle.std.specs.Prelude.{Result, IfErr}
-use Rattle.std.specs.declared.option.Option.{Option}
-use Rattle.std.specs.Io.KnownBytes.{Consumes}
-use Rattle.std.proofs.lemmas.List.{length-take}
-use Rattle.tally_base.specs.declared.fault.Fault.{Fault}
-use Rattle.tally_base.specs.Faults.{is_outside}
+use Rattle.std.proofs.Common.{◌≡◌, ◌≤◌, ℕ, List, [], ◌++◌, Bool, true, false, Ok, Err, length, take, sym, subst, arith, append-nil, append_assoc, Result, IfErr}
+use Rattle.std.{specs.declared.option.Option.Option, specs.Io.KnownBytes.Consumes, proofs.lemmas.List.length-take}
+use Rattle.tally_base.{specs.declared.fault.Fault.Fault, specs.Faults.is_outside}
 use Rattle.bench_io.proofs.Bytes.{Consumes-trans}
-use Rattle.ptu_cli.specs.Behaviours.{piece_limit}
-use Rattle.ptu_cli.specs.Works.{TakesFew}
-use Rattle.ptu_cli.specs.Pieces.{StopsSoon}
+use Rattle.ptu_cli.{specs.Behaviours.piece_limit, specs.Works.TakesFew, specs.Pieces.StopsSoon}
 
 pub few-none : (goes_on : List ℕ → Type 0) (front : List ℕ) (before after : Option (List ℕ)) → Consumes before after front → goes_on front → TakesFew goes_on before after
 few-none goes_on front before after took goes = record {

@@ -1,13 +1,7 @@
 -- The first trace of a plan is the first of its traces.
-use Rattle.std.proofs.Common.{◌≡◌, ◌∙◌, ◌+◌, ◌≤◌, ◌++◌, ℕ, List, [], ◌∷◌, None, map, refl, sym, arith}
-use Rattle.std.specs.Prelude.{drop, flat_map, option_map, slice_get}
-use Rattle.tally_base.specs.declared.settings.TraceSet.{TraceSet}
-use Rattle.tally_base.specs.Settings.{PartSettings, trace_view}
-use Rattle.tally_base.specs.Settings.PartSettings.{TraceSettings}
-use Rattle.plan_text.specs.declared.plan.Plan.{Plan}
-use Rattle.plan_text.specs.Reading.{plan_view}
-use Rattle.plan_text.specs.Kinds.{part_lists}
-use Rattle.plan_text.proofs.ByKind.{kind_at, AreAt, AreByKinds, by_kinds}
+use Rattle.std.proofs.Common.{◌≡◌, ◌∙◌, ◌+◌, ◌≤◌, ◌++◌, ℕ, List, [], ◌∷◌, None, map, refl, sym, arith, drop, flat_map, option_map, slice_get}
+use Rattle.tally_base.{specs.declared.settings.TraceSet.TraceSet, specs.Settings.{PartSettings, trace_view}, specs.Settings.PartSettings.TraceSettings}
+use Rattle.plan_text.{specs.declared.plan.Plan.Plan, specs.Reading.plan_view, specs.Kinds.part_lists, proofs.ByKind.{kind_at, AreAt, AreByKinds, by_kinds}}
 use Rattle.ptu_cli.specs.TraceOutcomes.{first_trace, trace_of}
 
 -- a table of another kind is passed over

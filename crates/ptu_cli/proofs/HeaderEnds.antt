@@ -1,18 +1,11 @@
 -- How printing the header of a file ends.
 use Rattle.std.proofs.Common.{◌≡◌, ℕ, List, [], ◌++◌, None, Some, refl, sym, ap, Ok, Err}
-use Rattle.std.specs.declared.option.Option.{Option}
-use Rattle.std.specs.Io.KnownBytes.{Appends}
-use Rattle.tally_base.specs.declared.fault.Fault.{Fault}
-use Rattle.tally_base.specs.declared.header.Header.{Header}
-use Rattle.bench_io.specs.Sinks.{AppendsShort}
-use Rattle.bench_io.proofs.Bytes.{Appends-trans, Appends-same, AppendsShort-behind, AppendsShort-more, AppendsShort-same}
-use Rattle.ptu_definitions.specs.Headers.{header_answer}
-use Rattle.ptu_definitions.specs.Shown.{Shows}
-use Rattle.table_out.specs.HeaderText.{header_text}
-use Rattle.table_out.proofs.Final.{header_text-grows, header_text-refused, header_text-done}
-use Rattle.ptu_cli.specs.Outcomes.{header_outcome}
-use Rattle.tally_base.specs.Faults.{fault_in}
-use Rattle.ptu_cli.specs.Printing.{AppendsHeader, CutsHeader}
+use Rattle.std.{specs.declared.option.Option.Option, specs.Io.KnownBytes.Appends}
+use Rattle.tally_base.{specs.declared.fault.Fault.Fault, specs.declared.header.Header.Header, specs.Faults.fault_in}
+use Rattle.bench_io.{specs.Sinks.AppendsShort, proofs.Bytes.{Appends-trans, Appends-same, AppendsShort-behind, AppendsShort-more, AppendsShort-same}}
+use Rattle.ptu_definitions.{specs.Headers.header_answer, specs.Shown.Shows}
+use Rattle.table_out.{specs.HeaderText.header_text, proofs.Final.{header_text-grows, header_text-refused, header_text-done}}
+use Rattle.ptu_cli.{specs.Outcomes.header_outcome, specs.Printing.{AppendsHeader, CutsHeader}}
 
 outcome-at : (file text : List ℕ) (fault : Option Fault) → header_text file ≡ text → fault_in (header_answer file) ≡ fault → header_outcome file ≡ record { text = text; fault = fault }
 outcome-at file text fault t f = rw (t, f) refl

@@ -1,17 +1,14 @@
 -- The lines of a block of events more.
 use Rattle.std.proofs.Common.{◌≡◌, ◌+◌, ℕ, List, [], ◌++◌, refl, sym, ap, subst, ◌∙◌, append_assoc, arith, length, length-append}
 use Rattle.std.specs.declared.option.Option.{Option}
-use Rattle.tally_base.specs.declared.event.Event.{Event}
-use Rattle.tally_base.specs.declared.header.Mode.{Mode}
-use Rattle.bench_io.specs.Sinks.{AppendsShort, PassesOn}
-use Rattle.bench_io.proofs.Bytes.{PassesOn-trans, AppendsShort-passed}
+use Rattle.tally_base.{specs.declared.event.Event.Event, specs.declared.header.Mode.Mode}
+use Rattle.bench_io.{specs.Sinks.{AppendsShort, PassesOn}, proofs.Bytes.{PassesOn-trans, AppendsShort-passed}}
 use Rattle.ptu_definitions.specs.Kept.{Marked}
 use Rattle.event_block.specs.Order.{floor_after, InOrder}
 use Rattle.record_stream.specs.Blocks.{orders_markers, on_time}
 use Rattle.tally_engine.proofs.Behind.{length-on_time, floor_of-block}
 use Rattle.table_out.specs.EventText.{events_text}
-use Rattle.ptu_cli.specs.EventLines.{Listed, ListedShort}
-use Rattle.ptu_cli.proofs.Listing.{events_text-append}
+use Rattle.ptu_cli.{specs.EventLines.{Listed, ListedShort}, proofs.Listing.events_text-append}
 
 lines_more : (held : List ℕ) (l more : Marked) → (held ++ events_text l) ++ events_text more ≡ held ++ events_text (l ++ more)
 lines_more held l more = append_assoc held (events_text l) (events_text more) ∙ ap (λ t. held ++ t) (sym (events_text-append l more))

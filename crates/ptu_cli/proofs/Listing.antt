@@ -1,29 +1,12 @@
 -- One line more, and the lines of a piece.
-use Rattle.std.proofs.Common.{◌≡◌, ◌+◌, ◌≤◌, ℕ, List, [], ◌∷◌, ◌++◌, Bool, Ok, Err, Some, refl, sym, ap, subst, ◌∙◌, inl, inr, ⊎_elim, append_assoc, append-nil, arith, length, length-append}
-use Rattle.std.specs.Prelude.{◌&&◌, not, IsTrue, OnOk, if◌then◌else◌}
-use Rattle.std.specs.declared.option.Option.{Option}
-use Rattle.std.specs.declared.result.Result.{Result}
-use Rattle.std.specs.Io.KnownBytes.{Appends}
-use Rattle.tally_base.specs.declared.event.Event.{Event}
-use Rattle.tally_base.specs.declared.header.Mode.{Mode}
-use Rattle.tally_base.specs.declared.fault.Fault.{Fault}
-use Rattle.tally_base.specs.declared.fault.Fault.TheVariants.{WriteFault}
-use Rattle.tally_base.specs.Events.{is_ordered}
-use Rattle.tally_base.specs.FaultCounts.{Rose}
-use Rattle.bench_io.specs.Sinks.{AppendsShort, PassesOn}
-use Rattle.bench_io.proofs.Bytes.{PassesOn-trans, Appends-flushed, AppendsShort-passed, AppendsShort-flushed, AppendsShort-more, AppendsShort-kept, Keeps-from_none}
-use Rattle.ptu_definitions.specs.Kept.{Marked}
-use Rattle.ptu_definitions.specs.Streams.{Reading, record_refusal, given}
-use Rattle.table_out.specs.EventText.{event_text, events_text}
-use Rattle.record_stream.specs.declared.taker.EventTaker.{Ghosts}
-use Rattle.record_stream.specs.Feeding.{GaveOn, BrokeOn, Fed}
-use Rattle.record_stream.proofs.Floors.{moved_floor-push}
-use Rattle.ptu_cli.specs.EventLines.{Listed, ListedShort}
-use Rattle.record_stream.specs.declared.stream.RecordStream.{RecordStream}
-use Rattle.record_stream.specs.Standing.{refused_with, bytes_in}
-use Rattle.tally_base.specs.Faults.{fault_in}
-use Rattle.ptu_cli.specs.EventPieces.{StaysOpen, Writes}
-use Rattle.table_out.specs.EventText.{lines_of}
+use Rattle.std.proofs.Common.{◌≡◌, ◌+◌, ◌≤◌, ℕ, List, [], ◌∷◌, ◌++◌, Bool, Ok, Err, Some, refl, sym, ap, subst, ◌∙◌, inl, inr, ⊎_elim, append_assoc, append-nil, arith, length, length-append, ◌&&◌, not, IsTrue, OnOk, if◌then◌else◌}
+use Rattle.std.{specs.declared.option.Option.Option, specs.declared.result.Result.Result, specs.Io.KnownBytes.Appends}
+use Rattle.tally_base.{specs.declared.event.Event.Event, specs.declared.header.Mode.Mode, specs.declared.fault.Fault.Fault, specs.declared.fault.Fault.TheVariants.WriteFault, specs.Events.is_ordered, specs.FaultCounts.Rose, specs.Faults.fault_in}
+use Rattle.bench_io.{specs.Sinks.{AppendsShort, PassesOn}, proofs.Bytes.{PassesOn-trans, Appends-flushed, AppendsShort-passed, AppendsShort-flushed, AppendsShort-more, AppendsShort-kept, Keeps-from_none}}
+use Rattle.ptu_definitions.{specs.Kept.Marked, specs.Streams.{Reading, record_refusal, given}}
+use Rattle.table_out.specs.EventText.{event_text, events_text, lines_of}
+use Rattle.record_stream.{specs.declared.taker.EventTaker.Ghosts, specs.Feeding.{GaveOn, BrokeOn, Fed}, proofs.Floors.moved_floor-push, specs.declared.stream.RecordStream.RecordStream, specs.Standing.{refused_with, bytes_in}}
+use Rattle.ptu_cli.{specs.EventLines.{Listed, ListedShort}, specs.EventPieces.{StaysOpen, Writes}}
 
 pub events_text-append : (l m : Marked) → events_text (l ++ m) ≡ events_text l ++ events_text m
 events_text-append [] m = refl

@@ -1,19 +1,10 @@
 -- Counts that stay over several calls, and move by one that failed.
-use Rattle.std.proofs.Common.{ℕ, ◌≡◌, List, [], Bool, true, false, None, Some, Ok, Err, refl, sym, ap, subst, ⊎_elim}
-use Rattle.std.specs.Prelude.{Result, IfErr}
+use Rattle.std.proofs.Common.{ℕ, ◌≡◌, List, [], Bool, true, false, None, Some, Ok, Err, refl, sym, ap, subst, ⊎_elim, Result, IfErr}
 use Rattle.std.specs.declared.option.Option.{Option}
-use Rattle.tally_base.specs.declared.slot.Slot.{Slot}
-use Rattle.tally_base.specs.declared.slot.Slot.TheVariants.{Plan, Data}
-use Rattle.tally_base.specs.declared.fault.Fault.{Fault}
-use Rattle.tally_base.specs.declared.fault.Fault.TheVariants.{OpenFault, ReadFault, WriteFault}
-use Rattle.tally_base.specs.FaultCounts.{Rose}
-use Rattle.bench_io.specs.TriesOnce.{TriesOnce}
-use Rattle.tally_base.specs.Faults.{fault_in, is_outside}
-use Rattle.bench_io.specs.Inputs.{InputState, KeepsOther, OpensNone}
-use Rattle.ptu_definitions.specs.Kept.{Marked}
-use Rattle.ptu_definitions.specs.Streams.{Reading, record_refusal}
-use Rattle.record_stream.specs.declared.taker.EventTaker.{Ghosts}
-use Rattle.record_stream.specs.Feeding.{GaveOn, BrokeOn, Fed}
+use Rattle.tally_base.{specs.declared.slot.Slot.Slot, specs.declared.slot.Slot.TheVariants.{Plan, Data}, specs.declared.fault.Fault.Fault, specs.declared.fault.Fault.TheVariants.{OpenFault, ReadFault, WriteFault}, specs.FaultCounts.Rose, specs.Faults.{fault_in, is_outside}}
+use Rattle.bench_io.{specs.TriesOnce.TriesOnce, specs.Inputs.{InputState, KeepsOther, OpensNone}}
+use Rattle.ptu_definitions.{specs.Kept.Marked, specs.Streams.{Reading, record_refusal}}
+use Rattle.record_stream.{specs.declared.taker.EventTaker.Ghosts, specs.Feeding.{GaveOn, BrokeOn, Fed}}
 use Rattle.ptu_cli.specs.Once.{tells_opening, tells_reading, tells_writing, StaysUnless, InputsOnce, OutOnce}
 
 pub stays-same : (tells : Bool) (before now : ℕ) → now ≡ before → StaysUnless tells before now

@@ -1,33 +1,13 @@
 -- What `pick` ends with is what the table of cases calls for.
-use Rattle.std.proofs.Common.{◌≡◌, ℕ, List, [], ◌∷◌, ◌++◌, length, Bool, true, false, None, Some, Err, refl, sym, ap, ◌∙◌, subst, inl, inr, ◌≢◌, ◌≤◌, append-nil, arith, append_assoc}
-use Rattle.std.specs.Prelude.{◌⊎◌, ◌==◌, nat_le, if◌then◌else◌, ◌&&◌}
-use Rattle.std.specs.declared.option.Option.{Option}
-use Rattle.std.proofs.lemmas.Bool.Decides.{nat_tests}
-use Rattle.tally_base.specs.declared.fault.Fault.{Fault}
-use Rattle.tally_base.specs.declared.fault.Fault.TheVariants.{TruncatedRecord, NoGroup, PickTime}
-use Rattle.tally_base.specs.declared.header.Header.{Header}
-use Rattle.tally_base.specs.Faults.{fault_in}
-use Rattle.tally_base.specs.declared.event.Event.{Event}
-use Rattle.ptu_definitions.specs.Words.{words_of, rest_of}
-use Rattle.ptu_definitions.specs.Firsts.{IsFirst}
-use Rattle.ptu_definitions.specs.Streams.{Reading, record_refusal, refusal}
-use Rattle.ptu_definitions.proofs.Firsts.{first-refusal, refused-first, none-refused}
+use Rattle.std.proofs.Common.{◌≡◌, ℕ, List, [], ◌∷◌, ◌++◌, length, Bool, true, false, None, Some, Err, refl, sym, ap, ◌∙◌, subst, inl, inr, ◌≢◌, ◌≤◌, append-nil, arith, append_assoc, ◌⊎◌, ◌==◌, nat_le, if◌then◌else◌, ◌&&◌}
+use Rattle.std.{specs.declared.option.Option.Option, proofs.lemmas.Bool.Decides.nat_tests}
+use Rattle.tally_base.{specs.declared.fault.Fault.Fault, specs.declared.fault.Fault.TheVariants.{TruncatedRecord, NoGroup, PickTime}, specs.declared.header.Header.Header, specs.Faults.fault_in, specs.declared.event.Event.Event}
+use Rattle.ptu_definitions.{specs.Words.{words_of, rest_of}, specs.Firsts.IsFirst, specs.Streams.{Reading, record_refusal, refusal}, proofs.Firsts.{first-refusal, refused-first, none-refused}}
 use Rattle.record_stream.proofs.Lasts.{streamed-refused}
 use Rattle.plan_text.specs.Plan.{PlanView}
 use Rattle.tally_engine.specs.Plans.{reading_by}
-use Rattle.photon_pick.specs.Late.{too_late}
-use Rattle.photon_pick.specs.Ends.{photons_by}
-use Rattle.photon_pick.specs.Texts.{photons_in}
-use Rattle.ptu_cli.specs.PickOutcomes.{no_group, chosen_by, records_picked, picked_if_fits, picked_behind}
-use Rattle.ptu_cli.specs.Causes.{StatusIn}
-use Rattle.ptu_cli.specs.Outcomes.{Outcome}
-use Rattle.ptu_cli.specs.Behaviours.{picking}
-use Rattle.ptu_cli.specs.Cases.{NoneRefused, HasGroup, settled_photons, kept_photons, FirstLate, LateAtRecord, LateAtEnd, RefusedInTime, SettledInTime, AllPicked, pick_end, PickedCase}
-use Rattle.ptu_cli.specs.CommandCases.{pick_statuses, IsIn, NamesLate, pick_cases, Lacks, Needs}
-use Rattle.ptu_cli.proofs.FaultStatuses.{some-same, of-written, of-end, range-as, wider, least-status}
-use Rattle.ptu_cli.proofs.CaseShapes.{RecordCause, NeedMeets, PlanMeets}
-use Rattle.ptu_cli.proofs.PickPhotons.{late-ends, none-or-late, late-more, picked_end, end-late, end-in_time, in-settled, in-before, least-late, clear-front, all-end}
-use Rattle.ptu_cli.proofs.CaseSteps.{empty-true, empty-false, true-empty, false-empty, whole_answer, streamed-clear}
+use Rattle.photon_pick.{specs.Late.too_late, specs.Ends.photons_by, specs.Texts.photons_in}
+use Rattle.ptu_cli.{specs.PickOutcomes.{no_group, chosen_by, records_picked, picked_if_fits, picked_behind}, specs.Causes.StatusIn, specs.Outcomes.Outcome, specs.Behaviours.picking, specs.Cases.{NoneRefused, HasGroup, settled_photons, kept_photons, FirstLate, LateAtRecord, LateAtEnd, RefusedInTime, SettledInTime, AllPicked, pick_end, PickedCase}, specs.CommandCases.{pick_statuses, IsIn, NamesLate, pick_cases, Lacks, Needs}, proofs.FaultStatuses.{some-same, of-written, of-end, range-as, wider, least-status}, proofs.CaseShapes.{RecordCause, NeedMeets, PlanMeets}, proofs.PickPhotons.{late-ends, none-or-late, late-more, picked_end, end-late, end-in_time, in-settled, in-before, least-late, clear-front, all-end}, proofs.CaseSteps.{empty-true, empty-false, true-empty, false-empty, whole_answer, streamed-clear}}
 
 -- ## The records
 

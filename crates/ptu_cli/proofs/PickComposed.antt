@@ -1,44 +1,16 @@
 -- A header, and the photons that are picked of the records behind it.
-use Rattle.std.proofs.Common.{◌≡◌, ◌∙◌, ◌<◌, ◌≤◌, ℕ, List, [], ◌++◌, Bool, None, Some, Ok, Err, length, map, refl, sym, ap, subst, arith, append_assoc}
-use Rattle.std.specs.Prelude.{◌⊎◌, ◌&&◌, nat_le, true, false, Result, IfErr, if◌then◌else◌}
-use Rattle.std.specs.declared.option.Option.{Option}
-use Rattle.std.specs.Io.KnownBytes.{Appends, Consumes}
-use Rattle.std.proofs.lemmas.Bool.Decides.{nat_tests}
-use Rattle.tally_base.specs.declared.event.Event.{Event}
-use Rattle.tally_base.specs.declared.fault.Fault.{Fault}
-use Rattle.tally_base.specs.declared.fault.Fault.TheVariants.{NoGroup}
-use Rattle.tally_base.specs.declared.header.Header.{Header}
-use Rattle.tally_base.specs.Faults.{is_outside}
-use Rattle.tally_base.specs.RecordTypes.{mode_of}
-use Rattle.bench_io.specs.Sinks.{AppendsShort}
-use Rattle.bench_io.proofs.Bytes.{Appends-trans, Appends-same, AppendsShort-behind, AppendsShort-same}
+use Rattle.std.proofs.Common.{◌≡◌, ◌∙◌, ◌<◌, ◌≤◌, ℕ, List, [], ◌++◌, Bool, None, Some, Ok, Err, length, map, refl, sym, ap, subst, arith, append_assoc, ◌⊎◌, ◌&&◌, nat_le, true, false, Result, IfErr, if◌then◌else◌}
+use Rattle.std.{specs.declared.option.Option.Option, specs.Io.KnownBytes.{Appends, Consumes}, proofs.lemmas.Bool.Decides.nat_tests}
+use Rattle.tally_base.{specs.declared.event.Event.Event, specs.declared.fault.Fault.Fault, specs.declared.fault.Fault.TheVariants.NoGroup, specs.declared.header.Header.Header, specs.Faults.is_outside, specs.RecordTypes.mode_of, specs.Settings.group_view}
+use Rattle.bench_io.{specs.Sinks.AppendsShort, proofs.Bytes.{Appends-trans, Appends-same, AppendsShort-behind, AppendsShort-same}}
 use Rattle.told_text.specs.Texts.{WroteText, CutText, WritesText}
-use Rattle.ptu_definitions.specs.Headers.{header_answer}
-use Rattle.ptu_definitions.specs.Words.{words_of}
-use Rattle.ptu_definitions.specs.Streams.{Reading}
-use Rattle.plan_text.specs.Plan.{PlanView}
-use Rattle.plan_text.specs.Fits.{fits}
-use Rattle.tally_base.specs.Settings.{group_view}
-use Rattle.gate_plan.specs.declared.gates.Gates.{Gates}
-use Rattle.gate_plan.specs.Groups.{sorting_of}
-use Rattle.gate_plan.specs.Shifting.{Sorting, sorting}
-use Rattle.gate_plan.proofs.Parts.{few_groups}
+use Rattle.ptu_definitions.{specs.Headers.header_answer, specs.Words.words_of, specs.Streams.Reading}
+use Rattle.plan_text.{specs.Plan.PlanView, specs.Fits.fits}
+use Rattle.gate_plan.{specs.declared.gates.Gates.Gates, specs.Groups.sorting_of, specs.Shifting.{Sorting, sorting}, proofs.Parts.few_groups}
 use Rattle.tally_engine.specs.Plans.{reading_by}
 use Rattle.short_file.specs.ShortFiles.{short_header}
-use Rattle.photon_pick.specs.Chosen.{is_chosen}
-use Rattle.photon_pick.specs.Ends.{WritesEnd}
-use Rattle.photon_pick.specs.Texts.{text_in, refusal_in}
-use Rattle.photon_pick.proofs.Stays.{text-none, text-front, refused-stays, refused-inside, end-inside}
-use Rattle.ptu_cli.specs.Told.{Says}
-use Rattle.ptu_cli.specs.Outcomes.{Outcome, IsCut}
-use Rattle.ptu_cli.specs.PickOutcomes.{no_group, chosen_by, photons_picked, picked_if_fits, picked_behind, pick_outcome, so_far_if_fits, so_far_behind, pick_so_far, goes_on_behind, pick_goes_on}
-use Rattle.ptu_cli.specs.Endings.{Span}
-use Rattle.ptu_cli.specs.PickRuns.{AnswersPicks, PicksReason}
-use Rattle.ptu_cli.specs.TextRuns.{ReadsText, CutsText}
-use Rattle.ptu_cli.specs.Behaviours.{AsItReads, picking}
-use Rattle.ptu_cli.specs.Works.{AnswersWork, ReadsWork, CutsWork}
-use Rattle.ptu_cli.proofs.Composed.{ShowsHeader}
-use Rattle.ptu_cli.proofs.TextEnds.{IsText, same-end}
+use Rattle.photon_pick.{specs.Chosen.is_chosen, specs.Ends.WritesEnd, specs.Texts.{text_in, refusal_in}, proofs.Stays.{text-none, text-front, refused-stays, refused-inside, end-inside}}
+use Rattle.ptu_cli.{specs.Told.Says, specs.Outcomes.{Outcome, IsCut}, specs.PickOutcomes.{no_group, chosen_by, photons_picked, picked_if_fits, picked_behind, pick_outcome, so_far_if_fits, so_far_behind, pick_so_far, goes_on_behind, pick_goes_on}, specs.Endings.Span, specs.PickRuns.{AnswersPicks, PicksReason}, specs.TextRuns.{ReadsText, CutsText}, specs.Behaviours.{AsItReads, picking}, specs.Works.{AnswersWork, ReadsWork, CutsWork}, proofs.Composed.ShowsHeader, proofs.TextEnds.{IsText, same-end}}
 use Rattle.ptu_cli.proofs.TextComposed as composed
 
 abbrev fit : Result (Unit {0}) Fault

@@ -1,27 +1,12 @@
 -- No end of `pick` is that of a bad command line.
-use Rattle.std.proofs.Common.{◌≡◌, ℕ, List, Bool, true, false, None, Some, Ok, Err, refl, arith, length}
-use Rattle.std.specs.Prelude.{◌≢◌, ◌&&◌, nat_le, Result, if◌then◌else◌}
+use Rattle.std.proofs.Common.{◌≡◌, ℕ, List, Bool, true, false, None, Some, Ok, Err, refl, arith, length, ◌≢◌, ◌&&◌, nat_le, Result, if◌then◌else◌}
 use Rattle.std.specs.declared.option.Option.{Option}
-use Rattle.tally_base.specs.declared.event.Event.{Event}
-use Rattle.tally_base.specs.declared.fault.Fault.{Fault}
-use Rattle.tally_base.specs.declared.fault.Fault.TheVariants.{NoGroup}
-use Rattle.tally_base.specs.declared.header.Header.{Header}
-use Rattle.tally_base.specs.Faults.{fault_in}
-use Rattle.tally_base.specs.RecordTypes.{mode_of}
-use Rattle.ptu_definitions.specs.Headers.{header_answer}
-use Rattle.ptu_definitions.specs.Prefixes.{first}
-use Rattle.ptu_definitions.specs.Streams.{streamed}
-use Rattle.plan_text.specs.Plan.{PlanView}
-use Rattle.plan_text.specs.Fits.{fits}
-use Rattle.plan_text.proofs.Misfits.{misfit_named}
+use Rattle.tally_base.{specs.declared.event.Event.Event, specs.declared.fault.Fault.Fault, specs.declared.fault.Fault.TheVariants.NoGroup, specs.declared.header.Header.Header, specs.Faults.fault_in, specs.RecordTypes.mode_of}
+use Rattle.ptu_definitions.{specs.Headers.header_answer, specs.Prefixes.first, specs.Streams.streamed}
+use Rattle.plan_text.{specs.Plan.PlanView, specs.Fits.fits, proofs.Misfits.misfit_named}
 use Rattle.tally_engine.specs.Plans.{reading_by}
-use Rattle.photon_pick.specs.Late.{too_late}
-use Rattle.photon_pick.specs.Texts.{late_or}
-use Rattle.photon_pick.specs.Ends.{photons_of}
-use Rattle.ptu_cli.specs.Outcomes.{status}
-use Rattle.ptu_cli.specs.PickOutcomes.{no_group, chosen_by, picked_if_fits, picked_behind, pick_outcome}
-use Rattle.ptu_cli.proofs.ByteFaults.{header_answer-bytes, IsOfBytes}
-use Rattle.ptu_cli.proofs.RunFaults.{streamed_by-bytes, misfit-bytes}
+use Rattle.photon_pick.{specs.Late.too_late, specs.Texts.late_or, specs.Ends.photons_of}
+use Rattle.ptu_cli.{specs.Outcomes.status, specs.PickOutcomes.{no_group, chosen_by, picked_if_fits, picked_behind, pick_outcome}, proofs.ByteFaults.{header_answer-bytes, IsOfBytes}, proofs.RunFaults.{streamed_by-bytes, misfit-bytes}}
 
 late-bytes : (late : Option Event) (other : Option Fault) → status other ≢ 1 → status (late_or late other) ≢ 1
 late-bytes None other h = h

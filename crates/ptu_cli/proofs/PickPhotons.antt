@@ -1,34 +1,12 @@
 -- The photons that `pick` writes, and the first of them that is too late.
-use Rattle.std.proofs.Common.{◌≡◌, ◌∙◌, ℕ, List, [], ◌∷◌, ◌++◌, Bool, true, false, cond, None, Some, Ok, Err, map, refl, sym, ap, inl, inr, append_assoc, append-nil}
-use Rattle.std.specs.Prelude.{◌⊎◌, Result}
-use Rattle.std.specs.List.{filter}
-use Rattle.std.specs.declared.option.Option.{Option}
-use Rattle.std.proofs.lemmas.List.Elements.{filter-append}
-use Rattle.tally_base.specs.declared.event.Event.{Event}
-use Rattle.tally_base.specs.declared.fault.Fault.{Fault}
-use Rattle.tally_base.specs.declared.fault.Fault.TheVariants.{PickTime}
-use Rattle.tally_base.specs.declared.header.Mode.{Mode}
-use Rattle.tally_base.specs.Faults.{fault_in}
-use Rattle.ptu_definitions.specs.declared.records.Summary.{Summary}
-use Rattle.ptu_definitions.specs.Firsts.{IsFirst}
-use Rattle.ptu_definitions.specs.Prefixes.{first}
-use Rattle.ptu_definitions.specs.Settled.{not_marked, settled_by}
-use Rattle.ptu_definitions.specs.Streams.{Reading, record_refusal, given, last_in, streamed}
-use Rattle.ptu_definitions.specs.Times.{events}
-use Rattle.ptu_definitions.specs.Words.{words_of}
-use Rattle.ptu_definitions.proofs.DeliveredLaws.{delivered-settled, delivered-none}
-use Rattle.ptu_definitions.proofs.Firsts.{given-all, given-before}
-use Rattle.ptu_definitions.proofs.StreamLemmas.{given-front, given-stays, refused-more}
+use Rattle.std.proofs.Common.{◌≡◌, ◌∙◌, ℕ, List, [], ◌∷◌, ◌++◌, Bool, true, false, cond, None, Some, Ok, Err, map, refl, sym, ap, inl, inr, append_assoc, append-nil, ◌⊎◌, Result}
+use Rattle.std.{specs.List.filter, specs.declared.option.Option.Option, proofs.lemmas.List.Elements.filter-append}
+use Rattle.tally_base.{specs.declared.event.Event.Event, specs.declared.fault.Fault.Fault, specs.declared.fault.Fault.TheVariants.PickTime, specs.declared.header.Mode.Mode, specs.Faults.fault_in}
+use Rattle.ptu_definitions.{specs.declared.records.Summary.Summary, specs.Firsts.IsFirst, specs.Prefixes.first, specs.Settled.{not_marked, settled_by}, specs.Streams.{Reading, record_refusal, given, last_in, streamed}, specs.Times.events, specs.Words.words_of, proofs.DeliveredLaws.{delivered-settled, delivered-none}, proofs.Firsts.{given-all, given-before}, proofs.StreamLemmas.{given-front, given-stays, refused-more}}
 use Rattle.short_file.specs.ShortFiles.{short_header, short_file, bytes_in}
 use Rattle.record_write.specs.Picked.{is_too_late, picked_words, picked_file}
-use Rattle.photon_pick.specs.Late.{too_late, writable}
-use Rattle.photon_pick.specs.Texts.{photons_in, late_or}
-use Rattle.photon_pick.specs.Ends.{photons_by, photons_of, end_text, end_fault}
-use Rattle.photon_pick.proofs.Parts.{chosen-more}
-use Rattle.photon_pick.proofs.Ends.{kept-are}
-use Rattle.ptu_cli.specs.Outcomes.{Outcome}
-use Rattle.ptu_cli.specs.Cases.{FirstLate}
-use Rattle.photon_pick.proofs.Streams.{clear-from_ok}
+use Rattle.photon_pick.{specs.Late.{too_late, writable}, specs.Texts.{photons_in, late_or}, specs.Ends.{photons_by, photons_of, end_text, end_fault}, proofs.Parts.chosen-more, proofs.Ends.kept-are, proofs.Streams.clear-from_ok}
+use Rattle.ptu_cli.{specs.Outcomes.Outcome, specs.Cases.FirstLate}
 
 -- ## The first that is too late
 

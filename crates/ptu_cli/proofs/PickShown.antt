@@ -1,29 +1,13 @@
 -- The ends that bytes of FILE show by themselves to `pick`.
-use Rattle.std.proofs.Common.{◌≡◌, ◌≢◌, ◌∙◌, ℕ, List, [], ◌++◌, Bool, true, None, Some, Ok, Err, refl, sym, ap, inl, inr, append-nil}
-use Rattle.std.specs.Prelude.{◌⊎◌, Result}
+use Rattle.std.proofs.Common.{◌≡◌, ◌≢◌, ◌∙◌, ℕ, List, [], ◌++◌, Bool, true, None, Some, Ok, Err, refl, sym, ap, inl, inr, append-nil, ◌⊎◌, Result}
 use Rattle.std.specs.declared.option.Option.{Option}
-use Rattle.tally_base.specs.declared.event.Event.{Event}
-use Rattle.tally_base.specs.declared.fault.Fault.{Fault}
-use Rattle.tally_base.specs.declared.fault.Fault.TheVariants.{TruncatedHeader}
-use Rattle.tally_base.specs.declared.header.Header.{Header}
-use Rattle.tally_base.specs.RecordTypes.{mode_of}
-use Rattle.ptu_definitions.specs.Headers.{header_answer}
-use Rattle.ptu_definitions.specs.Prefixes.{first}
-use Rattle.ptu_definitions.specs.Streams.{Reading, record_refusal}
-use Rattle.ptu_definitions.specs.Words.{words_of, rest_of}
-use Rattle.ptu_definitions.proofs.Stays.{refused-stays, headed-stays}
-use Rattle.ptu_definitions.proofs.WordsLemmas.{words_of-append}
+use Rattle.tally_base.{specs.declared.event.Event.Event, specs.declared.fault.Fault.Fault, specs.declared.fault.Fault.TheVariants.TruncatedHeader, specs.declared.header.Header.Header, specs.RecordTypes.mode_of}
+use Rattle.ptu_definitions.{specs.Headers.header_answer, specs.Prefixes.first, specs.Streams.{Reading, record_refusal}, specs.Words.{words_of, rest_of}, proofs.Stays.{refused-stays, headed-stays}, proofs.WordsLemmas.words_of-append}
 use Rattle.record_stream.proofs.Lasts.{streamed-shown}
-use Rattle.plan_text.specs.Plan.{PlanView}
-use Rattle.plan_text.specs.Fits.{fits}
+use Rattle.plan_text.{specs.Plan.PlanView, specs.Fits.fits}
 use Rattle.tally_engine.specs.Plans.{reading_by}
-use Rattle.photon_pick.specs.Late.{too_late}
-use Rattle.photon_pick.specs.Texts.{photons_in, late_or, refusal_in}
-use Rattle.ptu_cli.specs.Outcomes.{Outcome, ends_early}
-use Rattle.ptu_cli.specs.PickOutcomes.{chosen_by, records_picked, picked_if_fits, picked_behind, goes_on_behind}
-use Rattle.ptu_cli.specs.Behaviours.{picking, GoesOnOrShows}
-use Rattle.ptu_cli.specs.Cases.{FirstLate}
-use Rattle.ptu_cli.proofs.PickPhotons.{none-or-late, all_end, late-ends, picked_end, all-end, in-stays}
+use Rattle.photon_pick.{specs.Late.too_late, specs.Texts.{photons_in, late_or, refusal_in}}
+use Rattle.ptu_cli.{specs.Outcomes.{Outcome, ends_early}, specs.PickOutcomes.{chosen_by, records_picked, picked_if_fits, picked_behind, goes_on_behind}, specs.Behaviours.{picking, GoesOnOrShows}, specs.Cases.FirstLate, proofs.PickPhotons.{none-or-late, all_end, late-ends, picked_end, all-end, in-stays}}
 
 module _ (chooses : Event → Bool) (how : Reading) (bytes : List ℕ) where
   abbrev photons : List Event

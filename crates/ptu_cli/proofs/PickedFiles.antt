@@ -1,20 +1,11 @@
 -- The file of photons that can be written, as `events` lists it.
 use Rattle.std.proofs.Common.{◌≡◌, ◌≤◌, ℕ, List, None, Some, false, length, map, refl}
-use Rattle.tally_base.specs.declared.event.Event.{Event}
-use Rattle.tally_base.specs.declared.header.Mode.{Mode}
-use Rattle.tally_base.specs.declared.header.Mode.TheVariants.{T2, T3}
-use Rattle.ptu_definitions.specs.Counted.{record_limit}
-use Rattle.ptu_definitions.specs.Streams.{streamed}
-use Rattle.short_file.specs.ShortFiles.{short_file, bytes_in}
-use Rattle.short_file.proofs.ShortHeaders.{short-answer}
-use Rattle.short_file.proofs.WordBytes.{words_of-bytes_in, rest_of-bytes_in}
-use Rattle.record_write.specs.Picked.{CanBePicked, picked_words, picked_file, picked_events}
-use Rattle.record_write.proofs.ReadBack.{small-words, unrefused, given-events}
+use Rattle.tally_base.{specs.declared.event.Event.Event, specs.declared.header.Mode.Mode, specs.declared.header.Mode.TheVariants.{T2, T3}}
+use Rattle.ptu_definitions.{specs.Counted.record_limit, specs.Streams.streamed}
+use Rattle.short_file.{specs.ShortFiles.{short_file, bytes_in}, proofs.ShortHeaders.short-answer, proofs.WordBytes.{words_of-bytes_in, rest_of-bytes_in}}
+use Rattle.record_write.{specs.Picked.{CanBePicked, picked_words, picked_file, picked_events}, proofs.ReadBack.{small-words, unrefused, given-events}}
 use Rattle.table_out.specs.EventText.{events_text}
-use Rattle.ptu_cli.specs.Commands.{Events}
-use Rattle.ptu_cli.specs.Outcomes.{written, listing_policy}
-use Rattle.ptu_cli.specs.Behaviours.{behaviour}
-use Rattle.ptu_cli.specs.Endings.{outcome}
+use Rattle.ptu_cli.{specs.Commands.Events, specs.Outcomes.{written, listing_policy}, specs.Behaviours.behaviour, specs.Endings.outcome}
 
 pub listed-picked : (name : List ℕ) (mode : Mode) (photons : List Event) → CanBePicked mode photons → length (picked_words mode photons) ≤ record_limit
     → outcome (behaviour (Some (Events name))) None (Some (picked_file mode photons)) ≡ written (events_text (map (λ e. (e, false)) (picked_events mode photons)))

@@ -1,23 +1,10 @@
 -- A piece that is fed in two parts, and what the bytes taken call for.
-use Rattle.std.proofs.Common.{slice_range, ◌-◌, ◌≡◌, ◌+◌, ◌≤◌, ℕ, zero, suc, List, [], ◌++◌, false, Ok, Err, length, arith, take, drop, refl, sym, ap, ◌∙◌, subst, inl, inr, append_assoc, append-nil, take-append-drop}
-use Rattle.std.proofs.Math.Seq.{take-add}
-use Rattle.std.proofs.lemmas.List.{length-drop, length-take-le}
-use Rattle.std.specs.Prelude.{nat_lt, nat_eq, ◌<◌, ◌↔◌, Result, IsErr}
-use Rattle.std.proofs.lemmas.Bool.{cases_Bool, cases_lt}
-use Rattle.std.proofs.lemmas.Bool.Decides.{nat_tests}
-use Rattle.tally_base.specs.declared.fault.Fault.{Fault}
-use Rattle.tally_base.specs.declared.header.Header.{Header}
-use Rattle.tally_base.specs.declared.header.RecordType.{RecordType}
-use Rattle.ptu_definitions.specs.declared.records.KindCounts.{KindCounts}
-use Rattle.ptu_definitions.specs.Words.{words_of, rest_of}
-use Rattle.ptu_definitions.specs.Counted.{counted, record_limit}
-use Rattle.ptu_definitions.specs.Endings.{ending}
-use Rattle.ptu_definitions.specs.Headers.{header_answer}
-use Rattle.tally_base.specs.Faults.{fault_in}
-use Rattle.ptu_cli.specs.Outcomes.{IsCut}
-use Rattle.ptu_cli.specs.Outcomes.{MayChange, file_counts, with_counts}
-use Rattle.ptu_header.specs.declared.reader.HeaderReader.{HeaderReader}
-use Rattle.ptu_header.specs.Reading.{HasRead}
+use Rattle.std.proofs.Common.{slice_range, ◌-◌, ◌≡◌, ◌+◌, ◌≤◌, ℕ, zero, suc, List, [], ◌++◌, false, Ok, Err, length, arith, take, drop, refl, sym, ap, ◌∙◌, subst, inl, inr, append_assoc, append-nil, take-append-drop, nat_lt, nat_eq, ◌<◌, ◌↔◌, Result, IsErr}
+use Rattle.std.{proofs.Math.Seq.take-add, proofs.lemmas.List.{length-drop, length-take-le}, proofs.lemmas.Bool.{cases_Bool, cases_lt}, proofs.lemmas.Bool.Decides.nat_tests}
+use Rattle.tally_base.{specs.declared.fault.Fault.Fault, specs.declared.header.Header.Header, specs.declared.header.RecordType.RecordType, specs.Faults.fault_in}
+use Rattle.ptu_definitions.{specs.declared.records.KindCounts.KindCounts, specs.Words.{words_of, rest_of}, specs.Counted.{counted, record_limit}, specs.Endings.ending, specs.Headers.header_answer}
+use Rattle.ptu_cli.specs.Outcomes.{IsCut, MayChange, file_counts, with_counts}
+use Rattle.ptu_header.{specs.declared.reader.HeaderReader.HeaderReader, specs.Reading.HasRead}
 
 together : (bytes piece : List ℕ) (used more : ℕ) → (bytes ++ take used piece) ++ take more (drop used piece) ≡ bytes ++ take (used + more) piece
 together bytes piece used more = append_assoc bytes (take used piece) (take more (drop used piece)) ∙ ap (λ l. bytes ++ l) (sym (take-add used more piece))

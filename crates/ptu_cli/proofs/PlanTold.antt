@@ -1,23 +1,10 @@
 -- What a command by a plan leaves, whatever its work is.
-use Rattle.std.proofs.Common.{◌≡◌, ℕ, List, ◌++◌, false, None, Some, Ok, Err, refl, sym, ap, ◌∙◌, subst, inl, inr}
-use Rattle.std.specs.Prelude.{Result}
+use Rattle.std.proofs.Common.{◌≡◌, ℕ, List, ◌++◌, false, None, Some, Ok, Err, refl, sym, ap, ◌∙◌, subst, inl, inr, Result}
 use Rattle.std.specs.declared.option.Option.{Option}
-use Rattle.tally_base.specs.declared.fault.Fault.{Fault}
-use Rattle.tally_base.specs.declared.slot.Slot.TheVariants.{Plan as PlanSlot, Data}
-use Rattle.tally_base.specs.Faults.{is_outside, fault_in}
-use Rattle.tally_base.proofs.Reasons.{HasReason-follows, HasReason-inside}
-use Rattle.bench_io.specs.Inputs.{File, InputState, IsOpened, KeepsOther, NoneFalls}
-use Rattle.bench_io.proofs.Bytes.{Appends-nil, Keeps-from_none}
-use Rattle.bench_io.proofs.Rises.{Rose-behind}
-use Rattle.plan_text.specs.declared.plan.Plan.{Plan}
-use Rattle.plan_text.specs.Plan.{PlanView}
-use Rattle.plan_text.specs.Reading.{plan_view, plan_answer, plan_seen}
-use Rattle.ptu_cli.specs.Outcomes.{Outcome, refused}
-use Rattle.ptu_cli.specs.PlanPieces.{IsRead, AnswersPlan, PlanReason}
-use Rattle.ptu_cli.specs.Behaviours.{Work, Writing, AtEnd, AsItReads, under, Memory, Behaviour, ByPlan}
-use Rattle.ptu_cli.specs.Works.{AnswersWork, WorkReason}
-use Rattle.ptu_cli.specs.Endings.{TakenOf, IsPlan, HasPlan, TakesPlan, EndsWith, Answers, Cuts, WantsBehind, Span, HasCauses, on_file, outcome}
-use Rattle.ptu_cli.proofs.WorkTold.{taken-told, may_be_read, stops-told}
+use Rattle.tally_base.{specs.declared.fault.Fault.Fault, specs.declared.slot.Slot.TheVariants.Plan as PlanSlot, specs.declared.slot.Slot.TheVariants.Data, specs.Faults.{is_outside, fault_in}, proofs.Reasons.{HasReason-follows, HasReason-inside}}
+use Rattle.bench_io.{specs.Inputs.{File, InputState, IsOpened, KeepsOther, NoneFalls}, proofs.Bytes.{Appends-nil, Keeps-from_none}, proofs.Rises.Rose-behind}
+use Rattle.plan_text.{specs.declared.plan.Plan.Plan, specs.Plan.PlanView, specs.Reading.{plan_view, plan_answer, plan_seen}}
+use Rattle.ptu_cli.{specs.Outcomes.{Outcome, refused}, specs.PlanPieces.{IsRead, AnswersPlan, PlanReason}, specs.Behaviours.{Work, Writing, AtEnd, AsItReads, under, Memory, Behaviour, ByPlan}, specs.Works.{AnswersWork, WorkReason}, specs.Endings.{TakenOf, IsPlan, HasPlan, TakesPlan, EndsWith, Answers, Cuts, WantsBehind, Span, HasCauses, on_file, outcome}, proofs.WorkTold.{taken-told, may_be_read, stops-told}}
 
 -- a plan that was read is that of a file
 pub has-plan : (state : InputState) (name : List ℕ) (lacks : PlanView → Option Fault) (plan : Plan) → AnswersPlan state name (Ok plan) → lacks (plan_view plan) ≡ None → HasPlan state name lacks (plan_view plan)

@@ -1,22 +1,10 @@
 -- What was read of a plan is what its file answers.
-use Rattle.std.proofs.Common.{◌≡◌, ◌<◌, ◌≤◌, ◌+◌, ℕ, List, [], ◌++◌, length, take, true, false, None, Some, Ok, Err, refl, sym, ap, ◌∙◌, arith, inl, inr, append-nil}
-use Rattle.std.specs.Prelude.{◌≢◌, ◌⊎◌, Result, IsErrAnd}
-use Rattle.std.specs.declared.option.Option.{Option}
-use Rattle.std.specs.Io.KnownBytes.{Consumes, IsAtEnd}
-use Rattle.std.proofs.lemmas.Bool.{cases_Bool, cases_lt}
-use Rattle.std.proofs.lemmas.List.{length-append, length-take-le}
-use Rattle.tally_base.specs.declared.fault.Fault.{Fault}
-use Rattle.tally_base.specs.declared.fault.Fault.TheVariants.{OpenFault, ReadFault, WriteFault, OutOfMemory}
-use Rattle.tally_base.specs.declared.slot.Slot.{Slot}
-use Rattle.tally_base.specs.Faults.{is_outside, HasReason}
-use Rattle.bench_io.specs.Inputs.{File, InputState, IsOpened, Keeps, KeepsOther, OnlyReads}
-use Rattle.bench_io.proofs.States.{Keeps-trans}
-use Rattle.plan_text.specs.declared.plan.Plan.{Plan}
-use Rattle.plan_text.specs.Reading.{text_limit, plan_answer, plan_seen}
-use Rattle.plan_text.proofs.Documents.{plan_answer_long}
-use Rattle.ptu_cli.specs.Told.{MayBe}
-use Rattle.ptu_cli.specs.PlanPieces.{IsRead, OnlyUses}
-use Rattle.ptu_cli.proofs.WorkTold.{taken-told}
+use Rattle.std.proofs.Common.{◌≡◌, ◌<◌, ◌≤◌, ◌+◌, ℕ, List, [], ◌++◌, length, take, true, false, None, Some, Ok, Err, refl, sym, ap, ◌∙◌, arith, inl, inr, append-nil, ◌≢◌, ◌⊎◌, Result, IsErrAnd}
+use Rattle.std.{specs.declared.option.Option.Option, specs.Io.KnownBytes.{Consumes, IsAtEnd}, proofs.lemmas.Bool.{cases_Bool, cases_lt}, proofs.lemmas.List.{length-append, length-take-le}}
+use Rattle.tally_base.{specs.declared.fault.Fault.Fault, specs.declared.fault.Fault.TheVariants.{OpenFault, ReadFault, WriteFault, OutOfMemory}, specs.declared.slot.Slot.Slot, specs.Faults.{is_outside, HasReason}}
+use Rattle.bench_io.{specs.Inputs.{File, InputState, IsOpened, Keeps, KeepsOther, OnlyReads}, proofs.States.Keeps-trans}
+use Rattle.plan_text.{specs.declared.plan.Plan.Plan, specs.Reading.{text_limit, plan_answer, plan_seen}, proofs.Documents.plan_answer_long}
+use Rattle.ptu_cli.{specs.Told.MayBe, specs.PlanPieces.{IsRead, OnlyUses}, proofs.WorkTold.taken-told}
 
 -- bytes that end the file, or are too many for a plan by themselves
 same_answer : (taken more : List ℕ) → (length taken < text_limit + 1 → more ≡ []) → plan_answer (taken ++ more) ≡ plan_answer taken

@@ -1,30 +1,13 @@
 -- What each step of a header reader does for a printer.
 use Rattle.std.proofs.Common.{◌≡◌, ◌+◌, ◌^◌, ◌≤◌, ℕ, List, [], ◌++◌, Bool, length, take, drop, sym, ap, ◌∙◌, append_assoc, take-append-drop, arith, length-append}
-use Rattle.std.specs.declared.option.Option.{Option}
-use Rattle.std.proofs.Math.Seq.{take-add}
-use Rattle.std.proofs.lemmas.List.{length-take, take_all}
-use Rattle.tally_base.specs.declared.fault.Fault.{Fault}
-use Rattle.tally_base.specs.declared.header.Header.{Header}
-use Rattle.bench_io.specs.Sinks.{AppendsShort, PassesOn}
-use Rattle.bench_io.proofs.Bytes.{PassesOn-trans, AppendsShort-passed, AppendsShort-more, AppendsShort-same}
-use Rattle.ptu_tag.specs.declared.kind.TagKind.{TagKind}
-use Rattle.ptu_tag.specs.declared.head.TagHead.{TagHead}
-use Rattle.ptu_definitions.specs.TagFields.{code_in}
-use Rattle.ptu_definitions.specs.TagList.{Item}
-use Rattle.ptu_definitions.specs.Seen.{seen, seen_preamble}
-use Rattle.ptu_header.specs.declared.reader.HeaderReader.{HeaderReader}
-use Rattle.ptu_header.specs.declared.step.HeaderStep.TheVariants.{More, Preamble, Tag, Body, Done, Refused}
-use Rattle.ptu_header.specs.Reading.{Steps, bytes_taken}
-use Rattle.table_out.specs.declared.body.BodyText.{BodyText}
-use Rattle.table_out.specs.HeaderText.{kind_with, body_text, head_text, bare_end, preamble_lines_of, header_text}
-use Rattle.table_out.specs.Body.{HasPut}
-use Rattle.table_out.proofs.Final.{header_text-grows, header_text-refused, header_text-done}
-use Rattle.table_out.proofs.StepTexts.{header_text-same, header_text-preamble, header_text-tag, header_text-body, kind_with-is}
-use Rattle.ptu_cli.specs.declared.print.HeaderPrinter.{HeaderPrinter}
-use Rattle.ptu_cli.specs.BodyPieces.{end_line}
-use Rattle.ptu_cli.specs.Printing.{Prints, PutsHeader, CutsHeader}
-use Rattle.ptu_cli.proofs.Pieces.{whole-piece}
-use Rattle.ptu_cli.proofs.Printers.{no_items, last_item}
+use Rattle.std.{specs.declared.option.Option.Option, proofs.Math.Seq.take-add, proofs.lemmas.List.{length-take, take_all}}
+use Rattle.tally_base.{specs.declared.fault.Fault.Fault, specs.declared.header.Header.Header}
+use Rattle.bench_io.{specs.Sinks.{AppendsShort, PassesOn}, proofs.Bytes.{PassesOn-trans, AppendsShort-passed, AppendsShort-more, AppendsShort-same}}
+use Rattle.ptu_tag.{specs.declared.kind.TagKind.TagKind, specs.declared.head.TagHead.TagHead}
+use Rattle.ptu_definitions.{specs.TagFields.code_in, specs.TagList.Item, specs.Seen.{seen, seen_preamble}}
+use Rattle.ptu_header.{specs.declared.reader.HeaderReader.HeaderReader, specs.declared.step.HeaderStep.TheVariants.{More, Preamble, Tag, Body, Done, Refused}, specs.Reading.{Steps, bytes_taken}}
+use Rattle.table_out.{specs.declared.body.BodyText.BodyText, specs.HeaderText.{kind_with, body_text, head_text, bare_end, preamble_lines_of, header_text}, specs.Body.HasPut, proofs.Final.{header_text-grows, header_text-refused, header_text-done}, proofs.StepTexts.{header_text-same, header_text-preamble, header_text-tag, header_text-body, kind_with-is}}
+use Rattle.ptu_cli.{specs.declared.print.HeaderPrinter.HeaderPrinter, specs.BodyPieces.end_line, specs.Printing.{Prints, PutsHeader, CutsHeader}, proofs.Pieces.whole-piece, proofs.Printers.{no_items, last_item}}
 
 abbrev pub printer : HeaderReader → BodyText → HeaderPrinter
 printer reader body = record { reader = reader; body = body }

@@ -1,7 +1,6 @@
 -- What a printer stands for.
 use Rattle.std.proofs.Common.{◌≡◌, List, [], ◌∷◌, ◌++◌, refl, sym}
-use Rattle.ptu_definitions.specs.TagList.{Item}
-use Rattle.ptu_definitions.specs.Seen.{seen}
+use Rattle.ptu_definitions.{specs.TagList.Item, specs.Seen.seen}
 
 -- no list that ends in an item is empty
 pub no_items : {A : Type 0} (items : List Item) (item : Item) → items ++ item ∷ [] ≡ [] → A

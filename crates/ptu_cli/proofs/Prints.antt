@@ -1,20 +1,10 @@
 -- What `header` ends with is what the table of cases calls for.
-use Rattle.std.proofs.Common.{◌≡◌, ℕ, List, [], ◌∷◌, ◌++◌, None, Some, refl, sym, ap, ◌∙◌, subst, inl, inr}
-use Rattle.std.specs.Prelude.{◌⊎◌, flat_map}
+use Rattle.std.proofs.Common.{◌≡◌, ℕ, List, [], ◌∷◌, ◌++◌, None, Some, refl, sym, ap, ◌∙◌, subst, inl, inr, ◌⊎◌, flat_map}
 use Rattle.std.specs.declared.option.Option.{Option}
 use Rattle.tally_base.specs.Faults.{fault_in}
-use Rattle.ptu_definitions.specs.TagList.{Item}
-use Rattle.ptu_definitions.specs.Endings.{HasHeader}
-use Rattle.ptu_definitions.specs.Headers.{header_answer, head_of}
-use Rattle.ptu_definitions.specs.Seen.{seen, seen_preamble, HasNoFront, HasLongestFront}
-use Rattle.ptu_definitions.proofs.Sound.{one_answer}
-use Rattle.ptu_definitions.proofs.SeenLemmas.{seen-header, seen_preamble-header}
-use Rattle.ptu_definitions.proofs.SeenLaws.{seen-longest, seen-none}
-use Rattle.ptu_definitions.proofs.Longest.{some-longest}
+use Rattle.ptu_definitions.{specs.TagList.Item, specs.Endings.HasHeader, specs.Headers.{header_answer, head_of}, specs.Seen.{seen, seen_preamble, HasNoFront, HasLongestFront}, proofs.Sound.one_answer, proofs.SeenLemmas.{seen-header, seen_preamble-header}, proofs.SeenLaws.{seen-longest, seen-none}, proofs.Longest.some-longest}
 use Rattle.table_out.specs.HeaderText.{preamble_part, item_text, shown_text, header_text}
-use Rattle.ptu_cli.specs.Cases.{Prints, PrintCase}
-use Rattle.ptu_cli.specs.Outcomes.{Outcome, header_outcome}
-use Rattle.ptu_cli.proofs.CaseSteps.{same-end}
+use Rattle.ptu_cli.{specs.Cases.{Prints, PrintCase}, specs.Outcomes.{Outcome, header_outcome}, proofs.CaseSteps.same-end}
 
 shown-at : (bytes : List ℕ) (start : Option (List ℕ)) (items : List Item) → seen_preamble bytes ≡ start → seen bytes ≡ items → shown_text bytes ≡ preamble_part start ++ flat_map item_text items
 unfolding shown_text

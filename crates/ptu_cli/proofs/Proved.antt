@@ -1,21 +1,9 @@
 -- What is shown of each command, told once.
-use Rattle.std.proofs.Common.{◌≡◌, None, Some, refl, sym, ap, subst, arith}
-use Rattle.std.specs.Prelude.{◌↔◌}
+use Rattle.std.proofs.Common.{◌≡◌, None, Some, refl, sym, ap, subst, arith, ◌↔◌}
 use Rattle.std.specs.declared.option.Option.{Option}
 use Rattle.bench_io.specs.Inputs.{File}
 use Rattle.plan_text.specs.Plan.{plan}
-use Rattle.ptu_cli.specs.Endings.{outcome}
-use Rattle.ptu_cli.specs.TraceOutcomes.{trace_of}
-use Rattle.ptu_cli.specs.Outcomes.{Outcome, written}
-use Rattle.ptu_cli.specs.Behaviours.{Behaviour, EndsStay, behaviour, NoCommand, Alone, OnFile, ByPlan}
-use Rattle.ptu_cli.specs.Commands.{Request, Count, Events, Run, Trace, Pick, Demo, Header as HeaderOf}
-use Rattle.ptu_cli.specs.CommandCases.{cases, IsOutcome}
-use Rattle.ptu_cli.proofs.CaseShapes.{MeetsCases, told-holds, told-only}
-use Rattle.ptu_cli.proofs.PickFaults.{ungrouped-status}
-use Rattle.ptu_cli.proofs.TraceFaults.{untraced-status}
-use Rattle.ptu_cli.proofs.Sound.{IsSound, counting-sound, printing-sound, listing-sound, reporting-sound, tracing-sound, picking-sound}
-use Rattle.ptu_cli.proofs.PickCases.{pick-told}
-use Rattle.ptu_cli.proofs.Cases.{count-told, events-told, run-told, trace-told, demo-same}
+use Rattle.ptu_cli.{specs.Endings.outcome, specs.TraceOutcomes.trace_of, specs.Outcomes.{Outcome, written}, specs.Behaviours.{Behaviour, EndsStay, behaviour, NoCommand, Alone, OnFile, ByPlan}, specs.Commands.{Request, Count, Events, Run, Trace, Pick, Demo}, specs.Commands.Header as HeaderOf, specs.CommandCases.{cases, IsOutcome}, proofs.CaseShapes.{MeetsCases, told-holds, told-only}, proofs.PickFaults.ungrouped-status, proofs.TraceFaults.untraced-status, proofs.Sound.{IsSound, counting-sound, printing-sound, listing-sound, reporting-sound, tracing-sound, picking-sound}, proofs.PickCases.pick-told, proofs.Cases.{count-told, events-told, run-told, trace-told, demo-same}}
 
 -- its work is sound, and it ends as the cases of its shape call for
 abbrev pub IsProved : Request → Type 0

@@ -1,22 +1,9 @@
 -- The commands and their outcomes at known words and bytes.
-use Rattle.std.proofs.Common.{◌≡◌, ℕ, List, [], ◌∷◌, ◌++◌, None, Some, replicate, refl}
-use Rattle.std.specs.Prelude.{codes}
-use Rattle.tally_base.specs.declared.slot.Slot.TheVariants.{Data}
-use Rattle.tally_base.specs.declared.header.RecordType.TheVariants.{HydraHarp2T3}
-use Rattle.tally_base.specs.declared.fault.Fault.TheVariants.{Usage, OpenFault, BadMagic, TruncatedHeader, TruncatedRecord}
-use Rattle.tally_base.specs.RecordTypes.{type_with}
-use Rattle.ptu_definitions.specs.TagFields.{name_in, code_in, value_in, has_body, is_known}
-use Rattle.ptu_definitions.specs.Endings.{walk, ending}
-use Rattle.ptu_definitions.specs.Fields.{value_under, found_in, header_of}
-use Rattle.ptu_definitions.specs.Headers.{header_answer}
-use Rattle.ptu_definitions.specs.Layouts.{hydra_t3}
-use Rattle.ptu_definitions.specs.Counted.{counted, records_of}
-use Rattle.ptu_definitions.specs.Seen.{seen, seen_preamble}
+use Rattle.std.proofs.Common.{◌≡◌, ℕ, List, [], ◌∷◌, ◌++◌, None, Some, replicate, refl, codes}
+use Rattle.tally_base.{specs.declared.slot.Slot.TheVariants.Data, specs.declared.header.RecordType.TheVariants.HydraHarp2T3, specs.declared.fault.Fault.TheVariants.{Usage, OpenFault, BadMagic, TruncatedHeader, TruncatedRecord}, specs.RecordTypes.type_with}
+use Rattle.ptu_definitions.{specs.TagFields.{name_in, code_in, value_in, has_body, is_known}, specs.Endings.{walk, ending}, specs.Fields.{value_under, found_in, header_of}, specs.Headers.header_answer, specs.Layouts.hydra_t3, specs.Counted.{counted, records_of}, specs.Seen.{seen, seen_preamble}}
 use Rattle.table_out.specs.HeaderText.{shown_text, header_text}
-use Rattle.ptu_cli.specs.CountText.{counts_text}
-use Rattle.ptu_cli.specs.Commands.{Count, Header, Events, Run, Trace, Pick, Demo, number_in, request_of}
-use Rattle.ptu_cli.specs.Behaviours.{behaviour}
-use Rattle.ptu_cli.specs.Endings.{outcome}
+use Rattle.ptu_cli.{specs.CountText.counts_text, specs.Commands.{Count, Header, Events, Run, Trace, Pick, Demo, number_in, request_of}, specs.Behaviours.behaviour, specs.Endings.outcome}
 
 abbrev known : List ℕ
 known =

@@ -1,29 +1,13 @@
 -- No refusal of a plan, or of a file by a plan, is that of a bad command line.
-use Rattle.std.proofs.Common.{◌≡◌, ℕ, List, Bool, true, false, None, Some, Ok, Err, refl, arith}
-use Rattle.std.specs.Prelude.{◌≢◌, ◌==◌, Result, length, nat_le, if◌then◌else◌}
+use Rattle.std.proofs.Common.{◌≡◌, ℕ, List, Bool, true, false, None, Some, Ok, Err, refl, arith, ◌≢◌, ◌==◌, Result, length, nat_le, if◌then◌else◌}
 use Rattle.std.specs.declared.option.Option.{Option}
-use Rattle.tally_base.specs.declared.fault.Fault.{Fault}
-use Rattle.tally_base.specs.declared.fault.Fault.TheVariants.{PlanTooLong, PlanRule}
-use Rattle.tally_base.specs.declared.header.Header.{Header}
-use Rattle.tally_base.specs.declared.header.Mode.{Mode}
-use Rattle.tally_base.specs.Faults.{status_of, fault_in}
-use Rattle.tally_base.specs.RecordTypes.{mode_of}
-use Rattle.ptu_definitions.specs.declared.records.Summary.{Summary}
-use Rattle.ptu_definitions.specs.Headers.{header_answer}
-use Rattle.ptu_definitions.specs.Words.{words_of, rest_of}
-use Rattle.ptu_definitions.specs.Streams.{record_refusal, summary, streamed}
+use Rattle.tally_base.{specs.declared.fault.Fault.Fault, specs.declared.fault.Fault.TheVariants.{PlanTooLong, PlanRule}, specs.declared.header.Header.Header, specs.declared.header.Mode.Mode, specs.Faults.{status_of, fault_in}, specs.RecordTypes.mode_of}
+use Rattle.ptu_definitions.{specs.declared.records.Summary.Summary, specs.Headers.header_answer, specs.Words.{words_of, rest_of}, specs.Streams.{record_refusal, summary, streamed}}
 use Rattle.toml.specs.Data.{table, Members}
-use Rattle.toml_rules.specs.Rules.{Rule, all_kept, Names, RiseFrom}
-use Rattle.toml_rules.proofs.Least.{names_least}
-use Rattle.plan_text.specs.Plan.{PlanView, plan_rules, plan}
-use Rattle.plan_text.specs.Reading.{text_limit, document, if_kept, plan_of_document, plan_answer}
-use Rattle.plan_text.specs.Fits.{fits, IsMisfit}
-use Rattle.plan_text.proofs.Rise.{plan_rules_rise}
-use Rattle.plan_text.proofs.Misfits.{misfit_named, names_part}
-use Rattle.ptu_cli.specs.Outcomes.{status, report_outcome}
+use Rattle.toml_rules.{specs.Rules.{Rule, all_kept, Names, RiseFrom}, proofs.Least.names_least}
+use Rattle.plan_text.{specs.Plan.{PlanView, plan_rules, plan}, specs.Reading.{text_limit, document, if_kept, plan_of_document, plan_answer}, specs.Fits.{fits, IsMisfit}, proofs.Rise.plan_rules_rise, proofs.Misfits.{misfit_named, names_part}}
+use Rattle.ptu_cli.{specs.Outcomes.{status, report_outcome}, specs.Reports.{report_of, if_fits, report_behind, file_report}, proofs.ByteFaults.{IsOfBytes, header_answer-bytes, streamed-bytes}}
 use Rattle.tally_engine.specs.Plans.{reading_by}
-use Rattle.ptu_cli.specs.Reports.{report_of, if_fits, report_behind, file_report}
-use Rattle.ptu_cli.proofs.ByteFaults.{IsOfBytes, header_answer-bytes, streamed-bytes}
 
 names-bytes : (rules : List Rule) (fault : Fault) → Names rules fault → status_of fault ≢ 1
 names-bytes rules (PlanRule n index) h = λ e. omega arith

@@ -1,25 +1,12 @@
 -- How `run` ends.
-use Rattle.std.proofs.Common.{◌≡◌, ℕ, List, inl, inr, Ok, Err}
-use Rattle.std.specs.Prelude.{Result, OnOk, OnErr, IfErr}
-use Rattle.std.specs.declared.option.Option.{Option}
-use Rattle.std.specs.Io.KnownBytes.{Appends, Consumes}
-use Rattle.tally_base.specs.declared.slot.Slot.TheVariants.{Data}
-use Rattle.tally_base.specs.declared.fault.Fault.{Fault}
-use Rattle.tally_base.specs.declared.fault.Fault.TheVariants.{WriteFault}
-use Rattle.tally_base.specs.FaultCounts.{Rose}
-use Rattle.bench_io.specs.Inputs.{InputState}
-use Rattle.bench_io.specs.Sinks.{AppendsShort}
+use Rattle.std.proofs.Common.{◌≡◌, ℕ, List, inl, inr, Ok, Err, Result, OnOk, OnErr, IfErr}
+use Rattle.std.{specs.declared.option.Option.Option, specs.Io.KnownBytes.{Appends, Consumes}}
+use Rattle.tally_base.{specs.declared.slot.Slot.TheVariants.Data, specs.declared.fault.Fault.Fault, specs.declared.fault.Fault.TheVariants.WriteFault, specs.FaultCounts.Rose}
+use Rattle.bench_io.{specs.Inputs.InputState, specs.Sinks.AppendsShort}
 use Rattle.plan_text.specs.Plan.{PlanView}
 use Rattle.tally_engine.specs.declared.engine.Results.{Results}
 use Rattle.table_out.specs.Report.{Table, report, EachHolds}
-use Rattle.ptu_cli.specs.Outcomes.{report_outcome}
-use Rattle.ptu_cli.specs.Reports.{file_report}
-use Rattle.ptu_cli.specs.RunPieces.{IsReport, AnswersReport, RunReason}
-use Rattle.ptu_cli.specs.Behaviours.{AtEnd, reporting}
-use Rattle.ptu_cli.specs.Endings.{StopsAtHeader, Span}
-use Rattle.ptu_cli.specs.Works.{AnswersWork, WorkReason}
-use Rattle.ptu_cli.proofs.Told.{Says-map}
-use Rattle.ptu_cli.proofs.WorkTold.{refused-answers, written-answers, unwritten-reason, unread-reason}
+use Rattle.ptu_cli.{specs.Outcomes.report_outcome, specs.Reports.file_report, specs.RunPieces.{IsReport, AnswersReport, RunReason}, specs.Behaviours.{AtEnd, reporting}, specs.Endings.{StopsAtHeader, Span}, specs.Works.{AnswersWork, WorkReason}, proofs.Told.Says-map, proofs.WorkTold.{refused-answers, written-answers, unwritten-reason, unread-reason}}
 
 -- data that are refused end the work
 pub ends-uncounted : (plan : PlanView) (rest left : Option (List ℕ)) (taken : List ℕ) (fault : Fault) (old : Option (List ℕ)) → Consumes rest left taken → AnswersReport plan taken left (Err fault) → AnswersWork (reporting plan) rest left old old (Err fault)

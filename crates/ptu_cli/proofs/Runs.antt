@@ -1,44 +1,13 @@
 -- A header and the records behind it give the report of the file.
-use Rattle.std.proofs.Common.{◌≡◌, ◌<◌, ℕ, List, [], ◌++◌, length, None, Ok, Err, true, false, append-nil, refl, sym, ap, ◌∙◌, append_assoc, inl, inr}
-use Rattle.std.specs.Prelude.{◌⊎◌, Result, IfErr, IsErrAnd}
-use Rattle.std.specs.declared.option.Option.{Option}
-use Rattle.std.specs.Io.KnownBytes.{Consumes, IsAtEnd}
-use Rattle.tally_base.specs.declared.fault.Fault.{Fault}
-use Rattle.tally_base.specs.declared.header.Mode.{Mode}
-use Rattle.tally_base.specs.declared.slot.Slot.TheVariants.{Data}
-use Rattle.tally_base.specs.declared.header.Header.{Header}
-use Rattle.tally_base.specs.Faults.{is_outside, fault_in}
-use Rattle.tally_base.specs.RecordTypes.{mode_of}
-use Rattle.tally_base.proofs.Reasons.{HasReason-inside, HasReason-follows, HasReason-with}
-use Rattle.bench_io.specs.Inputs.{InputState, NoneFalls}
-use Rattle.bench_io.proofs.Bytes.{Consumes-trans}
-use Rattle.bench_io.proofs.Rises.{Rose-behind}
-use Rattle.ptu_definitions.specs.declared.records.Summary.{Summary}
-use Rattle.ptu_definitions.specs.Headers.{header_answer}
-use Rattle.ptu_definitions.specs.Shown.{Shows}
-use Rattle.ptu_definitions.specs.Streams.{record_refusal, streamed}
-use Rattle.plan_text.specs.Plan.{PlanView}
-use Rattle.plan_text.specs.Fits.{fits, IsMisfit}
-use Rattle.plan_text.proofs.Misfits.{misfit_named, names_part}
-use Rattle.tally_engine.specs.declared.engine.Engine.{Engine}
-use Rattle.tally_engine.specs.declared.engine.Results.{Results}
-use Rattle.tally_engine.specs.Engine.{engine_sorting, reading_of, IsFor, SameEngine, IsCounted, Finishes}
-use Rattle.tally_engine.specs.Plans.{reading_by, OpensAs}
-use Rattle.tally_engine.specs.Histories.{history}
-use Rattle.tally_engine.specs.Parts.{settings_in}
-use Rattle.ptu_definitions.specs.Words.{words_of}
-use Rattle.table_out.specs.Report.{with_events}
-use Rattle.table_out.proofs.Tables.{each_holds_all}
-use Rattle.ptu_cli.specs.Told.{Says}
-use Rattle.ptu_cli.specs.Outcomes.{IsCut}
-use Rattle.ptu_cli.specs.Outcomes.{MayChange}
-use Rattle.ptu_cli.specs.Behaviours.{piece_limit}
-use Rattle.ptu_cli.specs.Pieces.{ReadReason, TakesOpen, StopsSoon}
-use Rattle.ptu_cli.specs.Reports.{report_of, if_fits, report_behind, file_report}
-use Rattle.ptu_cli.specs.RunPieces.{EndsEngine, IsReport, AnswersReport, RunReason}
-use Rattle.ptu_cli.proofs.Told.{Says-at_end, Says-shown, Says-map}
-use Rattle.ptu_cli.proofs.Composed.{ShowsHeader}
-use Rattle.ptu_cli.proofs.EventReasons.{streamed-open}
+use Rattle.std.proofs.Common.{◌≡◌, ◌<◌, ℕ, List, [], ◌++◌, length, None, Ok, Err, true, false, append-nil, refl, sym, ap, ◌∙◌, append_assoc, inl, inr, ◌⊎◌, Result, IfErr, IsErrAnd}
+use Rattle.std.{specs.declared.option.Option.Option, specs.Io.KnownBytes.{Consumes, IsAtEnd}}
+use Rattle.tally_base.{specs.declared.fault.Fault.Fault, specs.declared.header.Mode.Mode, specs.declared.slot.Slot.TheVariants.Data, specs.declared.header.Header.Header, specs.Faults.{is_outside, fault_in}, specs.RecordTypes.mode_of, proofs.Reasons.{HasReason-inside, HasReason-follows, HasReason-with}}
+use Rattle.bench_io.{specs.Inputs.{InputState, NoneFalls}, proofs.Bytes.Consumes-trans, proofs.Rises.Rose-behind}
+use Rattle.ptu_definitions.{specs.declared.records.Summary.Summary, specs.Headers.header_answer, specs.Shown.Shows, specs.Streams.{record_refusal, streamed}, specs.Words.words_of}
+use Rattle.plan_text.{specs.Plan.PlanView, specs.Fits.{fits, IsMisfit}, proofs.Misfits.{misfit_named, names_part}}
+use Rattle.tally_engine.{specs.declared.engine.Engine.Engine, specs.declared.engine.Results.Results, specs.Engine.{engine_sorting, reading_of, IsFor, SameEngine, IsCounted, Finishes}, specs.Plans.{reading_by, OpensAs}, specs.Histories.history, specs.Parts.settings_in}
+use Rattle.table_out.{specs.Report.with_events, proofs.Tables.each_holds_all}
+use Rattle.ptu_cli.{specs.Told.Says, specs.Outcomes.{IsCut, MayChange}, specs.Behaviours.piece_limit, specs.Pieces.{ReadReason, TakesOpen, StopsSoon}, specs.Reports.{report_of, if_fits, report_behind, file_report}, specs.RunPieces.{EndsEngine, IsReport, AnswersReport, RunReason}, proofs.Told.{Says-at_end, Says-shown, Says-map}, proofs.Composed.ShowsHeader, proofs.EventReasons.streamed-open}
 
 -- the report of the bytes taken and more, where the header is known
 abbrev report_from : PlanView → Header → List ℕ → Result (List ℕ) Fault

@@ -1,40 +1,14 @@
 -- The ends that bytes of FILE show by themselves.
-use Rattle.std.proofs.Common.{◌≡◌, ◌≢◌, ◌^◌, ℕ, List, ◌++◌, length, Bool, true, false, None, Some, Ok, Err, refl, sym, ap, ◌∙◌, subst, inl, inr, arith}
-use Rattle.std.specs.Prelude.{◌⊎◌, ◌==◌, Result, nat_lt, if◌then◌else◌}
-use Rattle.std.specs.declared.option.Option.{Option}
-use Rattle.std.proofs.lemmas.Bool.Decides.{nat_tests}
-use Rattle.std.proofs.lemmas.List.{length-take}
-use Rattle.tally_base.specs.declared.fault.Fault.{Fault}
-use Rattle.tally_base.specs.declared.fault.Fault.TheVariants.{TruncatedHeader, TruncatedRecord, RecordLimit}
-use Rattle.tally_base.specs.declared.header.Header.{Header}
-use Rattle.tally_base.specs.declared.header.RecordType.{RecordType}
-use Rattle.tally_base.specs.Faults.{fault_in}
-use Rattle.tally_base.specs.RecordTypes.{mode_of}
-use Rattle.ptu_definitions.specs.declared.records.KindCounts.{KindCounts}
-use Rattle.ptu_definitions.specs.declared.records.Summary.{Summary}
-use Rattle.ptu_definitions.specs.Headers.{header_answer}
-use Rattle.ptu_definitions.specs.Words.{words_of, rest_of}
-use Rattle.ptu_definitions.specs.Kinds.{counts_of}
-use Rattle.ptu_definitions.specs.Counted.{record_limit, records_of, counted}
-use Rattle.ptu_definitions.specs.Streams.{record_refusal, streamed}
-use Rattle.ptu_definitions.proofs.WordsLemmas.{words_of-append, length-words_of-append}
-use Rattle.ptu_definitions.proofs.StreamLemmas.{given-stays}
-use Rattle.ptu_definitions.proofs.SeenLaws.{cut-size}
-use Rattle.ptu_definitions.proofs.Stays.{refused-stays, headed-stays}
+use Rattle.std.proofs.Common.{◌≡◌, ◌≢◌, ◌^◌, ℕ, List, ◌++◌, length, Bool, true, false, None, Some, Ok, Err, refl, sym, ap, ◌∙◌, subst, inl, inr, arith, ◌⊎◌, ◌==◌, Result, nat_lt, if◌then◌else◌}
+use Rattle.std.{specs.declared.option.Option.Option, proofs.lemmas.Bool.Decides.nat_tests, proofs.lemmas.List.length-take}
+use Rattle.tally_base.{specs.declared.fault.Fault.Fault, specs.declared.fault.Fault.TheVariants.{TruncatedHeader, TruncatedRecord, RecordLimit}, specs.declared.header.Header.Header, specs.declared.header.RecordType.RecordType, specs.Faults.fault_in, specs.RecordTypes.mode_of}
+use Rattle.ptu_definitions.{specs.declared.records.KindCounts.KindCounts, specs.declared.records.Summary.Summary, specs.Headers.header_answer, specs.Words.{words_of, rest_of}, specs.Kinds.counts_of, specs.Counted.{record_limit, records_of, counted}, specs.Streams.{record_refusal, streamed}, proofs.WordsLemmas.{words_of-append, length-words_of-append}, proofs.StreamLemmas.given-stays, proofs.SeenLaws.cut-size, proofs.Stays.{refused-stays, headed-stays}}
 use Rattle.record_stream.proofs.Lasts.{streamed-refused, streamed-shown}
-use Rattle.plan_text.specs.Plan.{PlanView}
-use Rattle.plan_text.specs.Fits.{fits}
+use Rattle.plan_text.{specs.Plan.PlanView, specs.Fits.fits}
 use Rattle.tally_engine.specs.Plans.{reading_by}
-use Rattle.table_out.specs.HeaderText.{header_text}
-use Rattle.table_out.specs.EventText.{events_text, lines_of}
-use Rattle.ptu_cli.specs.Reports.{report_of, if_fits, report_behind}
-use Rattle.ptu_cli.specs.Outcomes.{Outcome, refused, MayChange, ends_early, with_counts, counts_behind, count_outcome, listing, listed, events_behind, report_outcome}
-use Rattle.ptu_cli.specs.Behaviours.{counting, printing, listing_all, reporting, tracing, GoesOnOrShows}
+use Rattle.table_out.{specs.HeaderText.header_text, specs.EventText.{events_text, lines_of}}
+use Rattle.ptu_cli.{specs.Reports.{report_of, if_fits, report_behind}, specs.Outcomes.{Outcome, refused, MayChange, ends_early, with_counts, counts_behind, count_outcome, listing, listed, events_behind, report_outcome}, specs.Behaviours.{counting, printing, listing_all, reporting, tracing, GoesOnOrShows}, specs.TraceOutcomes.{trace_of, traced, traced_if_fits, traced_behind}, proofs.TraceTexts.refused-ends, proofs.HeaderEnds.{outcome-done, outcome-refused}, proofs.EventReasons.streamed-open}
 use Rattle.gate_plan.specs.Shifting.{sorting}
-use Rattle.ptu_cli.specs.TraceOutcomes.{trace_of, traced, traced_if_fits, traced_behind}
-use Rattle.ptu_cli.proofs.TraceTexts.{refused-ends}
-use Rattle.ptu_cli.proofs.HeaderEnds.{outcome-done, outcome-refused}
-use Rattle.ptu_cli.proofs.EventReasons.{streamed-open}
 
 abbrev Answer : Type 0
 Answer = Result (Header × List ℕ) Fault

@@ -1,24 +1,11 @@
 -- What is shown of each command's work: good files end it well, an end that its bytes show stays, and no end of it is that of a bad command line.
-use Rattle.std.proofs.Common.{◌≡◌, ℕ, List, length, false, None, Ok, refl, sym, ap, ◌∙◌, ◌≢◌, arith}
-use Rattle.std.specs.Prelude.{nat_lt}
+use Rattle.std.proofs.Common.{◌≡◌, ℕ, List, length, false, None, Ok, refl, sym, ap, ◌∙◌, ◌≢◌, arith, nat_lt}
 use Rattle.std.proofs.lemmas.Bool.Decides.{nat_tests}
-use Rattle.tally_base.specs.Faults.{fault_in}
-use Rattle.tally_base.specs.declared.header.RecordType.{RecordType}
-use Rattle.ptu_definitions.specs.Headers.{header_answer}
-use Rattle.ptu_definitions.specs.Words.{words_of}
-use Rattle.ptu_definitions.specs.Kinds.{counts_of}
-use Rattle.ptu_definitions.specs.Counted.{record_limit, records_of, counted}
-use Rattle.ptu_definitions.specs.Streams.{Reading, summary, streamed}
+use Rattle.tally_base.{specs.Faults.fault_in, specs.declared.header.RecordType.RecordType}
+use Rattle.ptu_definitions.{specs.Headers.header_answer, specs.Words.words_of, specs.Kinds.counts_of, specs.Counted.{record_limit, records_of, counted}, specs.Streams.{Reading, summary, streamed}}
 use Rattle.plan_text.specs.Plan.{PlanView, plan}
 use Rattle.tally_engine.specs.Plans.{reading_by}
-use Rattle.ptu_cli.specs.Outcomes.{status, file_counts, listing}
-use Rattle.ptu_cli.specs.Behaviours.{Work, GoesOnOrShows, Behaviour, AreWhole, AreRead, counting, printing, listing_all, reporting, tracing, picking, NoCommand, Alone, OnFile, ByPlan}
-use Rattle.ptu_cli.proofs.PickFaults.{pick-bytes}
-use Rattle.ptu_cli.proofs.TraceFaults.{trace-fault}
-use Rattle.ptu_cli.proofs.PickShown.{pick-shows}
-use Rattle.ptu_cli.proofs.ByteFaults.{header_answer-bytes, counts_behind-bytes, count_outcome-bytes, fault_in-bytes, events_behind-bytes}
-use Rattle.ptu_cli.proofs.Shown.{count-shows, print-shows, list-shows, report-shows, trace-shows}
-use Rattle.ptu_cli.proofs.RunFaults.{report-bytes}
+use Rattle.ptu_cli.{specs.Outcomes.{status, file_counts, listing}, specs.Behaviours.{Work, GoesOnOrShows, Behaviour, AreWhole, AreRead, counting, printing, listing_all, reporting, tracing, picking, NoCommand, Alone, OnFile, ByPlan}, proofs.PickFaults.pick-bytes, proofs.TraceFaults.trace-fault, proofs.PickShown.pick-shows, proofs.ByteFaults.{header_answer-bytes, counts_behind-bytes, count_outcome-bytes, fault_in-bytes, events_behind-bytes}, proofs.Shown.{count-shows, print-shows, list-shows, report-shows, trace-shows}, proofs.RunFaults.report-bytes}
 
 pub record WorkIsSound (work : Work) : Type 0 where
   pub well : (bytes : List ℕ) → work.good bytes → (work.outcome bytes).fault ≡ None

@@ -1,22 +1,9 @@
 -- The statuses that the runs of each command end with, by its shape.
-use Rattle.std.proofs.Common.{◌≡◌, ℕ, None, Some, refl, sym, ap, subst, inl, inr, ◌<◌, ◌≤◌, arith}
-use Rattle.std.specs.Prelude.{◌⊎◌}
-use Rattle.std.specs.declared.option.Option.{Option}
-use Rattle.std.proofs.lemmas.Bool.{cases_lt, cases_eq}
-use Rattle.tally_base.specs.declared.fault.Fault.{Fault}
-use Rattle.tally_base.specs.declared.slot.Slot.{Slot}
-use Rattle.tally_base.specs.Faults.{status_of}
+use Rattle.std.proofs.Common.{◌≡◌, ℕ, None, Some, refl, sym, ap, subst, inl, inr, ◌<◌, ◌≤◌, arith, ◌⊎◌}
+use Rattle.std.{specs.declared.option.Option.Option, proofs.lemmas.Bool.{cases_lt, cases_eq}}
+use Rattle.tally_base.{specs.declared.fault.Fault.Fault, specs.declared.slot.Slot.Slot, specs.Faults.status_of}
 use Rattle.bench_io.specs.Inputs.{File}
-use Rattle.ptu_cli.specs.Runs.{Around, Runs}
-use Rattle.ptu_cli.specs.Endings.{outcome, Reaches, RunsOut}
-use Rattle.ptu_cli.specs.Causes.{MayCallFor, MayEndWith}
-use Rattle.ptu_cli.specs.Outcomes.{status}
-use Rattle.ptu_cli.specs.Behaviours.{Behaviour, behaviour, Alone, OnFile, ByPlan}
-use Rattle.ptu_cli.specs.Commands.{Request}
-use Rattle.ptu_cli.specs.CommandCases.{CommandCases, IsIn, cases, BadWords, Writes, ReadsHeader, ReadsRecords, ReadsByPlan}
-use Rattle.ptu_cli.proofs.CaseShapes.{MeetsCases}
-use Rattle.ptu_cli.proofs.Causes.{may-call}
-use Rattle.ptu_cli.proofs.Proved.{proved}
+use Rattle.ptu_cli.{specs.Runs.{Around, Runs}, specs.Endings.{outcome, Reaches, RunsOut}, specs.Causes.{MayCallFor, MayEndWith}, specs.Outcomes.status, specs.Behaviours.{Behaviour, behaviour, Alone, OnFile, ByPlan}, specs.Commands.Request, specs.CommandCases.{CommandCases, IsIn, cases, BadWords, Writes, ReadsHeader, ReadsRecords, ReadsByPlan}, proofs.CaseShapes.MeetsCases, proofs.Causes.may-call, proofs.Proved.proved}
 
 abbrev OfFiles : Option Request → ℕ → Type 0
 OfFiles request result = (plan_file : File) × (data_file : File) × (result ≡ status (outcome (behaviour request) plan_file data_file).fault)

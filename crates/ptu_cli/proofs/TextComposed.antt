@@ -1,22 +1,10 @@
 -- A header, and the text of the records behind it.
-use Rattle.std.proofs.Common.{◌≡◌, ◌∙◌, ℕ, List, [], ◌++◌, None, Some, Err, sym, ap, subst, inl, inr, append_assoc}
-use Rattle.std.specs.Prelude.{◌⊎◌, true, Result}
-use Rattle.std.specs.declared.option.Option.{Option}
-use Rattle.std.specs.Io.KnownBytes.{Appends, Consumes}
-use Rattle.tally_base.specs.declared.fault.Fault.{Fault}
-use Rattle.tally_base.specs.declared.header.Header.{Header}
-use Rattle.tally_base.specs.Faults.{is_outside, fault_in}
-use Rattle.bench_io.specs.Sinks.{AppendsShort}
-use Rattle.bench_io.proofs.Bytes.{Appends-nil, Appends-trans, Appends-same, Consumes-trans, AppendsShort-behind, AppendsShort-more, AppendsShort-same}
-use Rattle.ptu_definitions.specs.Headers.{header_answer}
-use Rattle.ptu_definitions.specs.Words.{words_of}
-use Rattle.ptu_cli.specs.Told.{Says}
-use Rattle.ptu_cli.specs.Outcomes.{Outcome, refused}
-use Rattle.ptu_cli.specs.TextRuns.{AnswersText, ReadsText, CutsText}
-use Rattle.ptu_cli.specs.Behaviours.{AsItReads, Work}
-use Rattle.ptu_cli.specs.Works.{AnswersWork, ReadsWork, CutsWork}
-use Rattle.ptu_cli.proofs.Told.{Says-shown, some_left}
-use Rattle.ptu_cli.proofs.TextEnds.{end_with}
+use Rattle.std.proofs.Common.{◌≡◌, ◌∙◌, ℕ, List, [], ◌++◌, None, Some, Err, sym, ap, subst, inl, inr, append_assoc, ◌⊎◌, true, Result}
+use Rattle.std.{specs.declared.option.Option.Option, specs.Io.KnownBytes.{Appends, Consumes}}
+use Rattle.tally_base.{specs.declared.fault.Fault.Fault, specs.declared.header.Header.Header, specs.Faults.{is_outside, fault_in}}
+use Rattle.bench_io.{specs.Sinks.AppendsShort, proofs.Bytes.{Appends-nil, Appends-trans, Appends-same, Consumes-trans, AppendsShort-behind, AppendsShort-more, AppendsShort-same}}
+use Rattle.ptu_definitions.{specs.Headers.header_answer, specs.Words.words_of}
+use Rattle.ptu_cli.{specs.Told.Says, specs.Outcomes.{Outcome, refused}, specs.TextRuns.{AnswersText, ReadsText, CutsText}, specs.Behaviours.{AsItReads, Work}, specs.Works.{AnswersWork, ReadsWork, CutsWork}, proofs.Told.{Says-shown, some_left}, proofs.TextEnds.end_with}
 
 -- an outcome with a text before it
 abbrev pub headed : List ℕ → Outcome → Outcome

@@ -1,21 +1,10 @@
 -- The text of bytes that grow.
-use Rattle.std.proofs.Common.{◌≡◌, ◌∙◌, ℕ, List, [], ◌++◌, None, Some, Ok, Err, refl, ap, inl, inr, ⊎_elim, append_assoc, append-nil}
-use Rattle.std.specs.Prelude.{false, Result, IfErr}
-use Rattle.std.specs.declared.option.Option.{Option}
-use Rattle.std.specs.Io.KnownBytes.{Consumes, IsAtEnd}
-use Rattle.tally_base.specs.declared.fault.Fault.{Fault}
-use Rattle.tally_base.specs.declared.fault.Fault.TheVariants.{WriteFault}
-use Rattle.tally_base.specs.declared.slot.Slot.{Slot}
-use Rattle.tally_base.specs.Faults.{is_outside, fault_in, HasReason}
-use Rattle.tally_base.proofs.Reasons.{HasReason-inside}
-use Rattle.told_text.specs.Texts.{WroteText, CutText, WritesText}
-use Rattle.told_text.proofs.Texts.{WroteText-trans, CutText-behind, CutText-more}
+use Rattle.std.proofs.Common.{◌≡◌, ◌∙◌, ℕ, List, [], ◌++◌, None, Some, Ok, Err, refl, ap, inl, inr, ⊎_elim, append_assoc, append-nil, false, Result, IfErr}
+use Rattle.std.{specs.declared.option.Option.Option, specs.Io.KnownBytes.{Consumes, IsAtEnd}}
+use Rattle.tally_base.{specs.declared.fault.Fault.Fault, specs.declared.fault.Fault.TheVariants.WriteFault, specs.declared.slot.Slot.Slot, specs.Faults.{is_outside, fault_in, HasReason}, proofs.Reasons.HasReason-inside}
+use Rattle.told_text.{specs.Texts.{WroteText, CutText, WritesText}, proofs.Texts.{WroteText-trans, CutText-behind, CutText-more}}
 use Rattle.ptu_definitions.specs.Words.{words_of}
-use Rattle.ptu_cli.specs.Once.{tells_writing, OutOnce}
-use Rattle.ptu_cli.specs.Outcomes.{Outcome}
-use Rattle.ptu_cli.specs.TextRuns.{WritesEnd, EndsText, AnswersText, CutsText}
-use Rattle.ptu_cli.proofs.Once.{stays-same}
-use Rattle.ptu_cli.proofs.Told.{some_left, none_left}
+use Rattle.ptu_cli.{specs.Once.{tells_writing, OutOnce}, specs.Outcomes.Outcome, specs.TextRuns.{WritesEnd, EndsText, AnswersText, CutsText}, proofs.Once.stays-same, proofs.Told.{some_left, none_left}}
 
 abbrev pub end_with : List ℕ → Option Fault → Outcome
 end_with text fault = record { text = text; fault = fault }

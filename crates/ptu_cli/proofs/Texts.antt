@@ -1,8 +1,6 @@
 -- A text that is read into the rest of an array.
 use Rattle.std.proofs.Common.{◌≡◌, ◌+◌, ◌≤◌, ℕ, List, ◌++◌, length, take, refl, sym, ap, ◌∙◌, arith}
-use Rattle.std.proofs.lemmas.List.{take-take, length-take}
-use Rattle.std.proofs.lemmas.Slice.{take-put_mid}
-use Rattle.std.proofs.Math.Seq.{take-append-add}
+use Rattle.std.{proofs.lemmas.List.{take-take, length-take}, proofs.lemmas.Slice.take-put_mid, proofs.Math.Seq.take-append-add}
 use borrow.Rule.Slice.PartMut.{put_mid}
 
 -- the first bytes with those that were read behind them

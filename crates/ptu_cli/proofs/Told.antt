@@ -1,7 +1,6 @@
 -- What the bytes taken say of the whole.
 use Rattle.std.proofs.Common.{◌≡◌, ℕ, List, [], ◌++◌, None, Some, refl, sym, ap, ◌∙◌, subst, append-nil}
-use Rattle.std.specs.declared.option.Option.{Option}
-use Rattle.std.specs.Io.KnownBytes.{Consumes, IsAtEnd}
+use Rattle.std.{specs.declared.option.Option.Option, specs.Io.KnownBytes.{Consumes, IsAtEnd}}
 use Rattle.bench_io.specs.Inputs.{File, IsOpened}
 use Rattle.ptu_definitions.specs.Shown.{Shows}
 use Rattle.ptu_cli.specs.Told.{MayBe, Says}

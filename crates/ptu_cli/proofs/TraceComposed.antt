@@ -1,38 +1,16 @@
 -- A header, and the trace of the records behind it.
-use Rattle.std.proofs.Common.{◌≡◌, ◌∙◌, ℕ, List, [], ◌++◌, None, Some, Ok, Err, refl, sym, ap, append-nil}
-use Rattle.std.specs.Prelude.{◌⊎◌, ◌<◌, true, false, Result}
-use Rattle.std.specs.declared.option.Option.{Option}
-use Rattle.std.specs.Io.KnownBytes.{Appends, Consumes}
-use Rattle.tally_base.specs.declared.fault.Fault.{Fault}
-use Rattle.tally_base.specs.declared.header.Header.{Header}
-use Rattle.tally_base.specs.declared.header.Mode.{Mode}
-use Rattle.ptu_definitions.specs.declared.records.Summary.{Summary}
-use Rattle.plan_text.specs.Fits.{IsMisfit}
-use Rattle.plan_text.proofs.Misfits.{names_part}
+use Rattle.std.proofs.Common.{◌≡◌, ◌∙◌, ℕ, List, [], ◌++◌, None, Some, Ok, Err, refl, sym, ap, append-nil, ◌⊎◌, ◌<◌, true, false, Result}
+use Rattle.std.{specs.declared.option.Option.Option, specs.Io.KnownBytes.{Appends, Consumes}}
+use Rattle.tally_base.{specs.declared.fault.Fault.Fault, specs.declared.header.Header.Header, specs.declared.header.Mode.Mode, specs.Faults.{is_outside, fault_in}, specs.RecordTypes.mode_of, specs.Settings.TraceView}
+use Rattle.ptu_definitions.{specs.declared.records.Summary.Summary, specs.Headers.header_answer, specs.Words.words_of, specs.Streams.{Reading, record_refusal, streamed}}
+use Rattle.plan_text.{specs.Fits.{IsMisfit, fits}, proofs.Misfits.names_part, specs.Plan.PlanView}
 use Rattle.told_text.specs.Texts.{WroteText, CutText}
-use Rattle.ptu_cli.proofs.TraceTexts.{text-front}
-use Rattle.tally_base.specs.Faults.{is_outside, fault_in}
-use Rattle.tally_base.specs.RecordTypes.{mode_of}
-use Rattle.tally_base.specs.Settings.{TraceView}
-use Rattle.bench_io.specs.Sinks.{AppendsShort}
-use Rattle.bench_io.proofs.Bytes.{Appends-trans, Appends-same, AppendsShort-behind, AppendsShort-same}
-use Rattle.ptu_definitions.specs.Headers.{header_answer}
-use Rattle.ptu_definitions.specs.Words.{words_of}
-use Rattle.ptu_definitions.specs.Streams.{Reading, record_refusal, streamed}
-use Rattle.plan_text.specs.Plan.{PlanView}
-use Rattle.plan_text.specs.Fits.{fits}
+use Rattle.ptu_cli.{proofs.TraceTexts.text-front, specs.Told.Says, specs.Outcomes.{Outcome, MayChange, IsCut}, specs.TraceOutcomes.{settled_before, trace_of, words_traced, traced, records_traced, traced_if_fits, traced_behind, trace_outcome, open_if_fits, open_behind, trace_so_far}, specs.TextRuns.{AnswersText, ReadsText, CutsText}, specs.Behaviours.{AsItReads, tracing}, specs.Works.{AnswersWork, ReadsWork, CutsWork}, proofs.Composed.ShowsHeader}
+use Rattle.bench_io.{specs.Sinks.AppendsShort, proofs.Bytes.{Appends-trans, Appends-same, AppendsShort-behind, AppendsShort-same}}
 use Rattle.gate_plan.specs.Shifting.{Sorting, sorting}
-use Rattle.tally_engine.proofs.Opens.{history-none}
+use Rattle.tally_engine.{proofs.Opens.history-none, specs.Plans.reading_by}
 use Rattle.long_trace.specs.Texts.{first_line, open_text}
-use Rattle.tally_engine.specs.Plans.{reading_by}
-use Rattle.ptu_cli.specs.Told.{Says}
-use Rattle.ptu_cli.specs.Outcomes.{Outcome, MayChange, IsCut}
-use Rattle.ptu_cli.specs.TraceOutcomes.{settled_before, trace_of, words_traced, traced, records_traced, traced_if_fits, traced_behind, trace_outcome, open_if_fits, open_behind, trace_so_far}
-use Rattle.ptu_cli.specs.TextRuns.{AnswersText, ReadsText, CutsText}
-use Rattle.ptu_cli.specs.Behaviours.{AsItReads, tracing}
-use Rattle.ptu_cli.specs.Works.{AnswersWork, ReadsWork, CutsWork}
 use Rattle.ptu_cli.proofs.TextComposed as composed
-use Rattle.ptu_cli.proofs.Composed.{ShowsHeader}
 
 abbrev fit : Result (Unit {0}) Fault
 fit = Ok tt

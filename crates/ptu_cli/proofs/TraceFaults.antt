@@ -1,21 +1,12 @@
 -- The faults of a trace are those of a run by the same plan.
-use Rattle.std.proofs.Common.{◌≡◌, ℕ, List, None, Some, Ok, Err, refl, arith}
-use Rattle.std.specs.Prelude.{◌≢◌, Result}
+use Rattle.std.proofs.Common.{◌≡◌, ℕ, List, None, Some, Ok, Err, refl, arith, ◌≢◌, Result}
 use Rattle.std.specs.declared.option.Option.{Option}
-use Rattle.tally_base.specs.declared.fault.Fault.{Fault}
-use Rattle.tally_base.specs.declared.header.Header.{Header}
-use Rattle.tally_base.specs.RecordTypes.{mode_of}
-use Rattle.tally_base.specs.Settings.{TraceView}
-use Rattle.ptu_definitions.specs.declared.records.Summary.{Summary}
-use Rattle.ptu_definitions.specs.Headers.{header_answer}
-use Rattle.ptu_definitions.specs.Streams.{streamed}
-use Rattle.plan_text.specs.Plan.{PlanView}
-use Rattle.plan_text.specs.Fits.{fits}
+use Rattle.tally_base.{specs.declared.fault.Fault.Fault, specs.declared.header.Header.Header, specs.RecordTypes.mode_of, specs.Settings.TraceView}
+use Rattle.ptu_definitions.{specs.declared.records.Summary.Summary, specs.Headers.header_answer, specs.Streams.streamed}
+use Rattle.plan_text.{specs.Plan.PlanView, specs.Fits.fits}
 use Rattle.gate_plan.specs.Shifting.{sorting}
 use Rattle.tally_engine.specs.Plans.{reading_by}
-use Rattle.ptu_cli.specs.Outcomes.{status, report_outcome}
-use Rattle.ptu_cli.specs.Reports.{report_of, if_fits, report_behind, file_report}
-use Rattle.ptu_cli.specs.TraceOutcomes.{unless_traced, trace_of, traced, traced_if_fits, traced_behind, trace_outcome}
+use Rattle.ptu_cli.{specs.Outcomes.{status, report_outcome}, specs.Reports.{report_of, if_fits, report_behind, file_report}, specs.TraceOutcomes.{unless_traced, trace_of, traced, traced_if_fits, traced_behind, trace_outcome}}
 
 records-fault : (view : PlanView) (header : Header) (bytes : List ℕ) (r : Result Summary Fault) → (traced (trace_of view) (sorting view) (reading_by view header) bytes r).fault ≡ (report_outcome (report_of view header bytes r)).fault
 records-fault view header bytes (Ok summary) = refl

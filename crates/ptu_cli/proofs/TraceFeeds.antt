@@ -1,42 +1,16 @@
 -- What a piece, and the end of a stream, write of a trace.
-use Rattle.std.proofs.Common.{◌≡◌, ◌≢◌, ◌∙◌, ◌≤◌, ◌<◌, ◌⊎◌, ℕ, List, [], ◌++◌, None, Some, Ok, Err, refl, sym, ap, subst, inl, inr, ⊎_elim, append_assoc, arith, length, length-append}
-use Rattle.std.specs.Prelude.{Result, OnOk, OnErr, IfErr, false}
-use Rattle.std.specs.declared.option.Option.{Option}
-use Rattle.std.specs.Io.KnownBytes.{Appends, Keeps}
-use Rattle.tally_base.specs.declared.fault.Fault.{Fault}
-use Rattle.tally_base.specs.declared.fault.Fault.TheVariants.{WriteFault}
-use Rattle.tally_base.specs.Faults.{is_outside, fault_in}
-use Rattle.tally_base.specs.FaultCounts.{Rose}
-use Rattle.tally_base.specs.Settings.{TraceView, trace_view}
-use Rattle.tally_base.specs.Tally.{History}
-use Rattle.tally_base.specs.declared.slot.Failed.{Failed}
+use Rattle.std.proofs.Common.{◌≡◌, ◌≢◌, ◌∙◌, ◌≤◌, ◌<◌, ◌⊎◌, ℕ, List, [], ◌++◌, None, Some, Ok, Err, refl, sym, ap, subst, inl, inr, ⊎_elim, append_assoc, arith, length, length-append, Result, OnOk, OnErr, IfErr, false}
+use Rattle.std.{specs.declared.option.Option.Option, specs.Io.KnownBytes.{Appends, Keeps}}
+use Rattle.tally_base.{specs.declared.fault.Fault.Fault, specs.declared.fault.Fault.TheVariants.WriteFault, specs.Faults.{is_outside, fault_in}, specs.FaultCounts.Rose, specs.Settings.{TraceView, trace_view}, specs.Tally.History, specs.declared.slot.Failed.Failed}
 use Rattle.told_text.specs.Texts.{WroteText, WritesText}
-use Rattle.bench_io.specs.TriesOnce.{TriesOnce}
-use Rattle.bench_io.specs.Sinks.{AppendsShort, PassesOn}
-use Rattle.bench_io.specs.declared.sink.Sink.{Ghosts as SinkGhosts}
-use Rattle.bench_io.proofs.Bytes.{Appends-flushed, AppendsShort-flushed, AppendsShort-more, AppendsShort-kept, Keeps-from_none}
-use Rattle.ptu_definitions.specs.declared.records.Summary.{Summary}
-use Rattle.ptu_definitions.specs.Kept.{Marked}
-use Rattle.ptu_definitions.specs.Settled.{not_marked}
-use Rattle.ptu_definitions.specs.Words.{words_of, rest_of}
-use Rattle.ptu_definitions.specs.Streams.{Reading, record_refusal, last_in, streamed}
-use Rattle.ptu_definitions.proofs.DeliveredLaws.{not_marked-append}
-use Rattle.record_stream.specs.declared.taker.EventTaker.{Ghosts}
-use Rattle.record_stream.specs.Feeding.{GaveOn, BrokeOn, Fed}
-use Rattle.record_stream.specs.Ending.{GaveRest, BrokeFirst, Ended}
+use Rattle.bench_io.{specs.TriesOnce.TriesOnce, specs.Sinks.{AppendsShort, PassesOn}, specs.declared.sink.Sink.Ghosts as SinkGhosts, proofs.Bytes.{Appends-flushed, AppendsShort-flushed, AppendsShort-more, AppendsShort-kept, Keeps-from_none}}
+use Rattle.ptu_definitions.{specs.declared.records.Summary.Summary, specs.Kept.Marked, specs.Settled.not_marked, specs.Words.{words_of, rest_of}, specs.Streams.{Reading, record_refusal, last_in, streamed}, proofs.DeliveredLaws.not_marked-append}
+use Rattle.record_stream.{specs.declared.taker.EventTaker.Ghosts, specs.Feeding.{GaveOn, BrokeOn, Fed}, specs.Ending.{GaveRest, BrokeFirst, Ended}}
 use Rattle.gate_plan.specs.Shifting.{Sorting}
-use Rattle.tally_engine.specs.Histories.{with_groups, history}
-use Rattle.tally_engine.proofs.Takes.{with_groups-more}
-use Rattle.long_trace.specs.declared.trace.LongTrace.{LongTrace}
-use Rattle.long_trace.specs.LongTrace.{Holds, GivenMore, set_of}
-use Rattle.long_trace.specs.Texts.{open_text}
-use Rattle.long_trace.proofs.Rising.{RisesFrom, open-front}
-use Rattle.ptu_cli.specs.TraceOutcomes.{settled_before, words_traced}
-use Rattle.ptu_cli.specs.Once.{tells_writing, OutOnce}
-use Rattle.ptu_cli.specs.TracePieces.{WroteLast, CutLast, WritesLast, both_ended}
-use Rattle.ptu_cli.proofs.Once.{stays-same}
+use Rattle.tally_engine.{specs.Histories.{with_groups, history}, proofs.Takes.with_groups-more}
+use Rattle.long_trace.{specs.declared.trace.LongTrace.LongTrace, specs.LongTrace.{Holds, GivenMore, set_of}, specs.Texts.open_text, proofs.Rising.{RisesFrom, open-front}}
+use Rattle.ptu_cli.{specs.TraceOutcomes.{settled_before, words_traced}, specs.Once.{tells_writing, OutOnce}, specs.TracePieces.{WroteLast, CutLast, WritesLast, both_ended}, proofs.Once.stays-same, proofs.TraceTexts.{settled-adds, settled-rises, history-rest, history-rises}}
 use Rattle.photon_pick.proofs.Streams.{clear-from_ok, streamed-inside}
-use Rattle.ptu_cli.proofs.TraceTexts.{settled-adds, settled-rises, history-rest, history-rises}
 
 AppendsShort-none : (a b : Option (List ℕ)) → AppendsShort a b [] → ⊥
 AppendsShort-none a b q = let e : length {A = ℕ} [] ≡ length (q.0 ++ q.1) = ap length q.3 in let some = q.2 in omega (arith, e, some, length-append q.0 q.1)

@@ -1,32 +1,13 @@
 -- The end of a trace.
-use Rattle.std.proofs.Common.{◌≡◌, ◌∙◌, ℕ, List, [], ◌++◌, None, Some, Ok, Err, refl, sym, ap, inl, inr, append_assoc, append-nil}
-use Rattle.std.specs.Prelude.{Result, OnOk, OnErr, IfErr}
-use Rattle.std.specs.declared.option.Option.{Option}
-use Rattle.std.specs.Io.KnownBytes.{Appends, Keeps}
-use Rattle.tally_base.specs.declared.fault.Fault.{Fault}
-use Rattle.tally_base.specs.declared.fault.Fault.TheVariants.{WriteFault}
-use Rattle.tally_base.specs.Faults.{fault_in}
-use Rattle.tally_base.specs.FaultCounts.{Rose}
-use Rattle.tally_base.specs.Settings.{TraceView, trace_view}
-use Rattle.tally_base.specs.Tally.{History}
-use Rattle.bench_io.specs.declared.sink.Sink.{Ghosts}
-use Rattle.bench_io.proofs.Bytes.{Appends-trans, AppendsShort-behind, AppendsShort-more}
-use Rattle.ptu_definitions.specs.declared.records.Summary.{Summary}
-use Rattle.ptu_definitions.specs.Words.{words_of}
-use Rattle.ptu_definitions.specs.Streams.{Reading, record_refusal, streamed}
+use Rattle.std.proofs.Common.{◌≡◌, ◌∙◌, ℕ, List, [], ◌++◌, None, Some, Ok, Err, refl, sym, ap, inl, inr, append_assoc, append-nil, Result, OnOk, OnErr, IfErr}
+use Rattle.std.{specs.declared.option.Option.Option, specs.Io.KnownBytes.{Appends, Keeps}}
+use Rattle.tally_base.{specs.declared.fault.Fault.Fault, specs.declared.fault.Fault.TheVariants.WriteFault, specs.Faults.fault_in, specs.FaultCounts.Rose, specs.Settings.{TraceView, trace_view}, specs.Tally.History}
+use Rattle.bench_io.{specs.declared.sink.Sink.Ghosts, proofs.Bytes.{Appends-trans, AppendsShort-behind, AppendsShort-more}}
+use Rattle.ptu_definitions.{specs.declared.records.Summary.Summary, specs.Words.words_of, specs.Streams.{Reading, record_refusal, streamed}}
 use Rattle.gate_plan.specs.Shifting.{Sorting}
 use Rattle.tally_engine.specs.Histories.{history}
-use Rattle.long_trace.specs.declared.trace.LongTrace.{LongTrace}
-use Rattle.long_trace.specs.LongTrace.{set_of}
-use Rattle.long_trace.specs.Texts.{open_text, whole_text}
-use Rattle.long_trace.specs.Written.{AppendsRest, CutsRest}
-use Rattle.long_trace.proofs.Rising.{whole-front}
-use Rattle.ptu_cli.specs.Outcomes.{Outcome, written}
-use Rattle.ptu_cli.specs.TraceOutcomes.{words_traced, traced, records_traced}
-use Rattle.ptu_cli.specs.TracePieces.{WroteLast, WritesLast}
-use Rattle.ptu_cli.specs.Once.{OutOnce}
-use Rattle.ptu_cli.specs.TextRuns.{WritesEnd}
-use Rattle.ptu_cli.proofs.Once.{once-inside}
+use Rattle.long_trace.{specs.declared.trace.LongTrace.LongTrace, specs.LongTrace.set_of, specs.Texts.{open_text, whole_text}, specs.Written.{AppendsRest, CutsRest}, proofs.Rising.whole-front}
+use Rattle.ptu_cli.{specs.Outcomes.{Outcome, written}, specs.TraceOutcomes.{words_traced, traced, records_traced}, specs.TracePieces.{WroteLast, WritesLast}, specs.Once.OutOnce, specs.TextRuns.WritesEnd, proofs.Once.once-inside}
 
 Keeps-append : (a b : Option (List ℕ)) → Keeps a b → Appends a b []
 Keeps-append None b k = tt

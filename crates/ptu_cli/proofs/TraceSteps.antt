@@ -1,33 +1,14 @@
 -- One event more for a trace, and a block of them.
-use Rattle.std.proofs.Common.{◌≡◌, ◌∙◌, ◌+◌, ◌≤◌, ℕ, List, [], ◌∷◌, ◌++◌, Bool, true, false, refl, ap, map, append_assoc, append-nil, arith, length, length-append}
-use Rattle.std.proofs.lemmas.List.{length-map}
-use Rattle.std.specs.Prelude.{◌&&◌, not, IsTrue, if◌then◌else◌}
-use Rattle.std.specs.declared.option.Option.{Option}
-use Rattle.tally_base.specs.declared.event.Event.{Event}
-use Rattle.tally_base.specs.declared.event.EventKind.{EventKind}
-use Rattle.tally_base.specs.declared.event.EventKind.TheVariants.{Photon, Marker}
-use Rattle.tally_base.specs.declared.header.Mode.{Mode}
-use Rattle.tally_base.specs.declared.header.Mode.TheVariants.{T2, T3}
-use Rattle.tally_base.specs.Events.{is_photon, is_photon_kind, is_ordered}
-use Rattle.tally_base.specs.Tally.{History}
-use Rattle.bench_io.specs.Sinks.{AppendsShort, PassesOn}
-use Rattle.bench_io.proofs.Bytes.{PassesOn-trans, AppendsShort-passed}
-use Rattle.ptu_definitions.specs.Kept.{Marked}
-use Rattle.ptu_definitions.specs.Settled.{not_marked}
-use Rattle.ptu_definitions.proofs.DeliveredLaws.{not_marked-append, not_marked-false}
-use Rattle.event_block.specs.Order.{floor_after, InOrder}
-use Rattle.event_block.proofs.Lower.{order-looser}
-use Rattle.record_stream.specs.Blocks.{orders_markers, on_time}
-use Rattle.record_stream.proofs.Floors.{moved_floor-push}
-use Rattle.gate_plan.specs.Shifting.{Sorting, shifted, shifted_kind}
-use Rattle.gate_plan.specs.Taking.{groups_in}
-use Rattle.tally_engine.specs.Histories.{with_groups}
-use Rattle.tally_engine.proofs.Takes.{with_groups-more}
-use Rattle.tally_engine.proofs.Behind.{length-on_time, floor_of-block}
-use Rattle.tally_engine.proofs.Shifts.{order-shifted, floor-shifted}
-use Rattle.long_trace.specs.declared.trace.LongTrace.{LongTrace}
-use Rattle.long_trace.specs.LongTrace.{GivenMore}
-use Rattle.long_trace.proofs.Given.{GivenMore-trans}
+use Rattle.std.proofs.Common.{◌≡◌, ◌∙◌, ◌+◌, ◌≤◌, ℕ, List, [], ◌∷◌, ◌++◌, Bool, true, false, refl, ap, map, append_assoc, append-nil, arith, length, length-append, ◌&&◌, not, IsTrue, if◌then◌else◌}
+use Rattle.std.{proofs.lemmas.List.length-map, specs.declared.option.Option.Option}
+use Rattle.tally_base.{specs.declared.event.Event.Event, specs.declared.event.EventKind.EventKind, specs.declared.event.EventKind.TheVariants.{Photon, Marker}, specs.declared.header.Mode.Mode, specs.declared.header.Mode.TheVariants.{T2, T3}, specs.Events.{is_photon, is_photon_kind, is_ordered}, specs.Tally.History}
+use Rattle.bench_io.{specs.Sinks.{AppendsShort, PassesOn}, proofs.Bytes.{PassesOn-trans, AppendsShort-passed}}
+use Rattle.ptu_definitions.{specs.Kept.Marked, specs.Settled.not_marked, proofs.DeliveredLaws.{not_marked-append, not_marked-false}}
+use Rattle.event_block.{specs.Order.{floor_after, InOrder}, proofs.Lower.order-looser}
+use Rattle.record_stream.{specs.Blocks.{orders_markers, on_time}, proofs.Floors.moved_floor-push}
+use Rattle.gate_plan.{specs.Shifting.{Sorting, shifted, shifted_kind}, specs.Taking.groups_in}
+use Rattle.tally_engine.{specs.Histories.with_groups, proofs.Takes.with_groups-more, proofs.Behind.{length-on_time, floor_of-block}, proofs.Shifts.{order-shifted, floor-shifted}}
+use Rattle.long_trace.{specs.declared.trace.LongTrace.LongTrace, specs.LongTrace.GivenMore, proofs.Given.GivenMore-trans}
 use Rattle.ptu_cli.specs.TraceLines.{Traced, TracedShort}
 
 photon_kind : (by : Sorting) (kind : EventKind) → is_photon_kind (shifted_kind by kind) ≡ is_photon_kind kind

@@ -1,32 +1,14 @@
 -- The text of a trace of words, and of more of them.
-use Rattle.std.proofs.Common.{◌≡◌, ◌∙◌, ◌<◌, ℕ, List, [], ◌++◌, None, Some, Ok, Err, map, take, drop, length, refl, sym, ap, subst, append_assoc, append-nil, take-append-drop}
-use Rattle.std.specs.Prelude.{Result, ◌-◌}
+use Rattle.std.proofs.Common.{◌≡◌, ◌∙◌, ◌<◌, ℕ, List, [], ◌++◌, None, Some, Ok, Err, map, take, drop, length, refl, sym, ap, subst, append_assoc, append-nil, take-append-drop, Result, ◌-◌}
 use Rattle.std.specs.declared.option.Option.{Option}
-use Rattle.tally_base.specs.declared.fault.Fault.{Fault}
-use Rattle.tally_base.specs.Faults.{fault_in}
-use Rattle.tally_base.specs.Settings.{TraceView}
-use Rattle.ptu_definitions.specs.declared.records.Summary.{Summary}
-use Rattle.ptu_definitions.specs.Words.{words_of, rest_of}
-use Rattle.ptu_definitions.specs.Kept.{Marked}
-use Rattle.ptu_definitions.specs.Settled.{kept_by, not_marked}
-use Rattle.ptu_definitions.specs.Times.{events}
-use Rattle.ptu_definitions.specs.Streams.{Reading, unrefused_after, record_refusal, given, last_in, streamed}
-use Rattle.ptu_definitions.proofs.DeliveredLaws.{delivered-settled, not_marked-append}
-use Rattle.ptu_definitions.specs.Firsts.{IsFirst}
-use Rattle.ptu_definitions.proofs.Firsts.{given-all, given-before, record_refusal-inside}
-use Rattle.ptu_definitions.proofs.StreamLemmas.{given-front, given-stays}
-use Rattle.ptu_definitions.proofs.WordsLemmas.{words_of-append}
+use Rattle.tally_base.{specs.declared.fault.Fault.Fault, specs.Faults.fault_in, specs.Settings.TraceView}
+use Rattle.ptu_definitions.{specs.declared.records.Summary.Summary, specs.Words.{words_of, rest_of}, specs.Kept.Marked, specs.Settled.{kept_by, not_marked}, specs.Times.events, specs.Streams.{Reading, unrefused_after, record_refusal, given, last_in, streamed}, proofs.DeliveredLaws.{delivered-settled, not_marked-append}, specs.Firsts.IsFirst, proofs.Firsts.{given-all, given-before, record_refusal-inside}, proofs.StreamLemmas.{given-front, given-stays}, proofs.WordsLemmas.words_of-append}
 use Rattle.record_stream.proofs.Lasts.{streamed-shown}
 use Rattle.gate_plan.specs.Shifting.{Sorting}
-use Rattle.tally_engine.specs.Histories.{with_groups, history, settled_history}
-use Rattle.tally_engine.proofs.Feeds.{history-ends}
-use Rattle.tally_engine.proofs.Takes.{with_groups-more}
-use Rattle.long_trace.specs.Texts.{open_text, whole_text}
-use Rattle.long_trace.proofs.Rising.{RisesFrom, rises-parts, open-front, whole-front}
-use Rattle.ptu_cli.specs.TraceOutcomes.{open_by, settled_before, words_traced, traced, records_traced}
+use Rattle.tally_engine.{specs.Histories.{with_groups, history, settled_history}, proofs.Feeds.history-ends, proofs.Takes.with_groups-more}
+use Rattle.long_trace.{specs.Texts.{open_text, whole_text}, proofs.Rising.{RisesFrom, rises-parts, open-front, whole-front}}
+use Rattle.ptu_cli.{specs.TraceOutcomes.{open_by, settled_before, words_traced, traced, records_traced}, proofs.TextEnds.IsText, proofs.TraceOrder.kept-rises}
 use Rattle.photon_pick.proofs.Streams.{clear-from_ok, streamed-inside}
-use Rattle.ptu_cli.proofs.TextEnds.{IsText}
-use Rattle.ptu_cli.proofs.TraceOrder.{kept-rises}
 
 module _ (by : Sorting) (how : Reading) where
   -- what is settled is what was given and isn't marked late

@@ -1,24 +1,9 @@
 -- What the work on a file leaves where the inputs tell the file.
-use Rattle.std.proofs.Common.{◌≡◌, ℕ, List, [], ◌++◌, true, None, Some, Ok, Err, refl, sym, ◌∙◌, subst, inl, inr}
-use Rattle.std.specs.Prelude.{◌⊎◌, Result, IsSome, OnOk, OnErr, IfErr}
-use Rattle.std.specs.declared.option.Option.{Option}
-use Rattle.std.specs.Io.KnownBytes.{Appends, Consumes}
-use Rattle.tally_base.specs.declared.fault.Fault.{Fault}
-use Rattle.tally_base.specs.declared.fault.Fault.TheVariants.{WriteFault}
-use Rattle.tally_base.specs.FaultCounts.{Rose}
-use Rattle.tally_base.specs.declared.slot.Slot.TheVariants.{Data}
-use Rattle.tally_base.specs.Faults.{is_outside, fault_in, HasReason}
-use Rattle.tally_base.proofs.Reasons.{HasReason-follows}
-use Rattle.bench_io.specs.Inputs.{File, InputState, IsOpened, NoneFalls}
-use Rattle.bench_io.specs.Sinks.{AppendsShort}
-use Rattle.bench_io.proofs.Bytes.{Appends-nil, Keeps-from_none}
-use Rattle.bench_io.proofs.Rises.{Rose-behind}
-use Rattle.ptu_cli.specs.Told.{MayBe, Says}
-use Rattle.ptu_cli.specs.Outcomes.{Outcome, refused, written}
-use Rattle.ptu_cli.specs.Behaviours.{Work, Writing, AtEnd, OnFile}
-use Rattle.ptu_cli.specs.Works.{AnswersWork, ReadsWork, WantsNone, WorkReason, TakesFew}
-use Rattle.ptu_cli.specs.Endings.{TakenOf, MayBeRead, outcome, Answers, EndsWith, StopsIn, Cuts, Span, TakesData, HasCauses}
-use Rattle.ptu_cli.proofs.Told.{file-parts}
+use Rattle.std.proofs.Common.{◌≡◌, ℕ, List, [], ◌++◌, true, None, Some, Ok, Err, refl, sym, ◌∙◌, subst, inl, inr, ◌⊎◌, Result, IsSome, OnOk, OnErr, IfErr}
+use Rattle.std.{specs.declared.option.Option.Option, specs.Io.KnownBytes.{Appends, Consumes}}
+use Rattle.tally_base.{specs.declared.fault.Fault.Fault, specs.declared.fault.Fault.TheVariants.WriteFault, specs.FaultCounts.Rose, specs.declared.slot.Slot.TheVariants.Data, specs.Faults.{is_outside, fault_in, HasReason}, proofs.Reasons.HasReason-follows}
+use Rattle.bench_io.{specs.Inputs.{File, InputState, IsOpened, NoneFalls}, specs.Sinks.AppendsShort, proofs.Bytes.{Appends-nil, Keeps-from_none}, proofs.Rises.Rose-behind}
+use Rattle.ptu_cli.{specs.Told.{MayBe, Says}, specs.Outcomes.{Outcome, refused, written}, specs.Behaviours.{Work, Writing, AtEnd, OnFile}, specs.Works.{AnswersWork, ReadsWork, WantsNone, WorkReason, TakesFew}, specs.Endings.{TakenOf, MayBeRead, outcome, Answers, EndsWith, StopsIn, Cuts, Span, TakesData, HasCauses}, proofs.Told.file-parts}
 
 -- the bytes taken from a file that is told
 pub taken-told : (contents : Option File) (rest new : Option (List ℕ)) (taken : List ℕ) (file : File) → IsOpened contents rest → Consumes rest new taken → contents ≡ Some file → TakenOf file new taken

@@ -1,25 +1,12 @@
 -- What each command does, told once.
 use Rattle.std.specs.Prelude.{ℕ, ◌≡◌, ◌≤◌, ◌⊎◌, List, [], length, None, Some, Ok}
 use Rattle.std.specs.declared.option.Option.{Option}
-use Rattle.tally_base.specs.declared.fault.Fault.{Fault}
-use Rattle.tally_base.specs.declared.header.Header.{Header}
-use Rattle.tally_base.specs.RecordTypes.{mode_of}
-use Rattle.tally_base.specs.Faults.{fault_in}
-use Rattle.ptu_definitions.specs.Headers.{header_answer}
-use Rattle.ptu_definitions.specs.Shown.{Shows}
-use Rattle.ptu_definitions.specs.Words.{words_of, rest_of}
-use Rattle.ptu_definitions.specs.Counted.{record_limit}
-use Rattle.ptu_definitions.specs.Streams.{Reading, record_refusal}
-use Rattle.plan_text.specs.Plan.{PlanView}
-use Rattle.plan_text.specs.Fits.{fits}
+use Rattle.tally_base.{specs.declared.fault.Fault.Fault, specs.declared.header.Header.Header, specs.RecordTypes.mode_of, specs.Faults.fault_in}
+use Rattle.ptu_definitions.{specs.Headers.header_answer, specs.Shown.Shows, specs.Words.{words_of, rest_of}, specs.Counted.record_limit, specs.Streams.{Reading, record_refusal}}
+use Rattle.plan_text.{specs.Plan.PlanView, specs.Fits.fits}
 use Rattle.tally_engine.specs.Plans.{reading_by}
 use Rattle.table_out.specs.HeaderText.{header_text}
-use Rattle.ptu_cli.specs.Commands.{Request, Count, Header as HeaderOf, Events, Run, Trace, Pick, Demo}
-use Rattle.ptu_cli.specs.Demo.{demo_report}
-use Rattle.ptu_cli.specs.Reports.{file_report}
-use Rattle.ptu_cli.specs.Outcomes.{Outcome, written, MayChange, IsCut, count_outcome, file_counts, header_outcome, events_outcome, listing, report_outcome}
-use Rattle.ptu_cli.specs.TraceOutcomes.{no_trace, trace_outcome, trace_so_far}
-use Rattle.ptu_cli.specs.PickOutcomes.{no_group, pick_outcome, pick_so_far, pick_goes_on, AllInTime}
+use Rattle.ptu_cli.{specs.Commands.{Request, Count, Events, Run, Trace, Pick, Demo}, specs.Commands.Header as HeaderOf, specs.Demo.demo_report, specs.Reports.file_report, specs.Outcomes.{Outcome, written, MayChange, IsCut, count_outcome, file_counts, header_outcome, events_outcome, listing, report_outcome}, specs.TraceOutcomes.{no_trace, trace_outcome, trace_so_far}, specs.PickOutcomes.{no_group, pick_outcome, pick_so_far, pick_goes_on, AllInTime}}
 
 -- the bytes that one read of FILE takes at most
 abbrev pub piece_limit : ℕ

@@ -1,49 +1,18 @@
 -- How commands end by the header and the records of FILE, as cases over whole lists: relations, plain counts and the texts of lines. No function is cited that finds an answer for the program (`header_answer`, `plan_answer`, `fits`, `counted`, `record_refusal`, `streamed`, `given`, `seen`).
 use Rattle.std.specs.Prelude.{ℕ, ◌≡◌, ◌≢◌, ◌⊎◌, ◌<◌, ◌≤◌, List, [], ◌∷◌, ◌++◌, length, take, get_or, map, flat_map, codes, decimal, nat_le, count_by, ◌+◌, ◌/◌, ◌==◌, true, None, Some, Result, Ok, Err}
-use Rattle.std.specs.List.{filter}
-use Rattle.std.specs.declared.option.Option.{Option}
-use Rattle.tally_base.specs.declared.slot.Slot.TheVariants.{Data}
-use Rattle.tally_base.specs.declared.event.Event.{Event}
-use Rattle.tally_base.specs.declared.fault.Fault.{Fault}
-use Rattle.tally_base.specs.declared.fault.Fault.TheVariants.{OpenFault, RecordLimit, TruncatedRecord, PickTime}
-use Rattle.tally_base.specs.declared.header.Header.{Header}
-use Rattle.tally_base.specs.declared.header.Mode.{Mode}
-use Rattle.tally_base.specs.Faults.{fault_in}
-use Rattle.tally_base.specs.RecordTypes.{mode_of}
-use Rattle.tally_base.specs.Settings.{PartSettings, StartStopView, TraceView}
-use Rattle.tally_base.specs.Settings.PartSettings.{StartStopSettings}
+use Rattle.std.{specs.List.filter, specs.declared.option.Option.Option}
+use Rattle.tally_base.{specs.declared.slot.Slot.TheVariants.Data, specs.declared.event.Event.Event, specs.declared.fault.Fault.Fault, specs.declared.fault.Fault.TheVariants.{OpenFault, RecordLimit, TruncatedRecord, PickTime}, specs.declared.header.Header.Header, specs.declared.header.Mode.Mode, specs.Faults.fault_in, specs.RecordTypes.mode_of, specs.Settings.{PartSettings, StartStopView, TraceView}, specs.Settings.PartSettings.StartStopSettings}
 use Rattle.bench_io.specs.Inputs.{File}
-use Rattle.ptu_definitions.specs.declared.records.Summary.{Summary}
-use Rattle.ptu_definitions.specs.TagList.{Item, IsHeader}
-use Rattle.ptu_definitions.specs.Headers.{HasAnswer, head_of}
-use Rattle.ptu_definitions.specs.Seen.{begun, IsLongestFront, HasNoFront}
-use Rattle.ptu_definitions.specs.Words.{words_of, rest_of}
-use Rattle.ptu_definitions.specs.Layouts.{meaning_of}
-use Rattle.ptu_definitions.specs.Kinds.{counts_of}
-use Rattle.ptu_definitions.specs.Counted.{record_limit}
-use Rattle.ptu_definitions.specs.Prefixes.{each}
-use Rattle.ptu_definitions.specs.Settled.{kept_by, settled_by}
-use Rattle.ptu_definitions.specs.Times.{events}
-use Rattle.ptu_definitions.specs.Streams.{Reading, refusal, events_in, summary_of}
-use Rattle.ptu_definitions.specs.Firsts.{IsFirst}
+use Rattle.ptu_definitions.{specs.declared.records.Summary.Summary, specs.TagList.{Item, IsHeader}, specs.Headers.{HasAnswer, head_of}, specs.Seen.{begun, IsLongestFront, HasNoFront}, specs.Words.{words_of, rest_of}, specs.Layouts.meaning_of, specs.Kinds.counts_of, specs.Counted.record_limit, specs.Prefixes.each, specs.Settled.{kept_by, settled_by}, specs.Times.events, specs.Streams.{Reading, refusal, events_in, summary_of}, specs.Firsts.IsFirst}
 use Rattle.plan_text.specs.Plan.{PlanView, parts_of}
 use Rattle.coincidence.specs.Places.{count_pairs}
 use Rattle.gate_plan.specs.Shifting.{sorting}
-use Rattle.tally_engine.specs.Histories.{history, settled_history}
-use Rattle.tally_engine.specs.Plans.{reading_by}
-use Rattle.table_out.specs.HeaderText.{preamble_text, item_text}
-use Rattle.table_out.specs.EventText.{events_text}
-use Rattle.table_out.specs.Lines.{line}
-use Rattle.table_out.specs.Printed.{Printed, cell_line, table_lines}
-use Rattle.table_out.specs.StartStop.{startstop_printed}
-use Rattle.table_out.specs.Report.{head_text, printed, same_kind, Table, with_events}
-use Rattle.ptu_cli.specs.CountText.{counts_text}
+use Rattle.tally_engine.{specs.Histories.{history, settled_history}, specs.Plans.reading_by}
+use Rattle.table_out.{specs.HeaderText.{preamble_text, item_text}, specs.EventText.events_text, specs.Lines.line, specs.Printed.{Printed, cell_line, table_lines}, specs.StartStop.startstop_printed, specs.Report.{head_text, printed, same_kind, Table, with_events}}
+use Rattle.ptu_cli.{specs.CountText.counts_text, specs.Outcomes.{Outcome, refused, written, listing}, specs.TraceOutcomes.trace_of, specs.PickOutcomes.chosen_by}
 use Rattle.record_write.specs.Picked.{is_too_late, picked_file}
 use Rattle.photon_pick.specs.Late.{too_late}
 use Rattle.long_trace.specs.Texts.{open_text, whole_text}
-use Rattle.ptu_cli.specs.Outcomes.{Outcome, refused, written, listing}
-use Rattle.ptu_cli.specs.TraceOutcomes.{trace_of}
-use Rattle.ptu_cli.specs.PickOutcomes.{chosen_by}
 
 -- ## Files, headers and records
 

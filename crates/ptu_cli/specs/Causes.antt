@@ -2,24 +2,12 @@
 use Rattle.std.specs.Prelude.{ℕ, ◌≡◌, ◌≢◌, ◌⊎◌, List, [], length, None, Some, Ok, Err}
 use Rattle.std.specs.declared.option.Option.{Option}
 use Rattle.toml.specs.Data.{Members, table}
-use Rattle.tally_base.specs.declared.slot.Slot.TheVariants.{Plan, Data}
-use Rattle.tally_base.specs.declared.fault.Fault.{Fault}
-use Rattle.tally_base.specs.declared.fault.Fault.TheVariants.{Usage, OpenFault, OutOfMemory, TruncatedRecord}
-use Rattle.tally_base.specs.declared.header.Header.{Header}
-use Rattle.tally_base.specs.RecordTypes.{mode_of}
-use Rattle.tally_base.specs.Faults.{status_of}
+use Rattle.tally_base.{specs.declared.slot.Slot.TheVariants.{Plan, Data}, specs.declared.fault.Fault.Fault, specs.declared.fault.Fault.TheVariants.{Usage, OpenFault, OutOfMemory, TruncatedRecord}, specs.declared.header.Header.Header, specs.RecordTypes.mode_of, specs.Faults.status_of}
 use Rattle.bench_io.specs.Inputs.{File}
-use Rattle.ptu_definitions.specs.Headers.{HasAnswer}
-use Rattle.ptu_definitions.specs.Words.{words_of, rest_of}
-use Rattle.plan_text.specs.Plan.{PlanView, plan}
-use Rattle.plan_text.specs.Reading.{document, IsValid, IsCalledFor}
-use Rattle.plan_text.specs.Fits.{IsMisfit}
+use Rattle.ptu_definitions.{specs.Headers.HasAnswer, specs.Words.{words_of, rest_of}}
+use Rattle.plan_text.{specs.Plan.{PlanView, plan}, specs.Reading.{document, IsValid, IsCalledFor}, specs.Fits.IsMisfit}
 use Rattle.tally_engine.specs.Plans.{reading_by}
-use Rattle.ptu_cli.specs.Commands.{Request}
-use Rattle.ptu_cli.specs.Behaviours.{behaviour}
-use Rattle.ptu_cli.specs.Endings.{outcome}
-use Rattle.ptu_cli.specs.Cases.{NoneRefused, HasGroup}
-use Rattle.ptu_cli.specs.CommandCases.{RecordCases, Need, CommandCases, BadWords, Writes, ReadsHeader, ReadsRecords, ReadsByPlan, IsIn, Has, Lacks, Suits}
+use Rattle.ptu_cli.{specs.Commands.Request, specs.Behaviours.behaviour, specs.Endings.outcome, specs.Cases.{NoneRefused, HasGroup}, specs.CommandCases.{RecordCases, Need, CommandCases, BadWords, Writes, ReadsHeader, ReadsRecords, ReadsByPlan, IsIn, Has, Lacks, Suits}}
 
 -- The file is there, and its bytes are this plan.
 pub record IsValidPlan (plan_file : File) (view : PlanView) : Type 0 where

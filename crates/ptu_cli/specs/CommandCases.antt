@@ -2,26 +2,13 @@
 use Rattle.std.specs.Prelude.{ℕ, ◌≡◌, ◌≢◌, ◌⊎◌, ◌<◌, ◌≤◌, List, [], length, None, Some}
 use Rattle.std.specs.declared.option.Option.{Option}
 use Rattle.toml.specs.Data.{Members, table}
-use Rattle.tally_base.specs.declared.slot.Slot.TheVariants.{Plan}
-use Rattle.tally_base.specs.declared.fault.Fault.{Fault}
-use Rattle.tally_base.specs.declared.fault.Fault.TheVariants.{Usage, OpenFault, OutOfMemory, RecordLimit, NoTrace, NoGroup, PickTime}
-use Rattle.tally_base.specs.declared.header.Header.{Header}
-use Rattle.tally_base.specs.RecordTypes.{mode_of}
+use Rattle.tally_base.{specs.declared.slot.Slot.TheVariants.Plan, specs.declared.fault.Fault.Fault, specs.declared.fault.Fault.TheVariants.{Usage, OpenFault, OutOfMemory, RecordLimit, NoTrace, NoGroup, PickTime}, specs.declared.header.Header.Header, specs.RecordTypes.mode_of}
 use Rattle.bench_io.specs.Inputs.{File}
-use Rattle.ptu_definitions.specs.Words.{words_of}
-use Rattle.ptu_definitions.specs.Counted.{record_limit}
-use Rattle.ptu_definitions.specs.Streams.{Reading}
-use Rattle.ptu_definitions.specs.Firsts.{IsFirst}
-use Rattle.plan_text.specs.Plan.{PlanView, plan}
-use Rattle.plan_text.specs.Reading.{document, IsValid, IsCalledFor}
-use Rattle.plan_text.specs.Fits.{IsMisfit}
+use Rattle.ptu_definitions.{specs.Words.words_of, specs.Counted.record_limit, specs.Streams.Reading, specs.Firsts.IsFirst}
+use Rattle.plan_text.{specs.Plan.{PlanView, plan}, specs.Reading.{document, IsValid, IsCalledFor}, specs.Fits.IsMisfit}
 use Rattle.tally_engine.specs.Plans.{reading_by}
-use Rattle.ptu_made.specs.Generator.{made_words}
-use Rattle.ptu_made.specs.Records.{made_header}
-use Rattle.ptu_cli.specs.Commands.{Request, Count, Header as HeaderOf, Events, Run, Trace, Pick, Demo}
-use Rattle.ptu_cli.specs.Demo.{demo_plan}
-use Rattle.ptu_cli.specs.Outcomes.{Outcome, refused, written, listing}
-use Rattle.ptu_cli.specs.Cases.{FileCase, HeaderCase, NoneRefused, CountCase, PrintCase, ListCase, words_report, StreamCase, HasTrace, TracedCase, HasGroup, LateAtRecord, LateAtEnd, SettledInTime, RefusedInTime, PickedCase}
+use Rattle.ptu_made.{specs.Generator.made_words, specs.Records.made_header}
+use Rattle.ptu_cli.{specs.Commands.{Request, Count, Events, Run, Trace, Pick, Demo}, specs.Commands.Header as HeaderOf, specs.Demo.demo_plan, specs.Outcomes.{Outcome, refused, written, listing}, specs.Cases.{FileCase, HeaderCase, NoneRefused, CountCase, PrintCase, ListCase, words_report, StreamCase, HasTrace, TracedCase, HasGroup, LateAtRecord, LateAtEnd, SettledInTime, RefusedInTime, PickedCase}}
 
 -- How a command ends by the records behind a header that suits it. That the four agree is what the laws `one_outcome` and `exactly_where` say.
 pub record RecordCases : Type 1 where

@@ -1,17 +1,12 @@
 -- What `demo` counts, and its report.
 use Rattle.std.specs.Prelude.{ℕ, List, [], ◌∷◌, codes}
-use Rattle.tally_base.specs.declared.event.Order.TheVariants.{Drop}
-use Rattle.tally_base.specs.declared.event.OnReserved.TheVariants.{Skip}
-use Rattle.tally_base.specs.Settings.PartSettings.{TraceSettings, StartStopSettings, CoincidenceSettings, CorrelationSettings}
-use Rattle.ptu_definitions.specs.Counted.{record_limit}
-use Rattle.ptu_definitions.specs.Streams.{Reading, summary}
+use Rattle.tally_base.{specs.declared.event.Order.TheVariants.Drop, specs.declared.event.OnReserved.TheVariants.Skip, specs.Settings.PartSettings.{TraceSettings, StartStopSettings, CoincidenceSettings, CorrelationSettings}}
+use Rattle.ptu_definitions.{specs.Counted.record_limit, specs.Streams.{Reading, summary}}
 use Rattle.plan_text.specs.Plan.{PlanView, parts_of}
 use Rattle.gate_plan.specs.Shifting.{sorting}
-use Rattle.tally_engine.specs.Histories.{history}
-use Rattle.tally_engine.specs.Plans.{reading_by}
+use Rattle.tally_engine.{specs.Histories.history, specs.Plans.reading_by}
 use Rattle.table_out.specs.Report.{report, with_events}
-use Rattle.ptu_made.specs.Generator.{made_words}
-use Rattle.ptu_made.specs.Records.{made_header}
+use Rattle.ptu_made.{specs.Generator.made_words, specs.Records.made_header}
 
 -- the text of its plan
 abbrev pub demo_text : List ℕ

@@ -1,27 +1,11 @@
 -- What a run of the program leaves, by what its command does.
 use Rattle.std.specs.Prelude.{ℕ, ◌≡◌, ◌⊎◌, ◌+◌, ◌≤◌, ◌<◌, List, ◌++◌, length, true, false, None, Some, Result, Ok, Err, IsErrAnd, IfErr}
-use Rattle.std.specs.declared.option.Option.{Option}
-use Rattle.std.specs.Io.KnownBytes.{Keeps, Appends, Consumes}
-use Rattle.tally_base.specs.declared.slot.Slot.{Slot}
-use Rattle.tally_base.specs.declared.slot.Slot.TheVariants.{Plan, Data}
-use Rattle.tally_base.specs.declared.fault.Fault.{Fault}
-use Rattle.tally_base.specs.declared.fault.Fault.TheVariants.{Usage, OpenFault}
-use Rattle.tally_base.specs.Faults.{line_of, is_outside, fault_in, HasReason}
-use Rattle.tally_base.specs.FaultCounts.{Rose}
-use Rattle.bench_io.specs.Sinks.{AppendsShort}
-use Rattle.bench_io.specs.Inputs.{File, InputState}
-use Rattle.bench_io.specs.declared.inputs.Inputs.{Ghosts as InputGhosts}
-use Rattle.bench_io.specs.declared.sink.Sink.{Ghosts as SinkGhosts}
-use Rattle.tally_base.specs.declared.header.Header.{Header}
+use Rattle.std.{specs.declared.option.Option.Option, specs.Io.KnownBytes.{Keeps, Appends, Consumes}}
+use Rattle.tally_base.{specs.declared.slot.Slot.Slot, specs.declared.slot.Slot.TheVariants.{Plan, Data}, specs.declared.fault.Fault.Fault, specs.declared.fault.Fault.TheVariants.{Usage, OpenFault}, specs.Faults.{line_of, is_outside, fault_in, HasReason}, specs.FaultCounts.Rose, specs.declared.header.Header.Header, specs.RecordTypes.mode_of}
+use Rattle.bench_io.{specs.Sinks.AppendsShort, specs.Inputs.{File, InputState}, specs.declared.inputs.Inputs.Ghosts as InputGhosts, specs.declared.sink.Sink.Ghosts as SinkGhosts}
 use Rattle.ptu_definitions.specs.Headers.{header_answer}
-use Rattle.tally_base.specs.RecordTypes.{mode_of}
-use Rattle.plan_text.specs.Plan.{PlanView}
-use Rattle.plan_text.specs.Reading.{text_limit, plan_answer}
-use Rattle.plan_text.specs.Fits.{fits}
-use Rattle.ptu_cli.specs.Told.{MayBe}
-use Rattle.ptu_cli.specs.Once.{InputsOnce, OutOnce}
-use Rattle.ptu_cli.specs.Outcomes.{Outcome, refused, status}
-use Rattle.ptu_cli.specs.Behaviours.{piece_limit, Work, Writing, AtEnd, AsItReads, so_far, under, Memory, ForPlan, ForTables, Behaviour, NoCommand, Alone, OnFile, ByPlan}
+use Rattle.plan_text.{specs.Plan.PlanView, specs.Reading.{text_limit, plan_answer}, specs.Fits.fits}
+use Rattle.ptu_cli.{specs.Told.MayBe, specs.Once.{InputsOnce, OutOnce}, specs.Outcomes.{Outcome, refused, status}, specs.Behaviours.{piece_limit, Work, Writing, AtEnd, AsItReads, so_far, under, Memory, ForPlan, ForTables, Behaviour, NoCommand, Alone, OnFile, ByPlan}}
 
 -- ## What the files call for
 

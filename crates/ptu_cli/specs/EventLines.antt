@@ -3,8 +3,7 @@ use Rattle.std.specs.Prelude.{ℕ, ◌≡◌, ◌+◌, max, List, [], ◌++◌, 
 use Rattle.std.proofs.Common.{append-nil, arith}
 use Rattle.std.specs.declared.option.Option.{Option}
 use Rattle.tally_base.specs.declared.header.Mode.{Mode}
-use Rattle.bench_io.specs.Sinks.{AppendsShort, PassesOn}
-use Rattle.bench_io.proofs.Bytes.{PassesOn-held}
+use Rattle.bench_io.{specs.Sinks.{AppendsShort, PassesOn}, proofs.Bytes.PassesOn-held}
 use Rattle.ptu_definitions.specs.Kept.{Marked, floor_of}
 use Rattle.table_out.specs.EventText.{events_text}
 

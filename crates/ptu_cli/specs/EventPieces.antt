@@ -1,20 +1,11 @@
 -- What the events of words write that come behind others.
 use Rattle.std.specs.Prelude.{ℕ, ◌≡◌, ◌⊎◌, ◌+◌, ◌*◌, ◌≤◌, List, ◌++◌, length, None, Some, Result, Ok, Err}
-use Rattle.std.specs.declared.option.Option.{Option}
-use Rattle.std.specs.Io.KnownBytes.{Appends}
-use Rattle.tally_base.specs.declared.header.Mode.{Mode}
-use Rattle.tally_base.specs.declared.fault.Fault.{Fault}
-use Rattle.tally_base.specs.declared.fault.Fault.TheVariants.{WriteFault}
-use Rattle.bench_io.specs.Sinks.{AppendsShort}
-use Rattle.bench_io.specs.declared.sink.Sink.{Ghosts}
-use Rattle.ptu_definitions.specs.Words.{words_of}
-use Rattle.tally_base.specs.FaultCounts.{Rose}
-use Rattle.tally_base.specs.Faults.{fault_in}
+use Rattle.std.{specs.declared.option.Option.Option, specs.Io.KnownBytes.Appends}
+use Rattle.tally_base.{specs.declared.header.Mode.Mode, specs.declared.fault.Fault.Fault, specs.declared.fault.Fault.TheVariants.WriteFault, specs.FaultCounts.Rose, specs.Faults.fault_in}
+use Rattle.bench_io.{specs.Sinks.AppendsShort, specs.declared.sink.Sink.Ghosts}
+use Rattle.ptu_definitions.{specs.Words.words_of, specs.Counted.record_limit, specs.Streams.{Reading, record_refusal}}
 use Rattle.ptu_cli.specs.Once.{OutOnce}
-use Rattle.ptu_definitions.specs.Counted.{record_limit}
-use Rattle.record_stream.specs.declared.stream.RecordStream.{RecordStream}
-use Rattle.record_stream.specs.Standing.{how_of, refused_with, bytes_in, HasStreamed}
-use Rattle.ptu_definitions.specs.Streams.{Reading, record_refusal}
+use Rattle.record_stream.{specs.declared.stream.RecordStream.RecordStream, specs.Standing.{how_of, refused_with, bytes_in, HasStreamed}}
 use Rattle.table_out.specs.EventText.{lines_of}
 
 -- The stream is read in this mode, keeps no event back, and has refused nothing.

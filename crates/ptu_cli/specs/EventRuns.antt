@@ -1,17 +1,11 @@
 -- What writing the lines of the events of a file leaves.
 use Rattle.std.specs.Prelude.{ℕ, ◌≡◌, ◌⊎◌, List, ◌++◌, true, None, Result, IsErrAnd}
-use Rattle.std.specs.declared.option.Option.{Option}
-use Rattle.std.specs.Io.KnownBytes.{Appends, Consumes}
-use Rattle.tally_base.specs.declared.fault.Fault.{Fault}
-use Rattle.tally_base.specs.declared.slot.Slot.TheVariants.{Data}
-use Rattle.tally_base.specs.FaultCounts.{Rose}
-use Rattle.tally_base.specs.Faults.{is_outside, fault_in, HasReason}
+use Rattle.std.{specs.declared.option.Option.Option, specs.Io.KnownBytes.{Appends, Consumes}}
+use Rattle.tally_base.{specs.declared.fault.Fault.Fault, specs.declared.slot.Slot.TheVariants.Data, specs.FaultCounts.Rose, specs.Faults.{is_outside, fault_in, HasReason}}
 use Rattle.bench_io.specs.Sinks.{AppendsShort}
-use Rattle.ptu_definitions.specs.Words.{words_of}
-use Rattle.ptu_definitions.specs.Streams.{Reading, record_refusal, streamed}
+use Rattle.ptu_definitions.{specs.Words.words_of, specs.Streams.{Reading, record_refusal, streamed}}
 use Rattle.table_out.specs.EventText.{lines_of}
-use Rattle.ptu_cli.specs.Told.{MayBe}
-use Rattle.ptu_cli.specs.Endings.{Span}
+use Rattle.ptu_cli.{specs.Told.MayBe, specs.Endings.Span}
 
 -- The text is what is written of the lines of some bytes behind those of others, and the bytes have this fault.
 pub record SaysLines (how : Reading) (before bytes text : List ℕ) (fault : Option Fault) : Type 0 where

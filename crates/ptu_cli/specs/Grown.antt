@@ -1,7 +1,6 @@
 -- What is written of a text that has grown.
 use Rattle.std.specs.Prelude.{ℕ, ◌≡◌, List, ◌++◌}
-use Rattle.std.specs.declared.option.Option.{Option}
-use Rattle.std.specs.Io.KnownBytes.{Appends}
+use Rattle.std.{specs.declared.option.Option.Option, specs.Io.KnownBytes.Appends}
 use Rattle.bench_io.specs.Sinks.{AppendsShort, PassesOn}
 
 -- What the text has grown by was put behind what a block holds.

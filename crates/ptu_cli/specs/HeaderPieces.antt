@@ -1,17 +1,10 @@
 -- What reading the header in pieces leaves.
 use Rattle.std.specs.Prelude.{ℕ, ◌≡◌, ◌⊎◌, ◌+◌, ◌≤◌, ◌<◌, List, [], ◌++◌, take, drop, length, slice_range, true, false, Result, Ok, Err}
 use Rattle.std.specs.declared.option.Option.{Option}
-use Rattle.tally_base.specs.declared.fault.Fault.{Fault}
-use Rattle.tally_base.specs.Faults.{is_outside}
-use Rattle.ptu_definitions.specs.Headers.{header_answer}
-use Rattle.ptu_definitions.specs.Shown.{Shows}
-use Rattle.ptu_header.specs.declared.reader.HeaderReader.{HeaderReader}
-use Rattle.ptu_header.specs.Reading.{HasRead, is_open, bytes_taken}
-use Rattle.ptu_cli.specs.Told.{Says}
-use Rattle.ptu_cli.specs.Outcomes.{IsCut}
-use Rattle.ptu_cli.specs.declared.header.Fed.{Fed}
-use Rattle.ptu_cli.specs.declared.header.Fed.TheVariants.{More, Done, Refused}
-use Rattle.ptu_cli.specs.declared.data.FoundHeader.{FoundHeader}
+use Rattle.tally_base.{specs.declared.fault.Fault.Fault, specs.Faults.is_outside}
+use Rattle.ptu_definitions.{specs.Headers.header_answer, specs.Shown.Shows}
+use Rattle.ptu_header.{specs.declared.reader.HeaderReader.HeaderReader, specs.Reading.{HasRead, is_open, bytes_taken}}
+use Rattle.ptu_cli.{specs.Told.Says, specs.Outcomes.IsCut, specs.declared.header.Fed.Fed, specs.declared.header.Fed.TheVariants.{More, Done, Refused}, specs.declared.data.FoundHeader.FoundHeader}
 
 -- How a piece leaves a reader that was given these bytes before.
 abbrev pub Ends : List ℕ → List ℕ → HeaderReader → Fed → Type 0

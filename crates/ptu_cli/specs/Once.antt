@@ -1,10 +1,7 @@
 -- Which counts of faults a call moved.
 use Rattle.std.specs.Prelude.{ℕ, ◌≡◌, Bool, true, false, None, Some}
 use Rattle.std.specs.declared.option.Option.{Option}
-use Rattle.tally_base.specs.declared.slot.Slot.{Slot}
-use Rattle.tally_base.specs.declared.slot.Slot.TheVariants.{Plan, Data}
-use Rattle.tally_base.specs.declared.fault.Fault.{Fault}
-use Rattle.tally_base.specs.declared.fault.Fault.TheVariants.{OpenFault, ReadFault, WriteFault}
+use Rattle.tally_base.{specs.declared.slot.Slot.Slot, specs.declared.slot.Slot.TheVariants.{Plan, Data}, specs.declared.fault.Fault.Fault, specs.declared.fault.Fault.TheVariants.{OpenFault, ReadFault, WriteFault}}
 use Rattle.bench_io.specs.Inputs.{InputState}
 
 -- whether the fault says that an opening of the slot failed

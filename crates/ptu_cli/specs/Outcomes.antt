@@ -1,22 +1,10 @@
 -- What the commands end with over the bytes of a file, where nothing outside fails.
 use Rattle.std.specs.Prelude.{ℕ, ◌≡◌, List, [], length, None, Some, Bool, true, false, Result, Ok, Err}
 use Rattle.std.specs.declared.option.Option.{Option}
-use Rattle.tally_base.specs.declared.fault.Fault.{Fault}
-use Rattle.tally_base.specs.declared.fault.Fault.TheVariants.{TruncatedHeader, TruncatedRecord}
-use Rattle.tally_base.specs.declared.header.Header.{Header}
-use Rattle.tally_base.specs.Faults.{status_of}
-use Rattle.ptu_definitions.specs.declared.records.KindCounts.{KindCounts}
-use Rattle.ptu_definitions.specs.Headers.{header_answer}
-use Rattle.ptu_definitions.specs.Counted.{counted, record_limit}
-use Rattle.tally_base.specs.declared.event.Policy.{Policy}
-use Rattle.tally_base.specs.declared.event.Order.TheVariants.{Drop}
-use Rattle.tally_base.specs.declared.event.OnReserved.TheVariants.{Skip}
-use Rattle.ptu_definitions.specs.Words.{words_of}
-use Rattle.ptu_definitions.specs.Streams.{Reading, reading, streamed}
-use Rattle.tally_base.specs.Faults.{fault_in}
-use Rattle.table_out.specs.EventText.{lines_of}
+use Rattle.tally_base.{specs.declared.fault.Fault.Fault, specs.declared.fault.Fault.TheVariants.{TruncatedHeader, TruncatedRecord}, specs.declared.header.Header.Header, specs.Faults.{status_of, fault_in}, specs.declared.event.Policy.Policy, specs.declared.event.Order.TheVariants.Drop, specs.declared.event.OnReserved.TheVariants.Skip}
+use Rattle.ptu_definitions.{specs.declared.records.KindCounts.KindCounts, specs.Headers.header_answer, specs.Counted.{counted, record_limit}, specs.Words.words_of, specs.Streams.{Reading, reading, streamed}}
+use Rattle.table_out.{specs.EventText.lines_of, specs.HeaderText.header_text}
 use Rattle.ptu_cli.specs.CountText.{counts_text}
-use Rattle.table_out.specs.HeaderText.{header_text}
 
 -- the text on standard output, and the fault where there is one
 pub record Outcome : Type 0 where

@@ -1,23 +1,13 @@
 -- What `pick` ends with over the bytes of a file.
 use Rattle.std.specs.Prelude.{ℕ, ◌≡◌, ◌&&◌, nat_le, Bool, List, [], ◌++◌, length, None, Some, Result, Ok, Err, if◌then◌else◌}
 use Rattle.std.specs.declared.option.Option.{Option}
-use Rattle.tally_base.specs.declared.event.Event.{Event}
-use Rattle.tally_base.specs.declared.fault.Fault.{Fault}
-use Rattle.tally_base.specs.declared.fault.Fault.TheVariants.{NoGroup}
-use Rattle.tally_base.specs.declared.header.Header.{Header}
-use Rattle.tally_base.specs.RecordTypes.{mode_of}
-use Rattle.ptu_definitions.specs.Headers.{header_answer}
-use Rattle.ptu_definitions.specs.Words.{words_of}
-use Rattle.ptu_definitions.specs.Streams.{Reading}
-use Rattle.plan_text.specs.Plan.{PlanView}
-use Rattle.plan_text.specs.Fits.{fits}
+use Rattle.tally_base.{specs.declared.event.Event.Event, specs.declared.fault.Fault.Fault, specs.declared.fault.Fault.TheVariants.NoGroup, specs.declared.header.Header.Header, specs.RecordTypes.mode_of}
+use Rattle.ptu_definitions.{specs.Headers.header_answer, specs.Words.words_of, specs.Streams.Reading}
+use Rattle.plan_text.{specs.Plan.PlanView, specs.Fits.fits}
 use Rattle.gate_plan.specs.Shifting.{sorting}
 use Rattle.tally_engine.specs.Plans.{reading_by}
 use Rattle.short_file.specs.ShortFiles.{short_header}
-use Rattle.photon_pick.specs.Chosen.{is_chosen}
-use Rattle.photon_pick.specs.Texts.{text_in, refusal_in}
-use Rattle.photon_pick.specs.Ends.{photons_kept, photons_of, end_text, end_fault}
-use Rattle.photon_pick.specs.Late.{too_late, writable}
+use Rattle.photon_pick.{specs.Chosen.is_chosen, specs.Texts.{text_in, refusal_in}, specs.Ends.{photons_kept, photons_of, end_text, end_fault}, specs.Late.{too_late, writable}}
 use Rattle.ptu_cli.specs.Outcomes.{Outcome, refused, MayChange}
 
 -- the fault of a plan without a group of this number

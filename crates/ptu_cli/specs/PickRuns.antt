@@ -1,13 +1,10 @@
 -- What writing the photons of a group of a file leaves, behind its header.
 use Rattle.std.specs.Prelude.{ℕ, Bool, List, Result}
 use Rattle.std.specs.declared.option.Option.{Option}
-use Rattle.tally_base.specs.declared.event.Event.{Event}
-use Rattle.tally_base.specs.declared.fault.Fault.{Fault}
+use Rattle.tally_base.{specs.declared.event.Event.Event, specs.declared.fault.Fault.Fault}
 use Rattle.ptu_definitions.specs.Streams.{Reading}
 use Rattle.photon_pick.specs.Texts.{text_in, refusal_in}
-use Rattle.ptu_cli.specs.Endings.{Span}
-use Rattle.ptu_cli.specs.PickOutcomes.{photons_picked}
-use Rattle.ptu_cli.specs.TextRuns.{AnswersText, TextReason}
+use Rattle.ptu_cli.{specs.Endings.Span, specs.PickOutcomes.photons_picked, specs.TextRuns.{AnswersText, TextReason}}
 
 -- A fault from outside, or the end that the bytes call for.
 abbrev pub AnswersPicks : (Event → Bool) → Reading → List ℕ → Option (List ℕ) → Option (List ℕ) → Option (List ℕ) → Option (List ℕ) → Result (Unit {0}) Fault → Type 0

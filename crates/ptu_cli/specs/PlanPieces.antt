@@ -1,16 +1,10 @@
 -- What reading a plan leaves.
 use Rattle.std.specs.Prelude.{ℕ, ◌≡◌, ◌⊎◌, ◌<◌, ◌≤◌, List, length, take, true, false, Some, Result, IsErrAnd}
 use Rattle.std.specs.Io.KnownBytes.{Consumes, IsAtEnd}
-use Rattle.tally_base.specs.declared.slot.Slot.{Slot}
-use Rattle.tally_base.specs.declared.slot.Slot.TheVariants.{Plan as PlanSlot}
-use Rattle.tally_base.specs.declared.fault.Fault.{Fault}
-use Rattle.tally_base.specs.Faults.{is_outside, HasReason}
-use Rattle.tally_base.specs.FaultCounts.{Rose}
+use Rattle.tally_base.{specs.declared.slot.Slot.Slot, specs.declared.slot.Slot.TheVariants.Plan as PlanSlot, specs.declared.fault.Fault.Fault, specs.Faults.{is_outside, HasReason}, specs.FaultCounts.Rose}
 use Rattle.bench_io.specs.Inputs.{File, InputState, Keeps, KeepsOther}
-use Rattle.plan_text.specs.declared.plan.Plan.{Plan}
-use Rattle.plan_text.specs.Reading.{text_limit, plan_answer, plan_seen}
-use Rattle.ptu_cli.specs.Told.{MayBe}
-use Rattle.ptu_cli.specs.Endings.{IsTakenFrom}
+use Rattle.plan_text.{specs.declared.plan.Plan.Plan, specs.Reading.{text_limit, plan_answer, plan_seen}}
+use Rattle.ptu_cli.{specs.Told.MayBe, specs.Endings.IsTakenFrom}
 
 -- The name is meant for the slot, which was not asked for yet.
 pub record MayOpen (state : InputState) (slot : Slot) (name : List ℕ) : Type 0 where

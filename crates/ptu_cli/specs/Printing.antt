@@ -1,21 +1,11 @@
 -- What printing a header in pieces leaves.
 use Rattle.std.specs.Prelude.{ℕ, ◌≡◌, ◌+◌, List, [], ◌∷◌, ◌++◌, length, true, false, Ok, Err}
 use Rattle.std.specs.declared.option.Option.{Option}
-use Rattle.tally_base.specs.declared.header.Header.{Header}
-use Rattle.tally_base.specs.Faults.{is_outside}
-use Rattle.ptu_definitions.specs.TagFields.{code_in}
-use Rattle.ptu_definitions.specs.TagList.{Item}
-use Rattle.ptu_definitions.specs.Headers.{header_answer}
-use Rattle.ptu_definitions.specs.Seen.{seen}
-use Rattle.ptu_definitions.specs.Shown.{Shows}
+use Rattle.tally_base.{specs.declared.header.Header.Header, specs.Faults.is_outside}
+use Rattle.ptu_definitions.{specs.TagFields.code_in, specs.TagList.Item, specs.Headers.header_answer, specs.Seen.seen, specs.Shown.Shows}
 use Rattle.ptu_header.specs.Reading.{HasRead, bytes_taken, is_open}
-use Rattle.table_out.specs.HeaderText.{kind_with, header_text}
-use Rattle.table_out.specs.Body.{HasPut}
-use Rattle.ptu_cli.specs.Outcomes.{IsCut}
-use Rattle.ptu_cli.specs.Grown.{PutsMore, AppendsMore, CutsMore}
-use Rattle.ptu_cli.specs.declared.print.HeaderPrinter.{HeaderPrinter}
-use Rattle.ptu_cli.specs.declared.print.Printed.{Printed}
-use Rattle.ptu_cli.specs.declared.print.Printed.TheVariants.{More, Done, Refused}
+use Rattle.table_out.{specs.HeaderText.{kind_with, header_text}, specs.Body.HasPut}
+use Rattle.ptu_cli.{specs.Outcomes.IsCut, specs.Grown.{PutsMore, AppendsMore, CutsMore}, specs.declared.print.HeaderPrinter.HeaderPrinter, specs.declared.print.Printed.Printed, specs.declared.print.Printed.TheVariants.{More, Done, Refused}}
 
 -- The printer was given these bytes, and knows how the body goes on that they end in.
 pub record Prints (printer : HeaderPrinter) (bytes : List ℕ) : Type 0 where

@@ -1,17 +1,10 @@
 -- What running a plan over a file reports.
 use Rattle.std.specs.Prelude.{ℕ, List, Result, Ok, Err}
-use Rattle.tally_base.specs.declared.fault.Fault.{Fault}
-use Rattle.tally_base.specs.declared.header.Header.{Header}
-use Rattle.tally_base.specs.RecordTypes.{mode_of}
-use Rattle.ptu_definitions.specs.declared.records.Summary.{Summary}
-use Rattle.ptu_definitions.specs.Headers.{header_answer}
-use Rattle.ptu_definitions.specs.Words.{words_of}
-use Rattle.ptu_definitions.specs.Streams.{streamed}
-use Rattle.plan_text.specs.Plan.{PlanView, parts_of}
-use Rattle.plan_text.specs.Fits.{fits}
+use Rattle.tally_base.{specs.declared.fault.Fault.Fault, specs.declared.header.Header.Header, specs.RecordTypes.mode_of}
+use Rattle.ptu_definitions.{specs.declared.records.Summary.Summary, specs.Headers.header_answer, specs.Words.words_of, specs.Streams.streamed}
+use Rattle.plan_text.{specs.Plan.{PlanView, parts_of}, specs.Fits.fits}
 use Rattle.gate_plan.specs.Shifting.{sorting}
-use Rattle.tally_engine.specs.Histories.{history}
-use Rattle.tally_engine.specs.Plans.{reading_by}
+use Rattle.tally_engine.{specs.Histories.history, specs.Plans.reading_by}
 use Rattle.table_out.specs.Report.{report, with_events}
 
 -- the report of the records behind a header, where none is refused

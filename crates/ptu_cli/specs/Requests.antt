@@ -1,13 +1,8 @@
 -- What a command asks for.
 use Rattle.std.specs.Prelude.{◌≤◌, List, None, Some, map, string_bytes}
-use Rattle.std.specs.declared.string.String.{String}
-use Rattle.std.specs.declared.alloc.Global.{Global}
-use Rattle.std.specs.declared.option.Option.{Option}
+use Rattle.std.{specs.declared.string.String.String, specs.declared.alloc.Global.Global, specs.declared.option.Option.Option}
 use Rattle.ptu_made.specs.Generator.{photon_limit}
-use Rattle.ptu_cli.specs.Commands.{Request, Count as CountOf, Header as HeaderOf, Events as EventsOf, Run as RunOf, Trace as TraceOf, Pick as PickOf, Demo as DemoOf, request_of}
-use Rattle.ptu_cli.specs.Behaviours.{Behaviour, behaviour}
-use Rattle.ptu_cli.specs.declared.words.Command.{Command}
-use Rattle.ptu_cli.specs.declared.words.Command.TheVariants.{Count, Header, Events, Run, Trace, Pick, Demo}
+use Rattle.ptu_cli.{specs.Commands.{Request, request_of}, specs.Commands.Count as CountOf, specs.Commands.Header as HeaderOf, specs.Commands.Events as EventsOf, specs.Commands.Run as RunOf, specs.Commands.Trace as TraceOf, specs.Commands.Pick as PickOf, specs.Commands.Demo as DemoOf, specs.Behaviours.{Behaviour, behaviour}, specs.declared.words.Command.Command, specs.declared.words.Command.TheVariants.{Count, Header, Events, Run, Trace, Pick, Demo}}
 
 abbrev pub asked_for : Option Command → Option Request
 asked_for None = None

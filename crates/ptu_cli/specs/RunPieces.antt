@@ -1,23 +1,13 @@
 -- What counting the records of a file by a plan leaves.
 use Rattle.std.specs.Prelude.{ℕ, ◌≡◌, ◌⊎◌, ◌<◌, List, [], ◌++◌, true, None, Result, Ok, Err}
-use Rattle.std.specs.declared.option.Option.{Option}
-use Rattle.std.specs.Io.KnownBytes.{Consumes, IsAtEnd}
-use Rattle.tally_base.specs.declared.slot.Slot.TheVariants.{Data}
-use Rattle.tally_base.specs.declared.fault.Fault.{Fault}
-use Rattle.tally_base.specs.Faults.{is_outside, HasReason}
-use Rattle.tally_base.specs.FaultCounts.{Rose}
+use Rattle.std.{specs.declared.option.Option.Option, specs.Io.KnownBytes.{Consumes, IsAtEnd}}
+use Rattle.tally_base.{specs.declared.slot.Slot.TheVariants.Data, specs.declared.fault.Fault.Fault, specs.Faults.{is_outside, HasReason}, specs.FaultCounts.Rose}
 use Rattle.bench_io.specs.Inputs.{InputState}
 use Rattle.ptu_definitions.specs.Streams.{streamed}
 use Rattle.plan_text.specs.Plan.{PlanView}
-use Rattle.tally_engine.specs.declared.engine.Engine.{Engine}
-use Rattle.tally_engine.specs.declared.engine.Results.{Results}
-use Rattle.tally_engine.specs.Engine.{HasFed, refused_by, reading_of, IsCounted}
-use Rattle.tally_engine.specs.Parts.{AllClosed}
+use Rattle.tally_engine.{specs.declared.engine.Engine.Engine, specs.declared.engine.Results.Results, specs.Engine.{HasFed, refused_by, reading_of, IsCounted}, specs.Parts.AllClosed}
 use Rattle.table_out.specs.Report.{Table, report, EachHolds}
-use Rattle.ptu_cli.specs.Told.{Says}
-use Rattle.ptu_cli.specs.Reports.{file_report}
-use Rattle.ptu_cli.specs.Pieces.{TakesOpen}
-use Rattle.ptu_cli.specs.Endings.{StopsAtHeader}
+use Rattle.ptu_cli.{specs.Told.Says, specs.Reports.file_report, specs.Pieces.TakesOpen, specs.Endings.StopsAtHeader}
 
 -- The name and the parts of a blank ledger are those of its type, and it has some parts.
 pub record IsLedger (name parts its_name its_parts : ℕ) : Type 0 where

@@ -1,17 +1,11 @@
 -- What writing a text while the data are read leaves.
 use Rattle.std.specs.Prelude.{ℕ, ◌≡◌, ◌⊎◌, List, ◌++◌, true, None, Result, IsErrAnd}
-use Rattle.std.specs.declared.option.Option.{Option}
-use Rattle.std.specs.Io.KnownBytes.{Appends, Consumes}
-use Rattle.tally_base.specs.declared.fault.Fault.{Fault}
-use Rattle.tally_base.specs.declared.slot.Slot.TheVariants.{Data}
-use Rattle.tally_base.specs.FaultCounts.{Rose}
-use Rattle.tally_base.specs.Faults.{is_outside, fault_in, HasReason}
+use Rattle.std.{specs.declared.option.Option.Option, specs.Io.KnownBytes.{Appends, Consumes}}
+use Rattle.tally_base.{specs.declared.fault.Fault.Fault, specs.declared.slot.Slot.TheVariants.Data, specs.FaultCounts.Rose, specs.Faults.{is_outside, fault_in, HasReason}}
 use Rattle.bench_io.specs.Sinks.{AppendsShort}
 use Rattle.told_text.specs.Texts.{WritesText}
 use Rattle.ptu_definitions.specs.Words.{words_of}
-use Rattle.ptu_cli.specs.Told.{MayBe}
-use Rattle.ptu_cli.specs.Outcomes.{Outcome}
-use Rattle.ptu_cli.specs.Endings.{Span}
+use Rattle.ptu_cli.{specs.Told.MayBe, specs.Outcomes.Outcome, specs.Endings.Span}
 
 -- The words of the bytes are not refused, with more bytes behind them.
 abbrev pub IsUnrefused : (List ℕ → Option Fault) → List ℕ → List ℕ → Type 0

@@ -2,19 +2,12 @@
 use Rattle.std.specs.Prelude.{ℕ, ◌≡◌, ◌+◌, max, List, [], ◌++◌, length, refl}
 use Rattle.std.proofs.Common.{append-nil, arith}
 use Rattle.std.specs.declared.option.Option.{Option}
-use Rattle.tally_base.specs.declared.header.Mode.{Mode}
-use Rattle.tally_base.specs.Settings.{trace_view}
-use Rattle.tally_base.specs.Tally.{History}
-use Rattle.bench_io.specs.Sinks.{AppendsShort, PassesOn}
-use Rattle.bench_io.proofs.Bytes.{PassesOn-held}
-use Rattle.ptu_definitions.specs.Kept.{Marked, floor_of}
-use Rattle.ptu_definitions.specs.Settled.{not_marked}
+use Rattle.tally_base.{specs.declared.header.Mode.Mode, specs.Settings.trace_view, specs.Tally.History}
+use Rattle.bench_io.{specs.Sinks.{AppendsShort, PassesOn}, proofs.Bytes.PassesOn-held}
+use Rattle.ptu_definitions.{specs.Kept.{Marked, floor_of}, specs.Settled.not_marked}
 use Rattle.gate_plan.specs.Shifting.{Sorting}
 use Rattle.tally_engine.specs.Histories.{with_groups}
-use Rattle.long_trace.specs.declared.trace.LongTrace.{LongTrace}
-use Rattle.long_trace.specs.LongTrace.{Holds, GivenMore, set_of}
-use Rattle.long_trace.specs.Texts.{open_text}
-use Rattle.long_trace.proofs.Given.{GivenMore-nil}
+use Rattle.long_trace.{specs.declared.trace.LongTrace.LongTrace, specs.LongTrace.{Holds, GivenMore, set_of}, specs.Texts.open_text, proofs.Given.GivenMore-nil}
 
 -- The trace was given those of the events that aren't marked late, each with its groups, and the lines of the bins that they closed were put behind what a block held, for a sink of which no write failed.
 pub record Traced (start now : LongTrace) (by by' : Sorting) (mode mode' : Mode) (taken taken' floor floor' faults faults' : ℕ) (old new : Option (List ℕ)) (held held' : List ℕ) (l : Marked) : Type 0 where

@@ -1,22 +1,11 @@
 -- What `trace` ends with over the bytes of a file.
 use Rattle.std.specs.Prelude.{ℕ, List, [], ◌∷◌, None, Some, Result, Ok, Err}
 use Rattle.std.specs.declared.option.Option.{Option}
-use Rattle.tally_base.specs.declared.fault.Fault.{Fault}
-use Rattle.tally_base.specs.declared.fault.Fault.TheVariants.{NoTrace}
-use Rattle.tally_base.specs.declared.header.Header.{Header}
-use Rattle.tally_base.specs.RecordTypes.{mode_of}
-use Rattle.tally_base.specs.Settings.{PartSettings, TraceView}
-use Rattle.tally_base.specs.Settings.PartSettings.{TraceSettings}
-use Rattle.tally_base.specs.Tally.{History}
-use Rattle.ptu_definitions.specs.declared.records.Summary.{Summary}
-use Rattle.ptu_definitions.specs.Headers.{header_answer}
-use Rattle.ptu_definitions.specs.Words.{words_of}
-use Rattle.ptu_definitions.specs.Streams.{Reading, unrefused_after, streamed}
-use Rattle.plan_text.specs.Plan.{PlanView, parts_of}
-use Rattle.plan_text.specs.Fits.{fits}
+use Rattle.tally_base.{specs.declared.fault.Fault.Fault, specs.declared.fault.Fault.TheVariants.NoTrace, specs.declared.header.Header.Header, specs.RecordTypes.mode_of, specs.Settings.{PartSettings, TraceView}, specs.Settings.PartSettings.TraceSettings, specs.Tally.History}
+use Rattle.ptu_definitions.{specs.declared.records.Summary.Summary, specs.Headers.header_answer, specs.Words.words_of, specs.Streams.{Reading, unrefused_after, streamed}}
+use Rattle.plan_text.{specs.Plan.{PlanView, parts_of}, specs.Fits.fits}
 use Rattle.gate_plan.specs.Shifting.{Sorting, sorting}
-use Rattle.tally_engine.specs.Histories.{history, settled_history}
-use Rattle.tally_engine.specs.Plans.{reading_by}
+use Rattle.tally_engine.{specs.Histories.{history, settled_history}, specs.Plans.reading_by}
 use Rattle.long_trace.specs.Texts.{open_text, whole_text}
 use Rattle.ptu_cli.specs.Outcomes.{Outcome, refused, written}
 

@@ -1,25 +1,15 @@
 -- What the trace of words writes that come behind others.
 use Rattle.std.specs.Prelude.{ℕ, ◌≡◌, ◌⊎◌, ◌≤◌, List, ◌++◌, OnOk, false, None, Some, Result, Ok, Err}
 use Rattle.std.specs.Io.KnownBytes.{Appends, Keeps}
-use Rattle.tally_base.specs.declared.fault.Fault.{Fault}
-use Rattle.tally_base.specs.declared.fault.Fault.TheVariants.{WriteFault}
-use Rattle.tally_base.specs.FaultCounts.{Rose}
-use Rattle.tally_base.specs.Faults.{is_outside, fault_in}
-use Rattle.tally_base.specs.Settings.{trace_view}
-use Rattle.bench_io.specs.Sinks.{AppendsShort}
-use Rattle.bench_io.specs.declared.sink.Sink.{Ghosts}
+use Rattle.tally_base.{specs.declared.fault.Fault.Fault, specs.declared.fault.Fault.TheVariants.WriteFault, specs.FaultCounts.Rose, specs.Faults.{is_outside, fault_in}, specs.Settings.trace_view}
+use Rattle.bench_io.{specs.Sinks.AppendsShort, specs.declared.sink.Sink.Ghosts}
 use Rattle.told_text.specs.Texts.{WritesText}
-use Rattle.ptu_definitions.specs.Words.{words_of}
-use Rattle.ptu_definitions.specs.Streams.{Reading, record_refusal, streamed}
+use Rattle.ptu_definitions.{specs.Words.words_of, specs.Streams.{Reading, record_refusal, streamed}}
 use Rattle.gate_plan.specs.Shifting.{Sorting}
-use Rattle.record_stream.specs.declared.stream.RecordStream.{RecordStream}
-use Rattle.record_stream.specs.Standing.{how_of, given_by, greatest_of, refused_with, HasStreamed}
-use Rattle.long_trace.specs.declared.trace.LongTrace.{LongTrace}
-use Rattle.long_trace.specs.LongTrace.{Holds, set_of, taken_of, floor_of}
+use Rattle.record_stream.{specs.declared.stream.RecordStream.RecordStream, specs.Standing.{how_of, given_by, greatest_of, refused_with, HasStreamed}}
+use Rattle.long_trace.{specs.declared.trace.LongTrace.LongTrace, specs.LongTrace.{Holds, set_of, taken_of, floor_of}, specs.Texts.open_text}
 use Rattle.tally_engine.specs.Histories.{history}
-use Rattle.long_trace.specs.Texts.{open_text}
-use Rattle.ptu_cli.specs.Once.{OutOnce}
-use Rattle.ptu_cli.specs.TraceOutcomes.{settled_before, words_traced}
+use Rattle.ptu_cli.{specs.Once.OutOnce, specs.TraceOutcomes.{settled_before, words_traced}}
 
 -- The trace is no further on than the stream.
 pub record IsBehindStream (stream : RecordStream) (trace : LongTrace) : Type 0 where

@@ -1,15 +1,9 @@
 -- What a command's work on the bytes of FILE leaves.
 use Rattle.std.specs.Prelude.{ℕ, ◌≡◌, ◌⊎◌, ◌≤◌, List, ◌++◌, length, true, Result, IsErrAnd}
-use Rattle.std.specs.declared.option.Option.{Option}
-use Rattle.std.specs.Io.KnownBytes.{Keeps, Appends, Consumes}
-use Rattle.tally_base.specs.declared.slot.Slot.TheVariants.{Data}
-use Rattle.tally_base.specs.declared.fault.Fault.{Fault}
-use Rattle.tally_base.specs.FaultCounts.{Rose}
-use Rattle.tally_base.specs.Faults.{is_outside, fault_in, HasReason}
+use Rattle.std.{specs.declared.option.Option.Option, specs.Io.KnownBytes.{Keeps, Appends, Consumes}}
+use Rattle.tally_base.{specs.declared.slot.Slot.TheVariants.Data, specs.declared.fault.Fault.Fault, specs.FaultCounts.Rose, specs.Faults.{is_outside, fault_in, HasReason}}
 use Rattle.plan_text.specs.Plan.{PlanView}
-use Rattle.ptu_cli.specs.Told.{MayBe, Says}
-use Rattle.ptu_cli.specs.Behaviours.{piece_limit, Work, Writing, so_far, under, Memory}
-use Rattle.ptu_cli.specs.Endings.{Cuts, Span, WantsBehind}
+use Rattle.ptu_cli.{specs.Told.{MayBe, Says}, specs.Behaviours.{piece_limit, Work, Writing, so_far, under, Memory}, specs.Endings.{Cuts, Span, WantsBehind}}
 
 -- The bytes taken and those left end so, and this text was written.
 pub record EndsWork (work : Work) (rest_before rest_after old new : Option (List ℕ)) (fault : Option Fault) : Type 0 where

@@ -1,17 +1,11 @@
 // A command by a plan.
 ghost use Rattle.std.specs.Prelude.{◌≡◌, ◌≤◌, ◌<◌, List, ℕ, true, false, None, IfErr, IfSome};
 ghost use Rattle.std.specs.declared.option.Option.{Option};
-ghost use Rattle.tally_base.specs.declared.slot.Slot.{Slot};
-ghost use Rattle.tally_base.specs.declared.slot.Slot.TheVariants.{Plan as PlanSlot, Data};
-ghost use Rattle.tally_base.specs.declared.fault.Fault.{Fault};
-ghost use Rattle.tally_base.specs.Faults.{is_outside, fault_in};
+ghost use Rattle.tally_base.{specs.declared.slot.Slot.Slot, specs.declared.slot.Slot.TheVariants.Plan as PlanSlot, specs.declared.slot.Slot.TheVariants.Data, specs.declared.fault.Fault.Fault, specs.Faults.{is_outside, fault_in}};
 ghost use Rattle.bench_io.specs.Inputs.{OnlyReads};
 ghost use Rattle.ptu_definitions.specs.Counted.{record_limit};
-ghost use Rattle.plan_text.specs.Plan.{PlanView};
-ghost use Rattle.plan_text.specs.Reading.{plan_view};
-ghost use Rattle.ptu_cli.specs.Behaviours.{Work, Writing, Memory, ByPlan};
-ghost use Rattle.ptu_cli.specs.Endings.{Does, Once, span};
-ghost use Rattle.ptu_cli.specs.Works.{AnswersWork, TakesFew, PlanReason};
+ghost use Rattle.plan_text.{specs.Plan.PlanView, specs.Reading.plan_view};
+ghost use Rattle.ptu_cli.{specs.Behaviours.{Work, Writing, Memory, ByPlan}, specs.Endings.{Does, Once, span}, specs.Works.{AnswersWork, TakesFew, PlanReason}};
 
 use crate::plan::plan_of;
 use bench_io::{Inputs, Sink};

@@ -1,12 +1,9 @@
 // The commands on FILE.
 ghost use Rattle.std.specs.Prelude.{◌≡◌, None, Some, IfSome, option_map};
-ghost use Rattle.tally_base.specs.declared.fault.Fault.TheVariants.{NoGroup};
-ghost use Rattle.tally_base.specs.Settings.{trace_view};
+ghost use Rattle.tally_base.{specs.declared.fault.Fault.TheVariants.NoGroup, specs.Settings.trace_view};
 ghost use Rattle.plan_text.specs.Reading.{plan_view};
 ghost use Rattle.table_out.specs.HeaderText.{header_text};
-ghost use Rattle.ptu_cli.specs.Behaviours.{AtEnd, AsItReads, ForPlan, ForTables, any_plan, counting, printing, events_so_far, listing_all, reporting, tracing, picking};
-ghost use Rattle.ptu_cli.specs.PickOutcomes.{no_group, pick_so_far};
-ghost use Rattle.ptu_cli.specs.TraceOutcomes.{no_trace, trace_of, trace_so_far};
+ghost use Rattle.ptu_cli.{specs.Behaviours.{AtEnd, AsItReads, ForPlan, ForTables, any_plan, counting, printing, events_so_far, listing_all, reporting, tracing, picking}, specs.PickOutcomes.{no_group, pick_so_far}, specs.TraceOutcomes.{no_trace, trace_of, trace_so_far}};
 
 use crate::by_plan::PlanWork;
 use crate::counts::write_counts;

@@ -1,8 +1,7 @@
 // The lines of `count`.
 ghost use Rattle.std.specs.Prelude.{◌≡◌, IfErr, OnOk, OnErr};
 ghost use Rattle.std.specs.Io.KnownBytes.{Appends};
-ghost use Rattle.bench_io.specs.TriesOnce.{TriesOnce};
-ghost use Rattle.bench_io.specs.Sinks.{AppendsShort};
+ghost use Rattle.bench_io.{specs.TriesOnce.TriesOnce, specs.Sinks.AppendsShort};
 ghost use Rattle.ptu_cli.specs.CountText.{counts_text};
 
 use arrayvec::ArrayVec;

@@ -1,20 +1,11 @@
 // Reads the data of a command in pieces.
 ghost use Rattle.std.specs.Prelude.{◌≡◌, List, ℕ, true, IfErr, IfOk};
 ghost use Rattle.std.specs.Io.KnownBytes.{Consumes};
-ghost use Rattle.tally_base.specs.declared.slot.Slot.TheVariants.{Data};
-ghost use Rattle.tally_base.specs.declared.header.RecordType.{RecordType};
-ghost use Rattle.tally_base.specs.Faults.{fault_in};
+ghost use Rattle.tally_base.{specs.declared.slot.Slot.TheVariants.Data, specs.declared.header.RecordType.RecordType, specs.Faults.fault_in};
 ghost use Rattle.bench_io.specs.Inputs.{OnlyReads};
 ghost use Rattle.ptu_definitions.specs.Counted.{counted};
 ghost use Rattle.table_out.specs.HeaderText.{header_text};
-ghost use Rattle.ptu_cli.specs.Once.{InputsOnce};
-ghost use Rattle.ptu_cli.specs.Endings.{Once, span};
-ghost use Rattle.ptu_cli.specs.Outcomes.{file_counts};
-ghost use Rattle.ptu_cli.specs.Behaviours.{AsItReads, counting, printing, events_so_far, listing_all};
-ghost use Rattle.ptu_cli.specs.Works.{AnswersWork, TakesFew, WantsNone, WorkReason};
-ghost use Rattle.ptu_cli.specs.Pieces.{ReadReason, AnswersAs, AnswersBehind, IsReady, StopsSoon, StopsCounting};
-ghost use Rattle.ptu_cli.specs.HeaderPieces.{EndsIn, HeaderEnds};
-ghost use Rattle.ptu_cli.specs.Outcomes.{IsCut};
+ghost use Rattle.ptu_cli.{specs.Once.InputsOnce, specs.Endings.{Once, span}, specs.Outcomes.{file_counts, IsCut}, specs.Behaviours.{AsItReads, counting, printing, events_so_far, listing_all}, specs.Works.{AnswersWork, TakesFew, WantsNone, WorkReason}, specs.Pieces.{ReadReason, AnswersAs, AnswersBehind, IsReady, StopsSoon, StopsCounting}, specs.HeaderPieces.{EndsIn, HeaderEnds}};
 ghost use Rattle.record_layout.specs.Counting.{HasCounted};
 
 use crate::events::{list_piece, list_rest};

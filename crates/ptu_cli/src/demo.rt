@@ -2,15 +2,9 @@
 ghost use Rattle.std.specs.Prelude.{◌≡◌, ◌≤◌, true, Some, IfErr};
 ghost use Rattle.std.specs.declared.option.Option.{Option};
 ghost use Rattle.bench_io.specs.Inputs.{InputState};
-ghost use Rattle.tally_base.specs.declared.slot.Slot.TheVariants.{Data};
-ghost use Rattle.ptu_made.specs.MadeFile.{made_file};
-ghost use Rattle.ptu_made.specs.Made.{made_state};
-ghost use Rattle.ptu_made.specs.Generator.{photon_limit};
-ghost use Rattle.ptu_cli.specs.Commands.{Demo};
-ghost use Rattle.ptu_cli.specs.Behaviours.{behaviour};
-ghost use Rattle.tally_base.specs.Faults.{fault_in};
-ghost use Rattle.ptu_cli.specs.Once.{OutOnce};
-ghost use Rattle.ptu_cli.specs.Endings.{Answers, HasCauses, alone_span};
+ghost use Rattle.tally_base.{specs.declared.slot.Slot.TheVariants.Data, specs.Faults.fault_in};
+ghost use Rattle.ptu_made.{specs.MadeFile.made_file, specs.Made.made_state, specs.Generator.photon_limit};
+ghost use Rattle.ptu_cli.{specs.Commands.Demo, specs.Behaviours.behaviour, specs.Once.OutOnce, specs.Endings.{Answers, HasCauses, alone_span}};
 
 use crate::run::run_data;
 use bench_io::{Inputs, Sink};

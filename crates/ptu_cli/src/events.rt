@@ -1,18 +1,10 @@
 // The lines of the events of a file, written while it is read.
-ghost use Rattle.std.specs.Prelude.{◌≡◌, ◌≤◌, List, ℕ, OnOk, false};
+ghost use Rattle.std.specs.Prelude.{◌≡◌, ◌≤◌, List, ℕ, OnOk, false, IfErr};
 ghost use Rattle.record_stream.specs.Standing.{how_of, HasStreamed};
-ghost use Rattle.tally_base.specs.Faults.{fault_in, is_outside};
-ghost use Rattle.ptu_cli.specs.Once.{OutOnce};
-ghost use Rattle.ptu_cli.specs.Endings.{Once, span};
-ghost use Rattle.ptu_cli.specs.EventLines.{ListsNone};
-ghost use Rattle.ptu_cli.specs.EventPieces.{IsOpenIn, TakesOn, StaysOpen, WritesPiece, WritesOnce};
-ghost use Rattle.ptu_cli.specs.Pieces.{IsReady, MayChangeBehind};
-ghost use Rattle.std.specs.Prelude.{IfErr};
-ghost use Rattle.tally_base.specs.declared.slot.Slot.TheVariants.{Data};
+ghost use Rattle.tally_base.{specs.Faults.{fault_in, is_outside}, specs.declared.slot.Slot.TheVariants.Data};
+ghost use Rattle.ptu_cli.{specs.Once.OutOnce, specs.Endings.{Once, span}, specs.EventLines.ListsNone, specs.EventPieces.{IsOpenIn, TakesOn, StaysOpen, WritesPiece, WritesOnce}, specs.Pieces.{IsReady, MayChangeBehind}, specs.Works.TakesFew, specs.EventRuns.{AnswersLines, LinesReason}};
 ghost use Rattle.bench_io.specs.Inputs.{OnlyReads};
 ghost use Rattle.ptu_definitions.specs.Streams.{streamed};
-ghost use Rattle.ptu_cli.specs.Works.{TakesFew};
-ghost use Rattle.ptu_cli.specs.EventRuns.{AnswersLines, LinesReason};
 
 use crate::data::READ_FAULT;
 use bench_io::{Block, Inputs, Sink};

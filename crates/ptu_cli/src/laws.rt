@@ -5,25 +5,10 @@ ghost use Rattle.bench_io.specs.Inputs.{File};
 ghost use Rattle.ptu_definitions.specs.Counted.{record_limit};
 ghost use Rattle.record_write.specs.Picked.{CanBePicked, picked_words, picked_file, picked_events};
 ghost use Rattle.table_out.specs.EventText.{events_text};
-ghost use Rattle.ptu_made.specs.MadeFile.{made_file};
-ghost use Rattle.ptu_made.specs.Generator.{photon_limit};
-ghost use Rattle.tally_base.specs.declared.event.Event.{Event};
-ghost use Rattle.tally_base.specs.declared.header.Mode.{Mode};
-ghost use Rattle.tally_base.specs.declared.fault.Fault.{Fault};
-ghost use Rattle.tally_base.specs.declared.fault.Fault.TheVariants.{Usage, NoGroup};
-ghost use Rattle.tally_base.specs.declared.header.Header.{Header};
-ghost use Rattle.tally_base.specs.RecordTypes.{mode_of};
+ghost use Rattle.ptu_made.{specs.MadeFile.made_file, specs.Generator.photon_limit};
+ghost use Rattle.tally_base.{specs.declared.event.Event.Event, specs.declared.header.Mode.Mode, specs.declared.fault.Fault.Fault, specs.declared.fault.Fault.TheVariants.{Usage, NoGroup}, specs.declared.header.Header.Header, specs.RecordTypes.mode_of};
 ghost use Rattle.plan_text.specs.Plan.{PlanView};
-ghost use Rattle.ptu_cli.specs.Commands.{Request, Events, Run, Pick, Demo};
-ghost use Rattle.ptu_cli.specs.Outcomes.{Outcome, written};
-ghost use Rattle.ptu_cli.specs.CommandCases.{Needs, Suits, cases, IsOutcome};
-ghost use Rattle.ptu_cli.specs.Cases.{HasGroup};
-ghost use Rattle.ptu_cli.specs.PickOutcomes.{photons_written};
-ghost use Rattle.ptu_cli.specs.Runs.{Around, Runs};
-ghost use Rattle.ptu_cli.specs.Causes.{Headed, IsPlanWith, EndsWithFault, StatusIn, Absent, NoPlan, Misfits, NoHeader, Cut, Refused, Lacking, TooLate, IsPickable, MayCallFor, MayEndWith};
-ghost use Rattle.ptu_cli.specs.Demo.{demo_text};
-ghost use Rattle.ptu_cli.specs.Behaviours.{EndsStay, behaviour};
-ghost use Rattle.ptu_cli.specs.Endings.{outcome};
+ghost use Rattle.ptu_cli.{specs.Commands.{Request, Events, Run, Pick, Demo}, specs.Outcomes.{Outcome, written}, specs.CommandCases.{Needs, Suits, cases, IsOutcome}, specs.Cases.HasGroup, specs.PickOutcomes.photons_written, specs.Runs.{Around, Runs}, specs.Causes.{Headed, IsPlanWith, EndsWithFault, StatusIn, Absent, NoPlan, Misfits, NoHeader, Cut, Refused, Lacking, TooLate, IsPickable, MayCallFor, MayEndWith}, specs.Demo.demo_text, specs.Behaviours.{EndsStay, behaviour}, specs.Endings.outcome};
 
 /// A `demo` ends as `run` does on the text of its plan and the made file.
 pub fn demo_is_a_run()

@@ -1,12 +1,8 @@
 // A command on FILE alone.
 ghost use Rattle.std.specs.Prelude.{◌≡◌, List, ℕ, true, false, IfErr};
-ghost use Rattle.tally_base.specs.declared.slot.Slot.{Slot};
-ghost use Rattle.tally_base.specs.declared.slot.Slot.TheVariants.{Data};
-ghost use Rattle.tally_base.specs.Faults.{fault_in};
+ghost use Rattle.tally_base.{specs.declared.slot.Slot.Slot, specs.declared.slot.Slot.TheVariants.Data, specs.Faults.fault_in};
 ghost use Rattle.bench_io.specs.Inputs.{OnlyReads};
-ghost use Rattle.ptu_cli.specs.Behaviours.{Work, Writing, OnFile};
-ghost use Rattle.ptu_cli.specs.Endings.{Does, Once, span};
-ghost use Rattle.ptu_cli.specs.Works.{AnswersWork, TakesFew, WantsNone, WorkReason};
+ghost use Rattle.ptu_cli.{specs.Behaviours.{Work, Writing, OnFile}, specs.Endings.{Does, Once, span}, specs.Works.{AnswersWork, TakesFew, WantsNone, WorkReason}};
 
 use bench_io::{Inputs, Sink};
 use tally_base::{Failed, Fault, Slot};

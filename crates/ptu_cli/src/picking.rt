@@ -1,23 +1,13 @@
 // The photons of a group of a plan, written while the data are read.
 ghost use Rattle.std.specs.Prelude.{◌≡◌, ◌<◌, ◌≤◌, List, ℕ, true, IfErr, None};
-ghost use Rattle.tally_base.specs.declared.slot.Slot.TheVariants.{Data};
-ghost use Rattle.tally_base.specs.Faults.{fault_in};
+ghost use Rattle.tally_base.{specs.declared.slot.Slot.TheVariants.Data, specs.Faults.fault_in};
 ghost use Rattle.bench_io.specs.Inputs.{OnlyReads};
-ghost use Rattle.ptu_definitions.specs.Counted.{record_limit};
-ghost use Rattle.ptu_definitions.specs.Words.{words_of};
+ghost use Rattle.ptu_definitions.{specs.Counted.record_limit, specs.Words.words_of};
 ghost use Rattle.gate_plan.specs.Groups.{sorting_of};
 ghost use Rattle.plan_text.specs.Reading.{plan_view};
 ghost use Rattle.record_stream.specs.Standing.{how_of, refused_with, HasStreamed};
-ghost use Rattle.photon_pick.specs.Chosen.{is_chosen};
-ghost use Rattle.photon_pick.specs.Pieces.{IsNoFurther};
-ghost use Rattle.photon_pick.specs.Texts.{refusal_in, HasPickedIn};
-ghost use Rattle.ptu_cli.specs.Endings.{Once, span};
-ghost use Rattle.ptu_cli.specs.Pieces.{IsReady};
-ghost use Rattle.ptu_cli.specs.PickOutcomes.{no_group, pick_so_far};
-ghost use Rattle.ptu_cli.specs.Behaviours.{AsItReads, picking};
-ghost use Rattle.ptu_cli.specs.TextRuns.{IsUnrefused};
-ghost use Rattle.ptu_cli.specs.PickRuns.{AnswersPicks, PicksReason};
-ghost use Rattle.ptu_cli.specs.Works.{AnswersWork, TakesFew, WantsNone, WorkReason};
+ghost use Rattle.photon_pick.{specs.Chosen.is_chosen, specs.Pieces.IsNoFurther, specs.Texts.{refusal_in, HasPickedIn}};
+ghost use Rattle.ptu_cli.{specs.Endings.{Once, span}, specs.Pieces.IsReady, specs.PickOutcomes.{no_group, pick_so_far}, specs.Behaviours.{AsItReads, picking}, specs.TextRuns.IsUnrefused, specs.PickRuns.{AnswersPicks, PicksReason}, specs.Works.{AnswersWork, TakesFew, WantsNone, WorkReason}};
 
 use crate::data::{PIECE, READ_FAULT, read_header};
 use bench_io::{Inputs, Sink};

@@ -1,15 +1,10 @@
 // Reads the plan of a command.
 ghost use Rattle.std.specs.Prelude.{◌≡◌, ◌≤◌, ◌<◌, List, ℕ, length, true, IfErr, IfOk};
 ghost use Rattle.std.specs.Io.KnownBytes.{Consumes};
-ghost use Rattle.tally_base.specs.declared.slot.Slot.TheVariants.{Plan as PlanSlot};
-ghost use Rattle.tally_base.specs.declared.fault.Fault.TheVariants.{ReadFault};
-ghost use Rattle.tally_base.specs.FaultCounts.{Rose};
-ghost use Rattle.tally_base.specs.Faults.{fault_in};
+ghost use Rattle.tally_base.{specs.declared.slot.Slot.TheVariants.Plan as PlanSlot, specs.declared.fault.Fault.TheVariants.ReadFault, specs.FaultCounts.Rose, specs.Faults.fault_in};
 ghost use Rattle.bench_io.specs.Inputs.{OnlyReads};
 ghost use Rattle.ptu_definitions.specs.Counted.{record_limit};
-ghost use Rattle.ptu_cli.specs.Once.{InputsOnce};
-ghost use Rattle.ptu_cli.specs.Endings.{TakesPlan};
-ghost use Rattle.ptu_cli.specs.PlanPieces.{MayOpen, OnlyUses, IsFilled, AnswersPlan, PlanReason};
+ghost use Rattle.ptu_cli.{specs.Once.InputsOnce, specs.Endings.TakesPlan, specs.PlanPieces.{MayOpen, OnlyUses, IsFilled, AnswersPlan, PlanReason}};
 
 use bench_io::Inputs;
 use plan_text::{Plan, TEXT_LIMIT, read_plan};

@@ -1,15 +1,11 @@
 // Prints a header while it is read.
 ghost use Rattle.std.specs.Prelude.{◌≡◌, ◌≤◌, ◌^◌, ◌++◌, [], List, ℕ, true, false, IfOk, OnOk, OnErr, Err};
 ghost use Rattle.tally_base.specs.Faults.{is_outside};
-ghost use Rattle.ptu_definitions.specs.Headers.{header_answer};
-ghost use Rattle.bench_io.specs.TriesOnce.{TriesOnce};
-ghost use Rattle.ptu_tag.specs.declared.kind.TagKind.{TagKind};
-ghost use Rattle.ptu_tag.specs.Kinds.{IsHead, code_of};
-ghost use Rattle.ptu_definitions.specs.TagFields.{code_in};
+ghost use Rattle.ptu_definitions.{specs.Headers.header_answer, specs.TagFields.code_in};
+ghost use Rattle.bench_io.{specs.TriesOnce.TriesOnce, specs.Sinks.{AppendsShort, PassesOn}};
+ghost use Rattle.ptu_tag.{specs.declared.kind.TagKind.TagKind, specs.Kinds.{IsHead, code_of}};
 ghost use Rattle.ptu_header.specs.Reading.{bytes_taken, is_open};
-ghost use Rattle.table_out.specs.HeaderText.{head_text, bare_end};
-ghost use Rattle.table_out.specs.Body.{HasPut};
-ghost use Rattle.bench_io.specs.Sinks.{AppendsShort, PassesOn};
+ghost use Rattle.table_out.{specs.HeaderText.{head_text, bare_end}, specs.Body.HasPut};
 ghost use Rattle.ptu_cli.specs.BodyPieces.{PutsBody, CutsBody, end_line};
 
 use arrayvec::ArrayVec;

@@ -1,18 +1,12 @@
 // Counts the records of a file by a plan.
 ghost use Rattle.std.specs.Prelude.{◌≡◌, ◌≤◌, ◌<◌, List, ℕ, slice_range, true, None, IfErr, IfOk};
 ghost use Rattle.std.specs.Io.KnownBytes.{Consumes};
-ghost use Rattle.tally_base.specs.declared.slot.Slot.TheVariants.{Data};
-ghost use Rattle.tally_base.specs.Faults.{fault_in};
+ghost use Rattle.tally_base.{specs.declared.slot.Slot.TheVariants.Data, specs.Faults.fault_in};
 ghost use Rattle.bench_io.specs.Inputs.{OnlyReads};
-ghost use Rattle.ptu_definitions.specs.Counted.{record_limit};
-ghost use Rattle.ptu_definitions.specs.Streams.{streamed};
+ghost use Rattle.ptu_definitions.{specs.Counted.record_limit, specs.Streams.streamed};
 ghost use Rattle.plan_text.specs.Reading.{plan_view};
 ghost use Rattle.tally_engine.specs.Engine.{HasFed, reading_of, refused_by};
-ghost use Rattle.ptu_cli.specs.Once.{InputsOnce};
-ghost use Rattle.ptu_cli.specs.Pieces.{ReadReason, IsReady, HoldsPart, MayChangeBehind, StopsSoon, StopsEarly};
-ghost use Rattle.ptu_cli.specs.Behaviours.{reporting};
-ghost use Rattle.ptu_cli.specs.Works.{TakesFew};
-ghost use Rattle.ptu_cli.specs.RunPieces.{IsLedger, IsFresh, EndsBehind, AnswersReport, RunReason};
+ghost use Rattle.ptu_cli.{specs.Once.InputsOnce, specs.Pieces.{ReadReason, IsReady, HoldsPart, MayChangeBehind, StopsSoon, StopsEarly}, specs.Behaviours.reporting, specs.Works.TakesFew, specs.RunPieces.{IsLedger, IsFresh, EndsBehind, AnswersReport, RunReason}};
 
 use crate::data::{PIECE, READ_FAULT, read_header};
 use bench_io::Inputs;

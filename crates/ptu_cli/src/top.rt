@@ -1,9 +1,7 @@
 // The top call.
 ghost use Rattle.std.specs.Prelude.{◌≡◌, false, None, Some, Err};
 ghost use Rattle.tally_base.specs.declared.slot.Slot.{Slot};
-ghost use Rattle.ptu_cli.specs.Endings.{IsMeant, TellsFault, Does, span};
-ghost use Rattle.ptu_cli.specs.Requests.{request_in, behaviour_of};
-ghost use Rattle.ptu_cli.specs.Runs.{Runs, around};
+ghost use Rattle.ptu_cli.{specs.Endings.{IsMeant, TellsFault, Does, span}, specs.Requests.{request_in, behaviour_of}, specs.Runs.{Runs, around}};
 
 use crate::by_plan::by_plan;
 use crate::command::{Counting, Listing, Picking, Printing, Reporting, Tracing};

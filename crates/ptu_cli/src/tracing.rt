@@ -1,24 +1,13 @@
 // The trace of a plan, written while the file is read.
 ghost use Rattle.std.specs.Prelude.{◌≡◌, ◌<◌, ◌≤◌, ℕ, true, List, [], IfErr, OnOk, None, Some};
-ghost use Rattle.tally_base.specs.declared.slot.Slot.TheVariants.{Data};
-ghost use Rattle.tally_base.specs.Faults.{fault_in};
-ghost use Rattle.tally_base.specs.Settings.{trace_view};
+ghost use Rattle.tally_base.{specs.declared.slot.Slot.TheVariants.Data, specs.Faults.fault_in, specs.Settings.trace_view};
 ghost use Rattle.bench_io.specs.Inputs.{OnlyReads};
-ghost use Rattle.ptu_definitions.specs.Streams.{record_refusal, streamed};
-ghost use Rattle.ptu_definitions.specs.Counted.{record_limit};
+ghost use Rattle.ptu_definitions.{specs.Streams.{record_refusal, streamed}, specs.Counted.record_limit};
 ghost use Rattle.plan_text.specs.Reading.{plan_view};
 ghost use Rattle.record_stream.specs.Standing.{how_of, given_by, greatest_of, refused_with, HasStreamed};
 ghost use Rattle.gate_plan.specs.Groups.{sorting_of};
 ghost use Rattle.long_trace.specs.LongTrace.{set_of, taken_of, floor_of};
-ghost use Rattle.ptu_cli.specs.EventPieces.{TakesOn, StaysOpen};
-ghost use Rattle.ptu_cli.specs.Once.{OutOnce};
-ghost use Rattle.ptu_cli.specs.Endings.{Once, span};
-ghost use Rattle.ptu_cli.specs.Pieces.{IsReady, MayChangeBehind};
-ghost use Rattle.ptu_cli.specs.TraceOutcomes.{trace_of, words_traced, records_traced, trace_so_far};
-ghost use Rattle.ptu_cli.specs.Behaviours.{AsItReads, tracing};
-ghost use Rattle.ptu_cli.specs.TracePieces.{IsBehindStream, TracesBytes, TracesPiece, TracesOnce, WritesLast, both_ended};
-ghost use Rattle.ptu_cli.specs.TextRuns.{WritesEnd, AnswersText, TextReason};
-ghost use Rattle.ptu_cli.specs.Works.{AnswersWork, TakesFew, WantsNone, WorkReason};
+ghost use Rattle.ptu_cli.{specs.EventPieces.{TakesOn, StaysOpen}, specs.Once.OutOnce, specs.Endings.{Once, span}, specs.Pieces.{IsReady, MayChangeBehind}, specs.TraceOutcomes.{trace_of, words_traced, records_traced, trace_so_far}, specs.Behaviours.{AsItReads, tracing}, specs.TracePieces.{IsBehindStream, TracesBytes, TracesPiece, TracesOnce, WritesLast, both_ended}, specs.TextRuns.{WritesEnd, AnswersText, TextReason}, specs.Works.{AnswersWork, TakesFew, WantsNone, WorkReason}};
 
 use crate::data::{PIECE, READ_FAULT, read_header};
 use arrayvec::ArrayVec;

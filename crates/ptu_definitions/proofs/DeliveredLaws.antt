@@ -1,21 +1,8 @@
 -- What is delivered makes up the settled list, and with the rest the kept list.
-use Rattle.std.proofs.Common.{◌≡◌, ◌+◌, ◌-◌, ◌<◌, ◌≤◌, ℕ, List, [], ◌∷◌, ◌++◌, Bool, true, false, cond, map, length, drop, refl, sym, ap, ◌∙◌, append_assoc, append-nil, zero-add, arith, ⊎_elim}
-use Rattle.std.specs.Prelude.{nat_lt, not, ◌&&◌, ◌==◌, ◌||◌}
-use Rattle.std.specs.List.{AllByRecursion, filter, list_any}
-use Rattle.std.proofs.lemmas.List.{map-append, take_all}
-use Rattle.std.proofs.lemmas.List.Elements.{filter-append}
-use Rattle.std.proofs.lemmas.Bool.{cases_lt, lt-ltb, ltb-false, eqb-true}
-use Rattle.tally_base.specs.declared.event.Event.{Event}
-use Rattle.tally_base.specs.declared.header.Mode.{Mode}
-use Rattle.tally_base.specs.Events.{is_ordered}
-use Rattle.ptu_definitions.specs.Prefixes.{each_after}
-use Rattle.ptu_definitions.specs.Kept.{Marked, mark, marked, is_late, kept}
-use Rattle.ptu_definitions.specs.Settled.{later_than, is_overtaken, unless_overtaken, not_overtaken, put_in, put_all, in_time, without_last, last_of, marked_as, settles, delivered, delivered_last, those_marked, not_marked, late_by, is_late_by, ordered, kept_by, settled_by}
-use Rattle.ptu_definitions.specs.Settling.{IsOpen}
-use Rattle.std.proofs.lemmas.Bool.{ltb-true}
-use Rattle.ptu_definitions.proofs.PrefixLemmas.{each_after-append}
-use Rattle.ptu_definitions.proofs.SettledLemmas.{later_than-cons, later_than-push, put_in-append, length-put_in}
-use Rattle.ptu_definitions.proofs.SettlingLemmas.{all-push, is_late as late-is, is_not_late as late-is_not, joined-late, joined-put, joined-give, open-none, open-late, open-wait, open-emit, settled-is, waits-is, settles-late, settles-more}
+use Rattle.std.proofs.Common.{◌≡◌, ◌+◌, ◌-◌, ◌<◌, ◌≤◌, ℕ, List, [], ◌∷◌, ◌++◌, Bool, true, false, cond, map, length, drop, refl, sym, ap, ◌∙◌, append_assoc, append-nil, zero-add, arith, ⊎_elim, nat_lt, not, ◌&&◌, ◌==◌, ◌||◌}
+use Rattle.std.{specs.List.{AllByRecursion, filter, list_any}, proofs.lemmas.List.{map-append, take_all}, proofs.lemmas.List.Elements.filter-append, proofs.lemmas.Bool.{cases_lt, lt-ltb, ltb-false, eqb-true, ltb-true}}
+use Rattle.tally_base.{specs.declared.event.Event.Event, specs.declared.header.Mode.Mode, specs.Events.is_ordered}
+use Rattle.ptu_definitions.{specs.Prefixes.each_after, specs.Kept.{Marked, mark, marked, is_late, kept}, specs.Settled.{later_than, is_overtaken, unless_overtaken, not_overtaken, put_in, put_all, in_time, without_last, last_of, marked_as, settles, delivered, delivered_last, those_marked, not_marked, late_by, is_late_by, ordered, kept_by, settled_by}, specs.Settling.IsOpen, proofs.PrefixLemmas.each_after-append, proofs.SettledLemmas.{later_than-cons, later_than-push, put_in-append, length-put_in}, proofs.SettlingLemmas.{all-push, joined-late, joined-put, joined-give, open-none, open-late, open-wait, open-emit, settled-is, waits-is, settles-late, settles-more}, proofs.SettlingLemmas.is_late as late-is, proofs.SettlingLemmas.is_not_late as late-is_not}
 
 -- Where k is 0 the words that stood before mean the same.
 one_pick : (c : Bool) (n : ℕ) → nat_lt 0 (cond c 1 0 + n) ≡ c || nat_lt 0 n

@@ -1,21 +1,8 @@
 -- The record refusal is that of the least record that is refused.
-use Rattle.std.proofs.Common.{◌≡◌, ◌<◌, ℕ, zero, suc, List, [], ◌∷◌, ◌++◌, None, Some, length, take, get_or, refl, sym, ap, ◌∙◌, append_assoc, append-nil, arith}
+use Rattle.std.proofs.Common.{◌≡◌, ◌<◌, ℕ, zero, suc, List, [], ◌∷◌, ◌++◌, None, Some, length, take, get_or, refl, sym, ap, ◌∙◌, append_assoc, append-nil, arith, ◌↔◌, Bool, true, false, ◌&&◌, ◌+◌, nat_le, map, if◌then◌else◌}
 use Rattle.std.specs.declared.option.Option.{Option}
-use Rattle.std.specs.Prelude.{◌↔◌, Bool, true, false, ◌&&◌, ◌+◌, nat_le, map, if◌then◌else◌}
-use Rattle.tally_base.specs.declared.event.Event.{Event}
-use Rattle.tally_base.specs.declared.header.Mode.{Mode}
-use Rattle.tally_base.specs.Faults.{is_outside}
-use Rattle.tally_base.specs.declared.fault.Fault.TheVariants.{RecordLimit, ReservedRecord, BackwardTime, TimeLimit}
-use Rattle.tally_base.specs.Events.{stops_late, stops_reserved}
-use Rattle.ptu_definitions.specs.Kinds.{is_reserved}
-use Rattle.ptu_definitions.specs.Times.{events, event_after, passes}
-use Rattle.ptu_definitions.specs.Kept.{greatest}
-use Rattle.ptu_definitions.specs.Settled.{is_late_by}
-use Rattle.tally_base.specs.declared.fault.Fault.{Fault}
-use Rattle.ptu_definitions.specs.Prefixes.{each_after, listed, first}
-use Rattle.ptu_definitions.specs.Streams.{Reading, late_refusal, refusal, refusals, record_refusal, events_in, given}
-use Rattle.ptu_definitions.specs.Firsts.{IsFirst}
-use Rattle.ptu_definitions.proofs.StreamLemmas.{listed-none, listed-rest, refused-push, refused-more, given-clear, given-refused, given-stays}
+use Rattle.tally_base.{specs.declared.event.Event.Event, specs.declared.header.Mode.Mode, specs.Faults.is_outside, specs.declared.fault.Fault.TheVariants.{RecordLimit, ReservedRecord, BackwardTime, TimeLimit}, specs.Events.{stops_late, stops_reserved}, specs.declared.fault.Fault.Fault}
+use Rattle.ptu_definitions.{specs.Kinds.is_reserved, specs.Times.{events, event_after, passes}, specs.Kept.greatest, specs.Settled.is_late_by, specs.Prefixes.{each_after, listed, first}, specs.Streams.{Reading, late_refusal, refusal, refusals, record_refusal, events_in, given}, specs.Firsts.IsFirst, proofs.StreamLemmas.{listed-none, listed-rest, refused-push, refused-more, given-clear, given-refused, given-stays}}
 
 abbrev after : Reading → List ℕ → List ℕ → List Fault
 after how before ws = each_after (λ before word. listed (refusal how before word)) before ws

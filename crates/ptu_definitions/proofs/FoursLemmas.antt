@@ -1,9 +1,7 @@
 -- Bytes in fours are their words, and what is left over.
 use Rattle.std.proofs.Common.{◌≡◌, ◌+◌, ◌*◌, ◌/◌, ◌<◌, ◌≤◌, ℕ, zero, suc, List, [], ◌∷◌, length, drop, refl, arith}
-use Rattle.std.specs.Simd.{first_chunks}
-use Rattle.std.specs.Int.{from_le_bytes, w32}
-use Rattle.ptu_definitions.specs.Words.{word_of, words_of, rest_of}
-use Rattle.ptu_definitions.specs.Fours.{numbers}
+use Rattle.std.{specs.Simd.first_chunks, specs.Int.{from_le_bytes, w32}}
+use Rattle.ptu_definitions.{specs.Words.{word_of, words_of, rest_of}, specs.Fours.numbers}
 
 number_of : (a b c d : ℕ) → from_le_bytes w32 (a ∷ b ∷ c ∷ d ∷ []) ≡ word_of a b c d
 number_of a b c d = omega arith

@@ -1,18 +1,7 @@
 -- All bytes have no front, a longest front or a header.
-use Rattle.std.proofs.Common.{◌≡◌, ◌⊎◌, ◌+◌, ◌≤◌, ℕ, zero, suc, List, [], ◌∷◌, ◌++◌, true, false, length, take, drop, refl, sym, ap, ◌∙◌, append_assoc, append-nil, take-append-drop, arith, length-append, inl, inr}
-use Rattle.std.specs.Prelude.{codes}
-use Rattle.std.specs.Str.{bytes_eq}
-use Rattle.std.proofs.lemmas.List.{length-take, length-drop, take-append-le}
-use Rattle.std.proofs.lemmas.Bool.{cases_Bool, cases_lt}
-use Rattle.std.proofs.lemmas.Slice.Eq.{bytes_eq-Decides}
-use Rattle.ptu_definitions.specs.TagFields.{code_in, is_known, is_negative, body_size, is_end}
-use Rattle.ptu_definitions.specs.TagList.{Item, IsItem, AreInner, bytes_of, IsFront, IsHeader}
-use Rattle.ptu_definitions.specs.Endings.{HasHeader}
-use Rattle.ptu_definitions.specs.Seen.{HasLongestFront, HasNoFront}
-use Rattle.ptu_definitions.proofs.Walks.{drop_front, tag_front, whole_length, magic_front}
-use Rattle.ptu_definitions.proofs.AnswerLemmas.{bytes_of-append}
-use Rattle.ptu_definitions.proofs.Nests.{fronts-nest, header-ends}
-use Rattle.ptu_definitions.proofs.SeenLaws.{AreInner-push}
+use Rattle.std.proofs.Common.{◌≡◌, ◌⊎◌, ◌+◌, ◌≤◌, ℕ, zero, suc, List, [], ◌∷◌, ◌++◌, true, false, length, take, drop, refl, sym, ap, ◌∙◌, append_assoc, append-nil, take-append-drop, arith, length-append, inl, inr, codes}
+use Rattle.std.{specs.Str.bytes_eq, proofs.lemmas.List.{length-take, length-drop, take-append-le}, proofs.lemmas.Bool.{cases_Bool, cases_lt}, proofs.lemmas.Slice.Eq.bytes_eq-Decides}
+use Rattle.ptu_definitions.{specs.TagFields.{code_in, is_known, is_negative, body_size, is_end}, specs.TagList.{Item, IsItem, AreInner, bytes_of, IsFront, IsHeader}, specs.Endings.HasHeader, specs.Seen.{HasLongestFront, HasNoFront}, proofs.Walks.{drop_front, tag_front, whole_length, magic_front}, proofs.AnswerLemmas.bytes_of-append, proofs.Nests.{fronts-nest, header-ends}, proofs.SeenLaws.AreInner-push}
 
 -- A whole item stands at the front of the bytes.
 record StartsWhole (bytes : List ℕ) : Type 0 where

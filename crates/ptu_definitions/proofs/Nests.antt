@@ -1,9 +1,6 @@
 -- Fronts and headers of the same bytes.
 use Rattle.std.proofs.Common.{◌≡◌, ◌+◌, ◌⊎◌, ℕ, List, [], ◌∷◌, ◌++◌, true, length, take, drop, refl, sym, ap, ◌∙◌, append_assoc, arith, length-append, inl, inr}
-use Rattle.ptu_definitions.specs.TagFields.{body_size, is_end}
-use Rattle.ptu_definitions.specs.TagList.{Item, IsItem, AreInner, bytes_of, IsFront, IsHeader, GoesOn}
-use Rattle.ptu_definitions.proofs.Walks.{take_front, drop_front, tag_front, body_front}
-use Rattle.ptu_definitions.proofs.AnswerLemmas.{bytes_of-append}
+use Rattle.ptu_definitions.{specs.TagFields.{body_size, is_end}, specs.TagList.{Item, IsItem, AreInner, bytes_of, IsFront, IsHeader, GoesOn}, proofs.Walks.{take_front, drop_front, tag_front, body_front}, proofs.AnswerLemmas.bytes_of-append}
 
 item_of : List ℕ → List ℕ → Item
 item_of tag body = record { tag = tag; body = body }

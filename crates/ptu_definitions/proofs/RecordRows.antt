@@ -1,11 +1,7 @@
 -- The meaning of words at known words: the nine words of an example file, and words of each layout.
 use Rattle.std.proofs.Common.{◌≡◌, [], ◌∷◌, refl, Ok, Err, map}
-use Rattle.tally_base.specs.declared.header.RecordType.TheVariants.{PicoHarpT2, PicoHarpT3, HydraHarpT2, HydraHarpT3, HydraHarp2T2, HydraHarp2T3}
-use Rattle.tally_base.specs.declared.fault.Fault.TheVariants.{TruncatedRecord}
-use Rattle.ptu_definitions.specs.declared.records.Raw.TheVariants.{Photon, Marker, Wrap, Reserved}
-use Rattle.ptu_definitions.specs.Layouts.{pico_t2, pico_t3, hydra_t2, hydra_t3, meaning_of}
-use Rattle.ptu_definitions.specs.Words.{words_of, rest_of}
-use Rattle.ptu_definitions.specs.Counted.{counted, records_of}
+use Rattle.tally_base.{specs.declared.header.RecordType.TheVariants.{PicoHarpT2, PicoHarpT3, HydraHarpT2, HydraHarpT3, HydraHarp2T2, HydraHarp2T3}, specs.declared.fault.Fault.TheVariants.TruncatedRecord}
+use Rattle.ptu_definitions.{specs.declared.records.Raw.TheVariants.{Photon, Marker, Wrap, Reserved}, specs.Layouts.{pico_t2, pico_t3, hydra_t2, hydra_t3, meaning_of}, specs.Words.{words_of, rest_of}, specs.Counted.{counted, records_of}}
 
 -- wraps, markers and photons of a HydraHarp2T3 file
 pub row-hydra_harp2_t3 : map (meaning_of HydraHarp2T3) (0xFE000001 ∷ 0x86000006 ∷ 0x00019006 ∷ 0x02032008 ∷ 0x00401014 ∷ 0x024E2015 ∷ 0xFE000000 ∷ 0x88000000 ∷ 0x00019002 ∷ [])

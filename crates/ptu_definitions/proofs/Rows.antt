@@ -1,14 +1,7 @@
 -- The definitions at known bytes.
-use Rattle.std.proofs.Common.{◌≡◌, ◌-◌, ◌/◌, ◌%◌, ℕ, zero, suc, List, [], ◌∷◌, ◌++◌, None, Some, Ok, Err, length, take, replicate, refl}
-use Rattle.std.specs.Prelude.{codes, negsuc, pos}
-use Rattle.tally_base.specs.declared.header.RecordType.TheVariants.{HydraHarp2T3}
-use Rattle.tally_base.specs.declared.fault.Fault.TheVariants.{BadMagic, TruncatedHeader, TagType, TagLength, NoRecordType, UnknownRecordType}
-use Rattle.ptu_definitions.specs.TagFields.{name_in, code_in, value_in, has_body, is_known}
-use Rattle.ptu_definitions.specs.Endings.{walk, ending}
-use Rattle.ptu_definitions.specs.Fields.{value_under, found_in, header_of}
-use Rattle.tally_base.specs.RecordTypes.{type_with}
-use Rattle.ptu_definitions.specs.Headers.{header_answer}
-use Rattle.ptu_definitions.specs.Seen.{seen_from, seen, seen_preamble}
+use Rattle.std.proofs.Common.{◌≡◌, ◌-◌, ◌/◌, ◌%◌, ℕ, zero, suc, List, [], ◌∷◌, ◌++◌, None, Some, Ok, Err, length, take, replicate, refl, codes, negsuc, pos}
+use Rattle.tally_base.{specs.declared.header.RecordType.TheVariants.HydraHarp2T3, specs.declared.fault.Fault.TheVariants.{BadMagic, TruncatedHeader, TagType, TagLength, NoRecordType, UnknownRecordType}, specs.RecordTypes.type_with}
+use Rattle.ptu_definitions.{specs.TagFields.{name_in, code_in, value_in, has_body, is_known}, specs.Endings.{walk, ending}, specs.Fields.{value_under, found_in, header_of}, specs.Headers.header_answer, specs.Seen.{seen_from, seen, seen_preamble}}
 
 abbrev version_bytes : List ℕ
 version_bytes = codes "1.0.00" ++ 0 ∷ 0 ∷ []

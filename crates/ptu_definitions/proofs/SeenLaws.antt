@@ -1,29 +1,8 @@
 -- What bytes show, by the longest front or header, and where they have an answer.
-use Rattle.std.proofs.Common.{min, subst, ◌+◌, ◌≡◌, ◌≢◌, ◌-◌, ◌<◌, ◌≤◌, ◌^◌, ℕ, zero, suc, List, [], ◌∷◌, ◌++◌, true, false, length, take, drop, refl, sym, ap, ◌∙◌, append_assoc, append-nil, take-append-drop, arith, length-append, inl, inr, None, Some, Err}
-use Rattle.std.specs.Prelude.{nat_eq, codes, Result}
-use Rattle.std.specs.Str.{bytes_eq}
-use Rattle.std.proofs.lemmas.List.{length-take, take-append-le}
-use Rattle.std.proofs.lemmas.Bool.{cases_Bool, cases_lt, cases_eq}
-use Rattle.std.proofs.lemmas.Bool.Decides.{nat_tests}
-use Rattle.std.proofs.lemmas.Slice.Eq.{bytes_eq-Decides}
-use Rattle.std.specs.declared.option.Option.{Option}
-use Rattle.tally_base.specs.declared.fault.Fault.{Fault}
-use Rattle.tally_base.specs.declared.fault.Fault.TheVariants.{TruncatedHeader}
-use Rattle.tally_base.specs.declared.header.Header.{Header}
-use Rattle.tally_base.specs.declared.header.RecordType.{RecordType}
-use Rattle.tally_base.specs.RecordTypes.{type_with}
-use Rattle.ptu_definitions.specs.declared.found.Found.{Found}
-use Rattle.ptu_definitions.specs.TagFields.{code_in, is_known, is_negative, body_size, is_end}
-use Rattle.ptu_definitions.specs.TagList.{Item, IsItem, AreInner, bytes_of}
-use Rattle.ptu_definitions.specs.Endings.{Ending, OtherFile, BadType, BadLength, Whole, Open, HasTag, IsOtherFile, EndsAs, ending}
-use Rattle.ptu_definitions.specs.Fields.{found_in, header_of, version_in, with_type, with_value}
-use Rattle.ptu_definitions.specs.Headers.{header_answer, head_of, answer_as, with_rest, unfinished}
-use Rattle.ptu_definitions.specs.Shown.{Shows}
-use Rattle.ptu_definitions.specs.Seen.{seen_from, seen, seen_preamble, begun, IsLongestFront, HasNoFront}
-use Rattle.ptu_definitions.proofs.Walks.{not_less, is_less}
-use Rattle.ptu_definitions.proofs.Sound.{ending-applies}
-use Rattle.ptu_definitions.proofs.AnswerLemmas.{head-front, answer-open, bytes_of-append}
-use Rattle.ptu_definitions.proofs.SeenLemmas.{seen_from-short, seen_from-part, seen_from-unknown, seen_from-negative, seen-front, seen-short, seen-other, seen-unknown, seen-negative, seen-header, seen_preamble-short, seen_preamble-other, seen_preamble-front, seen_preamble-header}
+use Rattle.std.proofs.Common.{min, subst, ◌+◌, ◌≡◌, ◌≢◌, ◌-◌, ◌<◌, ◌≤◌, ◌^◌, ℕ, zero, suc, List, [], ◌∷◌, ◌++◌, true, false, length, take, drop, refl, sym, ap, ◌∙◌, append_assoc, append-nil, take-append-drop, arith, length-append, inl, inr, None, Some, Err, nat_eq, codes, Result}
+use Rattle.std.{specs.Str.bytes_eq, proofs.lemmas.List.{length-take, take-append-le}, proofs.lemmas.Bool.{cases_Bool, cases_lt, cases_eq}, proofs.lemmas.Bool.Decides.nat_tests, proofs.lemmas.Slice.Eq.bytes_eq-Decides, specs.declared.option.Option.Option}
+use Rattle.tally_base.{specs.declared.fault.Fault.Fault, specs.declared.fault.Fault.TheVariants.TruncatedHeader, specs.declared.header.Header.Header, specs.declared.header.RecordType.RecordType, specs.RecordTypes.type_with}
+use Rattle.ptu_definitions.{specs.declared.found.Found.Found, specs.TagFields.{code_in, is_known, is_negative, body_size, is_end}, specs.TagList.{Item, IsItem, AreInner, bytes_of}, specs.Endings.{Ending, OtherFile, BadType, BadLength, Whole, Open, HasTag, IsOtherFile, EndsAs, ending}, specs.Fields.{found_in, header_of, version_in, with_type, with_value}, specs.Headers.{header_answer, head_of, answer_as, with_rest, unfinished}, specs.Shown.Shows, specs.Seen.{seen_from, seen, seen_preamble, begun, IsLongestFront, HasNoFront}, proofs.Walks.{not_less, is_less}, proofs.Sound.ending-applies, proofs.AnswerLemmas.{head-front, answer-open, bytes_of-append}, proofs.SeenLemmas.{seen_from-short, seen_from-part, seen_from-unknown, seen_from-negative, seen-front, seen-short, seen-other, seen-unknown, seen-negative, seen-header, seen_preamble-short, seen_preamble-other, seen_preamble-front, seen_preamble-header}}
 
 begun-short : (bytes : List ℕ) → length bytes < 48 → begun bytes ≡ []
 unfolding begun

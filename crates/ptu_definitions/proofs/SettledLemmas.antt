@@ -1,13 +1,8 @@
 -- Lists in order of time, and one event more.
-use Rattle.std.proofs.Common.{◌≡◌, ◌+◌, ◌-◌, ◌<◌, ◌≤◌, ℕ, zero, suc, List, [], ◌∷◌, ◌++◌, Bool, true, false, cond, length, get_or, refl, sym, ap, subst, ◌∙◌, append-nil, arith}
-use Rattle.std.specs.Prelude.{nat_lt}
-use Rattle.std.specs.List.{AllByRecursion, AllWithin, insert, remove}
-use Rattle.std.specs.List.Sorted.{IsNonDecreasingBy}
-use Rattle.std.proofs.lemmas.Bool.{ltb-true, ltb-false}
-use Rattle.std.proofs.lemmas.List.Sums.{sum_by_push, sum_by-cons}
+use Rattle.std.proofs.Common.{◌≡◌, ◌+◌, ◌-◌, ◌<◌, ◌≤◌, ℕ, zero, suc, List, [], ◌∷◌, ◌++◌, Bool, true, false, cond, length, get_or, refl, sym, ap, subst, ◌∙◌, append-nil, arith, nat_lt}
+use Rattle.std.{specs.List.{AllByRecursion, AllWithin, insert, remove}, specs.List.Sorted.IsNonDecreasingBy, proofs.lemmas.Bool.{ltb-true, ltb-false}, proofs.lemmas.List.Sums.{sum_by_push, sum_by-cons}}
 use Rattle.tally_base.specs.declared.event.Event.{Event}
-use Rattle.ptu_definitions.specs.Settled.{later_than, is_overtaken, unless_overtaken, not_overtaken, put_in, put_all, in_time, Rises}
-use Rattle.ptu_definitions.proofs.PrefixLemmas.{each-push}
+use Rattle.ptu_definitions.{specs.Settled.{later_than, is_overtaken, unless_overtaken, not_overtaken, put_in, put_all, in_time, Rises}, proofs.PrefixLemmas.each-push}
 
 pub later_than-push : (t : ℕ) (es : List Event) (e : Event) → later_than t (es ++ e ∷ []) ≡ later_than t es + cond (nat_lt t e.time) 1 0
 later_than-push t es e = sum_by_push (λ (x : Event). cond (nat_lt t x.time) 1 0) es e

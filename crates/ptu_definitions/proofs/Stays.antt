@@ -1,18 +1,8 @@
 -- More bytes behind a file change its header's answer only where the header is cut.
-use Rattle.std.proofs.Common.{subst, ◌+◌, ◌≡◌, ◌≢◌, ◌-◌, ◌≤◌, ◌^◌, ℕ, List, [], ◌∷◌, ◌++◌, length, take, drop, refl, sym, ap, ◌∙◌, append_assoc, append-nil, arith, length-append, inl, inr, Ok, Err}
-use Rattle.std.specs.Prelude.{Result}
-use Rattle.std.proofs.lemmas.List.{length-take, take-append-le, drop-append-le, take_all, length-drop}
-use Rattle.std.proofs.lemmas.Bool.{cases_lt}
-use Rattle.tally_base.specs.declared.fault.Fault.{Fault}
-use Rattle.tally_base.specs.declared.fault.Fault.TheVariants.{TruncatedHeader}
-use Rattle.tally_base.specs.declared.header.Header.{Header}
-use Rattle.ptu_definitions.specs.TagList.{Item, bytes_of}
-use Rattle.ptu_definitions.specs.Endings.{Ending, OtherFile, BadType, BadLength, Whole, Open, HasTag, HasHeader, IsOpen, EndsAs, ending}
-use Rattle.ptu_definitions.specs.Fields.{found_in, header_of, version_in}
-use Rattle.ptu_definitions.specs.Headers.{header_answer, head_of, answer_as, with_rest, unfinished}
-use Rattle.ptu_definitions.proofs.Sound.{ending-applies, ending-one}
-use Rattle.ptu_definitions.proofs.AnswerLemmas.{head-front, answer-open, answer-at, bytes_of-append}
-use Rattle.ptu_definitions.proofs.SeenLaws.{other-append, behind_tag, refusal, err_is}
+use Rattle.std.proofs.Common.{subst, ◌+◌, ◌≡◌, ◌≢◌, ◌-◌, ◌≤◌, ◌^◌, ℕ, List, [], ◌∷◌, ◌++◌, length, take, drop, refl, sym, ap, ◌∙◌, append_assoc, append-nil, arith, length-append, inl, inr, Ok, Err, Result}
+use Rattle.std.{proofs.lemmas.List.{length-take, take-append-le, drop-append-le, take_all, length-drop}, proofs.lemmas.Bool.cases_lt}
+use Rattle.tally_base.{specs.declared.fault.Fault.Fault, specs.declared.fault.Fault.TheVariants.TruncatedHeader, specs.declared.header.Header.Header}
+use Rattle.ptu_definitions.{specs.TagList.{Item, bytes_of}, specs.Endings.{Ending, OtherFile, BadType, BadLength, Whole, Open, HasTag, HasHeader, IsOpen, EndsAs, ending}, specs.Fields.{found_in, header_of, version_in}, specs.Headers.{header_answer, head_of, answer_as, with_rest, unfinished}, proofs.Sound.{ending-applies, ending-one}, proofs.AnswerLemmas.{head-front, answer-open, answer-at, bytes_of-append}, proofs.SeenLaws.{other-append, behind_tag, refusal, err_is}}
 
 -- an answer of a file that goes on
 abbrev pub with_more : List ℕ → Result (Header × List ℕ) Fault → Result (Header × List ℕ) Fault

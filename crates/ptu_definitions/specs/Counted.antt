@@ -1,14 +1,8 @@
 -- What counting the records of some bytes answers.
 use Rattle.std.specs.Prelude.{ℕ, ◌==◌, List, map, length, nat_lt, if◌then◌else◌, Result, Ok, Err}
-use Rattle.tally_base.specs.declared.fault.Fault.{Fault}
-use Rattle.tally_base.specs.declared.fault.Fault.TheVariants.{RecordLimit, TruncatedRecord}
-use Rattle.tally_base.specs.declared.header.RecordType.{RecordType}
+use Rattle.tally_base.{specs.declared.fault.Fault.Fault, specs.declared.fault.Fault.TheVariants.{RecordLimit, TruncatedRecord}, specs.declared.header.RecordType.RecordType}
 pub use Rattle.tally_base.specs.Limits.{record_limit}
-use Rattle.ptu_definitions.specs.declared.records.KindCounts.{KindCounts}
-use Rattle.ptu_definitions.specs.declared.records.Raw.{Raw}
-use Rattle.ptu_definitions.specs.Words.{words_of, rest_of}
-use Rattle.ptu_definitions.specs.Layouts.{meaning_of}
-use Rattle.ptu_definitions.specs.Kinds.{counts_of}
+use Rattle.ptu_definitions.{specs.declared.records.KindCounts.KindCounts, specs.declared.records.Raw.Raw, specs.Words.{words_of, rest_of}, specs.Layouts.meaning_of, specs.Kinds.counts_of}
 
 -- the records of the bytes behind a header
 unfoldable pub records_of : RecordType → List ℕ → List Raw

@@ -1,16 +1,8 @@
 -- The fields of a header: each the value of the first item of its name and type.
 use Rattle.std.specs.Prelude.{ℕ, ◌==◌, ◌&&◌, List, [], ◌∷◌, take, drop, codes, if◌then◌else◌, None, Some, ℤ, Result, Ok, Err}
-use Rattle.std.specs.declared.option.Option.{Option}
-use Rattle.std.specs.Str.{bytes_eq}
-use Rattle.std.specs.Int.{w64, cast_signed}
-use Rattle.tally_base.specs.declared.fault.Fault.{Fault}
-use Rattle.tally_base.specs.declared.fault.Fault.TheVariants.{NoRecordType, UnknownRecordType}
-use Rattle.tally_base.specs.declared.header.Header.{Header}
-use Rattle.tally_base.specs.declared.header.RecordType.{RecordType}
-use Rattle.tally_base.specs.RecordTypes.{type_with}
-use Rattle.ptu_definitions.specs.declared.found.Found.{Found}
-use Rattle.ptu_definitions.specs.TagFields.{name_in, code_in, value_in}
-use Rattle.ptu_definitions.specs.TagList.{Item}
+use Rattle.std.{specs.declared.option.Option.Option, specs.Str.bytes_eq, specs.Int.{w64, cast_signed}}
+use Rattle.tally_base.{specs.declared.fault.Fault.Fault, specs.declared.fault.Fault.TheVariants.{NoRecordType, UnknownRecordType}, specs.declared.header.Header.Header, specs.declared.header.RecordType.RecordType, specs.RecordTypes.type_with}
+use Rattle.ptu_definitions.{specs.declared.found.Found.Found, specs.TagFields.{name_in, code_in, value_in}, specs.TagList.Item}
 
 -- the value of a tag that has this name and type
 unfoldable pub value_under : List ℕ → ℕ → List ℕ → Option ℕ

@@ -1,21 +1,9 @@
 // Laws of the definitions, each as the contract of a function that does nothing.
 ghost use Rattle.std.specs.Prelude.{◌==◌, filter, ◌≡◌, ◌≢◌, ◌↔◌, ◌⊎◌, ◌++◌, ◌∷◌, [], ◌+◌, ◌<◌, ◌≤◌, ◌^◌, ℕ, List, Result, Ok, length, take, get_or};
 ghost use Rattle.tally_base.specs.declared.fault.Fault.TheVariants as Fault;
-ghost use Rattle.tally_base.specs.declared.fault.Fault.{Fault};
-ghost use Rattle.tally_base.specs.declared.header.Header.{Header};
-ghost use Rattle.ptu_definitions.specs.Headers.{HasAnswer, header_answer};
-ghost use Rattle.ptu_definitions.specs.TagList.{Item, IsFront, IsHeader};
-ghost use Rattle.ptu_definitions.specs.Begins.{Front, BeginsWith, Nest, IsBegun, ShowsItems, ShowsNoMore};
-ghost use Rattle.ptu_definitions.specs.Seen.{seen, seen_preamble, begun, IsLongestFront, HasLongestFront, HasNoFront};
-ghost use Rattle.ptu_definitions.specs.Shown.{Shows};
-ghost use Rattle.ptu_definitions.specs.Endings.{Ending, EndsAs, HasHeader};
-ghost use Rattle.tally_base.specs.declared.event.Event.{Event};
-ghost use Rattle.tally_base.specs.declared.header.Mode.{Mode};
+ghost use Rattle.tally_base.{specs.declared.fault.Fault.Fault, specs.declared.header.Header.Header, specs.declared.event.Event.Event, specs.declared.header.Mode.Mode};
+ghost use Rattle.ptu_definitions.{specs.Headers.{HasAnswer, header_answer}, specs.TagList.{Item, IsFront, IsHeader}, specs.Begins.{Front, BeginsWith, Nest, IsBegun, ShowsItems, ShowsNoMore}, specs.Seen.{seen, seen_preamble, begun, IsLongestFront, HasLongestFront, HasNoFront}, specs.Shown.Shows, specs.Endings.{Ending, EndsAs, HasHeader}, specs.Kept.{marked, kept, is_late, greatest, floor_of}, specs.Settled.{not_overtaken, in_time, is_late_by, ordered, kept_by, settled_by, late_by, delivered, delivered_last, not_marked, those_marked}, specs.Streams.{Reading, refusal, record_refusal, events_in, given}, specs.Firsts.IsFirst};
 ghost use Rattle.std.specs.List.Sorted.{IsPermutation, IsNonDecreasingBy};
-ghost use Rattle.ptu_definitions.specs.Kept.{marked, kept, is_late, greatest, floor_of};
-ghost use Rattle.ptu_definitions.specs.Settled.{not_overtaken, in_time, is_late_by, ordered, kept_by, settled_by, late_by, delivered, delivered_last, not_marked, those_marked};
-ghost use Rattle.ptu_definitions.specs.Streams.{Reading, refusal, record_refusal, events_in, given};
-ghost use Rattle.ptu_definitions.specs.Firsts.{IsFirst};
 
 /// Exactly one answer applies to a file, and it is the one that the function finds.
 pub fn one_answer()

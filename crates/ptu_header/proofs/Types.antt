@@ -1,10 +1,6 @@
 -- The record type of a value and of its 64 bits.
-use Rattle.std.proofs.Common.{◌≡◌, ◌≤◌, ◌<◌, ◌-◌, ◌^◌, ◌≢◌, ℕ, suc, false, refl, sym, ap, ◌∙◌, arith, None, inl, inr}
-use Rattle.std.specs.Prelude.{nat_eq, negsuc}
-use Rattle.std.specs.Int.{w64, cast_signed}
-use Rattle.std.proofs.lemmas.Int.{to_z_pos}
-use Rattle.std.proofs.lemmas.Bool.{cases_lt}
-use Rattle.std.proofs.lemmas.Bool.Decides.{nat_tests}
+use Rattle.std.proofs.Common.{◌≡◌, ◌≤◌, ◌<◌, ◌-◌, ◌^◌, ◌≢◌, ℕ, suc, false, refl, sym, ap, ◌∙◌, arith, None, inl, inr, nat_eq, negsuc}
+use Rattle.std.{specs.Int.{w64, cast_signed}, proofs.lemmas.Int.to_z_pos, proofs.lemmas.Bool.cases_lt, proofs.lemmas.Bool.Decides.nat_tests}
 use Rattle.tally_base.specs.RecordTypes.{type_of, type_with}
 use Rattle.ptu_definitions.proofs.Walks.{not_less}
 

@@ -1,8 +1,7 @@
 // A reader that carries at most one tag, and the number of body bytes still to come.
 ghost use Rattle.std.specs.Prelude.{◌≡◌, ◌+◌, ◌*◌, ◌^◌, ◌≤◌, ◌↔◌, [], IsTrue, List, ℕ, length, true, false, Err, take, codes};
 ghost use Rattle.arrayvec.specs.ArrayVec.{array_vec_len};
-ghost use Rattle.ptu_definitions.specs.Endings.{IsOtherFile};
-ghost use Rattle.ptu_definitions.specs.TagFields.{code_in, body_size};
+ghost use Rattle.ptu_definitions.{specs.Endings.IsOtherFile, specs.TagFields.{code_in, body_size}};
 ghost use Rattle.ptu_tag.specs.Kinds.{IsHead, code_of};
 ghost use Rattle.ptu_header.specs.declared.reader.Phase.TheVariants as Phase;
 ghost use Rattle.tally_base.specs.Faults.{is_outside};

@@ -1,9 +1,6 @@
 -- Bytes that are held in a part of an array.
-use Rattle.std.proofs.Common.{◌≡◌, ◌+◌, ◌-◌, ◌≤◌, ℕ, List, [], ◌++◌, length, take, drop, refl, sym, ap, ◌∙◌, arith, append_assoc}
-use Rattle.std.specs.Prelude.{slice_range}
-use Rattle.std.proofs.lemmas.List.{length-take, take-take, drop-append-le, drop-drop}
-use Rattle.std.proofs.lemmas.Slice.{take-put_mid, between_is}
-use Rattle.std.proofs.Math.Seq.{take-add, take-append-add}
+use Rattle.std.proofs.Common.{◌≡◌, ◌+◌, ◌-◌, ◌≤◌, ℕ, List, [], ◌++◌, length, take, drop, refl, sym, ap, ◌∙◌, arith, append_assoc, slice_range}
+use Rattle.std.{proofs.lemmas.List.{length-take, take-take, drop-append-le, drop-drop}, proofs.lemmas.Slice.{take-put_mid, between_is}, proofs.Math.Seq.{take-add, take-append-add}}
 use borrow.Rule.Slice.PartMut.{put_mid}
 
 pub held-more : (next end k : ℕ) (held bytes : List ℕ) → next ≤ end → end ≤ length held → length bytes ≡ 4 → slice_range (put_mid end k held bytes) next (end + 4) ≡ slice_range held next end ++ bytes

@@ -1,15 +1,9 @@
 -- The words of the made file are photons and wraps.
-use Rattle.std.proofs.Common.{◌≡◌, ◌+◌, ◌*◌, ◌/◌, ◌%◌, ◌^◌, ◌<◌, ℕ, zero, suc, Bool, true, false, List, [], ◌∷◌, ◌++◌, length, get_or, refl, arith}
-use Rattle.std.specs.Prelude.{nat_lt, if◌then◌else◌}
+use Rattle.std.proofs.Common.{◌≡◌, ◌+◌, ◌*◌, ◌/◌, ◌%◌, ◌^◌, ◌<◌, ℕ, zero, suc, Bool, true, false, List, [], ◌∷◌, ◌++◌, length, get_or, refl, arith, nat_lt, if◌then◌else◌}
 use Rattle.std.specs.List.{AllByRecursion}
-use Rattle.ptu_definitions.specs.declared.records.Raw.TheVariants.{Photon, Wrap}
-use Rattle.ptu_definitions.specs.Layouts.{hydra_t2, bits}
-use Rattle.ptu_definitions.specs.Words.{words_of, rest_of}
-use Rattle.ptu_made.specs.Generator.{states, gap, channel, unit, photon_word, words_behind, made_words}
-use Rattle.short_file.specs.ShortFiles.{bytes_in}
-use Rattle.short_file.proofs.WordBytes.{IsWord, words_of-bytes_in, rest_of-bytes_in}
-use Rattle.ptu_made.specs.Records.{IsPhotonOrWrap}
-use Rattle.ptu_made.proofs.Behind.{words_behind-cons}
+use Rattle.ptu_definitions.{specs.declared.records.Raw.TheVariants.{Photon, Wrap}, specs.Layouts.{hydra_t2, bits}, specs.Words.{words_of, rest_of}}
+use Rattle.ptu_made.{specs.Generator.{states, gap, channel, unit, photon_word, words_behind, made_words}, specs.Records.IsPhotonOrWrap, proofs.Behind.words_behind-cons}
+use Rattle.short_file.{specs.ShortFiles.bytes_in, proofs.WordBytes.{IsWord, words_of-bytes_in, rest_of-bytes_in}}
 
 -- a word of 32 bits, and what it means
 pub record IsMade (word : ℕ) : Type 0 where

@@ -1,11 +1,8 @@
 -- The definitions at known seeds.
-use Rattle.std.proofs.Common.{◌≡◌, [], ◌∷◌, ◌++◌, replicate, refl}
-use Rattle.std.specs.Prelude.{codes}
-use Rattle.ptu_made.specs.Generator.{next_state, states, gap, channel, drawn, photon_words, made_words}
+use Rattle.std.proofs.Common.{◌≡◌, [], ◌∷◌, ◌++◌, replicate, refl, codes}
+use Rattle.ptu_made.{specs.Generator.{next_state, states, gap, channel, drawn, photon_words, made_words}, specs.Records.made_photons, specs.MadeFile.made_file}
 use Rattle.tally_base.specs.declared.event.EventKind.TheVariants.{Photon}
-use Rattle.ptu_made.specs.Records.{made_photons}
 use Rattle.short_file.specs.ShortFiles.{short_header, short_file}
-use Rattle.ptu_made.specs.MadeFile.{made_file}
 
 pub row-state : next_state 0 ≡ 0x14057B7EF767814F
 row-state = refl

@@ -1,26 +1,9 @@
 -- No record of the made file is refused.
-use Rattle.std.proofs.Common.{◌≡◌, ◌+◌, ◌*◌, ◌<◌, ◌≤◌, ℕ, zero, suc, Bool, true, false, None, List, [], ◌∷◌, length, map, take, get_or, refl, ◌∙◌, arith}
-use Rattle.std.specs.Prelude.{nat_lt, nat_le, ◌&&◌, if◌then◌else◌}
-use Rattle.std.specs.List.{AllByRecursion}
-use Rattle.std.specs.declared.option.Option.{Option}
-use Rattle.std.proofs.lemmas.List.{length-map, length-take}
-use Rattle.std.proofs.lemmas.List.Sums.{sum_by-cons}
-use Rattle.std.proofs.lemmas.Bool.Decides.{nat_tests}
-use Rattle.tally_base.specs.declared.event.Policy.{Policy}
-use Rattle.tally_base.specs.declared.fault.Fault.{Fault}
-use Rattle.tally_base.specs.declared.header.RecordType.TheVariants.{HydraHarp2T2}
-use Rattle.tally_base.specs.Events.{stops_late}
-use Rattle.tally_base.specs.Limits.{wrap_limit}
-use Rattle.ptu_definitions.specs.declared.records.Raw.{Raw}
-use Rattle.ptu_definitions.specs.declared.records.Raw.TheVariants.{Photon, Marker, Wrap, Reserved}
-use Rattle.ptu_definitions.specs.Kinds.{is_reserved, is_wrap}
-use Rattle.ptu_definitions.specs.Layouts.{hydra_t2}
-use Rattle.ptu_definitions.specs.Times.{amount, base}
-use Rattle.ptu_definitions.specs.Streams.{reading, refusal, record_refusal}
-use Rattle.ptu_definitions.proofs.Firsts.{none-refused}
-use Rattle.ptu_made.specs.Generator.{unit}
-use Rattle.ptu_made.specs.Records.{IsPhotonOrWrap}
-use Rattle.ptu_made.proofs.Meanings.{IsMade, all_means}
+use Rattle.std.proofs.Common.{◌≡◌, ◌+◌, ◌*◌, ◌<◌, ◌≤◌, ℕ, zero, suc, Bool, true, false, None, List, [], ◌∷◌, length, map, take, get_or, refl, ◌∙◌, arith, nat_lt, nat_le, ◌&&◌, if◌then◌else◌}
+use Rattle.std.{specs.List.AllByRecursion, specs.declared.option.Option.Option, proofs.lemmas.List.{length-map, length-take}, proofs.lemmas.List.Sums.sum_by-cons, proofs.lemmas.Bool.Decides.nat_tests}
+use Rattle.tally_base.{specs.declared.event.Policy.Policy, specs.declared.fault.Fault.Fault, specs.declared.header.RecordType.TheVariants.HydraHarp2T2, specs.Events.stops_late, specs.Limits.wrap_limit}
+use Rattle.ptu_definitions.{specs.declared.records.Raw.Raw, specs.declared.records.Raw.TheVariants.{Photon, Marker, Wrap, Reserved}, specs.Kinds.{is_reserved, is_wrap}, specs.Layouts.hydra_t2, specs.Times.{amount, base}, specs.Streams.{reading, refusal, record_refusal}, proofs.Firsts.none-refused}
+use Rattle.ptu_made.{specs.Generator.unit, specs.Records.IsPhotonOrWrap, proofs.Meanings.{IsMade, all_means}}
 
 not_reserved : (raw : Raw) → IsPhotonOrWrap raw → is_reserved raw ≡ false
 not_reserved (Photon input time dtime) h = refl

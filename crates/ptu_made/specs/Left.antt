@@ -1,7 +1,6 @@
 -- What is still to come of a made file.
 use Rattle.std.specs.Prelude.{ℕ, List}
-use Rattle.ptu_made.specs.declared.photons.Photons.{Photons}
-use Rattle.ptu_made.specs.Generator.{states, words_behind}
+use Rattle.ptu_made.{specs.declared.photons.Photons.Photons, specs.Generator.{states, words_behind}}
 
 -- the words of the photons that are still to come
 abbrev pub words_left : Photons → List ℕ

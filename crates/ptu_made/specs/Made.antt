@@ -1,13 +1,9 @@
 -- A made file as inputs.
 use Rattle.std.specs.Prelude.{ℕ, List, [], ◌≡◌, true, false, Some, is_some}
 use Rattle.std.specs.declared.option.Option.{Option}
-use Rattle.tally_base.specs.declared.slot.Slot.{Slot}
-use Rattle.tally_base.specs.declared.slot.Slot.TheVariants.{Plan, Data}
+use Rattle.tally_base.{specs.declared.slot.Slot.Slot, specs.declared.slot.Slot.TheVariants.{Plan, Data}}
 use Rattle.bench_io.specs.Inputs.{InputState}
-use Rattle.ptu_made.specs.declared.made.Made.{Made}
-use Rattle.ptu_made.specs.declared.unread.Unread.{Unread}
-use Rattle.ptu_made.specs.MadeFile.{made_file}
-use Rattle.ptu_made.specs.Unread.{rest_in}
+use Rattle.ptu_made.{specs.declared.made.Made.Made, specs.declared.unread.Unread.Unread, specs.MadeFile.made_file, specs.Unread.rest_in}
 
 -- one slot of the two
 abbrev pub slot_of : Made → Slot → Option Unread

@@ -1,13 +1,8 @@
 -- What the words of the made file mean.
 use Rattle.std.specs.Prelude.{ℕ, ◌+◌, ◌≡◌, ◌<◌, ◌≤◌, List, [], ◌∷◌}
-use Rattle.tally_base.specs.declared.header.Header.{Header}
-use Rattle.tally_base.specs.declared.header.Mode.TheVariants.{T2}
-use Rattle.tally_base.specs.declared.event.EventKind.TheVariants.{Photon as PhotonEvent}
-use Rattle.ptu_definitions.specs.declared.records.Raw.{Raw}
-use Rattle.ptu_definitions.specs.declared.records.Raw.TheVariants.{Photon, Marker, Wrap, Reserved}
-use Rattle.ptu_definitions.specs.Prefixes.{each}
-use Rattle.short_file.specs.ShortFiles.{short_fields}
-use Rattle.short_file.specs.TimedEvents.{Timed}
+use Rattle.tally_base.{specs.declared.header.Header.Header, specs.declared.header.Mode.TheVariants.T2, specs.declared.event.EventKind.TheVariants.Photon as PhotonEvent}
+use Rattle.ptu_definitions.{specs.declared.records.Raw.Raw, specs.declared.records.Raw.TheVariants.{Photon, Marker, Wrap, Reserved}, specs.Prefixes.each}
+use Rattle.short_file.{specs.ShortFiles.short_fields, specs.TimedEvents.Timed}
 use Rattle.ptu_made.specs.Generator.{states, gap, channel, last_time, unit}
 
 -- a photon of input 1 or 2, or one wrap

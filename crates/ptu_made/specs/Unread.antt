@@ -1,9 +1,8 @@
 -- The bytes that are still to come of a made file.
 use Rattle.std.specs.Prelude.{ℕ, List, [], ◌++◌, None, Some, slice_range}
 use Rattle.std.specs.declared.option.Option.{Option}
-use Rattle.ptu_made.specs.declared.unread.Unread.{Unread}
+use Rattle.ptu_made.{specs.declared.unread.Unread.Unread, specs.Left.words_left}
 use Rattle.short_file.specs.ShortFiles.{bytes_in}
-use Rattle.ptu_made.specs.Left.{words_left}
 
 -- the bytes that are held
 abbrev pub held_in : Unread → List ℕ

@@ -1,19 +1,11 @@
 // Laws of the made file, each as the contract of a function that does nothing.
 ghost use Rattle.std.specs.Prelude.{◌≡◌, ◌+◌, ◌*◌, ◌≤◌, ℕ, List, [], Ok, false, length, map};
 ghost use Rattle.std.specs.List.{All};
-ghost use Rattle.tally_base.specs.declared.event.Policy.{Policy};
+ghost use Rattle.tally_base.{specs.declared.event.Policy.Policy, specs.Events.stops_late};
 ghost use Rattle.tally_base.specs.declared.header.RecordType.TheVariants as RecordType;
-ghost use Rattle.tally_base.specs.Events.{stops_late};
-ghost use Rattle.ptu_definitions.specs.Headers.{header_answer};
-ghost use Rattle.ptu_definitions.specs.Layouts.{meaning_of};
-ghost use Rattle.ptu_definitions.specs.Streams.{reading, record_refusal};
-ghost use Rattle.ptu_definitions.specs.Times.{base, events};
-ghost use Rattle.ptu_definitions.specs.Words.{words_of, rest_of};
-ghost use Rattle.ptu_made.specs.Generator.{photon_limit, made_words};
-ghost use Rattle.short_file.specs.ShortFiles.{bytes_in};
-ghost use Rattle.short_file.specs.TimedEvents.{timed};
-ghost use Rattle.ptu_made.specs.Records.{IsPhotonOrWrap, made_header, made_photons};
-ghost use Rattle.ptu_made.specs.MadeFile.{made_file};
+ghost use Rattle.ptu_definitions.{specs.Headers.header_answer, specs.Layouts.meaning_of, specs.Streams.{reading, record_refusal}, specs.Times.{base, events}, specs.Words.{words_of, rest_of}};
+ghost use Rattle.ptu_made.{specs.Generator.{photon_limit, made_words}, specs.Records.{IsPhotonOrWrap, made_header, made_photons}, specs.MadeFile.made_file};
+ghost use Rattle.short_file.{specs.ShortFiles.bytes_in, specs.TimedEvents.timed};
 
 /// The file has a header of the record type HydraHarp2T2 and 112 bytes, and behind it its words,
 /// four bytes each and no byte more. There are at least as many words as photons, and at most twice as

@@ -1,12 +1,8 @@
 // A made file as inputs.
 ghost use Rattle.std.specs.Prelude.{◌≡◌, ◌≤◌, true, false, length, min, unwrap_or, [], IsOk, IfOk, OnErr, OnOk};
-ghost use Rattle.std.specs.Io.{ReadsAtMost};
-ghost use Rattle.std.specs.Io.KnownBytes.{ReadConsumes};
-ghost use Rattle.bench_io.specs.TriesOnce.{TriesOnce};
-ghost use Rattle.bench_io.specs.Inputs.{IsOpened, Keeps, KeepsOther, OpensNone};
-ghost use Rattle.bench_io.specs.Memory.{left_of};
-ghost use Rattle.ptu_made.specs.MadeFile.{made_file};
-ghost use Rattle.ptu_made.specs.Generator.{photon_limit};
+ghost use Rattle.std.{specs.Io.ReadsAtMost, specs.Io.KnownBytes.ReadConsumes};
+ghost use Rattle.bench_io.{specs.TriesOnce.TriesOnce, specs.Inputs.{IsOpened, Keeps, KeepsOther, OpensNone}, specs.Memory.left_of};
+ghost use Rattle.ptu_made.{specs.MadeFile.made_file, specs.Generator.photon_limit};
 
 use crate::slot::read_in;
 use crate::unread::Unread;

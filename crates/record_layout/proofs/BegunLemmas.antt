@@ -1,9 +1,6 @@
 -- A begun word, and a piece behind it.
-use Rattle.std.proofs.Common.{◌≡◌, ◌∙◌, ℕ, List, [], ◌∷◌, ◌++◌, length, take, drop, get_or, take-append-drop, refl, sym, ap, append_assoc, arith}
-use Rattle.std.specs.Prelude.{Option, None, Some, MatchOption}
-use Rattle.ptu_definitions.specs.Prefixes.{listed}
-use Rattle.ptu_definitions.specs.Words.{words_of, rest_of}
-use Rattle.ptu_definitions.proofs.WordsLemmas.{words_of-append, rest_of-append, rest_of-four}
+use Rattle.std.proofs.Common.{◌≡◌, ◌∙◌, ℕ, List, [], ◌∷◌, ◌++◌, length, take, drop, get_or, take-append-drop, refl, sym, ap, append_assoc, arith, Option, None, Some, MatchOption}
+use Rattle.ptu_definitions.{specs.Prefixes.listed, specs.Words.{words_of, rest_of}, proofs.WordsLemmas.{words_of-append, rest_of-append, rest_of-four}}
 
 pub none_of : (xs : List ℕ) → length xs ≡ 0 → xs ≡ []
 none_of [] none = refl

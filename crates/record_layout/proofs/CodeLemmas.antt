@@ -1,12 +1,8 @@
 -- The kind of a record by its code.
-use Rattle.std.proofs.Common.{◌≡◌, ◌&&◌, ap, sym, ◌∙◌, arith}
-use Rattle.std.specs.Prelude.{nat_lt, nat_le, ◌==◌}
-use Rattle.std.proofs.lemmas.Grind.{common_steps}
-use Rattle.std.proofs.lemmas.Bool.Decides.{nat_tests}
-use Rattle.ptu_definitions.specs.declared.records.Raw.{Raw}
-use Rattle.ptu_definitions.specs.Kinds.{is_photon, is_marker, is_wrap}
-use Rattle.record_layout.specs.declared.row.Row.{Row}
-use Rattle.record_layout.specs.Rowed.{raw_of}
+use Rattle.std.proofs.Common.{◌≡◌, ◌&&◌, ap, sym, ◌∙◌, arith, nat_lt, nat_le, ◌==◌}
+use Rattle.std.{proofs.lemmas.Grind.common_steps, proofs.lemmas.Bool.Decides.nat_tests}
+use Rattle.ptu_definitions.{specs.declared.records.Raw.Raw, specs.Kinds.{is_photon, is_marker, is_wrap}}
+use Rattle.record_layout.{specs.declared.row.Row.Row, specs.Rowed.raw_of}
 
 photon : (row : Row) → is_photon (raw_of row) ≡ nat_lt row.code 256
 photon row = grind (arith, common_steps, nat_tests)

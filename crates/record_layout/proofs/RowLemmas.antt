@@ -1,11 +1,8 @@
 -- The parts of a record say what its fields say.
 use Rattle.std.proofs.Common.{◌≡◌, ℕ, Bool, true, false, arith}
-use Rattle.std.proofs.lemmas.Grind.{common_steps}
-use Rattle.std.proofs.lemmas.Bool.Decides.{nat_tests}
-use Rattle.ptu_definitions.specs.Layouts.{bits}
-use Rattle.ptu_definitions.specs.Times.{amount}
-use Rattle.record_layout.specs.Rowed.{raw_of, hydra_t2_code, hydra_t3_code, hydra_t2_amount, hydra_t3_amount, pico_code, pico_amount}
-use Rattle.record_layout.specs.Joins.{joined_pico_t2, joined_pico_t3, joined_hydra_t2, joined_hydra_t3}
+use Rattle.std.{proofs.lemmas.Grind.common_steps, proofs.lemmas.Bool.Decides.nat_tests}
+use Rattle.ptu_definitions.{specs.Layouts.bits, specs.Times.amount}
+use Rattle.record_layout.{specs.Rowed.{raw_of, hydra_t2_code, hydra_t3_code, hydra_t2_amount, hydra_t3_amount, pico_code, pico_amount}, specs.Joins.{joined_pico_t2, joined_pico_t3, joined_hydra_t2, joined_hydra_t3}}
 
 old-t2 : (top time dtime : ℕ) → raw_of (record { code = hydra_t2_code top; time = time; dtime = 0; amount = hydra_t2_amount true top time }) ≡ joined_hydra_t2 true (record { top = top; dtime = dtime; time = time })
 old-t2 top time dtime = grind (arith, common_steps, nat_tests)

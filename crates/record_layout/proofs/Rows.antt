@@ -1,8 +1,7 @@
 -- The fields of known words, and what they say together.
 use Rattle.std.proofs.Common.{◌≡◌, true, false, refl}
 use Rattle.ptu_definitions.specs.declared.records.Raw.TheVariants.{Photon, Marker, Wrap, Reserved}
-use Rattle.record_layout.specs.Parts.{fields_in}
-use Rattle.record_layout.specs.Joins.{joined_pico_t2, joined_pico_t3, joined_hydra_t2, joined_hydra_t3}
+use Rattle.record_layout.{specs.Parts.fields_in, specs.Joins.{joined_pico_t2, joined_pico_t3, joined_hydra_t2, joined_hydra_t3}}
 
 -- a photon of input 1 at sync 21 with dtime 5000
 pub row-fields : fields_in 25 10 0x7FFF 0x3FF 0x024E2015 ≡ record { top = 1; dtime = 5000; time = 21 }

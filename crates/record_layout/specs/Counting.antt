@@ -1,12 +1,8 @@
 -- What a counter stands for.
 use Rattle.std.specs.Prelude.{ℕ, ◌≡◌, ◌+◌, ◌-◌, ◌*◌, ◌<◌, ◌≤◌, List, Bool, true, false, length}
 use Rattle.tally_base.specs.declared.header.RecordType.{RecordType}
-use Rattle.ptu_definitions.specs.declared.records.KindCounts.{KindCounts}
-use Rattle.ptu_definitions.specs.Words.{words_of, rest_of}
-use Rattle.ptu_definitions.specs.Kinds.{counts_of}
-use Rattle.ptu_definitions.specs.Counted.{records_of, record_limit}
-use Rattle.record_layout.specs.Begun.{begun_in}
-use Rattle.record_layout.specs.declared.counter.Counter.{Counter}
+use Rattle.ptu_definitions.{specs.declared.records.KindCounts.KindCounts, specs.Words.{words_of, rest_of}, specs.Kinds.counts_of, specs.Counted.{records_of, record_limit}}
+use Rattle.record_layout.{specs.Begun.begun_in, specs.declared.counter.Counter.Counter}
 
 -- the counts of the whole words of these bytes, and what is left over
 pub record AreCounts (record_type : RecordType) (carried : List ℕ) (counts : KindCounts) (bytes : List ℕ) : Type 0 where

@@ -1,11 +1,8 @@
 -- Records by their parts in columns.
 use Rattle.std.specs.Prelude.{ℕ, ◌+◌, ◌*◌, ◌/◌, ◌%◌, ◌≡◌, ◌<◌, [], List, length, slice_index, slice_index_or}
 use Rattle.std.specs.Int.{from_le_bytes, w32}
-use Rattle.ptu_definitions.specs.declared.records.Raw.{Raw}
-use Rattle.ptu_definitions.specs.Times.{amount}
-use Rattle.record_layout.specs.Rowed.{raw_of}
-use Rattle.record_layout.specs.declared.row.Row.{Row}
-use Rattle.record_layout.specs.declared.columns.Columns.{Columns}
+use Rattle.ptu_definitions.{specs.declared.records.Raw.Raw, specs.Times.amount}
+use Rattle.record_layout.{specs.Rowed.raw_of, specs.declared.row.Row.Row, specs.declared.columns.Columns.Columns}
 
 -- The parts are those of what a word means.
 pub record IsRow (meaning : ℕ → Raw) (row : Row) (word : ℕ) : Type 0 where

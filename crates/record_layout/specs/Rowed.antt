@@ -1,9 +1,6 @@
 -- What a record says, by its parts, and the parts by the fields of its word.
 use Rattle.std.specs.Prelude.{ℕ, ◌+◌, ◌%◌, ◌==◌, Bool, true, false, nat_lt, nat_le, if◌then◌else◌}
-use Rattle.ptu_definitions.specs.declared.records.Raw.{Raw}
-use Rattle.ptu_definitions.specs.declared.records.Raw.TheVariants.{Photon, Marker, Wrap, Reserved}
-use Rattle.ptu_definitions.specs.Layouts.{hydra_t2_wrap, hydra_t3_wrap, wraps_in}
-use Rattle.ptu_definitions.specs.Times.{amount}
+use Rattle.ptu_definitions.{specs.declared.records.Raw.Raw, specs.declared.records.Raw.TheVariants.{Photon, Marker, Wrap, Reserved}, specs.Layouts.{hydra_t2_wrap, hydra_t3_wrap, wraps_in}, specs.Times.amount}
 use Rattle.record_layout.specs.declared.row.Row.{Row}
 
 abbrev pub raw_of : Row → Raw

@@ -14,9 +14,7 @@ pub struct BegunWord {
 }
 
 impl BegunWord {
-    ghost use Rattle.ptu_definitions.specs.Fours.{numbers};
-    ghost use Rattle.ptu_definitions.specs.Prefixes.{listed};
-    ghost use Rattle.ptu_definitions.specs.Words.{words_of, rest_of};
+    ghost use Rattle.ptu_definitions.{specs.Fours.numbers, specs.Prefixes.listed, specs.Words.{words_of, rest_of}};
     ghost use Rattle.record_layout.specs.Begun.{begun_in};
 
     /// No byte.

@@ -1,10 +1,8 @@
 // The records of a few words, by their parts.
 ghost use Rattle.std.specs.Prelude.{◌≡◌, ◌*◌, ◌<◌, ◌≤◌, ℕ, [], length, map, slice_index_or};
 ghost use Rattle.std.specs.Int.{from_le_bytes, w32};
-ghost use Rattle.ptu_definitions.specs.Fours.{numbers};
-ghost use Rattle.ptu_definitions.specs.Kinds.{counts_of};
-ghost use Rattle.record_layout.specs.Sums.{IsSplit};
-ghost use Rattle.record_layout.specs.InColumns.{joined, code_in, dtime_in};
+ghost use Rattle.ptu_definitions.{specs.Fours.numbers, specs.Kinds.counts_of};
+ghost use Rattle.record_layout.{specs.Sums.IsSplit, specs.InColumns.{joined, code_in, dtime_in}};
 
 use crate::layout::RecordLayout;
 use crate::row::Row;

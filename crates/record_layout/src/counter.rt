@@ -1,7 +1,6 @@
 // Counts the records of bytes that come in pieces.
 ghost use Rattle.std.specs.Prelude.{◌≡◌, ◌+◌, ◌<◌, ◌≤◌, ◌++◌, ◌↔◌, [], List, ℕ, length, true, false, IsErr, IfErr, Err, OnOk, OnErr};
-ghost use Rattle.tally_base.specs.declared.header.RecordType.{RecordType};
-ghost use Rattle.tally_base.specs.Limits.{record_limit};
+ghost use Rattle.tally_base.{specs.declared.header.RecordType.RecordType, specs.Limits.record_limit};
 ghost use Rattle.record_layout.specs.Sums.{IsSplit};
 
 use crate::begun::BegunWord;
@@ -27,9 +26,7 @@ pub struct Counter {
 }
 
 impl Counter {
-    ghost use Rattle.ptu_definitions.specs.Words.{words_of};
-    ghost use Rattle.ptu_definitions.specs.Counted.{counted};
-    ghost use Rattle.ptu_definitions.specs.Shown.{Shows};
+    ghost use Rattle.ptu_definitions.{specs.Words.words_of, specs.Counted.counted, specs.Shown.Shows};
     ghost use Rattle.tally_base.specs.Faults.{is_outside};
     ghost use Rattle.record_layout.specs.Counting.{HasCounted, was_refused, room};
 

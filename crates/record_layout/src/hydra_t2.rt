@@ -3,9 +3,7 @@ ghost use Rattle.std.specs.Prelude.{◌≡◌, ◌<◌, ◌^◌};
 ghost use Rattle.std.proofs.Common.{rules};
 ghost use Rattle.tally_base.specs.declared.header.Mode.TheVariants.{T2};
 ghost use Rattle.ptu_definitions.specs.Layouts.{hydra_t2, hydra_t2_wrap, wraps_in};
-ghost use Rattle.record_layout.specs.Joins.{joined_hydra_t2};
-ghost use Rattle.record_layout.specs.Rowed.{hydra_t2_code, hydra_t2_amount, hydra_t2_unit, hydra_wraps};
-ghost use Rattle.record_layout.specs.JoinLaws.{hydra_t2-is_join, hydra_t2-unit_small};
+ghost use Rattle.record_layout.{specs.Joins.joined_hydra_t2, specs.Rowed.{hydra_t2_code, hydra_t2_amount, hydra_t2_unit, hydra_wraps}, specs.JoinLaws.{hydra_t2-is_join, hydra_t2-unit_small}};
 
 use crate::fields::Fields;
 use crate::layout::RecordLayout;

@@ -3,9 +3,7 @@ ghost use Rattle.std.specs.Prelude.{◌≡◌};
 ghost use Rattle.std.proofs.Common.{rules};
 ghost use Rattle.tally_base.specs.declared.header.Mode.TheVariants.{T3};
 ghost use Rattle.ptu_definitions.specs.Layouts.{hydra_t3, hydra_t3_wrap};
-ghost use Rattle.record_layout.specs.Joins.{joined_hydra_t3};
-ghost use Rattle.record_layout.specs.Rowed.{hydra_t3_code, hydra_t3_amount};
-ghost use Rattle.record_layout.specs.JoinLaws.{hydra_t3-is_join};
+ghost use Rattle.record_layout.{specs.Joins.joined_hydra_t3, specs.Rowed.{hydra_t3_code, hydra_t3_amount}, specs.JoinLaws.hydra_t3-is_join};
 
 use crate::fields::Fields;
 use crate::hydra_t2::{wraps_by, wraps_in};

@@ -1,11 +1,8 @@
 // How the bits of a word are laid out.
 ghost use Rattle.std.specs.Prelude.{◌≡◌, ◌*◌, ◌^◌, ◌<◌, ◌≤◌, ℕ};
 ghost use Rattle.tally_base.specs.declared.header.Mode.{Mode};
-ghost use Rattle.ptu_definitions.specs.declared.records.Raw.{Raw};
-ghost use Rattle.record_layout.specs.declared.fields.Fields.{Fields};
-ghost use Rattle.ptu_definitions.specs.Times.{amount};
-ghost use Rattle.record_layout.specs.Parts.{fields_in};
-ghost use Rattle.record_layout.specs.Rowed.{raw_of};
+ghost use Rattle.ptu_definitions.{specs.declared.records.Raw.Raw, specs.Times.amount};
+ghost use Rattle.record_layout.{specs.declared.fields.Fields.Fields, specs.Parts.fields_in, specs.Rowed.raw_of};
 
 use crate::fields::Fields;
 use crate::row::Row;

@@ -1,15 +1,9 @@
 -- A stream by whether events are put in their places.
-use Rattle.std.proofs.Common.{◌≡◌, ◌≢◌, ◌≤◌, ℕ, Bool, true, false, List, length, refl, sym, ap, ◌∙◌, arith}
-use Rattle.std.specs.Prelude.{◌==◌, if◌then◌else◌}
+use Rattle.std.proofs.Common.{◌≡◌, ◌≢◌, ◌≤◌, ℕ, Bool, true, false, List, length, refl, sym, ap, ◌∙◌, arith, ◌==◌, if◌then◌else◌}
 use Rattle.std.proofs.lemmas.Bool.{ne_eqb}
 use Rattle.ptu_definitions.specs.Streams.{Reading}
-use Rattle.settle.specs.Standing.{kept_back}
-use Rattle.settle.specs.declared.settle.Settle.{Settle}
-use Rattle.record_stream.specs.Feeding.{Follows}
-use Rattle.record_stream.specs.Keeping.{IsKeeping, Settles}
-use Rattle.record_stream.specs.Walking.{how_of}
-use Rattle.record_stream.specs.declared.taker.EventTaker.{Ghosts}
-use Rattle.record_stream.specs.declared.walk.Walk.{Walk}
+use Rattle.settle.{specs.Standing.kept_back, specs.declared.settle.Settle.Settle}
+use Rattle.record_stream.{specs.Feeding.Follows, specs.Keeping.{IsKeeping, Settles}, specs.Walking.how_of, specs.declared.taker.EventTaker.Ghosts, specs.declared.walk.Walk.Walk}
 
 pub plain-is : (k a b : ℕ) → k ≡ 0 → (if k == 0 then a else b) ≡ a
 plain-is k a b zero = rw zero refl

@@ -1,21 +1,10 @@
 -- The events of a block, one by one.
-use Rattle.std.proofs.Common.{◌≡◌, ◌+◌, ◌<◌, ℕ, zero, suc, List, [], ◌∷◌, ◌++◌, Bool, true, false, All, length, refl, sym, ap, subst, ◌∙◌, append_assoc, arith, length-append, ◌⊎◌, ⊎_elim}
-use Rattle.std.specs.Prelude.{◌&&◌, not, IsTrue, if◌then◌else◌}
-use Rattle.std.specs.List.{AllByRecursion}
-use Rattle.std.proofs.lemmas.List.Elements.{All-from_recursion}
-use Rattle.std.proofs.lemmas.Grind.{get_or_at_push}
-use Rattle.std.proofs.lemmas.List.{map-append, get_or_append_left}
-use Rattle.tally_base.specs.declared.event.Event.{Event}
-use Rattle.tally_base.specs.declared.header.Mode.{Mode}
-use Rattle.tally_base.specs.Events.{is_ordered}
-use Rattle.tally_base.specs.Tally.{moves_floor}
+use Rattle.std.proofs.Common.{◌≡◌, ◌+◌, ◌<◌, ℕ, zero, suc, List, [], ◌∷◌, ◌++◌, Bool, true, false, All, length, refl, sym, ap, subst, ◌∙◌, append_assoc, arith, length-append, ◌⊎◌, ⊎_elim, ◌&&◌, not, IsTrue, if◌then◌else◌}
+use Rattle.std.{specs.List.AllByRecursion, proofs.lemmas.List.Elements.All-from_recursion, proofs.lemmas.Grind.get_or_at_push, proofs.lemmas.List.{map-append, get_or_append_left}}
+use Rattle.tally_base.{specs.declared.event.Event.Event, specs.declared.header.Mode.Mode, specs.Events.is_ordered, specs.Tally.moves_floor}
 use Rattle.ptu_definitions.specs.Kept.{Marked}
-use Rattle.event_block.specs.Columns.{rows}
-use Rattle.event_block.specs.Order.{floor_after}
-use Rattle.event_block.proofs.Rows.{more_rows}
-use Rattle.event_block.proofs.Order.{floor-more}
-use Rattle.record_stream.specs.Blocks.{orders_markers, on_time}
-use Rattle.record_stream.proofs.Adding.{moves_by}
+use Rattle.event_block.{specs.Columns.rows, specs.Order.floor_after, proofs.Rows.more_rows, proofs.Order.floor-more}
+use Rattle.record_stream.{specs.Blocks.{orders_markers, on_time}, proofs.Adding.moves_by}
 
 all-last : {X : Type 0} (P : X → Type 0) (xs : List X) (x : X) → All P (xs ++ x ∷ []) → P x
 all-last P xs x all = subst P (get_or_at_push xs x).1 (all (length xs) x (omega (arith, length-append xs (x ∷ []))))

@@ -1,9 +1,6 @@
 -- The greatest time with one event more.
-use Rattle.std.proofs.Common.{◌≡◌, ◌≤◌, ℕ, [], ◌∷◌, ◌++◌, Bool, true, false, max, refl, arith, ◌∙◌}
-use Rattle.std.specs.Prelude.{◌&&◌, not, IsTrue, if◌then◌else◌}
-use Rattle.tally_base.specs.declared.event.Event.{Event}
-use Rattle.tally_base.specs.declared.header.Mode.{Mode}
-use Rattle.tally_base.specs.Events.{is_ordered}
+use Rattle.std.proofs.Common.{◌≡◌, ◌≤◌, ℕ, [], ◌∷◌, ◌++◌, Bool, true, false, max, refl, arith, ◌∙◌, ◌&&◌, not, IsTrue, if◌then◌else◌}
+use Rattle.tally_base.{specs.declared.event.Event.Event, specs.declared.header.Mode.Mode, specs.Events.is_ordered}
 use Rattle.ptu_definitions.specs.Kept.{Marked, floor_of}
 use Rattle.record_stream.specs.Floors.{moved_floor}
 

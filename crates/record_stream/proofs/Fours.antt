@@ -1,13 +1,8 @@
 -- Bytes in fours.
 use Rattle.std.proofs.Common.{◌≡◌, ◌+◌, ◌<◌, ℕ, List, [], ◌∷◌, ◌++◌, Some, length, take, drop, get_or, take-append-drop, refl, sym, ap, ◌∙◌, subst, append_assoc}
-use Rattle.std.specs.Int.{from_le_bytes, w32}
-use Rattle.std.proofs.lemmas.List.{take_more, map-append}
-use Rattle.ptu_definitions.specs.Words.{words_of, rest_of}
-use Rattle.ptu_definitions.proofs.WordsLemmas.{words_of-append, rest_of-append}
+use Rattle.std.{specs.Int.{from_le_bytes, w32}, proofs.lemmas.List.{take_more, map-append}}
+use Rattle.ptu_definitions.{specs.Words.{words_of, rest_of}, proofs.WordsLemmas.{words_of-append, rest_of-append}, specs.Streams.{Reading, record_refusal}, proofs.StreamLemmas.refused-more, specs.Fours.numbers}
 use Rattle.tally_base.specs.declared.fault.Fault.{Fault}
-use Rattle.ptu_definitions.specs.Streams.{Reading, record_refusal}
-use Rattle.ptu_definitions.proofs.StreamLemmas.{refused-more}
-use Rattle.ptu_definitions.specs.Fours.{numbers}
 
 pub numbers-more : (ws : List (List ℕ)) (i : ℕ) (d : List ℕ) → i < length ws → numbers (take (i + 1) ws) ≡ numbers (take i ws) ++ from_le_bytes w32 (get_or ws i d) ∷ []
 numbers-more ws i d lt = rw (take_more ws i d lt, map-append) refl

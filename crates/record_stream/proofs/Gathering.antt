@@ -1,29 +1,11 @@
 -- One word more in a block.
-use Rattle.std.proofs.Common.{◌≡◌, ◌+◌, ◌<◌, ◌≤◌, ℕ, List, [], ◌∷◌, ◌++◌, Bool, true, false, length, map, get_or, refl, sym, ap, subst, ◌∙◌, add-zero, append-nil, arith, ⊎_elim}
-use Rattle.std.specs.Prelude.{◌&&◌, nat_le, count_by, cond}
-use Rattle.std.specs.Int.{from_le_bytes, w32}
-use Rattle.std.proofs.lemmas.Bool.{cases_Bool}
-use Rattle.std.proofs.lemmas.List.Sums.{get_or-le-sum_by, sum_by-cons}
-use Rattle.tally_base.specs.declared.event.Event.{Event}
-use Rattle.std.proofs.lemmas.List.Elements.{filter-append}
-use Rattle.tally_base.specs.declared.header.Mode.{Mode}
-use Rattle.tally_base.specs.Events.{is_ordered, stops_reserved}
-use Rattle.tally_base.specs.Limits.{wrap_limit}
-use Rattle.ptu_definitions.specs.declared.records.Raw.{Raw}
-use Rattle.ptu_definitions.specs.Kinds.{is_reserved}
-use Rattle.ptu_definitions.specs.Times.{event_of, events, amount}
-use Rattle.ptu_definitions.specs.Fitting.{Fits}
-use Rattle.ptu_definitions.specs.Fours.{numbers}
-use Rattle.ptu_definitions.specs.Streams.{Reading, events_in}
+use Rattle.std.proofs.Common.{◌≡◌, ◌+◌, ◌<◌, ◌≤◌, ℕ, List, [], ◌∷◌, ◌++◌, Bool, true, false, length, map, get_or, refl, sym, ap, subst, ◌∙◌, add-zero, append-nil, arith, ⊎_elim, ◌&&◌, nat_le, count_by, cond}
+use Rattle.std.{specs.Int.{from_le_bytes, w32}, proofs.lemmas.Bool.cases_Bool, proofs.lemmas.List.Sums.{get_or-le-sum_by, sum_by-cons}, proofs.lemmas.List.Elements.filter-append}
+use Rattle.tally_base.{specs.declared.event.Event.Event, specs.declared.header.Mode.Mode, specs.Events.{is_ordered, stops_reserved}, specs.Limits.wrap_limit}
+use Rattle.ptu_definitions.{specs.declared.records.Raw.Raw, specs.Kinds.is_reserved, specs.Times.{event_of, events, amount}, specs.Fitting.Fits, specs.Fours.numbers, specs.Streams.{Reading, events_in}}
 use Rattle.abs_time.specs.Placing.{base_of}
-use Rattle.record_layout.specs.declared.row.Row.{Row}
-use Rattle.record_layout.specs.Rowed.{raw_of}
-use Rattle.record_stream.specs.Blocks.{chosen, Adds, IsInLine, greatest_with}
-use Rattle.record_stream.specs.Rows.{ordered_below, greatest_with_row}
-use Rattle.record_stream.specs.Walking.{how_of, greatest_of, clock_in, AddsBehind, Gathers}
-use Rattle.record_stream.specs.declared.walk.Walk.{Walk}
-use Rattle.record_stream.proofs.Adding.{adds-push, in_line-push}
-use Rattle.record_stream.proofs.RowEvents.{greatest-row, on_time-row}
+use Rattle.record_layout.{specs.declared.row.Row.Row, specs.Rowed.raw_of}
+use Rattle.record_stream.{specs.Blocks.{chosen, Adds, IsInLine, greatest_with}, specs.Rows.{ordered_below, greatest_with_row}, specs.Walking.{how_of, greatest_of, clock_in, AddsBehind, Gathers}, specs.declared.walk.Walk.Walk, proofs.Adding.{adds-push, in_line-push}, proofs.RowEvents.{greatest-row, on_time-row}}
 
 -- counting by a test of what words mean, over their bytes
 count_by-meanings : (p : Raw → Bool) (meaning : ℕ → Raw) (words : List (List ℕ))

@@ -1,38 +1,11 @@
 -- What ends a stream.
-use Rattle.std.proofs.Common.{◌≡◌, ◌≢◌, ℕ, List, [], ◌++◌, Bool, true, false, map, None, Some, Ok, Err, length, refl, ap, ◌∙◌, sym, ⊎_elim, arith}
-use Rattle.std.specs.Prelude.{nat_eq, ◌==◌, if◌then◌else◌}
-use Rattle.std.proofs.lemmas.Bool.{eqb-true}
-use Rattle.std.proofs.lemmas.Bool.Decides.{nat_tests}
-use Rattle.ptu_definitions.specs.declared.records.Summary.{Summary}
-use Rattle.tally_base.specs.declared.fault.Fault.{Fault}
-use Rattle.tally_base.specs.declared.fault.Fault.TheVariants.{TruncatedRecord, WriteFault}
-use Rattle.ptu_definitions.specs.Words.{words_of, rest_of}
-use Rattle.ptu_definitions.specs.Streams.{Reading, refusals, record_refusal, streamed}
-use Rattle.abs_time.specs.declared.clock.Clock.{Clock}
-use Rattle.std.specs.declared.option.Option.{Option}
-use Rattle.ptu_definitions.specs.Shown.{Shows}
-use Rattle.ptu_definitions.specs.Kept.{floor_of}
-use Rattle.ptu_definitions.specs.Kept.{greatest}
-use Rattle.ptu_definitions.specs.Settled.{delivered}
-use Rattle.ptu_definitions.specs.Streams.{given, events_in, last_in}
-use Rattle.ptu_definitions.specs.Times.{events}
-use Rattle.ptu_definitions.proofs.DeliveredLaws.{delivered-0}
-use Rattle.ptu_definitions.proofs.StreamLemmas.{given-clear, floor_of-marked}
-use Rattle.record_stream.specs.declared.taker.EventTaker.{Ghosts}
-use Rattle.abs_time.specs.Placing.{mode_of as clock_mode, greatest_by}
-use Rattle.record_stream.specs.Feeding.{IsAt, GaveOn, BrokeOn, Fed}
-use Rattle.settle.specs.Standing.{last_time}
-use Rattle.settle.specs.declared.settle.Settle.{Settle}
-use Rattle.record_stream.specs.Keeping.{Settles}
-use Rattle.ptu_definitions.proofs.DeliveredLaws.{delivered-none}
-use Rattle.abs_time.specs.Placing.{HasPlaced}
-use Rattle.settle.specs.Standing.{HasSettled}
-use Rattle.record_stream.specs.Keeping.{HasCome}
-use Rattle.record_stream.specs.SoFar.{eventless, so_far}
-use Rattle.record_stream.specs.OneMore.{with_marks}
-use Rattle.record_stream.proofs.Summaries.{summary-end}
-use Rattle.record_stream.specs.Standing.{Stands}
-use Rattle.record_stream.proofs.Fours.{refused-bytes}
+use Rattle.std.proofs.Common.{◌≡◌, ◌≢◌, ℕ, List, [], ◌++◌, Bool, true, false, map, None, Some, Ok, Err, length, refl, ap, ◌∙◌, sym, ⊎_elim, arith, nat_eq, ◌==◌, if◌then◌else◌}
+use Rattle.std.{proofs.lemmas.Bool.eqb-true, proofs.lemmas.Bool.Decides.nat_tests, specs.declared.option.Option.Option}
+use Rattle.ptu_definitions.{specs.declared.records.Summary.Summary, specs.Words.{words_of, rest_of}, specs.Streams.{Reading, refusals, record_refusal, streamed, given, events_in, last_in}, specs.Shown.Shows, specs.Kept.{floor_of, greatest}, specs.Settled.delivered, specs.Times.events, proofs.DeliveredLaws.{delivered-0, delivered-none}, proofs.StreamLemmas.{given-clear, floor_of-marked}}
+use Rattle.tally_base.{specs.declared.fault.Fault.Fault, specs.declared.fault.Fault.TheVariants.{TruncatedRecord, WriteFault}}
+use Rattle.abs_time.{specs.declared.clock.Clock.Clock, specs.Placing.mode_of as clock_mode, specs.Placing.{greatest_by, HasPlaced}}
+use Rattle.record_stream.{specs.declared.taker.EventTaker.Ghosts, specs.Feeding.{IsAt, GaveOn, BrokeOn, Fed}, specs.Keeping.{Settles, HasCome}, specs.SoFar.{eventless, so_far}, specs.OneMore.with_marks, proofs.Summaries.summary-end, specs.Standing.Stands, proofs.Fours.refused-bytes}
+use Rattle.settle.{specs.Standing.{last_time, HasSettled}, specs.declared.settle.Settle.Settle}
 
 pub unrefused : (how : Reading) (words : List ℕ) → refusals how words ≡ [] → record_refusal how words ≡ None
 unrefused how words clear = rw clear refl

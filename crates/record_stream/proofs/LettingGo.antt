@@ -1,40 +1,12 @@
 -- Events in order, of which none is late, and those that are let go with them.
-use Rattle.std.proofs.Common.{◌≡◌, ◌≢◌, ◌+◌, ◌<◌, ◌≤◌, ℕ, zero, suc, List, [], ◌∷◌, ◌++◌, Bool, true, false, None, Some, length, map, max, refl, sym, ap, subst, ◌∙◌, append_assoc, append-nil, arith, length-append, ◌⊎◌, ⊎_elim}
-use Rattle.std.specs.Prelude.{◌&&◌, not, is_some, nat_lt, IfSome, IsTrue, if◌then◌else◌}
-use Rattle.std.specs.Option.{option_to_list}
-use Rattle.std.specs.List.{All, list_any}
-use Rattle.std.specs.declared.option.Option.{Option}
-use Rattle.std.proofs.lemmas.Bool.{ne_eqb}
-use Rattle.std.proofs.lemmas.Bool.Decides.{nat_tests}
-use Rattle.std.proofs.lemmas.List.Elements.{filter-append}
-use Rattle.tally_base.specs.declared.event.Event.{Event}
-use Rattle.tally_base.specs.declared.header.Mode.{Mode}
-use Rattle.tally_base.specs.Events.{is_ordered}
-use Rattle.tally_base.specs.Tally.{moves_floor}
-use Rattle.ptu_definitions.specs.Kept.{Marked, floor_of, greatest, is_late}
-use Rattle.ptu_definitions.specs.Settled.{delivered, is_overtaken, not_marked, ordered, put_in, settles}
-use Rattle.ptu_definitions.specs.Streams.{Reading, events_in}
-use Rattle.ptu_definitions.specs.Times.{events}
-use Rattle.ptu_definitions.proofs.DeliveredLaws.{delivered-append, delivered_after, delivered_after-ordered, not_marked-append, not_marked-false}
-use Rattle.ptu_definitions.proofs.StreamLemmas.{greatest-push, later}
+use Rattle.std.proofs.Common.{◌≡◌, ◌≢◌, ◌+◌, ◌<◌, ◌≤◌, ℕ, zero, suc, List, [], ◌∷◌, ◌++◌, Bool, true, false, None, Some, length, map, max, refl, sym, ap, subst, ◌∙◌, append_assoc, append-nil, arith, length-append, ◌⊎◌, ⊎_elim, ◌&&◌, not, is_some, nat_lt, IfSome, IsTrue, if◌then◌else◌}
+use Rattle.std.{specs.Option.option_to_list, specs.List.{All, list_any}, specs.declared.option.Option.Option, proofs.lemmas.Bool.ne_eqb, proofs.lemmas.Bool.Decides.nat_tests, proofs.lemmas.List.Elements.filter-append}
+use Rattle.tally_base.{specs.declared.event.Event.Event, specs.declared.header.Mode.Mode, specs.Events.is_ordered, specs.Tally.moves_floor}
+use Rattle.ptu_definitions.{specs.Kept.{Marked, floor_of, greatest, is_late}, specs.Settled.{delivered, is_overtaken, not_marked, ordered, put_in, settles}, specs.Streams.{Reading, events_in}, specs.Times.events, proofs.DeliveredLaws.{delivered-append, delivered_after, delivered_after-ordered, not_marked-append, not_marked-false}, proofs.StreamLemmas.{greatest-push, later}}
 use Rattle.abs_time.specs.Placing.{IsSmall}
-use Rattle.event_block.specs.Columns.{rows}
-use Rattle.event_block.specs.Order.{floor_after, InOrder}
-use Rattle.event_block.proofs.Order.{order-at, order-parts}
-use Rattle.event_block.proofs.Rows.{rows-split}
-use Rattle.settle.specs.Settling.{told}
-use Rattle.settle.specs.Standing.{HasSettled, kept_back, last_place, last_time, reach_of, was_popped}
-use Rattle.settle.specs.declared.settle.Settle.{Settle}
-use Rattle.settle.specs.Passing.{place_after}
-use Rattle.record_stream.specs.Blocks.{orders_markers, on_time, IsInLine, PlacesRise}
-use Rattle.record_stream.specs.Keeping.{CanWait, HasCome}
-use Rattle.record_stream.specs.LettingGo.{LetsGo, IsDelivered}
-use Rattle.record_stream.specs.Floors.{moved_floor}
-use Rattle.record_stream.proofs.Adding.{moves_by, greatest-on_time, on_time-push, in_line-event}
-use Rattle.record_stream.proofs.Eaches.{not_late}
-use Rattle.record_stream.proofs.Floors.{moved_floor-push}
-use Rattle.record_stream.proofs.Placed.{not_late as not_late_by}
-use Rattle.record_stream.proofs.Settles.{ordered-on, that_goes, those_waiting, count_going, count_waiting}
+use Rattle.event_block.{specs.Columns.rows, specs.Order.{floor_after, InOrder}, proofs.Order.{order-at, order-parts}, proofs.Rows.rows-split}
+use Rattle.settle.{specs.Settling.told, specs.Standing.{HasSettled, kept_back, last_place, last_time, reach_of, was_popped}, specs.declared.settle.Settle.Settle, specs.Passing.place_after}
+use Rattle.record_stream.{specs.Blocks.{orders_markers, on_time, IsInLine, PlacesRise}, specs.Keeping.{CanWait, HasCome}, specs.LettingGo.{LetsGo, IsDelivered}, specs.Floors.moved_floor, proofs.Adding.{moves_by, greatest-on_time, on_time-push, in_line-event}, proofs.Eaches.not_late, proofs.Floors.moved_floor-push, proofs.Placed.not_late as not_late_by, proofs.Settles.{ordered-on, that_goes, those_waiting, count_going, count_waiting}}
 
 -- The greatest time of events in order.
 on_true : (mode : Mode) (top : ℕ) (e : Event) → (IsTrue (moves_floor (orders_markers mode) e) → top ≤ e.time) → IsTrue (is_ordered mode e) → top ≤ e.time

@@ -1,31 +1,12 @@
 -- The events in order of a list, without the others.
-use Rattle.std.proofs.Common.{◌≡◌, ◌≢◌, ◌<◌, ◌≤◌, ℕ, List, [], ◌∷◌, ◌++◌, Bool, true, false, cond, map, refl, sym, ap, subst, ◌∙◌, arith}
-use Rattle.std.specs.Prelude.{if◌then◌else◌}
-use Rattle.std.specs.List.{AllByRecursion}
-use Rattle.std.proofs.lemmas.Bool.{ne_eqb}
-use Rattle.std.proofs.lemmas.List.Elements.{All-from_recursion, filter-append, recursion_from_All}
-use Rattle.tally_base.specs.declared.event.Event.{Event}
-use Rattle.tally_base.specs.declared.header.Mode.{Mode}
-use Rattle.tally_base.specs.Events.{is_ordered}
-use Rattle.tally_base.specs.Tally.{moves_floor}
-use Rattle.ptu_definitions.specs.Fitting.{KindFits}
-use Rattle.ptu_definitions.specs.Kept.{mark}
-use Rattle.ptu_definitions.specs.Prefixes.{each_after}
-use Rattle.ptu_definitions.specs.Settled.{delivered, not_marked, ordered, settles}
-use Rattle.ptu_definitions.specs.Streams.{Reading, events_in}
-use Rattle.ptu_definitions.specs.Times.{events}
-use Rattle.ptu_definitions.proofs.DeliveredLaws.{delivered-append, delivered_after}
+use Rattle.std.proofs.Common.{◌≡◌, ◌≢◌, ◌<◌, ◌≤◌, ℕ, List, [], ◌∷◌, ◌++◌, Bool, true, false, cond, map, refl, sym, ap, subst, ◌∙◌, arith, if◌then◌else◌}
+use Rattle.std.{specs.List.AllByRecursion, proofs.lemmas.Bool.ne_eqb, proofs.lemmas.List.Elements.{All-from_recursion, filter-append, recursion_from_All}}
+use Rattle.tally_base.{specs.declared.event.Event.Event, specs.declared.header.Mode.Mode, specs.Events.is_ordered, specs.Tally.moves_floor}
+use Rattle.ptu_definitions.{specs.Fitting.KindFits, specs.Kept.mark, specs.Prefixes.each_after, specs.Settled.{delivered, not_marked, ordered, settles}, specs.Streams.{Reading, events_in}, specs.Times.events, proofs.DeliveredLaws.{delivered-append, delivered_after}}
 use Rattle.abs_time.specs.Placing.{placed_by}
 use Rattle.event_block.specs.Order.{InOrder}
-use Rattle.settle.specs.Passing.{place_after}
-use Rattle.settle.specs.Standing.{HasSettled}
-use Rattle.settle.specs.declared.settle.Settle.{Settle}
-use Rattle.record_stream.specs.Blocks.{orders_markers, PlacesRise}
-use Rattle.record_stream.specs.LettingGo.{AreOrdered, ComesNext, IsDelivered}
-use Rattle.record_stream.specs.Walking.{how_of, greatest_of, clock_in}
-use Rattle.record_stream.specs.declared.walk.Walk.{Walk}
-use Rattle.record_stream.proofs.Adding.{moves_by}
-use Rattle.record_stream.proofs.Passed.{ordered-same}
+use Rattle.settle.{specs.Passing.place_after, specs.Standing.HasSettled, specs.declared.settle.Settle.Settle}
+use Rattle.record_stream.{specs.Blocks.{orders_markers, PlacesRise}, specs.LettingGo.{AreOrdered, ComesNext, IsDelivered}, specs.Walking.{how_of, greatest_of, clock_in}, specs.declared.walk.Walk.Walk, proofs.Adding.moves_by, proofs.Passed.ordered-same}
 
 -- They are all in order.
 one_ordered : (b : Bool) (mode : Mode) (e : Event) (es : List Event) → is_ordered mode e ≡ b → AreOrdered mode es → AreOrdered mode (cond b (e ∷ es) es)

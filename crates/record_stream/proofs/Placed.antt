@@ -1,29 +1,10 @@
 -- What the clock's answer says of a word: its refusal and its event.
-use Rattle.std.proofs.Common.{◌≡◌, ◌≢◌, ◌+◌, ◌<◌, ℕ, List, [], ◌∷◌, Bool, true, false, cond, None, Some, Ok, Err, length, map, refl, sym, ap, ◌∙◌, ◌⊎◌, ⊎_elim, arith}
-use Rattle.std.specs.Prelude.{nat_le, ◌&&◌, ◌==◌, if◌then◌else◌}
-use Rattle.std.specs.declared.option.Option.{Option}
-use Rattle.std.specs.declared.result.Result.{Result}
-use Rattle.std.proofs.lemmas.Bool.{ne_eqb}
-use Rattle.std.proofs.lemmas.Bool.Decides.{nat_tests}
-use Rattle.tally_base.specs.declared.event.Event.{Event}
-use Rattle.tally_base.specs.declared.fault.Fault.{Fault}
-use Rattle.tally_base.specs.declared.fault.Fault.TheVariants.{RecordLimit, ReservedRecord, BackwardTime, TimeLimit}
-use Rattle.tally_base.specs.declared.header.Mode.{Mode}
-use Rattle.tally_base.specs.Events.{is_ordered, stops_late, stops_reserved}
-use Rattle.ptu_definitions.specs.declared.records.Raw.{Raw}
-use Rattle.ptu_definitions.specs.declared.records.Raw.TheVariants.{Photon, Marker, Wrap, Reserved}
-use Rattle.ptu_definitions.specs.Kinds.{is_reserved}
-use Rattle.ptu_definitions.specs.Times.{event_after, events, passes}
-use Rattle.ptu_definitions.specs.Kept.{is_late, greatest, Marked}
-use Rattle.ptu_definitions.specs.Settled.{is_late_by, ordered, settles}
-use Rattle.ptu_definitions.specs.Streams.{Reading, refusal, late_refusal}
-use Rattle.ptu_definitions.proofs.DeliveredLaws.{delivered_after, delivered_after-ordered, delivered_after-unordered, is_late_by-0, is_late-by}
-use Rattle.ptu_definitions.proofs.StreamLemmas.{fresh}
-use Rattle.abs_time.specs.declared.clock.Placed.{Placed}
-use Rattle.abs_time.specs.declared.clock.Placed.TheVariants.{Event as InOrder, Late, Wrap as WrapPlaced, Reserved as ReservedPlaced}
-use Rattle.abs_time.specs.Placing.{place_answer}
-use Rattle.record_stream.specs.Keeping.{tells, refused_for}
-use Rattle.record_stream.specs.Recorded.{refused_late}
+use Rattle.std.proofs.Common.{◌≡◌, ◌≢◌, ◌+◌, ◌<◌, ℕ, List, [], ◌∷◌, Bool, true, false, cond, None, Some, Ok, Err, length, map, refl, sym, ap, ◌∙◌, ◌⊎◌, ⊎_elim, arith, nat_le, ◌&&◌, ◌==◌, if◌then◌else◌}
+use Rattle.std.{specs.declared.option.Option.Option, specs.declared.result.Result.Result, proofs.lemmas.Bool.ne_eqb, proofs.lemmas.Bool.Decides.nat_tests}
+use Rattle.tally_base.{specs.declared.event.Event.Event, specs.declared.fault.Fault.Fault, specs.declared.fault.Fault.TheVariants.{RecordLimit, ReservedRecord, BackwardTime, TimeLimit}, specs.declared.header.Mode.Mode, specs.Events.{is_ordered, stops_late, stops_reserved}}
+use Rattle.ptu_definitions.{specs.declared.records.Raw.Raw, specs.declared.records.Raw.TheVariants.{Photon, Marker, Wrap, Reserved}, specs.Kinds.is_reserved, specs.Times.{event_after, events, passes}, specs.Kept.{is_late, greatest, Marked}, specs.Settled.{is_late_by, ordered, settles}, specs.Streams.{Reading, refusal, late_refusal}, proofs.DeliveredLaws.{delivered_after, delivered_after-ordered, delivered_after-unordered, is_late_by-0, is_late-by}, proofs.StreamLemmas.fresh}
+use Rattle.abs_time.{specs.declared.clock.Placed.Placed, specs.declared.clock.Placed.TheVariants.Event as InOrder, specs.declared.clock.Placed.TheVariants.Late, specs.declared.clock.Placed.TheVariants.Wrap as WrapPlaced, specs.declared.clock.Placed.TheVariants.Reserved as ReservedPlaced, specs.Placing.place_answer}
+use Rattle.record_stream.{specs.Keeping.{tells, refused_for}, specs.Recorded.refused_late}
 
 -- the refusal that a placed record calls for, where no event is put in its place
 abbrev pub refused_by : Reading → Placed → Option Fault

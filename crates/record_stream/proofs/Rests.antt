@@ -1,32 +1,10 @@
 -- The events that are kept back, given one after another at the end.
-use Rattle.std.proofs.Common.{◌≡◌, ◌+◌, ◌≤◌, ℕ, suc, List, [], ◌∷◌, ◌++◌, Bool, true, false, cond, Ok, Err, OnErr, IfErr, length, map, refl, sym, ap, subst, ◌∙◌, append_assoc, append-nil, arith, length-append}
-use Rattle.std.specs.Prelude.{◌==◌}
-use Rattle.std.specs.List.{All}
-use Rattle.std.specs.declared.result.Result.{Result}
-use Rattle.std.proofs.lemmas.Bool.{eqb-true}
-use Rattle.std.proofs.lemmas.List.{map-append, length-map}
-use Rattle.std.proofs.lemmas.List.Elements.{All-tail}
-use Rattle.tally_base.specs.declared.event.Event.{Event}
-use Rattle.tally_base.specs.declared.fault.Fault.{Fault}
-use Rattle.tally_base.specs.declared.fault.Fault.TheVariants.{WriteFault}
-use Rattle.tally_base.specs.FaultCounts.{HasCause}
-use Rattle.ptu_definitions.specs.Kept.{Marked}
-use Rattle.ptu_definitions.specs.Settled.{delivered_last, in_time, last_of, marked_as, ordered}
-use Rattle.ptu_definitions.specs.Streams.{Reading, last_in}
-use Rattle.ptu_definitions.specs.Times.{events}
-use Rattle.ptu_definitions.proofs.DeliveredLaws.{delivered_last-0}
-use Rattle.ptu_definitions.proofs.SettlingLemmas.{waits-is}
-use Rattle.settle.specs.Standing.{kept_back, reach_of, was_popped}
-use Rattle.settle.specs.declared.settle.Settle.{Settle}
-use Rattle.record_stream.specs.Ending.{GaveFirst, BrokeFirst}
-use Rattle.record_stream.specs.Feeding.{Follows}
-use Rattle.record_stream.specs.Keeping.{CanWait, Settles}
-use Rattle.record_stream.specs.OneMore.{with_event, with_marks}
-use Rattle.record_stream.specs.Walking.{how_of, given_by, records_of, summary_in, Notes, KeepsPlace}
-use Rattle.record_stream.specs.declared.taker.EventTaker.{Ghosts}
-use Rattle.record_stream.specs.declared.walk.Walk.{Walk}
-use Rattle.record_stream.proofs.Lasts.{some-settle}
-use Rattle.record_stream.proofs.Summaries.{with_marks-append}
+use Rattle.std.proofs.Common.{◌≡◌, ◌+◌, ◌≤◌, ℕ, suc, List, [], ◌∷◌, ◌++◌, Bool, true, false, cond, Ok, Err, OnErr, IfErr, length, map, refl, sym, ap, subst, ◌∙◌, append_assoc, append-nil, arith, length-append, ◌==◌}
+use Rattle.std.{specs.List.All, specs.declared.result.Result.Result, proofs.lemmas.Bool.eqb-true, proofs.lemmas.List.{map-append, length-map}, proofs.lemmas.List.Elements.All-tail}
+use Rattle.tally_base.{specs.declared.event.Event.Event, specs.declared.fault.Fault.Fault, specs.declared.fault.Fault.TheVariants.WriteFault, specs.FaultCounts.HasCause}
+use Rattle.ptu_definitions.{specs.Kept.Marked, specs.Settled.{delivered_last, in_time, last_of, marked_as, ordered}, specs.Streams.{Reading, last_in}, specs.Times.events, proofs.DeliveredLaws.delivered_last-0, proofs.SettlingLemmas.waits-is}
+use Rattle.settle.{specs.Standing.{kept_back, reach_of, was_popped}, specs.declared.settle.Settle.Settle}
+use Rattle.record_stream.{specs.Ending.{GaveFirst, BrokeFirst}, specs.Feeding.Follows, specs.Keeping.{CanWait, Settles}, specs.OneMore.{with_event, with_marks}, specs.Walking.{how_of, given_by, records_of, summary_in, Notes, KeepsPlace}, specs.declared.taker.EventTaker.Ghosts, specs.declared.walk.Walk.Walk, proofs.Lasts.some-settle, proofs.Summaries.with_marks-append}
 
 marked_one : (front : List Event) (e : Event) (l : Marked) → (l ++ marked_as false front) ++ (e, false) ∷ [] ≡ l ++ marked_as false (front ++ e ∷ [])
 marked_one front e l = append_assoc l (marked_as false front) ((e, false) ∷ []) ∙ ap (λ m. l ++ m) (sym (map-append (λ (x : Event). (x, false)) front (e ∷ [])))

@@ -1,24 +1,11 @@
 -- One word more where events are put in their places.
 use Rattle.std.proofs.Common.{◌≡◌, ◌≢◌, ◌+◌, ℕ, List, [], ◌∷◌, ◌++◌, None, Ok, Err, OnOk, IfErr, length, map, refl, sym, ap, subst, ◌∙◌, add-zero}
 use Rattle.std.specs.declared.result.Result.{Result}
-use Rattle.tally_base.specs.declared.event.Event.{Event}
-use Rattle.tally_base.specs.declared.fault.Fault.{Fault}
-use Rattle.ptu_definitions.specs.Settled.{ordered, not_marked}
-use Rattle.ptu_definitions.specs.Streams.{Reading, refusal, events_in}
-use Rattle.ptu_definitions.specs.Times.{events}
-use Rattle.ptu_definitions.proofs.StreamLemmas.{fresh}
+use Rattle.tally_base.{specs.declared.event.Event.Event, specs.declared.fault.Fault.Fault}
+use Rattle.ptu_definitions.{specs.Settled.{ordered, not_marked}, specs.Streams.{Reading, refusal, events_in}, specs.Times.events, proofs.StreamLemmas.fresh}
 use Rattle.abs_time.specs.declared.clock.Placed.{Placed}
 use Rattle.settle.specs.declared.settle.Settle.{Settle}
-use Rattle.record_stream.specs.Feeding.{Fed}
-use Rattle.record_stream.specs.Keeping.{HasCome, tells, refused_for}
-use Rattle.record_stream.specs.Recorded.{IsPlaced}
-use Rattle.record_stream.specs.Settling.{IsSettledBehind, Told, Untold}
-use Rattle.record_stream.specs.Walking.{how_of, given_by, summary_in, clock_in, KeepsPlace}
-use Rattle.record_stream.specs.declared.taker.EventTaker.{Ghosts}
-use Rattle.record_stream.specs.declared.walk.Walk.{Walk}
-use Rattle.record_stream.proofs.Placed.{event_in, top_in, comes, refused-placed, fresh-placed, skipped-refusal, skipped-fresh}
-use Rattle.record_stream.proofs.Settles.{come_event, come_none}
-use Rattle.record_stream.proofs.Steps.{placed_at, told_fed, skipped_fed}
+use Rattle.record_stream.{specs.Feeding.Fed, specs.Keeping.{HasCome, tells, refused_for}, specs.Recorded.IsPlaced, specs.Settling.{IsSettledBehind, Told, Untold}, specs.Walking.{how_of, given_by, summary_in, clock_in, KeepsPlace}, specs.declared.taker.EventTaker.Ghosts, specs.declared.walk.Walk.Walk, proofs.Placed.{event_in, top_in, comes, refused-placed, fresh-placed, skipped-refusal, skipped-fresh}, proofs.Settles.{come_event, come_none}, proofs.Steps.{placed_at, told_fed, skipped_fed}}
 
 -- the events in order of these words
 abbrev pub came_in : Reading → List ℕ → List Event

@@ -1,34 +1,11 @@
 -- One word more.
-use Rattle.std.proofs.Common.{◌≡◌, ◌+◌, ◌<◌, ℕ, List, [], ◌∷◌, ◌++◌, Bool, false, None, Some, Ok, Err, OnOk, OnErr, IfOk, IfErr, length, map, refl, sym, ap, subst, ◌∙◌, inl, inr, ⊎_elim, append-nil, arith, length-append}
-use Rattle.std.specs.declared.result.Result.{Result}
-use Rattle.std.proofs.lemmas.List.{map-append}
-use Rattle.tally_base.specs.declared.event.Event.{Event}
-use Rattle.ptu_definitions.specs.declared.records.Summary.{Summary}
-use Rattle.tally_base.specs.declared.fault.Fault.{Fault}
-use Rattle.tally_base.specs.declared.fault.Fault.TheVariants.{WriteFault}
-use Rattle.tally_base.specs.FaultCounts.{HasCause}
-use Rattle.ptu_definitions.specs.declared.records.Raw.{Raw}
-use Rattle.ptu_definitions.specs.Kept.{Marked}
-use Rattle.ptu_definitions.specs.Streams.{Reading, refusal, refusals, record_refusal, given}
-use Rattle.ptu_definitions.proofs.StreamLemmas.{fresh, events_in-push, clear-push, refused-push, given-clear, given-refused}
-use Rattle.abs_time.specs.declared.clock.Clock.{Clock}
-use Rattle.std.specs.Prelude.{◌&&◌}
-use Rattle.tally_base.specs.Events.{stops_reserved}
-use Rattle.ptu_definitions.specs.Kinds.{is_reserved}
-use Rattle.abs_time.specs.declared.clock.Placed.{Placed}
-use Rattle.abs_time.specs.Placing.{HasPlaced, place_answer}
-use Rattle.record_stream.specs.Recorded.{IsPlaced}
-use Rattle.record_stream.specs.Walking.{how_of, summary_in, clock_in}
-use Rattle.record_stream.proofs.Placed.{refusal-ok, refusal-err}
-use Rattle.record_stream.specs.declared.taker.EventTaker.{Ghosts}
-use Rattle.record_stream.specs.Feeding.{IsAt, Fed}
-use Rattle.record_stream.specs.OneMore.{with_raw, with_marks}
+use Rattle.std.proofs.Common.{◌≡◌, ◌+◌, ◌<◌, ℕ, List, [], ◌∷◌, ◌++◌, Bool, false, None, Some, Ok, Err, OnOk, OnErr, IfOk, IfErr, length, map, refl, sym, ap, subst, ◌∙◌, inl, inr, ⊎_elim, append-nil, arith, length-append, ◌&&◌}
+use Rattle.std.{specs.declared.result.Result.Result, proofs.lemmas.List.map-append}
+use Rattle.tally_base.{specs.declared.event.Event.Event, specs.declared.fault.Fault.Fault, specs.declared.fault.Fault.TheVariants.WriteFault, specs.FaultCounts.HasCause, specs.Events.stops_reserved}
+use Rattle.ptu_definitions.{specs.declared.records.Summary.Summary, specs.declared.records.Raw.Raw, specs.Kept.Marked, specs.Streams.{Reading, refusal, refusals, record_refusal, given}, proofs.StreamLemmas.{fresh, events_in-push, clear-push, refused-push, given-clear, given-refused}, specs.Kinds.is_reserved}
+use Rattle.abs_time.{specs.declared.clock.Clock.Clock, specs.declared.clock.Placed.Placed, specs.Placing.{HasPlaced, place_answer}}
+use Rattle.record_stream.{specs.Recorded.IsPlaced, specs.Walking.{how_of, summary_in, clock_in}, proofs.Placed.{refusal-ok, refusal-err}, specs.declared.taker.EventTaker.Ghosts, specs.Feeding.{IsAt, Fed}, specs.OneMore.{with_raw, with_marks}, specs.Keeping.{tells, refused_for}, specs.Settling.{Told, Untold, BrokeAt}, specs.SoFar.so_far, specs.declared.walk.Walk.Walk, proofs.Summaries.{so_far-push, so_far-records}}
 use Rattle.settle.specs.declared.settle.Settle.{Settle}
-use Rattle.record_stream.specs.Keeping.{tells, refused_for}
-use Rattle.record_stream.specs.Settling.{Told, Untold, BrokeAt}
-use Rattle.record_stream.specs.SoFar.{so_far}
-use Rattle.record_stream.specs.declared.walk.Walk.{Walk}
-use Rattle.record_stream.proofs.Summaries.{so_far-push, so_far-records}
 
 -- as many records as words
 pub records-is : (how : Reading) (clock : Clock) (sum : Summary) (count : ℕ) (ws : List ℕ) → IsAt how clock sum count ws → sum.records ≡ length (map how.meaning ws)

@@ -1,11 +1,8 @@
 -- How much one wrap adds at most.
 use Rattle.std.proofs.Common.{◌<◌, ◌^◌, ℕ, true, false, arith}
-use Rattle.std.proofs.lemmas.Grind.{common_steps}
-use Rattle.std.proofs.lemmas.Bool.Decides.{nat_tests}
-use Rattle.tally_base.specs.declared.header.RecordType.{RecordType}
-use Rattle.tally_base.specs.declared.header.RecordType.TheVariants.{PicoHarpT2, PicoHarpT3, HydraHarpT2, HydraHarpT3, HydraHarp2T2, HydraHarp2T3, TimeHarp260NT2, TimeHarp260NT3, TimeHarp260PT2, TimeHarp260PT3, MultiHarpT2, MultiHarpT3}
-use Rattle.ptu_definitions.specs.Layouts.{pico_t2, pico_t3, hydra_t2, hydra_t3, meaning_of}
-use Rattle.ptu_definitions.specs.Times.{amount}
+use Rattle.std.{proofs.lemmas.Grind.common_steps, proofs.lemmas.Bool.Decides.nat_tests}
+use Rattle.tally_base.{specs.declared.header.RecordType.RecordType, specs.declared.header.RecordType.TheVariants.{PicoHarpT2, PicoHarpT3, HydraHarpT2, HydraHarpT3, HydraHarp2T2, HydraHarp2T3, TimeHarp260NT2, TimeHarp260NT3, TimeHarp260PT2, TimeHarp260PT3, MultiHarpT2, MultiHarpT3}}
+use Rattle.ptu_definitions.{specs.Layouts.{pico_t2, pico_t3, hydra_t2, hydra_t3, meaning_of}, specs.Times.amount}
 
 pico_t2-small : (word : ℕ) → amount (pico_t2 word) < 2 ^ 50
 unfolding pico_t2

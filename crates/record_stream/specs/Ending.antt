@@ -1,20 +1,9 @@
 -- What the end of a stream does.
 use Rattle.std.specs.Prelude.{ℕ, ◌≡◌, ◌+◌, ◌<◌, ◌≤◌, false, List, [], ◌++◌, length, Result, Ok, Err, ◌⊎◌}
 use Rattle.std.specs.List.{All}
-use Rattle.tally_base.specs.declared.event.Event.{Event}
-use Rattle.tally_base.specs.declared.fault.Fault.{Fault}
-use Rattle.tally_base.specs.declared.fault.Fault.TheVariants.{WriteFault}
-use Rattle.tally_base.specs.FaultCounts.{Rose}
-use Rattle.ptu_definitions.specs.declared.records.Summary.{Summary}
-use Rattle.ptu_definitions.specs.Kept.{Marked}
-use Rattle.ptu_definitions.specs.Settled.{marked_as}
-use Rattle.ptu_definitions.specs.Streams.{Reading, last_in, streamed}
-use Rattle.ptu_definitions.specs.Words.{words_of, rest_of}
-use Rattle.record_stream.specs.Keeping.{CanWait}
-use Rattle.record_stream.specs.OneMore.{with_marks}
-use Rattle.record_stream.specs.Walking.{how_of, given_by, records_of, summary_in}
-use Rattle.record_stream.specs.declared.taker.EventTaker.{Ghosts}
-use Rattle.record_stream.specs.declared.walk.Walk.{Walk}
+use Rattle.tally_base.{specs.declared.event.Event.Event, specs.declared.fault.Fault.Fault, specs.declared.fault.Fault.TheVariants.WriteFault, specs.FaultCounts.Rose}
+use Rattle.ptu_definitions.{specs.declared.records.Summary.Summary, specs.Kept.Marked, specs.Settled.marked_as, specs.Streams.{Reading, last_in, streamed}, specs.Words.{words_of, rest_of}}
+use Rattle.record_stream.{specs.Keeping.CanWait, specs.OneMore.with_marks, specs.Walking.{how_of, given_by, records_of, summary_in}, specs.declared.taker.EventTaker.Ghosts, specs.declared.walk.Walk.Walk}
 
 module _ {T : Type 0} (g : Ghosts T) where
   -- The taker got the first of the events that were kept back, and the rest can be given.

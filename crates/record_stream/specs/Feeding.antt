@@ -1,18 +1,9 @@
 -- What a taker is given by words that come behind others.
 use Rattle.std.specs.Prelude.{ℕ, Bool, ◌&&◌, not, IsTrue, ◌≡◌, ◌<◌, ◌≤◌, List, [], ◌++◌, length, map, None, Some, Result, Ok, Err, ◌⊎◌}
-use Rattle.ptu_definitions.specs.declared.records.Summary.{Summary}
-use Rattle.tally_base.specs.declared.fault.Fault.{Fault}
-use Rattle.tally_base.specs.declared.fault.Fault.TheVariants.{WriteFault}
-use Rattle.tally_base.specs.declared.header.Mode.{Mode}
-use Rattle.tally_base.specs.declared.event.Event.{Event}
-use Rattle.tally_base.specs.Events.{is_ordered}
-use Rattle.tally_base.specs.FaultCounts.{Rose}
-use Rattle.ptu_definitions.specs.Kept.{Marked}
-use Rattle.ptu_definitions.specs.Streams.{Reading, refusals, record_refusal, given, events_in}
-use Rattle.abs_time.specs.declared.clock.Clock.{Clock}
-use Rattle.abs_time.specs.Placing.{HasPlaced}
-use Rattle.record_stream.specs.SoFar.{so_far}
-use Rattle.record_stream.specs.declared.taker.EventTaker.{Ghosts}
+use Rattle.ptu_definitions.{specs.declared.records.Summary.Summary, specs.Kept.Marked, specs.Streams.{Reading, refusals, record_refusal, given, events_in}}
+use Rattle.tally_base.{specs.declared.fault.Fault.Fault, specs.declared.fault.Fault.TheVariants.WriteFault, specs.declared.header.Mode.Mode, specs.declared.event.Event.Event, specs.Events.is_ordered, specs.FaultCounts.Rose}
+use Rattle.abs_time.{specs.declared.clock.Clock.Clock, specs.Placing.HasPlaced}
+use Rattle.record_stream.{specs.SoFar.so_far, specs.declared.taker.EventTaker.Ghosts}
 
 -- Where a stream stands that took these words and refused none.
 pub record IsAt (how : Reading) (clock : Clock) (sum : Summary) (count : ℕ) (words : List ℕ) : Type 0 where

@@ -1,24 +1,11 @@
 -- The events that a stream keeps back.
 use Rattle.std.specs.Prelude.{ℕ, ◌≡◌, ◌≢◌, ◌+◌, ◌≤◌, ◌&&◌, true, false, List, [], length, map, None, Some, if◌then◌else◌}
-use Rattle.std.specs.declared.option.Option.{Option}
-use Rattle.std.specs.List.{All}
-use Rattle.tally_base.specs.declared.event.Event.{Event}
-use Rattle.tally_base.specs.declared.fault.Fault.{Fault}
-use Rattle.tally_base.specs.declared.fault.Fault.TheVariants.{BackwardTime}
-use Rattle.tally_base.specs.declared.header.Mode.{Mode}
-use Rattle.tally_base.specs.Events.{is_ordered, stops_late}
-use Rattle.tally_base.specs.RecordTypes.{mode_of}
-use Rattle.ptu_definitions.specs.Kept.{Marked, floor_of}
-use Rattle.ptu_definitions.specs.Settled.{is_overtaken, ordered, settles, not_marked}
-use Rattle.ptu_definitions.specs.Streams.{Reading, events_in}
-use Rattle.ptu_definitions.specs.Times.{events}
-use Rattle.abs_time.specs.Placing.{IsSmall, placed_by}
-use Rattle.settle.specs.Standing.{HasSettled, kept_back, last_place, last_time, reach_of, was_popped}
-use Rattle.settle.specs.declared.settle.Settle.{Settle}
-use Rattle.abs_time.specs.declared.clock.Clock.{Clock}
-use Rattle.ptu_definitions.specs.declared.records.Summary.{Summary}
-use Rattle.record_stream.specs.Feeding.{IsAt}
-use Rattle.record_stream.specs.declared.walk.Walk.{Walk}
+use Rattle.std.{specs.declared.option.Option.Option, specs.List.All}
+use Rattle.tally_base.{specs.declared.event.Event.Event, specs.declared.fault.Fault.Fault, specs.declared.fault.Fault.TheVariants.BackwardTime, specs.declared.header.Mode.Mode, specs.Events.{is_ordered, stops_late}, specs.RecordTypes.mode_of}
+use Rattle.ptu_definitions.{specs.Kept.{Marked, floor_of}, specs.Settled.{is_overtaken, ordered, settles, not_marked}, specs.Streams.{Reading, events_in}, specs.Times.events, specs.declared.records.Summary.Summary}
+use Rattle.abs_time.{specs.Placing.{IsSmall, placed_by}, specs.declared.clock.Clock.Clock}
+use Rattle.settle.{specs.Standing.{HasSettled, kept_back, last_place, last_time, reach_of, was_popped}, specs.declared.settle.Settle.Settle}
+use Rattle.record_stream.{specs.Feeding.IsAt, specs.declared.walk.Walk.Walk}
 
 -- an event in order that fits its mode
 pub record CanWait (mode : Mode) (e : Event) : Type 0 where

@@ -1,22 +1,12 @@
 -- What events in order let go, none of them late.
 use Rattle.std.specs.Prelude.{ℕ, ◌≡◌, ◌+◌, ◌≤◌, true, false, List, ◌++◌, length, map}
 use Rattle.std.specs.List.{All, AllByRecursion}
-use Rattle.tally_base.specs.declared.event.Event.{Event}
-use Rattle.tally_base.specs.declared.header.Mode.{Mode}
-use Rattle.tally_base.specs.Events.{is_ordered}
-use Rattle.ptu_definitions.specs.Settled.{delivered, not_marked, ordered}
-use Rattle.ptu_definitions.specs.Streams.{Reading, events_in}
-use Rattle.ptu_definitions.specs.Times.{events}
+use Rattle.tally_base.{specs.declared.event.Event.Event, specs.declared.header.Mode.Mode, specs.Events.is_ordered}
+use Rattle.ptu_definitions.{specs.Settled.{delivered, not_marked, ordered}, specs.Streams.{Reading, events_in}, specs.Times.events}
 use Rattle.abs_time.specs.Placing.{placed_by}
 use Rattle.event_block.specs.Order.{InOrder}
-use Rattle.settle.specs.Standing.{HasSettled, kept_back, last_place, last_time, reach_of, was_popped}
-use Rattle.settle.specs.declared.settle.Settle.{Settle}
-use Rattle.settle.specs.Passing.{place_after}
-use Rattle.record_stream.specs.Blocks.{orders_markers, on_time, AllFit, IsInLine, PlacesRise}
-use Rattle.record_stream.specs.Keeping.{CanWait}
-use Rattle.record_stream.specs.Walking.{how_of, greatest_of, clock_in, IsBlank}
-use Rattle.record_stream.specs.declared.settled_blocks.Room.{Room}
-use Rattle.record_stream.specs.declared.walk.Walk.{Walk}
+use Rattle.settle.{specs.Standing.{HasSettled, kept_back, last_place, last_time, reach_of, was_popped}, specs.declared.settle.Settle.Settle, specs.Passing.place_after}
+use Rattle.record_stream.{specs.Blocks.{orders_markers, on_time, AllFit, IsInLine, PlacesRise}, specs.Keeping.CanWait, specs.Walking.{how_of, greatest_of, clock_in, IsBlank}, specs.declared.settled_blocks.Room.Room, specs.declared.walk.Walk.Walk}
 
 -- each event is in order
 abbrev pub AreOrdered : Mode → List Event → Type 0

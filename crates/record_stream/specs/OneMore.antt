@@ -2,11 +2,7 @@
 use Rattle.std.specs.Prelude.{ℕ, ◌+◌, Bool, true, false, List, [], ◌∷◌, None, Some}
 use Rattle.std.specs.declared.option.Option.{Option}
 use Rattle.tally_base.specs.declared.event.Event.{Event}
-use Rattle.ptu_definitions.specs.declared.records.Summary.{Summary}
-use Rattle.ptu_definitions.specs.declared.records.KindCounts.{KindCounts}
-use Rattle.ptu_definitions.specs.declared.records.Raw.{Raw}
-use Rattle.ptu_definitions.specs.declared.records.Raw.TheVariants.{Photon, Marker, Wrap, Reserved}
-use Rattle.ptu_definitions.specs.Kept.{Marked}
+use Rattle.ptu_definitions.{specs.declared.records.Summary.Summary, specs.declared.records.KindCounts.KindCounts, specs.declared.records.Raw.Raw, specs.declared.records.Raw.TheVariants.{Photon, Marker, Wrap, Reserved}, specs.Kept.Marked}
 
 abbrev pub with_raw : Summary → Raw → Summary
 with_raw s (Photon input time dtime) = record s { records = s.records + 1; photons = s.photons + 1 }

@@ -1,16 +1,10 @@
 -- A word whose record was counted and placed.
 use Rattle.std.specs.Prelude.{ℕ, ◌≡◌, ◌+◌, ◌≤◌, List, [], ◌∷◌, ◌++◌, map, None, Ok, if◌then◌else◌}
 use Rattle.std.specs.declared.option.Option.{Option}
-use Rattle.tally_base.specs.declared.fault.Fault.{Fault}
-use Rattle.tally_base.specs.Events.{stops_late}
-use Rattle.ptu_definitions.specs.declared.records.Raw.{Raw}
-use Rattle.ptu_definitions.specs.Streams.{Reading, refusal, late_refusal}
-use Rattle.ptu_definitions.specs.Times.{event_after, events}
-use Rattle.abs_time.specs.declared.clock.Placed.{Placed}
-use Rattle.abs_time.specs.Placing.{HasPlaced, IsNext, Moves, place_answer, greatest_by, placed_by}
-use Rattle.record_stream.specs.OneMore.{with_raw}
-use Rattle.record_stream.specs.Walking.{how_of, given_by, records_of, summary_in, clock_in}
-use Rattle.record_stream.specs.declared.walk.Walk.{Walk}
+use Rattle.tally_base.{specs.declared.fault.Fault.Fault, specs.Events.stops_late}
+use Rattle.ptu_definitions.{specs.declared.records.Raw.Raw, specs.Streams.{Reading, refusal, late_refusal}, specs.Times.{event_after, events}}
+use Rattle.abs_time.{specs.declared.clock.Placed.Placed, specs.Placing.{HasPlaced, IsNext, Moves, place_answer, greatest_by, placed_by}}
+use Rattle.record_stream.{specs.OneMore.with_raw, specs.Walking.{how_of, given_by, records_of, summary_in, clock_in}, specs.declared.walk.Walk.Walk}
 
 -- a record is refused for nothing but, perhaps, that its event is late
 abbrev pub refused_late : Reading → List Raw → Raw → Option Fault

@@ -1,20 +1,9 @@
 -- How far a walk is whose events are put in their places.
 use Rattle.std.specs.Prelude.{ℕ, ◌≡◌, ◌+◌, ◌<◌, List, [], ◌∷◌, ◌++◌, length, None, Some, ◌⊎◌}
-use Rattle.tally_base.specs.declared.event.Event.{Event}
-use Rattle.tally_base.specs.declared.fault.Fault.{Fault}
-use Rattle.tally_base.specs.declared.fault.Fault.TheVariants.{WriteFault}
-use Rattle.tally_base.specs.FaultCounts.{Rose}
-use Rattle.ptu_definitions.specs.Kept.{Marked, floor_of}
-use Rattle.ptu_definitions.specs.Settled.{ordered, not_marked}
-use Rattle.ptu_definitions.specs.Streams.{Reading}
-use Rattle.settle.specs.Standing.{HasSettled, last_time}
-use Rattle.settle.specs.declared.settle.Settle.{Settle}
-use Rattle.record_stream.specs.Feeding.{Follows}
-use Rattle.record_stream.specs.Keeping.{HasCome, tells, refused_for}
-use Rattle.record_stream.specs.OneMore.{with_marks}
-use Rattle.record_stream.specs.Walking.{how_of, given_by, records_of, summary_in, IsBehind}
-use Rattle.record_stream.specs.declared.taker.EventTaker.{Ghosts}
-use Rattle.record_stream.specs.declared.walk.Walk.{Walk}
+use Rattle.tally_base.{specs.declared.event.Event.Event, specs.declared.fault.Fault.Fault, specs.declared.fault.Fault.TheVariants.WriteFault, specs.FaultCounts.Rose}
+use Rattle.ptu_definitions.{specs.Kept.{Marked, floor_of}, specs.Settled.{ordered, not_marked}, specs.Streams.Reading}
+use Rattle.settle.{specs.Standing.{HasSettled, last_time}, specs.declared.settle.Settle.Settle}
+use Rattle.record_stream.{specs.Feeding.Follows, specs.Keeping.{HasCome, tells, refused_for}, specs.OneMore.with_marks, specs.Walking.{how_of, given_by, records_of, summary_in, IsBehind}, specs.declared.taker.EventTaker.Ghosts, specs.declared.walk.Walk.Walk}
 
 -- It took these words and refused none, and the events in order of these came.
 pub record IsSettledBehind (walk : Walk) (settle : Settle) (words : List ℕ) : Type 0 where

@@ -1,9 +1,6 @@
 -- The summary of the words so far.
 use Rattle.std.specs.Prelude.{ℕ, List, length, map, count_by, None}
-use Rattle.ptu_definitions.specs.declared.records.Raw.{Raw}
-use Rattle.ptu_definitions.specs.declared.records.Summary.{Summary}
-use Rattle.ptu_definitions.specs.Kinds.{is_photon, is_marker, is_wrap, is_reserved}
-use Rattle.ptu_definitions.specs.Streams.{Reading, events_in}
+use Rattle.ptu_definitions.{specs.declared.records.Raw.Raw, specs.declared.records.Summary.Summary, specs.Kinds.{is_photon, is_marker, is_wrap, is_reserved}, specs.Streams.{Reading, events_in}}
 use Rattle.record_stream.specs.OneMore.{with_marks}
 
 -- the summary of these records, with no event

@@ -1,22 +1,12 @@
 -- What a stream stands for.
 use Rattle.std.specs.Prelude.{ℕ, ◌≡◌, ◌≢◌, ◌+◌, ◌*◌, ◌≤◌, ◌==◌, List, length, None, Some, if◌then◌else◌}
 use Rattle.std.specs.declared.option.Option.{Option}
-use Rattle.ptu_definitions.specs.declared.records.Summary.{Summary}
-use Rattle.tally_base.specs.declared.fault.Fault.{Fault}
-use Rattle.tally_base.specs.declared.fault.Fault.TheVariants.{WriteFault}
-use Rattle.ptu_definitions.specs.Streams.{Reading, reading, record_refusal}
-use Rattle.ptu_definitions.specs.Words.{words_of, rest_of}
+use Rattle.ptu_definitions.{specs.declared.records.Summary.Summary, specs.Streams.{Reading, reading, record_refusal}, specs.Words.{words_of, rest_of}}
+use Rattle.tally_base.{specs.declared.fault.Fault.Fault, specs.declared.fault.Fault.TheVariants.WriteFault, specs.declared.event.Event.Event}
 use Rattle.record_layout.specs.Begun.{begun_in}
-use Rattle.abs_time.specs.declared.clock.Clock.{Clock}
-use Rattle.abs_time.specs.Placing.{greatest_by}
-use Rattle.tally_base.specs.declared.event.Event.{Event}
-use Rattle.settle.specs.Standing.{kept_back, last_time}
-use Rattle.settle.specs.declared.settle.Settle.{Settle}
-use Rattle.record_stream.specs.Feeding.{Follows}
-use Rattle.record_stream.specs.Keeping.{StandsAt}
-use Rattle.record_stream.specs.declared.taker.EventTaker.{Ghosts}
-use Rattle.record_stream.specs.Summing.{summed}
-use Rattle.record_stream.specs.declared.stream.RecordStream.{RecordStream}
+use Rattle.abs_time.{specs.declared.clock.Clock.Clock, specs.Placing.greatest_by}
+use Rattle.settle.{specs.Standing.{kept_back, last_time}, specs.declared.settle.Settle.Settle}
+use Rattle.record_stream.{specs.Feeding.Follows, specs.Keeping.StandsAt, specs.declared.taker.EventTaker.Ghosts, specs.Summing.summed, specs.declared.stream.RecordStream.RecordStream}
 
 abbrev pub how_of : RecordStream → Reading
 how_of stream = reading stream.walk.record_type stream.walk.policy

@@ -1,19 +1,10 @@
 -- How far a walk is.
 use Rattle.std.specs.Prelude.{ℕ, Bool, true, ◌≡◌, ◌+◌, ◌≤◌, List, ◌++◌, length}
 use Rattle.tally_base.specs.declared.event.Event.{Event}
-use Rattle.ptu_definitions.specs.declared.records.Summary.{Summary}
-use Rattle.ptu_definitions.specs.Streams.{Reading, reading}
-use Rattle.abs_time.specs.declared.clock.Clock.{Clock}
-use Rattle.abs_time.specs.Placing.{greatest_by, placed_by}
-use Rattle.ptu_definitions.specs.Fours.{numbers}
-use Rattle.event_block.specs.Columns.{count, sorted}
-use Rattle.event_block.specs.declared.block.Block.{Block}
-use Rattle.record_stream.specs.Blocks.{chosen as chosen_of, Adds, IsInLine, RisesWithin}
-use Rattle.record_stream.specs.Feeding.{IsAt, Follows}
-use Rattle.record_stream.specs.declared.taker.EventTaker.{Ghosts}
-use Rattle.record_stream.specs.OneMore.{with_event}
-use Rattle.record_stream.specs.Summing.{summed}
-use Rattle.record_stream.specs.declared.walk.Walk.{Walk}
+use Rattle.ptu_definitions.{specs.declared.records.Summary.Summary, specs.Streams.{Reading, reading}, specs.Fours.numbers}
+use Rattle.abs_time.{specs.declared.clock.Clock.Clock, specs.Placing.{greatest_by, placed_by}}
+use Rattle.event_block.{specs.Columns.{count, sorted}, specs.declared.block.Block.Block}
+use Rattle.record_stream.{specs.Blocks.chosen as chosen_of, specs.Blocks.{Adds, IsInLine, RisesWithin}, specs.Feeding.{IsAt, Follows}, specs.declared.taker.EventTaker.Ghosts, specs.OneMore.with_event, specs.Summing.summed, specs.declared.walk.Walk.Walk}
 
 abbrev pub how_of : Walk → Reading
 how_of walk = reading walk.record_type walk.policy

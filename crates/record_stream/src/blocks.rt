@@ -1,22 +1,11 @@
 // The words of a piece in blocks, without a branch on what each record is.
 ghost use Rattle.std.specs.Prelude.{◌≡◌, ◌+◌, ◌*◌, ◌^◌, ◌<◌, ◌≤◌, ◌++◌, ◌∷◌, ◌&&◌, [], List, ℕ, length, map, count_by, true, false, nat_lt, nat_le, if◌then◌else◌, OnOk, OnErr, IfErr};
-ghost use Rattle.tally_base.specs.declared.header.Mode.{Mode};
-ghost use Rattle.tally_base.specs.declared.fault.Fault.TheVariants.{WriteFault};
-ghost use Rattle.tally_base.specs.FaultCounts.{HasCause};
-ghost use Rattle.tally_base.specs.Events.{stops_reserved};
-ghost use Rattle.tally_base.specs.Limits.{wrap_limit};
-ghost use Rattle.ptu_definitions.specs.Fours.{numbers};
-ghost use Rattle.ptu_definitions.specs.Kinds.{is_reserved, counts_of};
-ghost use Rattle.ptu_definitions.specs.Kept.{Marked};
-ghost use Rattle.ptu_definitions.specs.Times.{event_of};
+ghost use Rattle.tally_base.{specs.declared.header.Mode.Mode, specs.declared.fault.Fault.TheVariants.WriteFault, specs.FaultCounts.HasCause, specs.Events.stops_reserved, specs.Limits.wrap_limit};
+ghost use Rattle.ptu_definitions.{specs.Fours.numbers, specs.Kinds.{is_reserved, counts_of}, specs.Kept.Marked, specs.Times.event_of};
 ghost use Rattle.abs_time.specs.Placing.{base_of, placed_by};
 ghost use Rattle.event_block.specs.Columns.{count, sorted, gathered, written};
-ghost use Rattle.record_layout.specs.InColumns.{HasRows};
-ghost use Rattle.record_layout.specs.Rowed.{raw_of};
-ghost use Rattle.record_stream.specs.Blocks.{on_time, BrokeAmong};
-ghost use Rattle.record_stream.specs.Rows.{ordered_below, gathered_below, event_below, greatest_with_row};
-ghost use Rattle.record_stream.specs.Feeding.{Fed};
-ghost use Rattle.record_stream.specs.Walking.{how_of, given_by, greatest_of, records_of, summary_in, clock_in, IsBehind, Gathers, IsBlank, IsFollowed, WalksOn, Stays};
+ghost use Rattle.record_layout.{specs.InColumns.HasRows, specs.Rowed.raw_of};
+ghost use Rattle.record_stream.{specs.Blocks.{on_time, BrokeAmong}, specs.Rows.{ordered_below, gathered_below, event_below, greatest_with_row}, specs.Feeding.Fed, specs.Walking.{how_of, given_by, greatest_of, records_of, summary_in, clock_in, IsBehind, Gathers, IsBlank, IsFollowed, WalksOn, Stays}};
 
 use crate::count::{add_block, stops_reserved};
 use crate::taker::EventTaker;

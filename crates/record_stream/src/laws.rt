@@ -1,12 +1,8 @@
 // Laws of streams, each as the contract of a function that does nothing.
 ghost use Rattle.std.specs.Prelude.{◌≡◌, ◌++◌, ℕ, List, length, None, Some, Err};
 ghost use Rattle.tally_base.specs.declared.fault.Fault.{Fault};
-ghost use Rattle.ptu_definitions.specs.Words.{words_of};
-ghost use Rattle.ptu_definitions.specs.Kept.{floor_of};
-ghost use Rattle.ptu_definitions.specs.Shown.{Shows};
-ghost use Rattle.ptu_definitions.specs.Streams.{Reading, given, record_refusal, streamed};
-ghost use Rattle.record_stream.specs.declared.stream.RecordStream.{RecordStream};
-ghost use Rattle.record_stream.specs.Standing.{how_of, given_by, greatest_of, refused_with, HasStreamed};
+ghost use Rattle.ptu_definitions.{specs.Words.words_of, specs.Kept.floor_of, specs.Shown.Shows, specs.Streams.{Reading, given, record_refusal, streamed}};
+ghost use Rattle.record_stream.{specs.declared.stream.RecordStream.RecordStream, specs.Standing.{how_of, given_by, greatest_of, refused_with, HasStreamed}};
 
 /// The two numbers of a stream that has refused nothing: how many events it has given, and the greatest
 /// time of those in order that were not late.

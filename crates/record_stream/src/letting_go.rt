@@ -3,10 +3,7 @@ ghost use Rattle.std.specs.Prelude.{◌≡◌, ◌≢◌, ◌+◌, ◌-◌, ◌<
 ghost use Rattle.std.specs.Option.{option_to_list};
 ghost use Rattle.abs_time.specs.Placing.{placed_by};
 ghost use Rattle.event_block.specs.Columns.{count, sorted, gathered};
-ghost use Rattle.record_stream.specs.Keeping.{IsKeeping};
-ghost use Rattle.record_stream.specs.LettingGo.{AreOrdered, ComesNext, IsFull, LetsGo, IsDelivered};
-ghost use Rattle.record_stream.specs.Settling.{IsSettledBehind};
-ghost use Rattle.record_stream.specs.Walking.{how_of, clock_in, IsBlank};
+ghost use Rattle.record_stream.{specs.Keeping.IsKeeping, specs.LettingGo.{AreOrdered, ComesNext, IsFull, LetsGo, IsDelivered}, specs.Settling.IsSettledBehind, specs.Walking.{how_of, clock_in, IsBlank}};
 
 use crate::walk::Walk;
 use arrayvec::ArrayVec;

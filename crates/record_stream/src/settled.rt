@@ -1,19 +1,10 @@
 // The records of a stream whose events are put in their places.
 ghost use Rattle.std.specs.Prelude.{◌≡◌, ◌≢◌, ◌+◌, ◌<◌, ◌≤◌, ◌++◌, ◌∷◌, [], List, ℕ, false, length, OnOk, IfErr};
-ghost use Rattle.tally_base.specs.declared.fault.Fault.TheVariants.{WriteFault};
-ghost use Rattle.tally_base.specs.FaultCounts.{HasCause};
-ghost use Rattle.tally_base.specs.Events.{is_ordered};
-ghost use Rattle.ptu_definitions.specs.Fours.{numbers};
-ghost use Rattle.ptu_definitions.specs.Kept.{Marked};
-ghost use Rattle.ptu_definitions.specs.Settled.{marked_as};
+ghost use Rattle.tally_base.{specs.declared.fault.Fault.TheVariants.WriteFault, specs.FaultCounts.HasCause, specs.Events.is_ordered};
+ghost use Rattle.ptu_definitions.{specs.Fours.numbers, specs.Kept.Marked, specs.Settled.marked_as};
 ghost use Rattle.abs_time.specs.Placing.{IsSmall, placed_by};
 ghost use Rattle.settle.specs.Standing.{HasSettled, kept_back, last_place, last_time};
-ghost use Rattle.record_stream.specs.Feeding.{Follows, Fed};
-ghost use Rattle.record_stream.specs.Keeping.{CanWait, IsKeeping, HasCome};
-ghost use Rattle.record_stream.specs.Settling.{IsSettledBehind, IsFollowedBy, SettlesOn, Told, Untold};
-ghost use Rattle.record_stream.specs.Ending.{BrokeFirst};
-ghost use Rattle.record_stream.specs.OneMore.{with_marks};
-ghost use Rattle.record_stream.specs.Walking.{how_of, given_by, records_of, clock_in, summary_in, IsBehind, KeepsPlace, Stays};
+ghost use Rattle.record_stream.{specs.Feeding.{Follows, Fed}, specs.Keeping.{CanWait, IsKeeping, HasCome}, specs.Settling.{IsSettledBehind, IsFollowedBy, SettlesOn, Told, Untold}, specs.Ending.BrokeFirst, specs.OneMore.with_marks, specs.Walking.{how_of, given_by, records_of, clock_in, summary_in, IsBehind, KeepsPlace, Stays}};
 
 use crate::count::stops_late;
 use crate::taker::EventTaker;

@@ -1,20 +1,12 @@
 // The words of a piece in blocks, where events are put in their places.
 ghost use Rattle.std.specs.Prelude.{◌≡◌, ◌≢◌, ◌+◌, ◌<◌, ◌≤◌, ◌++◌, [], List, ℕ, false, length, OnOk};
 ghost use Rattle.std.specs.Option.{option_to_list};
-ghost use Rattle.tally_base.specs.declared.event.Event.{Event};
-ghost use Rattle.tally_base.specs.declared.fault.Fault.TheVariants.{WriteFault};
-ghost use Rattle.tally_base.specs.FaultCounts.{HasCause};
+ghost use Rattle.tally_base.{specs.declared.event.Event.Event, specs.declared.fault.Fault.TheVariants.WriteFault, specs.FaultCounts.HasCause};
 ghost use Rattle.ptu_definitions.specs.Fours.{numbers};
 ghost use Rattle.abs_time.specs.Placing.{placed_by};
-ghost use Rattle.event_block.specs.Columns.{count, sorted, gathered, written};
-ghost use Rattle.event_block.specs.Order.{InOrder};
+ghost use Rattle.event_block.{specs.Columns.{count, sorted, gathered, written}, specs.Order.InOrder};
 ghost use Rattle.settle.specs.Standing.{last_time};
-ghost use Rattle.record_stream.specs.Blocks.{orders_markers, on_time, AllFit, PlacesRise};
-ghost use Rattle.record_stream.specs.Feeding.{Follows, Fed};
-ghost use Rattle.record_stream.specs.Keeping.{IsKeeping};
-ghost use Rattle.record_stream.specs.LettingGo.{AreBlank, LetsGo, IsDelivered};
-ghost use Rattle.record_stream.specs.Settling.{IsSettledBehind, IsFollowedBy, SettlesOn};
-ghost use Rattle.record_stream.specs.Walking.{how_of, given_by, greatest_of, records_of, clock_in, summary_in, IsBlank, Stays};
+ghost use Rattle.record_stream.{specs.Blocks.{orders_markers, on_time, AllFit, PlacesRise}, specs.Feeding.{Follows, Fed}, specs.Keeping.IsKeeping, specs.LettingGo.{AreBlank, LetsGo, IsDelivered}, specs.Settling.{IsSettledBehind, IsFollowedBy, SettlesOn}, specs.Walking.{how_of, given_by, greatest_of, records_of, clock_in, summary_in, IsBlank, Stays}};
 
 use crate::blocks::{EARLY_ENOUGH, gather};
 use crate::count::{add_block, stops_reserved};

@@ -37,27 +37,11 @@ pub struct RecordStream {
 }
 
 impl RecordStream {
-    ghost use Rattle.std.specs.Prelude.{◌&&◌, not, IsTrue, if◌then◌else◌};
-    ghost use Rattle.std.specs.Prelude.{Err};
-    ghost use Rattle.tally_base.specs.declared.fault.Fault.{Fault};
-    ghost use Rattle.tally_base.specs.declared.fault.Fault.TheVariants.{WriteFault};
-    ghost use Rattle.tally_base.specs.FaultCounts.{HasCause};
-    ghost use Rattle.tally_base.specs.Events.{is_ordered};
-    ghost use Rattle.ptu_definitions.specs.Kept.{Marked};
+    ghost use Rattle.std.specs.Prelude.{◌&&◌, not, IsTrue, if◌then◌else◌, Err, false};
+    ghost use Rattle.tally_base.{specs.declared.fault.Fault.Fault, specs.declared.fault.Fault.TheVariants.WriteFault, specs.FaultCounts.{HasCause, Rose}, specs.Events.is_ordered, specs.Faults.{is_outside, fault_in}};
+    ghost use Rattle.ptu_definitions.{specs.Kept.Marked, specs.Streams.{reading, streamed}, specs.Fitting.Fits, specs.Fours.numbers, specs.Words.{words_of, rest_of}, specs.Shown.Shows};
     ghost use Rattle.abs_time.specs.Placing.{IsSmall};
-    ghost use Rattle.record_stream.specs.OneMore.{with_event};
-    ghost use Rattle.ptu_definitions.specs.Streams.{reading, streamed};
-    ghost use Rattle.ptu_definitions.specs.Fitting.{Fits};
-    ghost use Rattle.ptu_definitions.specs.Fours.{numbers};
-    ghost use Rattle.ptu_definitions.specs.Words.{words_of, rest_of};
-    ghost use Rattle.ptu_definitions.specs.Shown.{Shows};
-    ghost use Rattle.tally_base.specs.Faults.{is_outside};
-    ghost use Rattle.std.specs.Prelude.{false};
-    ghost use Rattle.record_stream.specs.Feeding.{Follows, Fed};
-    ghost use Rattle.record_stream.specs.Standing.{how_of, given_by, greatest_of, refused_with, carried_by, kept_back_by, records_of, bytes_in, summary_in, clock_in, IsBehind, CarriesOn, HasStreamed, IsFollowed, StreamsOn, Stays};
-    ghost use Rattle.record_stream.specs.Ending.{Ended};
-    ghost use Rattle.tally_base.specs.FaultCounts.{Rose};
-    ghost use Rattle.tally_base.specs.Faults.{fault_in};
+    ghost use Rattle.record_stream.{specs.OneMore.with_event, specs.Feeding.{Follows, Fed}, specs.Standing.{how_of, given_by, greatest_of, refused_with, carried_by, kept_back_by, records_of, bytes_in, summary_in, clock_in, IsBehind, CarriesOn, HasStreamed, IsFollowed, StreamsOn, Stays}, specs.Ending.Ended};
 
     /// The stream of a file of this type, which was given no bytes. The greatest number of records is 1
     /// to 2^40, and at most 64 events may overtake one.

@@ -1,15 +1,9 @@
 // What events are given to.
 ghost use Rattle.std.specs.Prelude.{◌≡◌, ℕ, ◌+◌, ◌<◌, ◌≤◌, ◌&&◌, not, IsTrue, List, [], ◌∷◌, ◌++◌, length, OnOk, OnErr, max};
-ghost use Rattle.tally_base.specs.declared.header.Mode.{Mode};
-ghost use Rattle.tally_base.specs.FaultCounts.{HasCause};
-ghost use Rattle.tally_base.specs.Events.{is_ordered};
-ghost use Rattle.tally_base.specs.Limits.{record_limit, time_limit};
-ghost use Rattle.ptu_definitions.specs.Fitting.{KindFits};
-ghost use Rattle.ptu_definitions.specs.Kept.{Marked, floor_of};
-ghost use Rattle.record_stream.specs.Floors.{moved_floor};
-ghost use Rattle.event_block.specs.Columns.{sorted, gathered};
-ghost use Rattle.event_block.specs.Order.{floor_after, InOrder};
-ghost use Rattle.record_stream.specs.Blocks.{orders_markers, on_time, AllFit, BrokeAmong};
+ghost use Rattle.tally_base.{specs.declared.header.Mode.Mode, specs.FaultCounts.HasCause, specs.Events.is_ordered, specs.Limits.{record_limit, time_limit}};
+ghost use Rattle.ptu_definitions.{specs.Fitting.KindFits, specs.Kept.{Marked, floor_of}};
+ghost use Rattle.record_stream.{specs.Floors.moved_floor, specs.Blocks.{orders_markers, on_time, AllFit, BrokeAmong}};
+ghost use Rattle.event_block.{specs.Columns.{sorted, gathered}, specs.Order.{floor_after, InOrder}};
 
 use event_block::Block;
 use tally_base::{Event, EventKind, Failed, Mode};

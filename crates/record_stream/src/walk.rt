@@ -1,8 +1,7 @@
 // The records of a stream, one behind the other.
 ghost use Rattle.std.specs.Prelude.{◌≡◌, ◌+◌, ◌*◌, ◌<◌, ◌≤◌, ◌++◌, ◌∷◌, [], List, ℕ, length, Some, OnOk, OnErr, IfOk, IfErr};
-ghost use Rattle.abs_time.specs.Placing.{mode_of as clock_mode, placed_by};
-ghost use Rattle.tally_base.specs.RecordTypes.{mode_of};
-ghost use Rattle.tally_base.specs.Limits.{record_limit};
+ghost use Rattle.abs_time.{specs.Placing.mode_of as clock_mode, specs.Placing.placed_by};
+ghost use Rattle.tally_base.{specs.RecordTypes.mode_of, specs.Limits.record_limit};
 
 use crate::count::{Sums, add_event, add_raw, stops_at, stops_late};
 use crate::taker::EventTaker;
@@ -30,19 +29,10 @@ pub struct Walk {
 
 impl Walk {
     ghost use Rattle.std.specs.Prelude.{◌&&◌, not, IsTrue};
-    ghost use Rattle.tally_base.specs.declared.fault.Fault.TheVariants.{WriteFault};
-    ghost use Rattle.tally_base.specs.FaultCounts.{HasCause};
-    ghost use Rattle.tally_base.specs.Events.{is_ordered};
-    ghost use Rattle.ptu_definitions.specs.Kept.{Marked};
+    ghost use Rattle.tally_base.{specs.declared.fault.Fault.TheVariants.WriteFault, specs.FaultCounts.HasCause, specs.Events.is_ordered};
+    ghost use Rattle.ptu_definitions.{specs.Kept.Marked, specs.Fitting.Fits, specs.Fours.numbers, specs.Streams.refusal};
     ghost use Rattle.abs_time.specs.Placing.{IsSmall};
-    ghost use Rattle.record_stream.specs.OneMore.{with_event};
-    ghost use Rattle.ptu_definitions.specs.Fitting.{Fits};
-    ghost use Rattle.ptu_definitions.specs.Fours.{numbers};
-    ghost use Rattle.ptu_definitions.specs.Streams.{refusal};
-    ghost use Rattle.record_stream.specs.Floors.{moved_floor};
-    ghost use Rattle.record_stream.specs.Feeding.{Follows, CanGet, Fed};
-    ghost use Rattle.record_stream.specs.Walking.{how_of, given_by, greatest_of, records_of, Notes, KeepsPlace, IsBehind, IsFollowed, WalksOn, Stays};
-    ghost use Rattle.record_stream.specs.Recorded.{IsPlaced, CountsOne, KeepsGiven};
+    ghost use Rattle.record_stream.{specs.OneMore.with_event, specs.Floors.moved_floor, specs.Feeding.{Follows, CanGet, Fed}, specs.Walking.{how_of, given_by, greatest_of, records_of, Notes, KeepsPlace, IsBehind, IsFollowed, WalksOn, Stays}, specs.Recorded.{IsPlaced, CountsOne, KeepsGiven}};
 
     /// What a word means.
     #[inline(always)]

@@ -1,14 +1,8 @@
 -- What the words of photons mean, and how the wraps before them add up.
-use Rattle.std.proofs.Common.{◌≡◌, ◌+◌, ◌-◌, ◌*◌, ◌/◌, ◌%◌, ◌^◌, ◌<◌, ◌≤◌, ℕ, zero, suc, false, refl, arith}
-use Rattle.std.specs.Prelude.{◌==◌}
-use Rattle.std.proofs.lemmas.Bool.{ne_eqb}
-use Rattle.std.proofs.lemmas.Bool.Decides.{nat_tests}
-use Rattle.tally_base.specs.declared.event.EventKind.TheVariants.{Photon as PhotonEvent}
-use Rattle.tally_base.specs.declared.header.Mode.{Mode}
-use Rattle.tally_base.specs.declared.header.Mode.TheVariants.{T2, T3}
-use Rattle.ptu_definitions.specs.declared.records.Raw.TheVariants.{Photon, Wrap}
-use Rattle.ptu_definitions.specs.Fitting.{KindFits}
-use Rattle.ptu_definitions.specs.Layouts.{hydra_t2, hydra_t3, bits}
+use Rattle.std.proofs.Common.{◌≡◌, ◌+◌, ◌-◌, ◌*◌, ◌/◌, ◌%◌, ◌^◌, ◌<◌, ◌≤◌, ℕ, zero, suc, false, refl, arith, ◌==◌}
+use Rattle.std.{proofs.lemmas.Bool.ne_eqb, proofs.lemmas.Bool.Decides.nat_tests}
+use Rattle.tally_base.{specs.declared.event.EventKind.TheVariants.Photon as PhotonEvent, specs.declared.header.Mode.Mode, specs.declared.header.Mode.TheVariants.{T2, T3}}
+use Rattle.ptu_definitions.{specs.declared.records.Raw.TheVariants.{Photon, Wrap}, specs.Fitting.KindFits, specs.Layouts.{hydra_t2, hydra_t3, bits}}
 use Rattle.record_write.specs.Picked.{unit_of, wrap_word, photon_word, meaning_in, is_too_late}
 
 pub wrap-meaning : (mode : Mode) (units : ℕ) → 0 < units → units < unit_of mode → meaning_in mode (wrap_word units) ≡ Wrap (unit_of mode * units)

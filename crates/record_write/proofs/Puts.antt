@@ -1,19 +1,11 @@
 -- Words that are put into a block one after another.
-use Rattle.std.proofs.Common.{◌≡◌, ◌≢◌, ◌+◌, ◌-◌, ◌/◌, ◌%◌, ◌<◌, ℕ, false, List, [], ◌∷◌, ◌++◌, replicate, refl, sym, ap, subst, ◌∙◌, append_assoc, append-nil, arith}
-use Rattle.std.specs.declared.option.Option.{Option}
-use Rattle.std.proofs.lemmas.List.{replicate_more, replicate-append-replicate}
-use Rattle.std.specs.Prelude.{◌==◌}
-use Rattle.std.proofs.lemmas.Bool.{ne_eqb}
-use Rattle.tally_base.specs.declared.event.Event.{Event}
-use Rattle.tally_base.specs.declared.event.EventKind.TheVariants.{Photon}
-use Rattle.tally_base.specs.declared.header.Mode.{Mode}
-use Rattle.bench_io.specs.Sinks.{AppendsShort, PassesOn}
-use Rattle.bench_io.proofs.Bytes.{PassesOn-held, PassesOn-trans, AppendsShort-passed, AppendsShort-more, AppendsShort-same, AppendsShort-flushed}
+use Rattle.std.proofs.Common.{◌≡◌, ◌≢◌, ◌+◌, ◌-◌, ◌/◌, ◌%◌, ◌<◌, ℕ, false, List, [], ◌∷◌, ◌++◌, replicate, refl, sym, ap, subst, ◌∙◌, append_assoc, append-nil, arith, ◌==◌}
+use Rattle.std.{specs.declared.option.Option.Option, proofs.lemmas.List.{replicate_more, replicate-append-replicate}, proofs.lemmas.Bool.ne_eqb}
+use Rattle.tally_base.{specs.declared.event.Event.Event, specs.declared.event.EventKind.TheVariants.Photon, specs.declared.header.Mode.Mode}
+use Rattle.bench_io.{specs.Sinks.{AppendsShort, PassesOn}, proofs.Bytes.{PassesOn-held, PassesOn-trans, AppendsShort-passed, AppendsShort-more, AppendsShort-same, AppendsShort-flushed}}
 use Rattle.ptu_definitions.proofs.PrefixLemmas.{last_after-push}
-use Rattle.short_file.specs.ShortFiles.{bytes_in}
-use Rattle.short_file.proofs.WordBytes.{bytes_in-append}
-use Rattle.record_write.specs.Picked.{unit_of, wrap_word, wraps, photon_word, words_behind, time_or_none, last_time}
-use Rattle.record_write.specs.Writing.{PutsWords, CutsWords}
+use Rattle.short_file.{specs.ShortFiles.bytes_in, proofs.WordBytes.bytes_in-append}
+use Rattle.record_write.{specs.Picked.{unit_of, wrap_word, wraps, photon_word, words_behind, time_or_none, last_time}, specs.Writing.{PutsWords, CutsWords}}
 
 more-bytes : (held xs ys : List ℕ) → (held ++ bytes_in xs) ++ bytes_in ys ≡ held ++ bytes_in (xs ++ ys)
 more-bytes held xs ys = append_assoc held (bytes_in xs) (bytes_in ys) ∙ ap (λ l. held ++ l) (sym (bytes_in-append xs ys))

@@ -1,8 +1,6 @@
 -- The definitions at known photons.
 use Rattle.std.proofs.Common.{◌≡◌, ◌+◌, ◌-◌, ◌^◌, ℕ, [], ◌∷◌, true, false, refl}
-use Rattle.tally_base.specs.declared.event.Event.{Event}
-use Rattle.tally_base.specs.declared.event.EventKind.TheVariants.{Photon}
-use Rattle.tally_base.specs.declared.header.Mode.TheVariants.{T2, T3}
+use Rattle.tally_base.{specs.declared.event.Event.Event, specs.declared.event.EventKind.TheVariants.Photon, specs.declared.header.Mode.TheVariants.{T2, T3}}
 use Rattle.record_write.specs.Picked.{wraps, picked_words, is_too_late}
 
 abbrev photon : ℕ → ℕ → ℕ → Event

@@ -1,20 +1,8 @@
 -- The words of a file of photons.
 use Rattle.std.specs.Prelude.{ℕ, ◌+◌, ◌-◌, ◌*◌, ◌/◌, ◌%◌, ◌^◌, ◌==◌, ◌≡◌, nat_lt, Bool, true, false, List, [], ◌∷◌, ◌++◌, None, Some, map, replicate, if◌then◌else◌}
-use Rattle.std.specs.List.{All}
-use Rattle.std.specs.List.Sorted.{IsNonDecreasingBy}
-use Rattle.std.specs.declared.option.Option.{Option}
-use Rattle.tally_base.specs.declared.event.Event.{Event}
-use Rattle.tally_base.specs.declared.event.EventKind.{EventKind}
-use Rattle.tally_base.specs.declared.event.EventKind.TheVariants.{Photon, Marker}
-use Rattle.tally_base.specs.declared.header.Mode.{Mode}
-use Rattle.tally_base.specs.declared.header.Mode.TheVariants.{T2, T3}
-use Rattle.tally_base.specs.Events.{is_photon}
-use Rattle.tally_base.specs.Limits.{wrap_limit}
-use Rattle.ptu_definitions.specs.declared.records.Raw.{Raw}
-use Rattle.ptu_definitions.specs.Fitting.{KindFits}
-use Rattle.ptu_definitions.specs.Layouts.{meaning_of}
-use Rattle.ptu_definitions.specs.Prefixes.{each, last}
-use Rattle.ptu_definitions.specs.Times.{events}
+use Rattle.std.{specs.List.All, specs.List.Sorted.IsNonDecreasingBy, specs.declared.option.Option.Option}
+use Rattle.tally_base.{specs.declared.event.Event.Event, specs.declared.event.EventKind.EventKind, specs.declared.event.EventKind.TheVariants.{Photon, Marker}, specs.declared.header.Mode.Mode, specs.declared.header.Mode.TheVariants.{T2, T3}, specs.Events.is_photon, specs.Limits.wrap_limit}
+use Rattle.ptu_definitions.{specs.declared.records.Raw.Raw, specs.Fitting.KindFits, specs.Layouts.meaning_of, specs.Prefixes.{each, last}, specs.Times.events}
 use Rattle.short_file.specs.ShortFiles.{short_file, short_type}
 
 -- how many ticks one unit of a wrap has

@@ -1,9 +1,7 @@
 -- What a picker stands for.
 use Rattle.std.specs.Prelude.{ℕ, ◌≡◌, List}
-use Rattle.tally_base.specs.declared.event.Event.{Event}
-use Rattle.tally_base.specs.declared.header.Mode.{Mode}
-use Rattle.record_write.specs.declared.picker.Picker.{Picker}
-use Rattle.record_write.specs.Picked.{last_time}
+use Rattle.tally_base.{specs.declared.event.Event.Event, specs.declared.header.Mode.Mode}
+use Rattle.record_write.{specs.declared.picker.Picker.Picker, specs.Picked.last_time}
 
 abbrev pub mode_of : Picker → Mode
 mode_of picker = picker.mode

@@ -1,16 +1,9 @@
 // The law of written photons, as the contract of a function that does nothing.
 ghost use Rattle.std.specs.Prelude.{◌≡◌, ◌≤◌, ◌||◌, List, None, Ok, length, map, true, false};
 ghost use Rattle.std.specs.List.{All};
-ghost use Rattle.tally_base.specs.declared.event.Event.{Event};
-ghost use Rattle.tally_base.specs.declared.event.Policy.{Policy};
-ghost use Rattle.tally_base.specs.declared.header.Mode.{Mode};
-ghost use Rattle.ptu_definitions.specs.Headers.{header_answer};
-ghost use Rattle.ptu_definitions.specs.Kinds.{is_photon, is_wrap};
-ghost use Rattle.ptu_definitions.specs.Kept.{kept};
-ghost use Rattle.ptu_definitions.specs.Streams.{reading, record_refusal, given};
-ghost use Rattle.ptu_definitions.specs.Words.{words_of};
-ghost use Rattle.short_file.specs.ShortFiles.{bytes_in, short_fields, short_type};
-ghost use Rattle.short_file.specs.TimedEvents.{timed};
+ghost use Rattle.tally_base.{specs.declared.event.Event.Event, specs.declared.event.Policy.Policy, specs.declared.header.Mode.Mode};
+ghost use Rattle.ptu_definitions.{specs.Headers.header_answer, specs.Kinds.{is_photon, is_wrap}, specs.Kept.kept, specs.Streams.{reading, record_refusal, given}, specs.Words.words_of};
+ghost use Rattle.short_file.{specs.ShortFiles.{bytes_in, short_fields, short_type}, specs.TimedEvents.timed};
 ghost use Rattle.record_write.specs.Picked.{picked_words, picked_file, picked_events, meaning_in, CanBePicked};
 
 /// Photons that can be written are read back: from their file come their words, each word is one of

@@ -1,15 +1,11 @@
 // Writes photons one after another.
 ghost use Rattle.std.specs.Prelude.{◌≡◌, ◌≤◌, ◌↔◌, ◌++◌, ◌∷◌, [], List, Err, true, OnOk, OnErr, IfErr};
 ghost use Rattle.std.specs.Io.KnownBytes.{Appends};
-ghost use Rattle.tally_base.specs.declared.event.Event.{Event};
-ghost use Rattle.tally_base.specs.declared.fault.Fault.TheVariants.{PickTime, WriteFault};
-ghost use Rattle.tally_base.specs.Events.{is_photon};
-ghost use Rattle.bench_io.specs.TriesOnce.{TriesOnce};
-ghost use Rattle.bench_io.specs.Sinks.{AppendsShort};
+ghost use Rattle.tally_base.{specs.declared.event.Event.Event, specs.declared.fault.Fault.TheVariants.{PickTime, WriteFault}, specs.Events.is_photon};
+ghost use Rattle.bench_io.{specs.TriesOnce.TriesOnce, specs.Sinks.AppendsShort};
 ghost use Rattle.ptu_definitions.specs.Fitting.{KindFits};
 ghost use Rattle.short_file.specs.ShortFiles.{bytes_in, short_header};
-ghost use Rattle.record_write.specs.Picked.{is_too_late, photon_words};
-ghost use Rattle.record_write.specs.Writing.{PutsWords, CutsWords, PickCause};
+ghost use Rattle.record_write.{specs.Picked.{is_too_late, photon_words}, specs.Writing.{PutsWords, CutsWords, PickCause}};
 
 use crate::words::{is_too_late, put_photon};
 use bench_io::{Block, Sink, write_all};

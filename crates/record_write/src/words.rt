@@ -3,8 +3,7 @@ ghost use Rattle.std.specs.Prelude.{◌≡◌, ◌-◌, ◌/◌, ◌<◌, ◌≤
 ghost use Rattle.tally_base.specs.declared.event.EventKind.TheVariants.{Photon};
 ghost use Rattle.bench_io.specs.TriesOnce.{TriesOnce};
 ghost use Rattle.ptu_definitions.specs.Fitting.{KindFits};
-ghost use Rattle.record_write.specs.Picked.{is_too_late, unit_of, wraps, photon_word, words_behind};
-ghost use Rattle.record_write.specs.Writing.{PutsWords, CutsWords};
+ghost use Rattle.record_write.{specs.Picked.{is_too_late, unit_of, wraps, photon_word, words_behind}, specs.Writing.{PutsWords, CutsWords}};
 
 use bench_io::{Block, Sink};
 use tally_base::{Failed, Mode, WRAP_LIMIT};

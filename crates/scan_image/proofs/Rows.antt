@@ -1,10 +1,6 @@
 -- The definitions at known events.
-use Rattle.std.proofs.Common.{◌≡◌, ℕ, refl}
-use Rattle.std.specs.Prelude.{false, true, [], ◌∷◌, Option, None, Some}
-use Rattle.tally_base.specs.declared.event.Event.{Event}
-use Rattle.tally_base.specs.declared.event.EventKind.TheVariants.{Photon, Marker}
-use Rattle.tally_base.specs.Settings.{ImageView}
-use Rattle.tally_base.specs.Tally.{History}
+use Rattle.std.proofs.Common.{◌≡◌, ℕ, refl, false, true, [], ◌∷◌, Option, None, Some}
+use Rattle.tally_base.{specs.declared.event.Event.Event, specs.declared.event.EventKind.TheVariants.{Photon, Marker}, specs.Settings.ImageView, specs.Tally.History}
 use Rattle.scan_image.specs.ImageCounts.{in_cell, count_outside}
 
 -- A photon of these groups, and a marker.

@@ -1,18 +1,8 @@
 -- One event more for the counts.
-use Rattle.std.proofs.Common.{◌≡◌, ◌∙◌, ℕ, ◌+◌, ◌*◌, ◌<◌, ◌≤◌, Bool, true, false, ◌&&◌, cond, List, [], ◌∷◌, ◌++◌, ap, sym, subst, refl, arith}
-use Rattle.std.specs.Prelude.{Option, is_none, slice_index, if◌then◌else◌}
-use Rattle.tally_base.specs.declared.event.Event.{Event}
-use Rattle.tally_base.specs.declared.event.EventKind.TheVariants.{Photon, Marker}
-use Rattle.tally_base.specs.Events.{is_photon, is_photon_kind, is_in}
-use Rattle.tally_base.specs.Settings.{ImageView}
-use Rattle.tally_base.specs.Tally.{History}
-use Rattle.marker_map.specs.declared.lines.Lines.{Lines}
-use Rattle.marker_map.specs.Lines.{Saw}
-use Rattle.marker_map.specs.Marks.{Mark, mark}
-use Rattle.marker_map.specs.Places.{place_of}
-use Rattle.scan_image.specs.Counted.{Counted}
-use Rattle.scan_image.specs.ImageCounts.{markers, is_at}
-use Rattle.scan_image.proofs.Counts.{markers-marker, markers-photon, placed-added, placed-other}
+use Rattle.std.proofs.Common.{◌≡◌, ◌∙◌, ℕ, ◌+◌, ◌*◌, ◌<◌, ◌≤◌, Bool, true, false, ◌&&◌, cond, List, [], ◌∷◌, ◌++◌, ap, sym, subst, refl, arith, Option, is_none, slice_index, if◌then◌else◌}
+use Rattle.tally_base.{specs.declared.event.Event.Event, specs.declared.event.EventKind.TheVariants.{Photon, Marker}, specs.Events.{is_photon, is_photon_kind, is_in}, specs.Settings.ImageView, specs.Tally.History}
+use Rattle.marker_map.{specs.declared.lines.Lines.Lines, specs.Lines.Saw, specs.Marks.{Mark, mark}, specs.Places.place_of}
+use Rattle.scan_image.{specs.Counted.Counted, specs.ImageCounts.{markers, is_at}, proofs.Counts.{markers-marker, markers-photon, placed-added, placed-other}}
 
 pub photon_step : (set : ImageView) (lines : Lines) (cells cells' : List ℕ) (outside outside' more : ℕ) (place : Option (ℕ × ℕ)) (h : History) (x : Event × ℕ) (input dtime : ℕ) → x.0.kind ≡ Photon input dtime → more ≡ cond (is_in x.1 set.group) 1 0
     → ((ms : List Mark) → Saw lines ms → place_of set x.0.time ms ≡ place)

@@ -1,21 +1,9 @@
 -- Each photon of the group counts once.
-use Rattle.std.proofs.Common.{◌≡◌, ◌∙◌, ℕ, zero, suc, ◌+◌, ◌-◌, ◌/◌, ◌<◌, ◌≤◌, Bool, true, false, ◌&&◌, cond, eqb, ltb, List, [], ◌∷◌, ◌++◌, refl, ap, sym, subst, append_assoc, arith}
-use Rattle.std.specs.declared.option.Option.{Option}
-use Rattle.std.specs.Prelude.{None, Some, is_none, sum_by, option_and_then}
-use Rattle.std.specs.List.{range_with_len}
-use Rattle.std.proofs.lemmas.Grind.{common_steps}
-use Rattle.std.proofs.lemmas.List.{append-nil}
-use Rattle.std.proofs.lemmas.List.Sums.{sum_by-cons, sum_by_push}
-use Rattle.tally_base.specs.declared.event.Event.{Event}
-use Rattle.tally_base.specs.Events.{is_photon, is_in}
-use Rattle.tally_base.specs.Settings.{ImageView}
-use Rattle.tally_base.specs.Tally.{History}
-use Rattle.marker_map.specs.Marks.{Mark}
-use Rattle.marker_map.specs.Places.{line_of, row_of, column_in, runs_back, within, place_of}
-use Rattle.scan_image.specs.ImageCounts.{markers, is_at, in_cell, count_outside}
-use Rattle.scan_image.specs.Totals.{in_all_cells, photons_of_group}
-use Rattle.scan_image.proofs.Behind.{one_if}
-use Rattle.scan_image.proofs.Counts.{placed-photon, placed-other}
+use Rattle.std.proofs.Common.{◌≡◌, ◌∙◌, ℕ, zero, suc, ◌+◌, ◌-◌, ◌/◌, ◌<◌, ◌≤◌, Bool, true, false, ◌&&◌, cond, eqb, ltb, List, [], ◌∷◌, ◌++◌, refl, ap, sym, subst, append_assoc, arith, None, Some, is_none, sum_by, option_and_then}
+use Rattle.std.{specs.declared.option.Option.Option, specs.List.range_with_len, proofs.lemmas.Grind.common_steps, proofs.lemmas.List.append-nil, proofs.lemmas.List.Sums.{sum_by-cons, sum_by_push}}
+use Rattle.tally_base.{specs.declared.event.Event.Event, specs.Events.{is_photon, is_in}, specs.Settings.ImageView, specs.Tally.History}
+use Rattle.marker_map.{specs.Marks.Mark, specs.Places.{line_of, row_of, column_in, runs_back, within, place_of}}
+use Rattle.scan_image.{specs.ImageCounts.{markers, is_at, in_cell, count_outside}, specs.Totals.{in_all_cells, photons_of_group}, proofs.Behind.one_if, proofs.Counts.{placed-photon, placed-other}}
 
 pub sum-agree : (f g : ℕ → ℕ) → ((i : ℕ) → f i ≡ g i) → (xs : List ℕ) → sum_by f xs ≡ sum_by g xs
 sum-agree f g same [] = refl

@@ -1,12 +1,8 @@
 -- What an image stands for.
 use Rattle.std.specs.Prelude.{◌≡◌, ℕ, ◌+◌, ◌*◌, ◌<◌, true, slice_index, length}
-use Rattle.tally_base.specs.declared.settings.ImageSet.{ImageSet}
-use Rattle.tally_base.specs.Settings.{PartSettings, image_view}
-use Rattle.tally_base.specs.Settings.PartSettings.{ImageSettings}
-use Rattle.tally_base.specs.Tally.{History, greatest_time}
+use Rattle.tally_base.{specs.declared.settings.ImageSet.ImageSet, specs.Settings.{PartSettings, image_view}, specs.Settings.PartSettings.ImageSettings, specs.Tally.{History, greatest_time}}
 use Rattle.marker_map.specs.Lines.{Saw}
-use Rattle.scan_image.specs.declared.image.Image.{Image}
-use Rattle.scan_image.specs.ImageCounts.{markers, in_cell, count_outside}
+use Rattle.scan_image.{specs.declared.image.Image.Image, specs.ImageCounts.{markers, in_cell, count_outside}}
 
 -- what it was opened with
 abbrev pub set_of : Image → ImageSet

@@ -1,15 +1,8 @@
 -- The counts of an image over the events that it is given.
 use Rattle.std.specs.Prelude.{ℕ, Bool, false, ◌&&◌, ◌==◌, List, Option, None, Some, is_none, length, take, count_by, filter_map}
-use Rattle.std.specs.List.{range_with_len, slice_get}
-use Rattle.std.specs.Option.{option_map_or}
-use Rattle.tally_base.specs.declared.event.Event.{Event}
-use Rattle.tally_base.specs.declared.event.EventKind.{EventKind}
-use Rattle.tally_base.specs.declared.event.EventKind.TheVariants.{Photon, Marker}
-use Rattle.tally_base.specs.Events.{is_photon, is_in}
-use Rattle.tally_base.specs.Settings.{ImageView}
-use Rattle.tally_base.specs.Tally.{History}
-use Rattle.marker_map.specs.Marks.{Mark, mark}
-use Rattle.marker_map.specs.Places.{place_of}
+use Rattle.std.{specs.List.{range_with_len, slice_get}, specs.Option.option_map_or}
+use Rattle.tally_base.{specs.declared.event.Event.Event, specs.declared.event.EventKind.EventKind, specs.declared.event.EventKind.TheVariants.{Photon, Marker}, specs.Events.{is_photon, is_in}, specs.Settings.ImageView, specs.Tally.History}
+use Rattle.marker_map.{specs.Marks.{Mark, mark}, specs.Places.place_of}
 
 abbrev pub mark_at : ℕ → EventKind → Option Mark
 mark_at time (Photon input dtime) = None

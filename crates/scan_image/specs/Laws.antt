@@ -1,10 +1,8 @@
 -- What holds of every image.
 use Rattle.std.specs.Prelude.{◌≡◌, ◌≤◌, ◌+◌, true, length}
 use Rattle.std.proofs.Common.{rules}
-use Rattle.tally_base.specs.Settings.{entries}
-use Rattle.tally_base.specs.Tally.{History, greatest_time}
-use Rattle.scan_image.specs.declared.image.Image.{Image}
-use Rattle.scan_image.specs.Image.{Holds, settings}
+use Rattle.tally_base.{specs.Settings.entries, specs.Tally.{History, greatest_time}}
+use Rattle.scan_image.{specs.declared.image.Image.Image, specs.Image.{Holds, settings}}
 
 pub taken_is : (t : Image) (h : History) → Holds t h → t.taken ≡ length h
 taken_is t h is = is.taken

@@ -1,9 +1,7 @@
 -- The sums of the counts of an image.
 use Rattle.std.specs.Prelude.{ℕ, ◌&&◌, sum_by, count_by}
 use Rattle.std.specs.List.{range_with_len}
-use Rattle.tally_base.specs.Events.{is_photon, is_in}
-use Rattle.tally_base.specs.Settings.{ImageView}
-use Rattle.tally_base.specs.Tally.{History}
+use Rattle.tally_base.{specs.Events.{is_photon, is_in}, specs.Settings.ImageView, specs.Tally.History}
 use Rattle.scan_image.specs.ImageCounts.{in_cell}
 
 -- the sum over all cells, row by row

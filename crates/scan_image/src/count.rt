@@ -1,15 +1,9 @@
 // The photons of a block, counted by their places.
 ghost use Rattle.std.specs.Prelude.{◌≡◌, ◌+◌, ◌*◌, ◌^◌, ◌<◌, ◌≤◌, ◌++◌, ℕ, true, sum, length, slice_index, is_none, IfSome, if◌then◌else◌};
-ghost use Rattle.tally_base.specs.Settings.{image_view};
-ghost use Rattle.tally_base.specs.Tally.{History};
-ghost use Rattle.tally_base.specs.Limits.{record_limit};
-ghost use Rattle.event_block.specs.Columns.{count, code_at, time_at, gathered, events_in, IsSorted};
-ghost use Rattle.event_block.specs.Order.{floor_after, InOrder};
-ghost use Rattle.marker_map.specs.Lines.{image_of, markers_given, line_start};
-ghost use Rattle.marker_map.specs.declared.lines.Lines.{Lines};
-ghost use Rattle.marker_map.specs.Strips.{start_of};
-ghost use Rattle.scan_image.specs.Counted.{Counted, CountsOn, IsStripOf, IsOfSize};
-ghost use Rattle.scan_image.specs.ImageCounts.{is_at};
+ghost use Rattle.tally_base.{specs.Settings.image_view, specs.Tally.History, specs.Limits.record_limit};
+ghost use Rattle.event_block.{specs.Columns.{count, code_at, time_at, gathered, events_in, IsSorted}, specs.Order.{floor_after, InOrder}};
+ghost use Rattle.marker_map.{specs.Lines.{image_of, markers_given, line_start}, specs.declared.lines.Lines.Lines, specs.Strips.start_of};
+ghost use Rattle.scan_image.{specs.Counted.{Counted, CountsOn, IsStripOf, IsOfSize}, specs.ImageCounts.is_at};
 
 use event_block::{BLOCK_SIZE, Block};
 use marker_map::{Lines, Strip, Way};

@@ -1,8 +1,6 @@
 // An image of a scan.
 ghost use Rattle.std.specs.Prelude.{◌≡◌, ◌+◌, ◌*◌, ◌<◌, ◌≤◌, vec_len, sum};
-ghost use Rattle.tally_base.specs.Settings.{image_view};
-ghost use Rattle.tally_base.specs.Tally.{History};
-ghost use Rattle.tally_base.specs.Limits.{record_limit};
+ghost use Rattle.tally_base.{specs.Settings.image_view, specs.Tally.History, specs.Limits.record_limit};
 ghost use Rattle.marker_map.specs.Lines.{image_of, markers_given, line_start};
 
 use crate::count::{cell_of, count_block};
@@ -36,11 +34,9 @@ pub struct Image {
 
 impl Image {
     ghost use Rattle.std.specs.Prelude.{◌++◌, length, true, IfOk, [], false};
-    ghost use Rattle.event_block.specs.Columns.{gathered, events_in, IsSorted};
-    ghost use Rattle.event_block.specs.Tables.{MayTake, HasTaken};
+    ghost use Rattle.event_block.{specs.Columns.{gathered, events_in, IsSorted}, specs.Tables.{MayTake, HasTaken}};
     ghost use Rattle.tally_base.specs.Settings.PartSettings.{ImageSettings};
-    ghost use Rattle.scan_image.specs.ImageCounts.{in_cell, count_outside};
-    ghost use Rattle.scan_image.specs.Image.{Holds, set_of};
+    ghost use Rattle.scan_image.{specs.ImageCounts.{in_cell, count_outside}, specs.Image.{Holds, set_of}};
 
     /// An image of no events, with all the memory that it ever takes, or `AllocError` where it is wanting.
     pub fn open(alloc: Global, set: ImageSet) -> Result<Image, AllocError>
@@ -108,8 +104,7 @@ impl Image {
 
 impl Tally for Image {
     ghost use Rattle.std.specs.Prelude.{length};
-    ghost use Rattle.scan_image.specs.Image.{Holds, settings};
-    ghost use Rattle.scan_image.specs.Laws.{taken_is, floor_is, within_bound};
+    ghost use Rattle.scan_image.{specs.Image.{Holds, settings}, specs.Laws.{taken_is, floor_is, within_bound}};
 
     ghost holds = { Holds };
 

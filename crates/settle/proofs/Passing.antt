@@ -1,15 +1,9 @@
 -- Events that come in order behind all that are kept back.
 use Rattle.std.proofs.Common.{◌≡◌, ◌<◌, ◌≤◌, ℕ, suc, List, [], ◌∷◌, ◌++◌, false, length, take, drop, refl, sym, ap, subst, ◌∙◌, append_assoc, append-nil, arith, length-append}
-use Rattle.std.specs.List.{AllByRecursion, refill}
-use Rattle.std.proofs.Math.Seq.{take-append_seam}
+use Rattle.std.{specs.List.{AllByRecursion, refill}, proofs.Math.Seq.take-append_seam}
 use Rattle.tally_base.specs.declared.event.Event.{Event}
-use Rattle.ptu_definitions.specs.Prefixes.{each_after}
-use Rattle.ptu_definitions.specs.Settled.{marked_as, put_in, settles}
-use Rattle.ptu_definitions.proofs.SettledLemmas.{put_in-append}
-use Rattle.ptu_definitions.proofs.SettlingLemmas.{all-push, each-weaker}
-use Rattle.settle.specs.Passing.{ComesOn, place_after, time_after}
-use Rattle.settle.specs.Standing.{IsSettled}
-use Rattle.settle.proofs.Steps.{settled-emit, tells-one}
+use Rattle.ptu_definitions.{specs.Prefixes.each_after, specs.Settled.{marked_as, put_in, settles}, proofs.SettledLemmas.put_in-append, proofs.SettlingLemmas.{all-push, each-weaker}}
+use Rattle.settle.{specs.Passing.{ComesOn, place_after, time_after}, specs.Standing.IsSettled, proofs.Steps.{settled-emit, tells-one}}
 
 -- as many as there were stand in the place of all
 pub refilled : {A : Type 0} (n : ℕ) (xs ws : List A) → n ≡ length xs → length ws ≡ n → refill n xs ws ≡ ws

@@ -1,19 +1,9 @@
 -- One event more.
-use Rattle.std.proofs.Common.{◌≡◌, ◌-◌, ◌<◌, ◌≤◌, ℕ, suc, Some, get_or, List, [], ◌∷◌, ◌++◌, Bool, true, false, cond, length, refl, sym, ap, subst, ◌∙◌, append-nil, arith}
-use Rattle.std.specs.Prelude.{nat_lt}
-use Rattle.std.specs.List.{All, AllByRecursion, AllWithin, remove}
-use Rattle.std.proofs.lemmas.List.Elements.{All-from_recursion, recursion_from_All}
-use Rattle.std.specs.Prelude.{slice_get}
-use Rattle.std.specs.List.Sorted.{IsNonDecreasingBy}
-use Rattle.std.proofs.lemmas.List.{get_or_default}
-use Rattle.std.proofs.lemmas.Bool.{ltb-true, ltb-false}
+use Rattle.std.proofs.Common.{◌≡◌, ◌-◌, ◌<◌, ◌≤◌, ℕ, suc, Some, get_or, List, [], ◌∷◌, ◌++◌, Bool, true, false, cond, length, refl, sym, ap, subst, ◌∙◌, append-nil, arith, nat_lt, slice_get}
+use Rattle.std.{specs.List.{All, AllByRecursion, AllWithin, remove}, proofs.lemmas.List.Elements.{All-from_recursion, recursion_from_All}, specs.List.Sorted.IsNonDecreasingBy, proofs.lemmas.List.get_or_default, proofs.lemmas.Bool.{ltb-true, ltb-false}}
 use Rattle.tally_base.specs.declared.event.Event.{Event}
-use Rattle.ptu_definitions.specs.Settled.{is_overtaken, not_overtaken, put_in, in_time, settles}
-use Rattle.ptu_definitions.specs.Settling.{IsOpen}
-use Rattle.ptu_definitions.proofs.SettledLemmas.{length-put_in, put_in-rising}
-use Rattle.ptu_definitions.proofs.SettlingLemmas.{each-put_in, each-weaker, is_late, is_not_late, joined-late, joined-put, joined-give, open-none, open-late, open-wait, open-emit, settled-is, settles-late, settles-more}
-use Rattle.settle.specs.Settling.{Precedes, IsInOrder}
-use Rattle.settle.specs.Standing.{IsSettled}
+use Rattle.ptu_definitions.{specs.Settled.{is_overtaken, not_overtaken, put_in, in_time, settles}, specs.Settling.IsOpen, proofs.SettledLemmas.{length-put_in, put_in-rising}, proofs.SettlingLemmas.{each-put_in, each-weaker, is_late, is_not_late, joined-late, joined-put, joined-give, open-none, open-late, open-wait, open-emit, settled-is, settles-late, settles-more}}
+use Rattle.settle.{specs.Settling.{Precedes, IsInOrder}, specs.Standing.IsSettled}
 
 -- order by time and place stays
 in_order-pick : (b : Bool) (e x : Event) (xs : List Event) (place : ℕ) → nat_lt e.time x.time ≡ b → place < e.place → x.place ≤ place → AllByRecursion (λ y. Precedes x y) xs → IsInOrder xs → IsInOrder (put_in e xs) → IsInOrder (cond b (e ∷ x ∷ xs) (x ∷ put_in e xs))

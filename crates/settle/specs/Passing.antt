@@ -2,10 +2,8 @@
 use Rattle.std.specs.Prelude.{ℕ, ◌≡◌, ◌<◌, ◌≤◌, ◌++◌, false, List, [], ◌∷◌}
 use Rattle.std.specs.List.{AllByRecursion}
 use Rattle.tally_base.specs.declared.event.Event.{Event}
-use Rattle.ptu_definitions.specs.Prefixes.{each_after}
-use Rattle.ptu_definitions.specs.Settled.{marked_as, settles}
-use Rattle.settle.specs.Standing.{HasSettled, kept_back, last_place, last_time, reach_of}
-use Rattle.settle.specs.declared.settle.Settle.{Settle}
+use Rattle.ptu_definitions.{specs.Prefixes.each_after, specs.Settled.{marked_as, settles}}
+use Rattle.settle.{specs.Standing.{HasSettled, kept_back, last_place, last_time, reach_of}, specs.declared.settle.Settle.Settle}
 
 -- no place and no time falls: each place is greater than the one before it and the first greater than this, and no
 -- time is less than the one before it or than this

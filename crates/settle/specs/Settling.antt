@@ -1,11 +1,8 @@
 -- The order of the events that are kept back.
 use Rattle.std.specs.Prelude.{◌≡◌, ◌<◌, ◌≤◌, Bool, true, false, List, [], ◌∷◌}
-use Rattle.std.specs.declared.option.Option.{Option}
-use Rattle.std.specs.Option.{option_to_list}
-use Rattle.std.specs.List.{AllByRecursion}
+use Rattle.std.{specs.declared.option.Option.Option, specs.Option.option_to_list, specs.List.AllByRecursion}
 use Rattle.tally_base.specs.declared.event.Event.{Event}
-use Rattle.ptu_definitions.specs.Kept.{Marked}
-use Rattle.ptu_definitions.specs.Settled.{marked_as}
+use Rattle.ptu_definitions.{specs.Kept.Marked, specs.Settled.marked_as}
 
 -- One event is before another by time, and by place where the times are equal.
 pub record Precedes (x y : Event) : Type 0 where

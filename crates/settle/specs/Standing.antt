@@ -2,10 +2,8 @@
 use Rattle.std.specs.Prelude.{ℕ, ◌≡◌, ◌≤◌, ◌++◌, Bool, false, List}
 use Rattle.std.specs.List.{AllByRecursion}
 use Rattle.tally_base.specs.declared.event.Event.{Event}
-use Rattle.ptu_definitions.specs.Settled.{in_time}
-use Rattle.ptu_definitions.specs.Settling.{IsOpen}
-use Rattle.settle.specs.Settling.{IsInOrder}
-use Rattle.settle.specs.declared.settle.Settle.{Settle}
+use Rattle.ptu_definitions.{specs.Settled.in_time, specs.Settling.IsOpen}
+use Rattle.settle.{specs.Settling.IsInOrder, specs.declared.settle.Settle.Settle}
 
 -- how many events it keeps back at most
 abbrev pub reach_of : Settle → ℕ

@@ -1,8 +1,6 @@
 // Events in order of time, of which the last few are kept back.
 ghost use Rattle.std.specs.Prelude.{◌≡◌, ◌+◌, ◌<◌, ◌≤◌, ◌++◌, ◌∷◌, [], List, ℕ, true, false, ◌&&◌, not, nat_lt, length, IfSome, is_some};
-ghost use Rattle.std.specs.Option.{option_to_list};
-ghost use Rattle.std.specs.List.{All, AllByRecursion, AllWithin};
-ghost use Rattle.std.specs.List.Sorted.{IsNonDecreasingBy};
+ghost use Rattle.std.{specs.Option.option_to_list, specs.List.{All, AllByRecursion, AllWithin}, specs.List.Sorted.IsNonDecreasingBy};
 ghost use Rattle.arrayvec.specs.ArrayVec.{array_vec_len};
 ghost use Rattle.tally_base.specs.declared.event.Event.{Event};
 ghost use Rattle.ptu_definitions.specs.Settled.{put_in, is_overtaken, settles};
@@ -36,8 +34,7 @@ pub struct Settle {
 }
 
 impl Settle {
-    ghost use Rattle.settle.specs.Passing.{ComesBehind, HasPassed};
-    ghost use Rattle.settle.specs.Standing.{reach_of, kept_back, last_time, last_place, was_popped, HasSettled};
+    ghost use Rattle.settle.{specs.Passing.{ComesBehind, HasPassed}, specs.Standing.{reach_of, kept_back, last_time, last_place, was_popped, HasSettled}};
 
     /// Keeps back at most so many events, and none yet.
     pub fn new(k: u32) -> Settle

@@ -1,7 +1,6 @@
 -- Events without their places in a file.
 use Rattle.std.specs.Prelude.{ℕ}
-use Rattle.tally_base.specs.declared.event.EventKind.{EventKind}
-use Rattle.tally_base.specs.declared.event.Event.{Event}
+use Rattle.tally_base.{specs.declared.event.EventKind.EventKind, specs.declared.event.Event.Event}
 
 -- the kind and the time of an event
 pub record Timed : Type 0 where

@@ -2,8 +2,7 @@
 ghost use Rattle.std.specs.Prelude.{◌≡◌, ◌+◌, ◌*◌, ◌<◌, ◌^◌, ℕ, List, [], Ok, length};
 ghost use Rattle.std.specs.List.{All};
 ghost use Rattle.tally_base.specs.declared.header.Mode.{Mode};
-ghost use Rattle.ptu_definitions.specs.Headers.{header_answer};
-ghost use Rattle.ptu_definitions.specs.Words.{words_of, rest_of};
+ghost use Rattle.ptu_definitions.{specs.Headers.header_answer, specs.Words.{words_of, rest_of}};
 ghost use Rattle.short_file.specs.ShortFiles.{bytes_in, short_fields, short_file};
 
 /// A short file has a header of its mode's record type and 112 bytes, and behind it its words, four bytes

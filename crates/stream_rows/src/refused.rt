@@ -2,8 +2,7 @@
 ghost use Rattle.std.specs.Prelude.{◌≡◌, ◌+◌, ◌<◌, ◌≤◌, length, None, max};
 ghost use Rattle.tally_base.specs.Limits.{record_limit};
 ghost use Rattle.ptu_definitions.specs.Kept.{floor_of};
-ghost use Rattle.record_stream.specs.Feeding.{Follows};
-ghost use Rattle.record_stream.specs.Standing.{how_of, given_by, greatest_of, refused_with};
+ghost use Rattle.record_stream.{specs.Feeding.Follows, specs.Standing.{how_of, given_by, greatest_of, refused_with}};
 
 use record_stream::{EventTaker, RecordStream, moved_floor};
 use std::test::Fail;

@@ -1,15 +1,9 @@
 -- The text of a body that grows by a byte.
-use Rattle.std.proofs.Common.{◌≡◌, ◌≢◌, ℕ, List, [], ◌∷◌, ◌++◌, Bool, true, false, cond, refl, sym, ap, ◌∙◌, append-nil}
-use Rattle.std.specs.Prelude.{◌==◌, not, take_while, ◌&&◌}
-use Rattle.std.specs.List.{flat_map}
-use Rattle.std.proofs.lemmas.Grind.{flat_map-append}
-use Rattle.std.proofs.lemmas.List.Sums.{take_while-cons}
-use Rattle.std.specs.List.{list_all}
+use Rattle.std.proofs.Common.{◌≡◌, ◌≢◌, ℕ, List, [], ◌∷◌, ◌++◌, Bool, true, false, cond, refl, sym, ap, ◌∙◌, append-nil, ◌==◌, not, take_while, ◌&&◌}
+use Rattle.std.{specs.List.{flat_map, list_all}, proofs.lemmas.Grind.flat_map-append, proofs.lemmas.List.Sums.take_while-cons}
 use Rattle.tally_base.specs.Hexadecimal.{hexadecimal}
-use Rattle.ptu_tag.specs.declared.kind.TagKind.{TagKind}
-use Rattle.ptu_tag.specs.declared.kind.TagKind.TheVariants.{AnsiString}
-use Rattle.table_out.specs.HeaderText.{body_text, shown_byte}
-use Rattle.table_out.specs.Body.{has_no_nul}
+use Rattle.ptu_tag.{specs.declared.kind.TagKind.TagKind, specs.declared.kind.TagKind.TheVariants.AnsiString}
+use Rattle.table_out.{specs.HeaderText.{body_text, shown_byte}, specs.Body.has_no_nul}
 
 -- a front without what ends it is passed whole
 pub take_while-passed : (p : ℕ → Bool) (front more : List ℕ) → list_all p front ≡ true → take_while p (front ++ more) ≡ front ++ take_while p more

@@ -1,10 +1,8 @@
 -- More text is put behind a text, whatever the tables stand for.
 use Rattle.std.proofs.Common.{◌≡◌, ℕ, zero, suc, ◌+◌, ◌-◌, ◌<◌, List, [], ◌++◌, refl, sym, ap, ◌∙◌, append_assoc, append-nil, arith}
 use Rattle.std.specs.declared.option.Option.{Option}
-use Rattle.bench_io.specs.Sinks.{AppendsShort, PassesOn}
-use Rattle.bench_io.proofs.Bytes.{PassesOn-held, PassesOn-trans, AppendsShort-passed, AppendsShort-more, AppendsShort-same}
-use Rattle.table_out.specs.Printed.{texts, texts_of}
-use Rattle.table_out.specs.Puts.{PutsText, CutsText}
+use Rattle.bench_io.{specs.Sinks.{AppendsShort, PassesOn}, proofs.Bytes.{PassesOn-held, PassesOn-trans, AppendsShort-passed, AppendsShort-more, AppendsShort-same}}
+use Rattle.table_out.{specs.Printed.{texts, texts_of}, specs.Puts.{PutsText, CutsText}}
 
 -- the texts of one place more
 texts-push : (text : ℕ → List ℕ) (n : ℕ) → texts text (n + 1) ≡ texts text n ++ text n

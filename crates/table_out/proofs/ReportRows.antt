@@ -1,25 +1,9 @@
 -- Reports of known runs.
-use Rattle.std.proofs.Common.{◌≡◌, ℕ, List, [], ◌∷◌, ◌++◌, None, Some, refl}
-use Rattle.std.specs.Prelude.{pos, codes, false}
+use Rattle.std.proofs.Common.{◌≡◌, ℕ, List, [], ◌∷◌, ◌++◌, None, Some, refl, pos, codes, false}
 use Rattle.std.specs.Fmt.{digits}
-use Rattle.tally_base.specs.declared.event.Event.{Event}
-use Rattle.tally_base.specs.declared.event.EventKind.TheVariants.{Photon, Marker}
-use Rattle.tally_base.specs.declared.header.Header.{Header}
-use Rattle.tally_base.specs.declared.header.RecordType.TheVariants.{HydraHarp2T3}
-use Rattle.tally_base.specs.Hexadecimal.{hexadecimal}
-use Rattle.tally_base.specs.Settings.{PartSettings}
-use Rattle.tally_base.specs.Settings.PartSettings.{HistSettings, TraceSettings, StartStopSettings, CoincidenceSettings, ImageSettings, CorrelationSettings, CubeSettings, FoldSettings}
-use Rattle.tally_base.specs.Tally.{History}
+use Rattle.tally_base.{specs.declared.event.Event.Event, specs.declared.event.EventKind.TheVariants.{Photon, Marker}, specs.declared.header.Header.Header, specs.declared.header.RecordType.TheVariants.HydraHarp2T3, specs.Hexadecimal.hexadecimal, specs.Settings.PartSettings, specs.Settings.PartSettings.{HistSettings, TraceSettings, StartStopSettings, CoincidenceSettings, ImageSettings, CorrelationSettings, CubeSettings, FoldSettings}, specs.Tally.History}
 use Rattle.ptu_definitions.specs.declared.records.Summary.{Summary}
-use Rattle.table_out.specs.Report.{head_text, parts_text, report, with_events}
-use Rattle.table_out.specs.Histogram.{histogram_printed}
-use Rattle.table_out.specs.Trace.{trace_printed}
-use Rattle.table_out.specs.StartStop.{startstop_printed}
-use Rattle.table_out.specs.Coincidence.{coincidence_printed}
-use Rattle.table_out.specs.Image.{image_printed}
-use Rattle.table_out.specs.Cube.{cube_printed}
-use Rattle.table_out.specs.Fold.{fold_printed}
-use Rattle.table_out.specs.Correlation.{correlation_printed}
+use Rattle.table_out.{specs.Report.{head_text, parts_text, report, with_events}, specs.Histogram.histogram_printed, specs.Trace.trace_printed, specs.StartStop.startstop_printed, specs.Coincidence.coincidence_printed, specs.Image.image_printed, specs.Cube.cube_printed, specs.Fold.fold_printed, specs.Correlation.correlation_printed}
 
 abbrev bench_header : Header
 bench_header = record { record_type = HydraHarp2T3; count = Some (pos 9); global = Some 0x3E6AD7F29ABCAF48; resolution = Some 0x3DC19799812DEA11; version = codes "1.0.00" ++ 0 ∷ 0 ∷ [] }

@@ -1,19 +1,10 @@
 -- Tables by their kinds, and one behind the other.
-use Rattle.std.proofs.Common.{◌≡◌, ℕ, zero, suc, ◌+◌, ◌<◌, ◌≤◌, List, [], ◌∷◌, ◌++◌, take, drop, get_or, length, refl, sym, ap, subst, ◌∙◌, take-append-drop, arith}
-use Rattle.std.specs.Prelude.{Bool, count_by, cond, fold}
-use Rattle.std.specs.declared.option.Option.{Option}
-use Rattle.std.proofs.lemmas.List.{take_all, take_more}
-use Rattle.std.proofs.lemmas.List.Elements.{All-head, All-tail}
-use Rattle.tally_base.specs.Settings.{PartSettings}
-use Rattle.tally_base.specs.Tally.{History}
-use Rattle.ptu_definitions.specs.Prefixes.{each_after}
-use Rattle.ptu_definitions.proofs.PrefixLemmas.{each-push, each_after-append}
-use Rattle.tally_engine.specs.contracts.part.PartTally.TheImpl.{ghosts}
-use Rattle.tally_engine.specs.declared.part.Part.{Part}
-use Rattle.tally_engine.specs.Parts.{settings_in, AllHold}
-use Rattle.table_out.specs.Puts.{PutsText, CutsText}
-use Rattle.table_out.specs.Report.{Table, StandsFor, EachHolds, same_kind, part_text, table_text, parts_text, with_events}
-use Rattle.table_out.proofs.Putting.{puts-more, cuts-behind, cuts-front}
+use Rattle.std.proofs.Common.{◌≡◌, ℕ, zero, suc, ◌+◌, ◌<◌, ◌≤◌, List, [], ◌∷◌, ◌++◌, take, drop, get_or, length, refl, sym, ap, subst, ◌∙◌, take-append-drop, arith, Bool, count_by, cond, fold}
+use Rattle.std.{specs.declared.option.Option.Option, proofs.lemmas.List.{take_all, take_more}, proofs.lemmas.List.Elements.{All-head, All-tail}}
+use Rattle.tally_base.{specs.Settings.PartSettings, specs.Tally.History}
+use Rattle.ptu_definitions.{specs.Prefixes.each_after, proofs.PrefixLemmas.{each-push, each_after-append}}
+use Rattle.tally_engine.{specs.contracts.part.PartTally.TheImpl.ghosts, specs.declared.part.Part.Part, specs.Parts.{settings_in, AllHold}}
+use Rattle.table_out.{specs.Puts.{PutsText, CutsText}, specs.Report.{Table, StandsFor, EachHolds, same_kind, part_text, table_text, parts_text, with_events}, proofs.Putting.{puts-more, cuts-behind, cuts-front}}
 
 -- ## The tables, each with what it stands for
 

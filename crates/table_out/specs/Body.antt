@@ -1,11 +1,8 @@
 -- What a body's text stands for.
 use Rattle.std.specs.Prelude.{ℕ, ◌≡◌, ◌≢◌, ◌==◌, not, List, Bool, true, false}
 use Rattle.std.specs.List.{list_all}
-use Rattle.ptu_tag.specs.declared.kind.TagKind.{TagKind}
-use Rattle.ptu_tag.specs.declared.kind.TagKind.TheVariants.{AnsiString}
-use Rattle.table_out.specs.declared.body.Printing.{Printing}
-use Rattle.table_out.specs.declared.body.Printing.TheVariants.{Digits, Text, Nothing}
-use Rattle.table_out.specs.declared.body.BodyText.{BodyText}
+use Rattle.ptu_tag.{specs.declared.kind.TagKind.TagKind, specs.declared.kind.TagKind.TheVariants.AnsiString}
+use Rattle.table_out.{specs.declared.body.Printing.Printing, specs.declared.body.Printing.TheVariants.{Digits, Text, Nothing}, specs.declared.body.BodyText.BodyText}
 
 -- no byte is a NUL
 abbrev pub has_no_nul : List ℕ → Bool

@@ -1,11 +1,8 @@
 -- The lines of events.
 use Rattle.std.specs.Prelude.{ℕ, Bool, true, false, List, ◌++◌, decimal, codes}
 use Rattle.std.specs.List.{flat_map}
-use Rattle.tally_base.specs.declared.event.Event.{Event}
-use Rattle.tally_base.specs.declared.event.EventKind.{EventKind}
-use Rattle.tally_base.specs.declared.event.EventKind.TheVariants.{Photon, Marker}
-use Rattle.ptu_definitions.specs.Kept.{Marked}
-use Rattle.ptu_definitions.specs.Streams.{Reading, given}
+use Rattle.tally_base.{specs.declared.event.Event.Event, specs.declared.event.EventKind.EventKind, specs.declared.event.EventKind.TheVariants.{Photon, Marker}}
+use Rattle.ptu_definitions.{specs.Kept.Marked, specs.Streams.{Reading, given}}
 
 -- what an event is, with its time
 abbrev pub kind_text : EventKind → ℕ → List ℕ

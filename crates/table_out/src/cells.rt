@@ -2,10 +2,7 @@
 ghost use Rattle.std.specs.Prelude.{◌≡◌, ◌<◌, ◌≤◌, true, length, OnOk, OnErr, codes, decimal};
 ghost use Rattle.bench_io.specs.TriesOnce.{TriesOnce};
 ghost use Rattle.tally_base.specs.Tally.{History};
-ghost use Rattle.table_out.specs.Lines.{line};
-ghost use Rattle.table_out.specs.Printed.{cell_line, pair_line, row_lines, cell_lines, first_line};
-ghost use Rattle.table_out.specs.Puts.{PutsText, CutsText};
-ghost use Rattle.table_out.specs.Report.{printed, part_text};
+ghost use Rattle.table_out.{specs.Lines.line, specs.Printed.{cell_line, pair_line, row_lines, cell_lines, first_line}, specs.Puts.{PutsText, CutsText}, specs.Report.{printed, part_text}};
 
 use crate::backwards::{LINE_SIZE, write_newline, write_number, write_text, write_wide};
 use crate::line::put_count;

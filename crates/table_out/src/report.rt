@@ -1,11 +1,9 @@
 // The report of a run.
 ghost use Rattle.std.specs.Prelude.{◌≡◌, ◌+◌, ◌≤◌, true, List, count_by, OnOk, OnErr, IfErr};
 ghost use Rattle.std.specs.Io.KnownBytes.{Appends};
-ghost use Rattle.bench_io.specs.TriesOnce.{TriesOnce};
-ghost use Rattle.bench_io.specs.Sinks.{AppendsShort};
+ghost use Rattle.bench_io.{specs.TriesOnce.TriesOnce, specs.Sinks.AppendsShort};
 ghost use Rattle.tally_engine.specs.Parts.{settings_in, AllClosed};
-ghost use Rattle.table_out.specs.Report.{Table, EachHolds, printed, same_kind, part_text, parts_text, report};
-ghost use Rattle.table_out.specs.Puts.{PutsText, CutsText};
+ghost use Rattle.table_out.{specs.Report.{Table, EachHolds, printed, same_kind, part_text, parts_text, report}, specs.Puts.{PutsText, CutsText}};
 
 use crate::cells::{Prints, put_table};
 use crate::report_head::report_head;

@@ -1,9 +1,6 @@
 -- The reasons of faults.
 use Rattle.std.proofs.Common.{◌≡◌, true, false, refl}
-use Rattle.tally_base.specs.declared.slot.Slot.{Slot}
-use Rattle.tally_base.specs.declared.fault.Fault.{Fault}
-use Rattle.tally_base.specs.declared.fault.Fault.TheVariants.{OpenFault, ReadFault, WriteFault, OutOfMemory}
-use Rattle.tally_base.specs.Faults.{is_outside, HasReason}
+use Rattle.tally_base.{specs.declared.slot.Slot.Slot, specs.declared.fault.Fault.Fault, specs.declared.fault.Fault.TheVariants.{OpenFault, ReadFault, WriteFault, OutOfMemory}, specs.Faults.{is_outside, HasReason}}
 
 -- a fault that the bytes call for has no reason to give
 pub HasReason-inside : (opening reading : Slot → Type 0) (writing memory : Type 0) (fault : Fault) → is_outside fault ≡ false → HasReason opening reading writing memory fault

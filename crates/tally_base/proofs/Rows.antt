@@ -1,17 +1,7 @@
 -- The definitions at known values.
-use Rattle.std.proofs.lemmas.Bool.Decides.{nat_tests}
-use Rattle.std.proofs.Common.{◌≡◌, ℕ, arith, None, Some, length, refl, ap}
-use Rattle.std.specs.Prelude.{codes, ℤ, pos, negsuc}
-use Rattle.std.specs.Fmt.{digits}
-use Rattle.tally_base.specs.declared.header.Mode.TheVariants.{T2, T3}
-use Rattle.tally_base.specs.declared.header.RecordType.{RecordType}
-use Rattle.tally_base.specs.declared.header.RecordType.TheVariants.{PicoHarpT2, PicoHarpT3, HydraHarpT2, HydraHarpT3, HydraHarp2T2, HydraHarp2T3, TimeHarp260NT2, TimeHarp260NT3, TimeHarp260PT2, TimeHarp260PT3, MultiHarpT2, MultiHarpT3}
-use Rattle.tally_base.specs.declared.part.PartKind.TheVariants.{Gate, Shift, Coincidence}
-use Rattle.tally_base.specs.declared.slot.Slot.TheVariants.{Plan, Data}
-use Rattle.tally_base.specs.declared.fault.Fault.TheVariants.{Usage, OpenFault, ReadFault, PlanRule, PlanMode, TruncatedHeader, TagType, TagLength, UnknownRecordType, TruncatedRecord, ReservedRecord, BackwardTime, RecordLimit, TimeLimit, NoGroup, PickTime}
-use Rattle.tally_base.specs.Faults.{line_of}
-use Rattle.tally_base.specs.Hexadecimal.{hexadecimal}
-use Rattle.tally_base.specs.RecordTypes.{code_of, type_of, type_with}
+use Rattle.std.{proofs.lemmas.Bool.Decides.nat_tests, specs.Fmt.digits}
+use Rattle.std.proofs.Common.{◌≡◌, ℕ, arith, None, Some, length, refl, ap, codes, ℤ, pos, negsuc}
+use Rattle.tally_base.{specs.declared.header.Mode.TheVariants.{T2, T3}, specs.declared.header.RecordType.RecordType, specs.declared.header.RecordType.TheVariants.{PicoHarpT2, PicoHarpT3, HydraHarpT2, HydraHarpT3, HydraHarp2T2, HydraHarp2T3, TimeHarp260NT2, TimeHarp260NT3, TimeHarp260PT2, TimeHarp260PT3, MultiHarpT2, MultiHarpT3}, specs.declared.part.PartKind.TheVariants.{Gate, Shift, Coincidence}, specs.declared.slot.Slot.TheVariants.{Plan, Data}, specs.declared.fault.Fault.TheVariants.{Usage, OpenFault, ReadFault, PlanRule, PlanMode, TruncatedHeader, TagType, TagLength, UnknownRecordType, TruncatedRecord, ReservedRecord, BackwardTime, RecordLimit, TimeLimit, NoGroup, PickTime}, specs.Faults.line_of, specs.Hexadecimal.hexadecimal, specs.RecordTypes.{code_of, type_of, type_with}}
 
 pub row-usage : line_of Usage ≡ codes "ptu: bad command line\n"
 row-usage = refl

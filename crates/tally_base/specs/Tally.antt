@@ -1,7 +1,6 @@
 -- The events that a table was given, and their greatest time.
 use Rattle.std.specs.Prelude.{ℕ, Bool, ◌||◌, max, List, fold, if◌then◌else◌}
-use Rattle.tally_base.specs.declared.event.Event.{Event}
-use Rattle.tally_base.specs.Events.{is_photon}
+use Rattle.tally_base.{specs.declared.event.Event.Event, specs.Events.is_photon}
 
 -- events in the order in which they came, each with its groups: bit g - 1 for group g
 abbrev pub History : Type 0

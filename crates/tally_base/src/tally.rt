@@ -1,9 +1,6 @@
 // What every table is.
 ghost use Rattle.std.specs.Prelude.{◌≡◌, ℕ, Bool, true, false, ◌+◌, ◌<◌, ◌≤◌, List, [], ◌∷◌, ◌++◌, IsTrue, length, if◌then◌else◌};
-ghost use Rattle.tally_base.specs.declared.event.Event.{Event};
-ghost use Rattle.tally_base.specs.Settings.{PartSettings, entries, is_strict};
-ghost use Rattle.tally_base.specs.Tally.{History, moves_floor, greatest_time};
-ghost use Rattle.tally_base.specs.Limits.{record_limit, time_limit};
+ghost use Rattle.tally_base.{specs.declared.event.Event.Event, specs.Settings.{PartSettings, entries, is_strict}, specs.Tally.{History, moves_floor, greatest_time}, specs.Limits.{record_limit, time_limit}};
 
 use crate::event::Event;
 use crate::steps::Steps;

@@ -1,17 +1,9 @@
 -- How far a stream is with one event more, and with none that waits.
-use Rattle.std.proofs.Common.{◌≡◌, ◌∙◌, ◌+◌, ℕ, List, [], ◌∷◌, ◌++◌, Bool, true, false, ap, refl, length, arith}
-use Rattle.std.specs.Prelude.{◌&&◌, not, if◌then◌else◌}
-use Rattle.tally_base.specs.declared.event.Event.{Event}
-use Rattle.tally_base.specs.declared.header.Mode.{Mode}
-use Rattle.tally_base.specs.declared.header.Mode.TheVariants.{T2, T3}
-use Rattle.tally_base.specs.Events.{is_ordered}
-use Rattle.tally_base.specs.Tally.{moves_floor}
-use Rattle.event_block.specs.declared.block.Block.{Block}
-use Rattle.event_block.specs.Order.{floor_after}
-use Rattle.event_block.proofs.Order.{floor-push}
-use Rattle.tally_engine.specs.declared.reached.Reached.{Reached}
+use Rattle.std.proofs.Common.{◌≡◌, ◌∙◌, ◌+◌, ℕ, List, [], ◌∷◌, ◌++◌, Bool, true, false, ap, refl, length, arith, ◌&&◌, not, if◌then◌else◌}
+use Rattle.tally_base.{specs.declared.event.Event.Event, specs.declared.header.Mode.Mode, specs.declared.header.Mode.TheVariants.{T2, T3}, specs.Events.is_ordered, specs.Tally.moves_floor}
+use Rattle.event_block.{specs.declared.block.Block.Block, specs.Order.floor_after, proofs.Order.floor-push}
+use Rattle.tally_engine.{specs.declared.reached.Reached.Reached, specs.Ahead.{floor_with, IsAt, NoneWaits}}
 use Rattle.record_stream.specs.Blocks.{orders_markers}
-use Rattle.tally_engine.specs.Ahead.{floor_with, IsAt, NoneWaits}
 
 moves_by : (mode : Mode) (e : Event) → moves_floor (orders_markers mode) e ≡ is_ordered mode e
 moves_by T2 e = refl

@@ -1,32 +1,13 @@
 -- What the words of a piece give to the tables.
 use Rattle.std.proofs.Common.{◌≡◌, ◌≢◌, ℕ, false, List, [], ◌++◌, map, None, Some, Ok, Err, IfErr, OnOk, refl, sym, ap, subst, ◌∙◌, inl, inr, ⊎_elim, arith}
-use Rattle.std.specs.declared.option.Option.{Option}
-use Rattle.std.specs.declared.result.Result.{Result}
-use Rattle.std.proofs.lemmas.List.{map-append}
-use Rattle.std.proofs.lemmas.List.Elements.{filter-append}
-use Rattle.tally_base.specs.declared.fault.Fault.{Fault}
-use Rattle.tally_base.specs.declared.fault.Fault.TheVariants.{WriteFault}
-use Rattle.tally_base.specs.FaultCounts.{Rose}
-use Rattle.tally_base.specs.Tally.{History}
-use Rattle.ptu_definitions.specs.declared.records.Summary.{Summary}
-use Rattle.ptu_definitions.specs.Kept.{Marked}
-use Rattle.ptu_definitions.specs.Times.{events}
-use Rattle.ptu_definitions.specs.Streams.{Reading, record_refusal, given, last_in}
-use Rattle.ptu_definitions.specs.Words.{words_of}
-use Rattle.ptu_definitions.proofs.StreamLemmas.{given-clear}
-use Rattle.ptu_definitions.proofs.DeliveredLaws.{delivered-settled, delivered-kept}
+use Rattle.std.{specs.declared.option.Option.Option, specs.declared.result.Result.Result, proofs.lemmas.List.map-append, proofs.lemmas.List.Elements.filter-append}
+use Rattle.tally_base.{specs.declared.fault.Fault.Fault, specs.declared.fault.Fault.TheVariants.WriteFault, specs.FaultCounts.Rose, specs.Tally.History, specs.Faults.{fault_in, is_outside}}
+use Rattle.ptu_definitions.{specs.declared.records.Summary.Summary, specs.Kept.Marked, specs.Times.events, specs.Streams.{Reading, record_refusal, given, last_in}, specs.Words.words_of, proofs.StreamLemmas.given-clear, proofs.DeliveredLaws.{delivered-settled, delivered-kept}, specs.Settled.{delivered, delivered_last, not_marked}}
 use Rattle.abs_time.specs.declared.clock.Clock.{Clock}
-use Rattle.record_stream.specs.declared.taker.EventTaker.{Ghosts}
-use Rattle.record_stream.specs.Feeding.{GaveOn, BrokeOn, Fed}
+use Rattle.record_stream.{specs.declared.taker.EventTaker.Ghosts, specs.Feeding.{GaveOn, BrokeOn, Fed}, specs.Ending.Ended, specs.Standing.Stands}
 use Rattle.settle.specs.declared.settle.Settle.{Settle}
-use Rattle.record_stream.specs.Ending.{Ended}
-use Rattle.record_stream.specs.Standing.{Stands}
-use Rattle.tally_base.specs.Faults.{fault_in, is_outside}
 use Rattle.gate_plan.specs.Shifting.{Sorting}
-use Rattle.tally_engine.specs.Parts.{AllHold, Ends}
-use Rattle.tally_engine.specs.declared.part.Part.{Part}
-use Rattle.tally_engine.specs.Histories.{with_groups, history, settled_history}
-use Rattle.ptu_definitions.specs.Settled.{delivered, delivered_last, not_marked}
+use Rattle.tally_engine.{specs.Parts.{AllHold, Ends}, specs.declared.part.Part.Part, specs.Histories.{with_groups, history, settled_history}}
 
 -- a taker that never breaks was given all that the words call for
 pub fed_whole : {T : Type 0} (g : Ghosts T) {X : Type 0} (how : Reading) (old new : T) (words now : List ℕ) (r : Result X Fault) → g.got old old [] → ((l : Marked) → g.broke old new l → ⊥) → Fed g how old new words now r

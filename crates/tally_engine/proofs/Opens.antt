@@ -1,37 +1,14 @@
 -- An engine of no bytes.
-use Rattle.std.proofs.Common.{◌≡◌, ◌<◌, ◌≤◌, ◌+◌, ◌*◌, ℕ, suc, take, get_or, List, [], ◌∷◌, ◌++◌, map, rules, sym, ◌∙◌, append_assoc, Bool, true, false, ◌-◌, ◌==◌, if◌then◌else◌, None, Some, length, refl, ap, arith}
-use Rattle.std.proofs.Math.Seq.{take-suc, take-nil}
-use Rattle.std.proofs.lemmas.List.{map-append}
-use Rattle.std.proofs.lemmas.List.Elements.{All-push}
-use Rattle.std.specs.declared.option.Option.{Option}
-use Rattle.tally_base.specs.declared.fault.Fault.{Fault}
-use Rattle.tally_base.specs.declared.header.Mode.{Mode}
-use Rattle.tally_base.specs.declared.header.Mode.TheVariants.{T2}
-use Rattle.std.specs.Prelude.{sum_by, flat_map}
-use Rattle.std.proofs.lemmas.List.Sums.{sum_by-cons}
-use Rattle.tally_base.specs.Settings.{entries, is_strict, PartSettings}
-use Rattle.tally_base.specs.Tally.{History, greatest_time}
-use Rattle.ptu_definitions.specs.declared.records.Summary.{Summary}
-use Rattle.ptu_definitions.specs.Kept.{kept, marked}
-use Rattle.ptu_definitions.specs.Times.{events}
-use Rattle.ptu_definitions.specs.Streams.{Reading}
-use Rattle.ptu_definitions.specs.Words.{words_of}
-use Rattle.record_stream.proofs.Summaries.{so_far-records}
+use Rattle.std.proofs.Common.{◌≡◌, ◌<◌, ◌≤◌, ◌+◌, ◌*◌, ℕ, suc, take, get_or, List, [], ◌∷◌, ◌++◌, map, rules, sym, ◌∙◌, append_assoc, Bool, true, false, ◌-◌, ◌==◌, if◌then◌else◌, None, Some, length, refl, ap, arith, sum_by, flat_map}
+use Rattle.std.{proofs.Math.Seq.{take-suc, take-nil}, proofs.lemmas.List.map-append, proofs.lemmas.List.Elements.All-push, specs.declared.option.Option.Option, proofs.lemmas.List.Sums.sum_by-cons}
+use Rattle.tally_base.{specs.declared.fault.Fault.Fault, specs.declared.header.Mode.Mode, specs.declared.header.Mode.TheVariants.T2, specs.Settings.{entries, is_strict, PartSettings}, specs.Tally.{History, greatest_time}}
+use Rattle.ptu_definitions.{specs.declared.records.Summary.Summary, specs.Kept.{kept, marked}, specs.Times.events, specs.Streams.Reading, specs.Words.words_of, specs.Settled.{in_time, not_overtaken, ordered}}
+use Rattle.record_stream.{proofs.Summaries.so_far-records, specs.Standing.Stands}
 use Rattle.gate_plan.specs.Shifting.{Sorting}
 use Rattle.abs_time.specs.declared.clock.Clock.{Clock}
 use Rattle.settle.specs.declared.settle.Settle.{Settle}
-use Rattle.record_stream.specs.Standing.{Stands}
-use Rattle.ptu_definitions.specs.Settled.{in_time, not_overtaken, ordered}
 use Rattle.tau_cascade.proofs.Work.{work_within}
-use Rattle.tally_engine.specs.declared.engine.Engine.{Engine}
-use Rattle.tally_engine.specs.declared.part.Part.{Part}
-use Rattle.tally_engine.specs.declared.part.Part.TheVariants.{Correlation as InCorrelation}
-use Rattle.tally_engine.specs.Engine.{held, bound}
-use Rattle.tally_engine.specs.contracts.part.PartTally.TheImpl.{ghosts}
-use Rattle.tally_engine.specs.Histories.{settled_history}
-use Rattle.tally_engine.specs.Part.{laws_of}
-use Rattle.tally_engine.specs.Parts.{settings_in, entries_in, IsOpened, IsWithinWork, AllOpened}
-use Rattle.tally_engine.specs.Taker.{Standing}
+use Rattle.tally_engine.{specs.declared.engine.Engine.Engine, specs.declared.part.Part.Part, specs.declared.part.Part.TheVariants.Correlation as InCorrelation, specs.Engine.{held, bound}, specs.contracts.part.PartTally.TheImpl.ghosts, specs.Histories.settled_history, specs.Part.laws_of, specs.Parts.{settings_in, entries_in, IsOpened, IsWithinWork, AllOpened}, specs.Taker.Standing}
 
 kept-none : (zero : Bool) (k : ℕ) (mode : Mode) → (if zero then kept mode [] else in_time k (ordered mode [])) ≡ []
 unfolding kept marked in_time not_overtaken

@@ -1,18 +1,9 @@
 -- Shifted events come in the order of the events.
-use Rattle.std.proofs.Common.{◌≡◌, ◌≢◌, ◌∙◌, ◌+◌, ◌≤◌, ◌<◌, ◌⊎◌, ⊎_elim, ℕ, zero, suc, Bool, true, false, List, [], ◌∷◌, refl, ap, sym, map, arith, length}
-use Rattle.std.specs.Prelude.{IsTrue, if◌then◌else◌}
+use Rattle.std.proofs.Common.{◌≡◌, ◌≢◌, ◌∙◌, ◌+◌, ◌≤◌, ◌<◌, ◌⊎◌, ⊎_elim, ℕ, zero, suc, Bool, true, false, List, [], ◌∷◌, refl, ap, sym, map, arith, length, IsTrue, if◌then◌else◌}
 use Rattle.std.proofs.lemmas.List.{length-map, map-append}
-use Rattle.tally_base.specs.declared.event.Event.{Event}
-use Rattle.tally_base.specs.declared.event.EventKind.{EventKind}
-use Rattle.tally_base.specs.declared.event.EventKind.TheVariants.{Photon, Marker}
-use Rattle.tally_base.specs.declared.tally.Tally.{Ghosts}
-use Rattle.tally_base.specs.Events.{is_photon, is_photon_kind}
-use Rattle.tally_base.specs.Settings.{ShiftView, is_strict}
-use Rattle.tally_base.specs.Tally.{History, moves_floor}
-use Rattle.event_block.specs.Columns.{rows}
-use Rattle.event_block.specs.Order.{floor_after, InOrder}
+use Rattle.tally_base.{specs.declared.event.Event.Event, specs.declared.event.EventKind.EventKind, specs.declared.event.EventKind.TheVariants.{Photon, Marker}, specs.declared.tally.Tally.Ghosts, specs.Events.{is_photon, is_photon_kind}, specs.Settings.{ShiftView, is_strict}, specs.Tally.{History, moves_floor}}
+use Rattle.event_block.{specs.Columns.rows, specs.Order.{floor_after, InOrder}, specs.Tables.{MayTake, HasTaken}}
 use Rattle.gate_plan.specs.Shifting.{Sorting, shifted, shifted_kind}
-use Rattle.event_block.specs.Tables.{MayTake, HasTaken}
 
 photon_kind : (by : Sorting) (kind : EventKind) → is_photon_kind (shifted_kind by kind) ≡ is_photon_kind kind
 photon_kind by (Photon input dtime) = refl

@@ -1,18 +1,10 @@
 -- The tables of a plan that suits T2 are in no strict order of time.
 use Rattle.std.proofs.Common.{◌≡◌, ◌<◌, ℕ, zero, suc, get_or, List, [], ◌∷◌, false, length, refl, None, Result, Ok, Err, arith, rules}
 use Rattle.std.specs.List.{AllByRecursion}
-use Rattle.tally_base.specs.declared.fault.Fault.{Fault}
-use Rattle.tally_base.specs.declared.header.Mode.{Mode}
-use Rattle.tally_base.specs.declared.header.Mode.TheVariants.{T2, T3}
-use Rattle.tally_base.specs.Settings.{is_strict, PartSettings}
-use Rattle.tally_base.specs.Settings.PartSettings.{ImageSettings, CubeSettings}
+use Rattle.tally_base.{specs.declared.fault.Fault.Fault, specs.declared.header.Mode.Mode, specs.declared.header.Mode.TheVariants.{T2, T3}, specs.Settings.{is_strict, PartSettings}, specs.Settings.PartSettings.{ImageSettings, CubeSettings}}
 use Rattle.toml_rules.specs.Rules.{or_next}
-use Rattle.plan_text.specs.Fits.{fits, misfit, refusal, groups_fit, shifts_fit, parts_fit}
-use Rattle.plan_text.specs.Plan.{PlanView, parts_of}
-use Rattle.plan_text.proofs.Misfits.{suits_by}
-use Rattle.tally_engine.specs.declared.part.Part.{Part}
-use Rattle.tally_engine.specs.contracts.part.PartTally.TheImpl.{ghosts}
-use Rattle.tally_engine.specs.Parts.{settings_in}
+use Rattle.plan_text.{specs.Fits.{fits, misfit, refusal, groups_fit, shifts_fit, parts_fit}, specs.Plan.{PlanView, parts_of}, proofs.Misfits.suits_by}
+use Rattle.tally_engine.{specs.declared.part.Part.Part, specs.contracts.part.PartTally.TheImpl.ghosts, specs.Parts.settings_in}
 
 -- settings of a kind that isn't strict
 abbrev Loose : PartSettings → Type 0

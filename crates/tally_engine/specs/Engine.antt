@@ -1,20 +1,12 @@
 -- What an engine stands for.
 use Rattle.std.specs.Prelude.{◌≡◌, ℕ, All, ◌+◌, List, length, sum_by, None, Result, Ok, Err}
 use Rattle.std.specs.declared.option.Option.{Option}
-use Rattle.tally_base.specs.declared.fault.Fault.{Fault}
-use Rattle.tally_base.specs.declared.header.Header.{Header}
-use Rattle.tally_base.specs.Settings.{PartSettings, entries}
-use Rattle.ptu_definitions.specs.Streams.{Reading, streamed}
-use Rattle.ptu_definitions.specs.Words.{words_of}
+use Rattle.tally_base.{specs.declared.fault.Fault.Fault, specs.declared.header.Header.Header, specs.Settings.{PartSettings, entries}}
+use Rattle.ptu_definitions.{specs.Streams.{Reading, streamed}, specs.Words.words_of}
 use Rattle.record_stream.specs.Standing.{how_of, refused_with, carried_by, kept_back_by, bytes_in, HasStreamed}
 use Rattle.plan_text.specs.Plan.{PlanView, parts_of}
-use Rattle.gate_plan.specs.Shifting.{Sorting, sorting}
-use Rattle.gate_plan.specs.Groups.{sorting_of}
-use Rattle.tally_engine.specs.Histories.{history, settled_history}
-use Rattle.tally_engine.specs.Parts.{settings_in, AllHold, AllClosed, IsWithinWork, entries_in}
-use Rattle.tally_engine.specs.Plans.{reading_by}
-use Rattle.tally_engine.specs.declared.engine.Engine.{Engine}
-use Rattle.tally_engine.specs.declared.engine.Results.{Results}
+use Rattle.gate_plan.{specs.Shifting.{Sorting, sorting}, specs.Groups.sorting_of}
+use Rattle.tally_engine.{specs.Histories.{history, settled_history}, specs.Parts.{settings_in, AllHold, AllClosed, IsWithinWork, entries_in}, specs.Plans.reading_by, specs.declared.engine.Engine.Engine, specs.declared.engine.Results.Results}
 
 -- ## What it was opened with
 

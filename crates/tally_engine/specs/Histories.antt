@@ -1,13 +1,8 @@
 -- The list of the events that tables are given: the kept list, with shifted dtimes and with groups.
 use Rattle.std.specs.Prelude.{ℕ, List, map}
-use Rattle.tally_base.specs.declared.event.Event.{Event}
-use Rattle.tally_base.specs.Settings.{GroupView}
-use Rattle.tally_base.specs.Tally.{History}
-use Rattle.gate_plan.specs.Taking.{groups_by}
-use Rattle.ptu_definitions.specs.Settled.{kept_by, settled_by}
-use Rattle.ptu_definitions.specs.Times.{events}
-use Rattle.ptu_definitions.specs.Streams.{Reading}
-use Rattle.gate_plan.specs.Shifting.{Sorting, shifted}
+use Rattle.tally_base.{specs.declared.event.Event.Event, specs.Settings.GroupView, specs.Tally.History}
+use Rattle.gate_plan.{specs.Taking.groups_by, specs.Shifting.{Sorting, shifted}}
+use Rattle.ptu_definitions.{specs.Settled.{kept_by, settled_by}, specs.Times.events, specs.Streams.Reading}
 
 -- events whose dtimes are shifted, each with the groups that it is in
 abbrev pub grouped : List GroupView → List Event → History

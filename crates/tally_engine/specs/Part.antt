@@ -1,16 +1,13 @@
 -- What each table is, whatever its kind.
 use Rattle.std.specs.Prelude.{◌≡◌, ◌≤◌, length}
-use Rattle.tally_base.specs.declared.tally.Tally.{Ghosts}
-use Rattle.tally_base.specs.Settings.{entries, is_strict}
-use Rattle.tally_base.specs.Tally.{History, greatest_time}
+use Rattle.tally_base.{specs.declared.tally.Tally.Ghosts, specs.Settings.{entries, is_strict}, specs.Tally.{History, greatest_time}}
 use Rattle.tcspc_hist.specs.Laws as hist
 use Rattle.tcspc_hist.specs.contracts.hist.HistTally.TheImpl.{ghosts as hist_ghosts}
 use Rattle.count_trace.specs.Laws as trace
 use Rattle.count_trace.specs.contracts.trace.TraceTally.TheImpl.{ghosts as trace_ghosts}
 use Rattle.coincidence.specs.Laws as startstop
-use Rattle.coincidence.specs.contracts.start_stop.StartStopTally.TheImpl.{ghosts as startstop_ghosts}
+use Rattle.coincidence.{specs.contracts.start_stop.StartStopTally.TheImpl.ghosts as startstop_ghosts, specs.contracts.coincidence.CoincidenceTally.TheImpl.ghosts as pairs_ghosts}
 use Rattle.coincidence.specs.CoincidenceLaws as pairs
-use Rattle.coincidence.specs.contracts.coincidence.CoincidenceTally.TheImpl.{ghosts as pairs_ghosts}
 use Rattle.scan_image.specs.Laws as image
 use Rattle.scan_image.specs.contracts.image.ImageTally.TheImpl.{ghosts as image_ghosts}
 use Rattle.flim_cube.specs.Laws as cube
@@ -19,8 +16,7 @@ use Rattle.fold_count.specs.Laws as fold_laws
 use Rattle.fold_count.specs.contracts.fold.FoldTally.TheImpl.{ghosts as fold_ghosts}
 use Rattle.tau_cascade.specs.Laws as cascade
 use Rattle.tau_cascade.specs.contracts.cascade.CascadeTally.TheImpl.{ghosts as cascade_ghosts}
-use Rattle.tally_engine.specs.declared.part.Part.{Part}
-use Rattle.tally_engine.specs.declared.part.Part.TheVariants.{Hist as InHist, Trace as InTrace, StartStop as InStartStop, Coincidence as InCoincidence, Image as InImage, Correlation as InCorrelation, Cube as InCube, Fold as InFold}
+use Rattle.tally_engine.{specs.declared.part.Part.Part, specs.declared.part.Part.TheVariants.Hist as InHist, specs.declared.part.Part.TheVariants.Trace as InTrace, specs.declared.part.Part.TheVariants.StartStop as InStartStop, specs.declared.part.Part.TheVariants.Coincidence as InCoincidence, specs.declared.part.Part.TheVariants.Image as InImage, specs.declared.part.Part.TheVariants.Correlation as InCorrelation, specs.declared.part.Part.TheVariants.Cube as InCube, specs.declared.part.Part.TheVariants.Fold as InFold}
 
 -- what a table of any kind has
 abbrev pub by_kind {ℓ} : {X : Type ℓ} → ((T : Type 0) → Ghosts T → T → X) → Part → X

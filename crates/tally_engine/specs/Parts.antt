@@ -1,18 +1,10 @@
 -- The tables of an engine.
 use Rattle.std.specs.Prelude.{◌≡◌, ◌≤◌, ⊤, ℕ, List, [], All, map, sum_by, true, false, Result, Ok, Err}
-use Rattle.tally_base.specs.Settings.{PartSettings, correlation_view}
-use Rattle.tally_base.specs.declared.fault.Fault.{Fault}
-use Rattle.ptu_definitions.specs.declared.records.Summary.{Summary}
-use Rattle.ptu_definitions.specs.Streams.{Reading, streamed}
-use Rattle.ptu_definitions.specs.Words.{words_of}
-use Rattle.tally_base.specs.Tally.{History}
+use Rattle.tally_base.{specs.Settings.{PartSettings, correlation_view}, specs.declared.fault.Fault.Fault, specs.Tally.History}
+use Rattle.ptu_definitions.{specs.declared.records.Summary.Summary, specs.Streams.{Reading, streamed}, specs.Words.words_of}
 use Rattle.gate_plan.specs.Shifting.{Sorting}
-use Rattle.tau_cascade.specs.Cascade.{set_of, spent_by}
-use Rattle.tau_cascade.specs.Work.{work}
-use Rattle.tally_engine.specs.Histories.{history, settled_history}
-use Rattle.tally_engine.specs.declared.part.Part.{Part}
-use Rattle.tally_engine.specs.declared.part.Part.TheVariants.{Correlation as InCorrelation}
-use Rattle.tally_engine.specs.contracts.part.PartTally.TheImpl.{ghosts}
+use Rattle.tau_cascade.{specs.Cascade.{set_of, spent_by}, specs.Work.work}
+use Rattle.tally_engine.{specs.Histories.{history, settled_history}, specs.declared.part.Part.Part, specs.declared.part.Part.TheVariants.Correlation as InCorrelation, specs.contracts.part.PartTally.TheImpl.ghosts}
 
 -- what the tables were opened with
 abbrev pub settings_in : List Part → List PartSettings

@@ -1,19 +1,10 @@
 -- What a piece of the bytes does to a stream and to the tables behind it.
 use Rattle.std.specs.Prelude.{◌≡◌, ◌≢◌, ◌+◌, ℕ, List, ◌++◌, All, Result, Err, OnOk, IfErr}
-use Rattle.tally_base.specs.declared.fault.Fault.{Fault}
-use Rattle.tally_base.specs.declared.fault.Fault.TheVariants.{WriteFault}
-use Rattle.tally_base.specs.declared.header.Mode.{Mode}
-use Rattle.tally_base.specs.Faults.{fault_in}
-use Rattle.ptu_definitions.specs.Shown.{Shows}
-use Rattle.ptu_definitions.specs.Streams.{record_refusal, streamed}
-use Rattle.ptu_definitions.specs.Words.{words_of}
-use Rattle.record_stream.specs.declared.stream.RecordStream.{RecordStream}
-use Rattle.record_stream.specs.Standing.{how_of, given_by, greatest_of, bytes_in, HasStreamed}
+use Rattle.tally_base.{specs.declared.fault.Fault.Fault, specs.declared.fault.Fault.TheVariants.WriteFault, specs.declared.header.Mode.Mode, specs.Faults.fault_in}
+use Rattle.ptu_definitions.{specs.Shown.Shows, specs.Streams.{record_refusal, streamed}, specs.Words.words_of}
+use Rattle.record_stream.{specs.declared.stream.RecordStream.RecordStream, specs.Standing.{how_of, given_by, greatest_of, bytes_in, HasStreamed}}
 use Rattle.gate_plan.specs.Shifting.{Sorting}
-use Rattle.tally_engine.specs.declared.part.Part.{Part}
-use Rattle.tally_engine.specs.contracts.part.PartTally.TheImpl.{ghosts}
-use Rattle.tally_engine.specs.Parts.{HoldOn}
-use Rattle.tally_engine.specs.Taker.{Standing}
+use Rattle.tally_engine.{specs.declared.part.Part.Part, specs.contracts.part.PartTally.TheImpl.ghosts, specs.Parts.HoldOn, specs.Taker.Standing}
 
 -- Behind these bytes the stream was given the piece. The answer is the refusal that the words call for, and where there is none the tables were given their events.
 pub record AnswersPiece (by : Sorting) (old new : RecordStream) (bytes piece : List ℕ) (parts parts' : List Part) (r : Result (Unit {0}) Fault) : Type 0 where

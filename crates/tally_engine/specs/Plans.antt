@@ -1,9 +1,6 @@
 -- What a plan asks of an engine.
 use Rattle.std.specs.Prelude.{◌≡◌, ◌⊎◌, Result, Ok, Err}
-use Rattle.tally_base.specs.declared.event.Policy.{Policy}
-use Rattle.tally_base.specs.declared.fault.Fault.{Fault}
-use Rattle.tally_base.specs.declared.fault.Fault.TheVariants.{OutOfMemory}
-use Rattle.tally_base.specs.declared.header.Header.{Header}
+use Rattle.tally_base.{specs.declared.event.Policy.Policy, specs.declared.fault.Fault.Fault, specs.declared.fault.Fault.TheVariants.OutOfMemory, specs.declared.header.Header.Header}
 use Rattle.plan_text.specs.Plan.{PlanView}
 use Rattle.ptu_definitions.specs.Streams.{Reading, reading}
 

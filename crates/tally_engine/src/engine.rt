@@ -1,9 +1,6 @@
 // All tables of a plan, and the stream that feeds them.
 ghost use Rattle.std.specs.Prelude.{◌≡◌, ℕ, All, List, None, Some, false};
-ghost use Rattle.tally_base.specs.declared.fault.Fault.{Fault};
-ghost use Rattle.tally_base.specs.Faults.{is_outside};
-ghost use Rattle.tally_base.specs.RecordTypes.{mode_of};
-ghost use Rattle.tally_base.specs.Limits.{record_limit};
+ghost use Rattle.tally_base.{specs.declared.fault.Fault.Fault, specs.Faults.is_outside, specs.RecordTypes.mode_of, specs.Limits.record_limit};
 ghost use Rattle.record_stream.specs.Standing.{how_of, given_by, greatest_of, refused_with, HasStreamed};
 ghost use Rattle.tally_engine.specs.Taker.{Standing};
 
@@ -49,15 +46,10 @@ pub struct Engine {
 
 impl Engine {
     ghost use Rattle.std.specs.Prelude.{◌+◌, ◌*◌, ◌<◌, ◌≤◌, [], ◌++◌, length, Err, OnOk, IfOk, IfErr};
-    ghost use Rattle.plan_text.specs.Fits.{fits};
-    ghost use Rattle.plan_text.specs.Reading.{plan_view};
-    ghost use Rattle.tally_engine.specs.Plans.{OpensAs};
-    ghost use Rattle.plan_text.specs.Bound.{bound as plan_bound};
-    ghost use Rattle.ptu_definitions.specs.Shown.{Shows};
-    ghost use Rattle.ptu_definitions.specs.Streams.{record_refusal, streamed};
-    ghost use Rattle.ptu_definitions.specs.Words.{words_of};
+    ghost use Rattle.plan_text.{specs.Fits.fits, specs.Reading.plan_view, specs.Bound.bound as plan_bound};
+    ghost use Rattle.tally_engine.{specs.Plans.OpensAs, specs.Engine.{reading_of, refused_by, bytes_fed, HasFed, IsFor, SameEngine, Finishes, held, bound}};
+    ghost use Rattle.ptu_definitions.{specs.Shown.Shows, specs.Streams.{record_refusal, streamed}, specs.Words.words_of};
     ghost use Rattle.tally_base.specs.Faults.{fault_in};
-    ghost use Rattle.tally_engine.specs.Engine.{reading_of, refused_by, bytes_fed, HasFed, IsFor, SameEngine, Finishes, held, bound};
 
     /// An engine of no bytes, for a plan and the header of a file.
     ///

@@ -1,20 +1,10 @@
 // A block of events to every table.
 ghost use Rattle.std.specs.Prelude.{◌≡◌, ℕ, ◌+◌, ◌<◌, ◌≤◌, ◌++◌, ◌∷◌, [], All, List, false, map, length, if◌then◌else◌};
-ghost use Rattle.tally_base.specs.declared.event.Event.{Event};
-ghost use Rattle.tally_base.specs.Settings.{GroupView};
-ghost use Rattle.event_block.specs.Codes.{kind_of};
-ghost use Rattle.event_block.specs.Columns.{sorted, gathered, events_in, IsSorted};
-ghost use Rattle.gate_plan.specs.Groups.{sorting_of};
-ghost use Rattle.gate_plan.specs.Shifting.{shifted, shifted_dtime};
-ghost use Rattle.gate_plan.specs.Taking.{groups_by};
-ghost use Rattle.gate_plan.specs.Parting.{plain_bits, gated_bits, TellsGroups};
-ghost use Rattle.tally_base.specs.Events.{is_ordered};
-ghost use Rattle.tally_base.specs.Limits.{record_limit};
+ghost use Rattle.tally_base.{specs.declared.event.Event.Event, specs.Settings.GroupView, specs.Events.is_ordered, specs.Limits.record_limit};
+ghost use Rattle.event_block.{specs.Codes.kind_of, specs.Columns.{sorted, gathered, events_in, IsSorted}, specs.Tables.{MayTake, HasTaken}};
+ghost use Rattle.gate_plan.{specs.Groups.sorting_of, specs.Shifting.{shifted, shifted_dtime}, specs.Taking.groups_by, specs.Parting.{plain_bits, gated_bits, TellsGroups}};
 ghost use Rattle.record_stream.specs.Floors.{moved_floor};
-ghost use Rattle.tally_engine.specs.Ahead.{taken_with, floor_with, IsAt, NoneWaits};
-ghost use Rattle.event_block.specs.Tables.{MayTake, HasTaken};
-ghost use Rattle.tally_engine.specs.Give.{Each, Moves, Closed, kept_of};
-ghost use Rattle.tally_engine.specs.Histories.{grouped, with_groups};
+ghost use Rattle.tally_engine.{specs.Ahead.{taken_with, floor_with, IsAt, NoneWaits}, specs.Give.{Each, Moves, Closed, kept_of}, specs.Histories.{grouped, with_groups}};
 
 use crate::part::Part;
 use crate::reached::Reached;

@@ -1,14 +1,10 @@
 // A block of events to every table, behind events that wait.
 ghost use Rattle.std.specs.Prelude.{◌≡◌, ◌+◌, ◌<◌, ◌≤◌, ◌++◌, [], All, false, length};
 ghost use Rattle.tally_base.specs.Limits.{record_limit};
-ghost use Rattle.event_block.specs.Columns.{sorted, gathered};
-ghost use Rattle.event_block.specs.Order.{floor_after};
+ghost use Rattle.event_block.{specs.Columns.{sorted, gathered}, specs.Order.floor_after, specs.Tables.{MayTake, HasTaken}};
 ghost use Rattle.gate_plan.specs.Groups.{sorting_of};
 ghost use Rattle.record_stream.specs.Blocks.{orders_markers};
-ghost use Rattle.tally_engine.specs.Ahead.{taken_with, floor_with, NoneWaits};
-ghost use Rattle.event_block.specs.Tables.{MayTake, HasTaken};
-ghost use Rattle.tally_engine.specs.Give.{Each, Moves};
-ghost use Rattle.tally_engine.specs.Histories.{with_groups};
+ghost use Rattle.tally_engine.{specs.Ahead.{taken_with, floor_with, NoneWaits}, specs.Give.{Each, Moves}, specs.Histories.with_groups};
 
 use crate::give::flush;
 use crate::part::Part;

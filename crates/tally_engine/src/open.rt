@@ -1,9 +1,7 @@
 // The tables of a plan are opened.
 ghost use Rattle.std.specs.Prelude.{◌≡◌, ◌++◌, map, IfOk, OnOk};
-ghost use Rattle.tally_base.specs.Settings.{PartSettings, hist_view, trace_view, startstop_view, coincidence_view, image_view, correlation_view, cube_view, fold_view};
-ghost use Rattle.tally_base.specs.Settings.PartSettings.{HistSettings, TraceSettings, StartStopSettings, CoincidenceSettings, ImageSettings, CorrelationSettings, CubeSettings, FoldSettings};
-ghost use Rattle.plan_text.specs.Plan.{parts_of};
-ghost use Rattle.plan_text.specs.Reading.{plan_view};
+ghost use Rattle.tally_base.{specs.Settings.{PartSettings, hist_view, trace_view, startstop_view, coincidence_view, image_view, correlation_view, cube_view, fold_view}, specs.Settings.PartSettings.{HistSettings, TraceSettings, StartStopSettings, CoincidenceSettings, ImageSettings, CorrelationSettings, CubeSettings, FoldSettings}};
+ghost use Rattle.plan_text.{specs.Plan.parts_of, specs.Reading.plan_view};
 ghost use Rattle.tally_engine.specs.Parts.{settings_in, IsOpened, AllOpened};
 
 use crate::part::Part;

@@ -81,8 +81,7 @@ impl Tally for Part {
 }
 
 impl Part {
-    ghost use Rattle.event_block.specs.Columns.{gathered, events_in, IsSorted};
-    ghost use Rattle.event_block.specs.Tables.{MayTake, HasTaken};
+    ghost use Rattle.event_block.{specs.Columns.{gathered, events_in, IsSorted}, specs.Tables.{MayTake, HasTaken}};
 
     /// Takes the events of a block, each as `event` does. The kind of the table is tested once.
     #[inline]

@@ -1,21 +1,11 @@
 // The taker of a stream's events that gives them to every table.
 ghost use Rattle.std.specs.Prelude.{◌≡◌, ℕ, ◌+◌, ◌*◌, ◌<◌, ◌≤◌, [], List, All, length, false, None, OnOk, IfErr};
 ghost use Rattle.record_stream.specs.Standing.{how_of, given_by, greatest_of, refused_with, bytes_in, HasStreamed};
-ghost use Rattle.tally_base.specs.Faults.{fault_in};
-ghost use Rattle.tally_engine.specs.Histories.{with_groups};
-ghost use Rattle.tally_base.specs.Faults.{is_outside};
-ghost use Rattle.tally_engine.specs.Parts.{Ends};
-ghost use Rattle.tally_engine.specs.Pieces.{AnswersPiece, TablesFollow};
-ghost use Rattle.tally_engine.specs.Same.{SameTables};
+ghost use Rattle.tally_base.{specs.Faults.{fault_in, is_outside}, specs.Limits.record_limit};
+ghost use Rattle.tally_engine.{specs.Histories.with_groups, specs.Parts.Ends, specs.Pieces.{AnswersPiece, TablesFollow}, specs.Same.SameTables, specs.Ahead.{taken_with, floor_with}, specs.Give.Each, specs.Taker.{Standing, Waits}};
 ghost use Rattle.gate_plan.specs.Groups.{sorting_of};
-ghost use Rattle.event_block.specs.Columns.{sorted, gathered};
-ghost use Rattle.event_block.proofs.Props.{in_order-prop};
+ghost use Rattle.event_block.{specs.Columns.{sorted, gathered}, proofs.Props.in_order-prop, specs.Tables.{MayTake, HasTaken}};
 ghost use Rattle.std.proofs.Props.{props};
-ghost use Rattle.tally_base.specs.Limits.{record_limit};
-ghost use Rattle.tally_engine.specs.Ahead.{taken_with, floor_with};
-ghost use Rattle.event_block.specs.Tables.{MayTake, HasTaken};
-ghost use Rattle.tally_engine.specs.Give.{Each};
-ghost use Rattle.tally_engine.specs.Taker.{Standing, Waits};
 
 use crate::give::gather;
 use crate::give_behind::{flush_waiting, give_behind};
@@ -46,8 +36,7 @@ struct PartTaker<'g, 'p, 's, L: Ledger> {
 }
 
 impl<'g, 'p, 's, L: Ledger> EventTaker for PartTaker<'g, 'p, 's, L> {
-    ghost use Rattle.tally_engine.specs.Same.{SameTaker, same_taker_none, same_taker_more};
-    ghost use Rattle.tally_engine.specs.Taker.{Gave, gave_none};
+    ghost use Rattle.tally_engine.{specs.Same.{SameTaker, same_taker_none, same_taker_more}, specs.Taker.{Gave, gave_none}};
 
     ghost got = { λ s t l. Gave ⟦<Part as Tally>⟧ (sorting_of s.gates.now) (sorting_of t.gates.now) s.mode
         t.mode (taken_with s.reached (gathered s.block)) (taken_with t.reached (gathered t.block))

@@ -1,32 +1,11 @@
 -- What a block of events does to the photons of the two groups.
-use Rattle.std.proofs.Common.{◌≡◌, ℕ, zero, suc, ◌+◌, ◌<◌, ◌≤◌, Bool, true, false, ◌&&◌, ◌||◌, cond, ltb, List, [], ◌∷◌, ◌++◌, length, map, take, refl, sym, ap, ◌∙◌, append-nil, arith, length-append, zero-add}
+use Rattle.std.proofs.Common.{◌≡◌, ℕ, zero, suc, ◌+◌, ◌<◌, ◌≤◌, Bool, true, false, ◌&&◌, ◌||◌, cond, ltb, List, [], ◌∷◌, ◌++◌, length, map, take, refl, sym, ap, ◌∙◌, append-nil, arith, length-append, zero-add, slice_set, nat_lt}
 use mir.Val.{bool_byte}
-use Rattle.std.specs.Prelude.{slice_set, nat_lt}
-use Rattle.std.specs.List.{AllByRecursion}
-use Rattle.std.proofs.lemmas.Bool.{false≢true}
-use Rattle.std.proofs.lemmas.Grind.{common_steps}
-use Rattle.std.proofs.lemmas.List.{map-append, take_more_set}
-use Rattle.std.proofs.lemmas.List.Elements.{filter-append}
-use Rattle.tally_base.specs.declared.settings.CorrelationSet.{CorrelationSet}
-use Rattle.tally_base.specs.Events.{is_photon, is_in}
-use Rattle.tally_base.specs.Settings.{CorrelationView, correlation_view}
-use Rattle.tally_base.specs.Tally.{History, greatest_time}
-use Rattle.tally_base.specs.Limits.{record_limit}
-use Rattle.event_block.specs.declared.block.Block.{Block}
-use Rattle.event_block.specs.Columns.{rows, item, event_at, code_at, groups_at, gathered, events_in}
-use Rattle.event_block.specs.Order.{floor_after, InOrder}
-use Rattle.event_block.proofs.Back.{moves_row}
-use Rattle.event_block.proofs.Greatest.{greatest-rows}
-use Rattle.event_block.proofs.Order.{order-front, order-last}
-use Rattle.event_block.proofs.Rows.{length-rows}
+use Rattle.std.{specs.List.AllByRecursion, proofs.lemmas.Bool.false≢true, proofs.lemmas.Grind.common_steps, proofs.lemmas.List.{map-append, take_more_set}, proofs.lemmas.List.Elements.filter-append}
+use Rattle.tally_base.{specs.declared.settings.CorrelationSet.CorrelationSet, specs.Events.{is_photon, is_in}, specs.Settings.{CorrelationView, correlation_view}, specs.Tally.{History, greatest_time}, specs.Limits.record_limit}
+use Rattle.event_block.{specs.declared.block.Block.Block, specs.Columns.{rows, item, event_at, code_at, groups_at, gathered, events_in}, specs.Order.{floor_after, InOrder}, proofs.Back.moves_row, proofs.Greatest.greatest-rows, proofs.Order.{order-front, order-last}, proofs.Rows.length-rows}
 use Rattle.lag_ring.specs.declared.ring.Entry.{Entry}
-use Rattle.tau_cascade.specs.declared.level.Level.{Level}
-use Rattle.tau_cascade.specs.Correlation.{Given, bin, in_first, in_second, photons_of}
-use Rattle.tau_cascade.specs.StandsFor.{StandsFor}
-use Rattle.tau_cascade.specs.Levels.{IsBin, Chain}
-use Rattle.tau_cascade.specs.Bins.{raised, bin_of, photon_bins, Come, CanCome, CanGiveBlock}
-use Rattle.tau_cascade.proofs.Follows.{come_push, raised-none}
-use Rattle.tau_cascade.proofs.Gives.{bin-zero, none_before, mine-photon, few_photons}
+use Rattle.tau_cascade.{specs.declared.level.Level.Level, specs.Correlation.{Given, bin, in_first, in_second, photons_of}, specs.StandsFor.StandsFor, specs.Levels.{IsBin, Chain}, specs.Bins.{raised, bin_of, photon_bins, Come, CanCome, CanGiveBlock}, proofs.Follows.{come_push, raised-none}, proofs.Gives.{bin-zero, none_before, mine-photon, few_photons}}
 
 flip : (x y : Bool) → ◌≡◌ {A = ℕ} (cond (x && y) 1 0) (cond (y && x) 1 0)
 flip true true = refl

@@ -1,15 +1,9 @@
 -- The open bins in the end, from level to level.
 use Rattle.std.proofs.Common.{ℕ, suc, ◌+◌, ◌<◌, ◌≤◌, List, [], ◌∷◌, length, map, refl, sym, ap, append-nil, arith, length-append}
 use Rattle.std.specs.List.{AllByRecursion}
-use Rattle.tally_base.specs.Settings.{CorrelationView}
-use Rattle.tally_base.specs.Tally.{History}
-use Rattle.tally_base.specs.Limits.{record_limit}
+use Rattle.tally_base.{specs.Settings.CorrelationView, specs.Tally.History, specs.Limits.record_limit}
 use Rattle.lag_ring.specs.declared.ring.Entry.{Entry}
-use Rattle.tau_cascade.specs.declared.level.Level.{Level}
-use Rattle.tau_cascade.specs.Correlation.{bin}
-use Rattle.tau_cascade.specs.Levels.{IsBin, CanEnd, CanFinish, Chain}
-use Rattle.tau_cascade.specs.Bins.{raised, CanCome}
-use Rattle.tau_cascade.proofs.Follows.{goes_up}
+use Rattle.tau_cascade.{specs.declared.level.Level.Level, specs.Correlation.bin, specs.Levels.{IsBin, CanEnd, CanFinish, Chain}, specs.Bins.{raised, CanCome}, proofs.Follows.goes_up}
 
 -- a closed bin may go on to the next level
 pub next_come : (set : CorrelationView) (level : ℕ) (ls : List Level) (e : Entry) (closed open' : History) → length closed + length open' ≤ record_limit → Chain set (suc level) ls closed → IsBin set level e open' → AllByRecursion (λ x. bin level x < e.index) closed → CanCome set (suc level) ls (map (raised 1) (e ∷ [])) closed open'

@@ -1,22 +1,8 @@
 -- Bins that are laid close together.
 use Rattle.std.proofs.Common.{◌≡◌, ◌∙◌, ℕ, zero, suc, ◌+◌, ◌-◌, ◌*◌, ◌<◌, ◌≤◌, true, false, eqb, ltb, cond, min, List, [], ◌∷◌, ◌++◌, length, get_or, take, drop, refl, sym, ap, subst, arith, append_assoc}
-use Rattle.std.specs.List.{sum_by, AllByRecursion}
-use Rattle.std.proofs.Math.Nat.{mul-le-mul, mul-le-mul_left}
-use Rattle.std.proofs.lemmas.Bool.Decides.{nat_tests}
-use Rattle.std.proofs.lemmas.List.{take-append-drop, length-drop, length-take-le, drop_more}
-use Rattle.std.proofs.lemmas.List.Sums.{sum_by-append, sum_by_push}
-use Rattle.lag_ring.specs.declared.ring.Entry.{Entry}
-use Rattle.lag_ring.specs.declared.window.Side.TheVariants.{First, Second}
-use Rattle.lag_ring.specs.Ring.{IsRising}
-use Rattle.lag_ring.specs.Window.{weight_at, product_at}
-use Rattle.lag_ring.proofs.Rising.{all_weaker, all_push, rising_front, rising_back}
-use Rattle.lag_ring.proofs.Sums.{sum_by-agree, sum_by-same, sum_by-zero}
-use Rattle.lag_ring.proofs.Windows.{window-before}
-use Rattle.tau_cascade.specs.Levels.{weight_before}
-use Rattle.tau_cascade.specs.Paired.{paired}
-use Rattle.tau_cascade.specs.Laid.{laid, laid_pairs, IsBehind, IsLight}
-use Rattle.tau_cascade.proofs.Nexts.{paired-append}
-use Rattle.tau_cascade.proofs.Together.{paired-all}
+use Rattle.std.{specs.List.{sum_by, AllByRecursion}, proofs.Math.Nat.{mul-le-mul, mul-le-mul_left}, proofs.lemmas.Bool.Decides.nat_tests, proofs.lemmas.List.{take-append-drop, length-drop, length-take-le, drop_more}, proofs.lemmas.List.Sums.{sum_by-append, sum_by_push}}
+use Rattle.lag_ring.{specs.declared.ring.Entry.Entry, specs.declared.window.Side.TheVariants.{First, Second}, specs.Ring.IsRising, specs.Window.{weight_at, product_at}, proofs.Rising.{all_weaker, all_push, rising_front, rising_back}, proofs.Sums.{sum_by-agree, sum_by-same, sum_by-zero}, proofs.Windows.window-before}
+use Rattle.tau_cascade.{specs.Levels.weight_before, specs.Paired.paired, specs.Laid.{laid, laid_pairs, IsBehind, IsLight}, proofs.Nexts.paired-append, proofs.Together.paired-all}
 
 -- a bin that is laid at a place
 abbrev pub laid_at : ℕ → Entry → Entry

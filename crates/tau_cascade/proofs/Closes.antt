@@ -1,15 +1,9 @@
 -- What closing a bin does to the ring of a level.
 use Rattle.std.proofs.Common.{◌≡◌, ℕ, ◌+◌, ◌-◌, ◌<◌, ◌≤◌, Bool, false, refl, sym, leb, List, [], ◌∷◌, ◌++◌, length, arith}
 use Rattle.std.specs.List.{filter, AllByRecursion}
-use Rattle.tally_base.specs.Settings.{CorrelationView}
-use Rattle.tally_base.specs.Tally.{History}
-use Rattle.lag_ring.specs.declared.ring.Entry.{Entry}
-use Rattle.lag_ring.specs.Ring.{Ring, ring, IsRising}
-use Rattle.lag_ring.proofs.Kept.{room_after, kept_after}
-use Rattle.lag_ring.proofs.Lists.{all_filter}
-use Rattle.lag_ring.proofs.Rising.{all_weaker, rising_push}
-use Rattle.tau_cascade.specs.Correlation.{bin, in_first, in_second}
-use Rattle.tau_cascade.specs.Levels.{RingIs, CanClose}
+use Rattle.tally_base.{specs.Settings.CorrelationView, specs.Tally.History}
+use Rattle.lag_ring.{specs.declared.ring.Entry.Entry, specs.Ring.{Ring, ring, IsRising}, proofs.Kept.{room_after, kept_after}, proofs.Lists.all_filter, proofs.Rising.{all_weaker, rising_push}}
+use Rattle.tau_cascade.{specs.Correlation.{bin, in_first, in_second}, specs.Levels.{RingIs, CanClose}}
 
 module _ (set : CorrelationView) (level : ℕ) (r : Ring) (e : Entry) (closed xs : History) (some : 0 < set.lags) (can : CanClose set level r e closed xs) where
   abbrev stays : Entry → Bool

@@ -1,7 +1,6 @@
 -- How many different numbers a list has.
 use Rattle.std.proofs.Common.{◌≡◌, ℕ, ◌+◌, ◌<◌, ◌≤◌, Bool, true, false, cond, ◌||◌, eqb, List, [], ◌∷◌, ◌++◌, length, refl, sym, ap, ◌∙◌, append_assoc, arith}
-use Rattle.std.specs.List.{AllByRecursion}
-use Rattle.std.proofs.lemmas.Grind.{common_steps}
+use Rattle.std.{specs.List.AllByRecursion, proofs.lemmas.Grind.common_steps}
 use Rattle.tau_cascade.specs.Work.{appears, distinct}
 
 pub appears-push : (n m : ℕ) (ns : List ℕ) → appears n (ns ++ m ∷ []) ≡ (appears n ns || eqb m n)

@@ -1,22 +1,10 @@
 -- Bins that come to a level, and what they are merged into.
-use Rattle.std.proofs.Common.{◌≡◌, ◌≢◌, ℕ, suc, ◌+◌, ◌/◌, ◌^◌, ◌<◌, ◌≤◌, Bool, true, false, not, cond, eqb, Option, None, Some, List, [], ◌∷◌, ◌++◌, length, map, take, drop, get_or, refl, sym, ap, ◌∙◌, append_assoc, append-nil, arith}
-use Rattle.std.specs.List.{sum_by, count_by, AllByRecursion}
+use Rattle.std.proofs.Common.{◌≡◌, ◌≢◌, ℕ, suc, ◌+◌, ◌/◌, ◌^◌, ◌<◌, ◌≤◌, Bool, true, false, not, cond, eqb, Option, None, Some, List, [], ◌∷◌, ◌++◌, length, map, take, drop, get_or, refl, sym, ap, ◌∙◌, append_assoc, append-nil, arith, slice_set, slice_range}
+use Rattle.std.{specs.List.{sum_by, count_by, AllByRecursion}, proofs.Math.Nat.{div-div-eq-div-mul, div-one}, proofs.lemmas.Grind.common_steps, proofs.lemmas.List.{take_more_set, drop_more, drop-set-add, length-drop}, proofs.lemmas.Slice.first_rest, proofs.lemmas.List.Sums.{sum_by-cons, sum_by-append}}
 use mir.Val.{bool_byte}
-use Rattle.std.specs.Prelude.{slice_set, slice_range}
-use Rattle.std.proofs.Math.Nat.{div-div-eq-div-mul, div-one}
-use Rattle.std.proofs.lemmas.Grind.{common_steps}
-use Rattle.std.proofs.lemmas.List.{take_more_set, drop_more, drop-set-add, length-drop}
-use Rattle.std.proofs.lemmas.Slice.{first_rest}
-use Rattle.std.proofs.lemmas.List.Sums.{sum_by-cons, sum_by-append}
-use Rattle.tally_base.specs.Settings.{CorrelationView}
-use Rattle.tally_base.specs.Tally.{History}
-use Rattle.lag_ring.specs.declared.ring.Entry.{Entry}
-use Rattle.lag_ring.proofs.Lists.{all_back, all_join, of_some}
-use Rattle.lag_ring.proofs.Rising.{all_weaker}
-use Rattle.tau_cascade.specs.Correlation.{Given, bin, in_first, in_second}
-use Rattle.tau_cascade.specs.Levels.{IsBin, OpenIs}
-use Rattle.tau_cascade.specs.Bins.{raised, both_of, merged, merged_onto, Come, Follow}
-use Rattle.tau_cascade.proofs.Puts.{is_bin-append}
+use Rattle.tally_base.{specs.Settings.CorrelationView, specs.Tally.History}
+use Rattle.lag_ring.{specs.declared.ring.Entry.Entry, proofs.Lists.{all_back, all_join, of_some}, proofs.Rising.all_weaker}
+use Rattle.tau_cascade.{specs.Correlation.{Given, bin, in_first, in_second}, specs.Levels.{IsBin, OpenIs}, specs.Bins.{raised, both_of, merged, merged_onto, Come, Follow}, proofs.Puts.is_bin-append}
 
 -- a bin of the next level is two of this one
 pub bin-suc : (level : ℕ) (x : Given) → bin (suc level) x ≡ bin level x / 2

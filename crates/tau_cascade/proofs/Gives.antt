@@ -1,25 +1,10 @@
 -- What an event does to the photons of the two groups.
-use Rattle.std.proofs.Common.{◌≡◌, ℕ, ◌+◌, ◌<◌, ◌≤◌, max, Bool, true, false, ◌&&◌, ◌||◌, cond, ◌⊎◌, List, [], ◌∷◌, ◌++◌, length, map, fold, refl, sym, ap, ◌∙◌, arith, length-append, append-nil, zero-add, inl, inr}
+use Rattle.std.proofs.Common.{◌≡◌, ℕ, ◌+◌, ◌<◌, ◌≤◌, max, Bool, true, false, ◌&&◌, ◌||◌, cond, ◌⊎◌, List, [], ◌∷◌, ◌++◌, length, map, fold, refl, sym, ap, ◌∙◌, arith, length-append, append-nil, zero-add, inl, inr, IsTrue}
 use mir.Val.{bool_byte}
-use Rattle.std.specs.Prelude.{IsTrue}
-use Rattle.std.specs.List.{AllByRecursion}
-use Rattle.std.proofs.Math.Nat.{div-one}
-use Rattle.std.proofs.lemmas.Bool.{false≢true}
-use Rattle.std.proofs.lemmas.List.Elements.{filter-append}
-use Rattle.std.proofs.lemmas.List.Sums.{length-filter, count_by-le-length, fold_push}
-use Rattle.tally_base.specs.declared.event.Event.{Event}
-use Rattle.tally_base.specs.declared.settings.CorrelationSet.{CorrelationSet}
-use Rattle.tally_base.specs.Events.{is_photon, is_in}
-use Rattle.tally_base.specs.Settings.{CorrelationView, correlation_view}
-use Rattle.tally_base.specs.Tally.{History, moves_floor, greatest_time}
-use Rattle.tally_base.specs.Limits.{record_limit}
-use Rattle.lag_ring.proofs.Lists.{all_both, all_filter, all_passed}
-use Rattle.lag_ring.proofs.Rising.{all_weaker}
-use Rattle.tau_cascade.specs.declared.level.Level.{Level}
-use Rattle.tau_cascade.specs.Correlation.{Given, bin, in_first, in_second, photons_of}
-use Rattle.tau_cascade.specs.StandsFor.{StandsFor, CanGive}
-use Rattle.tau_cascade.specs.Levels.{IsBin, CanEnd, Chain, Complete}
-use Rattle.tau_cascade.specs.Bins.{raised, CanCome}
+use Rattle.std.{specs.List.AllByRecursion, proofs.Math.Nat.div-one, proofs.lemmas.Bool.false≢true, proofs.lemmas.List.Elements.filter-append, proofs.lemmas.List.Sums.{length-filter, count_by-le-length, fold_push}}
+use Rattle.tally_base.{specs.declared.event.Event.Event, specs.declared.settings.CorrelationSet.CorrelationSet, specs.Events.{is_photon, is_in}, specs.Settings.{CorrelationView, correlation_view}, specs.Tally.{History, moves_floor, greatest_time}, specs.Limits.record_limit}
+use Rattle.lag_ring.{proofs.Lists.{all_both, all_filter, all_passed}, proofs.Rising.all_weaker}
+use Rattle.tau_cascade.{specs.declared.level.Level.Level, specs.Correlation.{Given, bin, in_first, in_second, photons_of}, specs.StandsFor.{StandsFor, CanGive}, specs.Levels.{IsBin, CanEnd, Chain, Complete}, specs.Bins.{raised, CanCome}}
 
 abbrev later : ℕ → Given → ℕ
 later t x = cond (moves_floor false x.0) (max t x.0.time) t

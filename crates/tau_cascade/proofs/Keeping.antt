@@ -1,20 +1,9 @@
 -- What the ring of a level keeps once some bins are closed.
 use Rattle.std.proofs.Common.{◌≡◌, ℕ, ◌+◌, ◌-◌, ◌<◌, ◌≤◌, Bool, true, false, cond, leb, None, Some, List, [], ◌∷◌, ◌++◌, length, take, drop, get_or, slice_get, refl, sym, ap, ◌∙◌, append_assoc, append-nil, subst, arith, length-append}
-use Rattle.std.specs.List.{filter, AllByRecursion, AllByRecursion-prop}
-use Rattle.std.proofs.Props.{props}
-use Rattle.std.proofs.lemmas.Bool.{false≢true}
-use Rattle.std.proofs.lemmas.List.{drop_more, take_more, take-append-drop, length-take-le}
-use Rattle.std.proofs.lemmas.List.Elements.{filter-append}
-use Rattle.tally_base.specs.Settings.{CorrelationView}
-use Rattle.tally_base.specs.Tally.{History}
-use Rattle.lag_ring.specs.declared.ring.Entry.{Entry}
-use Rattle.lag_ring.specs.Ring.{Ring, ring, IsRising}
-use Rattle.lag_ring.proofs.Lists.{all_back, all_filter}
-use Rattle.lag_ring.proofs.Rising.{all_push, all_weaker, filter_passed}
-use Rattle.tau_cascade.specs.Correlation.{bin}
-use Rattle.tau_cascade.specs.Levels.{IsBin, RingIs}
-use Rattle.tau_cascade.specs.Bins.{Follow}
-use Rattle.tau_cascade.proofs.Closes.{filter_none, ring_after}
+use Rattle.std.{specs.List.{filter, AllByRecursion, AllByRecursion-prop}, proofs.Props.props, proofs.lemmas.Bool.false≢true, proofs.lemmas.List.{drop_more, take_more, take-append-drop, length-take-le}, proofs.lemmas.List.Elements.filter-append}
+use Rattle.tally_base.{specs.Settings.CorrelationView, specs.Tally.History}
+use Rattle.lag_ring.{specs.declared.ring.Entry.Entry, specs.Ring.{Ring, ring, IsRising}, proofs.Lists.{all_back, all_filter}, proofs.Rising.{all_push, all_weaker, filter_passed}}
+use Rattle.tau_cascade.{specs.Correlation.bin, specs.Levels.{IsBin, RingIs}, specs.Bins.Follow, proofs.Closes.{filter_none, ring_after}}
 
 pub rising-prop : (es : List Entry) → IsProp (IsRising es)
 rising-prop [] = hlevel props

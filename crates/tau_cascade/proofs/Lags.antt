@@ -1,12 +1,8 @@
 -- How many entries stand at the lags of a level.
 use Rattle.std.proofs.Common.{◌≡◌, ℕ, ◌-◌, ◌<◌, ◌≤◌, Bool, ◌&&◌, ltb, leb, List, cond, ap, arith}
-use Rattle.std.specs.List.{count_by, AllByRecursion}
-use Rattle.std.proofs.lemmas.Grind.{common_steps}
-use Rattle.lag_ring.specs.declared.ring.Entry.{Entry}
-use Rattle.lag_ring.specs.Ring.{IsRising}
+use Rattle.std.{specs.List.{count_by, AllByRecursion}, proofs.lemmas.Grind.common_steps}
+use Rattle.lag_ring.{specs.declared.ring.Entry.Entry, specs.Ring.IsRising, proofs.Between.{between, count-between}, proofs.Sums.sum_by-agree}
 use Rattle.tau_cascade.specs.Levels.{entries_at_lags}
-use Rattle.lag_ring.proofs.Between.{between, count-between}
-use Rattle.lag_ring.proofs.Sums.{sum_by-agree}
 
 abbrev pub at_lags : ℕ → ℕ → ℕ → Entry → Bool
 at_lags skipped lags index e = ltb skipped (index - e.index) && leb (index - e.index) lags

@@ -1,18 +1,8 @@
 -- The pairs of one bin more with the ring and the bins before it.
 use Rattle.std.proofs.Common.{◌≡◌, ℕ, ◌+◌, ◌-◌, ◌*◌, ◌<◌, ◌≤◌, cond, eqb, List, [], ◌∷◌, ◌++◌, length, get_or, take, drop, refl, sym, ap, ◌∙◌, append_assoc, append-nil, subst, arith}
-use Rattle.std.specs.List.{AllByRecursion}
-use Rattle.std.proofs.Math.Nat.{mul-le-mul_left}
-use Rattle.std.proofs.lemmas.List.{take_more, take-append-drop, take-take, drop-take, drop-append-le, drop_all, length-take-le}
-use Rattle.std.proofs.lemmas.List.Sums.{sum_by-append}
-use Rattle.lag_ring.specs.declared.ring.Entry.{Entry}
-use Rattle.lag_ring.specs.Ring.{IsRising}
-use Rattle.lag_ring.proofs.Lists.{all_back}
-use Rattle.lag_ring.proofs.Rising.{all_weaker, rising_front, rising_back}
-use Rattle.tau_cascade.specs.Levels.{weight_before, entries_at_lags}
-use Rattle.tau_cascade.specs.Paired.{paired}
-use Rattle.tau_cascade.proofs.Keeping.{all_below, split_at}
-use Rattle.tau_cascade.proofs.Lags.{few_at_lags}
-use Rattle.tau_cascade.proofs.Visits.{none_at_lag}
+use Rattle.std.{specs.List.AllByRecursion, proofs.Math.Nat.mul-le-mul_left, proofs.lemmas.List.{take_more, take-append-drop, take-take, drop-take, drop-append-le, drop_all, length-take-le}, proofs.lemmas.List.Sums.sum_by-append}
+use Rattle.lag_ring.{specs.declared.ring.Entry.Entry, specs.Ring.IsRising, proofs.Lists.all_back, proofs.Rising.{all_weaker, rising_front, rising_back}}
+use Rattle.tau_cascade.{specs.Levels.{weight_before, entries_at_lags}, specs.Paired.paired, proofs.Keeping.{all_below, split_at}, proofs.Lags.few_at_lags, proofs.Visits.none_at_lag}
 
 -- what two lists add
 pub paired-append : (lag : ℕ) (before es fs : List Entry) → paired lag before (es ++ fs) ≡ paired lag before es + paired lag (before ++ es) fs

@@ -1,8 +1,7 @@
 -- Levels to which nothing came.
 use Rattle.std.proofs.Common.{◌≡◌, ℕ, suc, ◌+◌, List, [], ◌∷◌, ◌++◌, length, refl, add-zero, arith}
 use Rattle.tally_base.specs.Settings.{CorrelationView}
-use Rattle.tau_cascade.specs.declared.level.Level.{Level}
-use Rattle.tau_cascade.specs.Levels.{LevelIs, Chain}
+use Rattle.tau_cascade.{specs.declared.level.Level.Level, specs.Levels.{LevelIs, Chain}}
 
 nil_left : {X : Type 0} (xs ys : List X) → [] ≡ xs ++ ys → xs ≡ []
 nil_left [] ys same = refl

@@ -1,27 +1,9 @@
 -- The open bins of levels are those that the events say.
-use Rattle.std.proofs.Common.{◌≡◌, ℕ, suc, zero, ◌+◌, ◌/◌, ◌<◌, ◌≤◌, max, Bool, true, false, ◌&&◌, eqb, ltb, cond, Option, Some, None, List, [], ◌∷◌, ◌++◌, length, map, slice_get, refl, sym, ap, ◌∙◌, zero-add, add-zero, append_assoc, append-nil, arith}
-use Rattle.std.specs.Prelude.{unwrap_or}
-use Rattle.std.specs.Option.{option_map}
-use Rattle.std.specs.List.{count_by, filter, AllByRecursion}
-use Rattle.lag_ring.proofs.Rising.{all_weaker}
-use Rattle.lag_ring.proofs.Rising.{filter_passed}
-use Rattle.lag_ring.specs.declared.ring.Entry.{Entry}
-use Rattle.std.proofs.lemmas.List.{map-append, length-map}
-use Rattle.std.proofs.lemmas.List.Elements.{filter-append}
-use Rattle.std.proofs.lemmas.List.Sums.{sum_by-append}
-use Rattle.tally_base.specs.declared.settings.CorrelationSet.{CorrelationSet}
-use Rattle.tally_base.specs.Settings.{CorrelationView, correlation_view}
-use Rattle.tally_base.specs.Tally.{History}
-use Rattle.tau_cascade.specs.declared.level.Level.{Level}
-use Rattle.tau_cascade.specs.Correlation.{Given, bin, in_first, in_second, photons_of}
-use Rattle.tau_cascade.specs.Levels.{OpenIs, Chain, Complete}
-use Rattle.tau_cascade.specs.StandsFor.{StandsFor}
-use Rattle.std.proofs.lemmas.Bool.{false≢true}
-use Rattle.tau_cascade.proofs.Gives.{none_before}
-use Rattle.tau_cascade.proofs.Follows.{bin-suc}
-use Rattle.lag_ring.proofs.Lists.{all_both, all_join, all_map, all_back, of_some}
-use Rattle.lag_ring.proofs.Sums.{sum_by-agree, sum_by-zero}
-use Rattle.tau_cascade.specs.Opens.{greatest, open_index, has_come, open_of, open_bin}
+use Rattle.std.proofs.Common.{◌≡◌, ℕ, suc, zero, ◌+◌, ◌/◌, ◌<◌, ◌≤◌, max, Bool, true, false, ◌&&◌, eqb, ltb, cond, Option, Some, None, List, [], ◌∷◌, ◌++◌, length, map, slice_get, refl, sym, ap, ◌∙◌, zero-add, add-zero, append_assoc, append-nil, arith, unwrap_or}
+use Rattle.std.{specs.Option.option_map, specs.List.{count_by, filter, AllByRecursion}, proofs.lemmas.List.{map-append, length-map}, proofs.lemmas.List.Elements.filter-append, proofs.lemmas.List.Sums.sum_by-append, proofs.lemmas.Bool.false≢true}
+use Rattle.lag_ring.{proofs.Rising.{all_weaker, filter_passed}, specs.declared.ring.Entry.Entry, proofs.Lists.{all_both, all_join, all_map, all_back, of_some}, proofs.Sums.{sum_by-agree, sum_by-zero}}
+use Rattle.tally_base.{specs.declared.settings.CorrelationSet.CorrelationSet, specs.Settings.{CorrelationView, correlation_view}, specs.Tally.History}
+use Rattle.tau_cascade.{specs.declared.level.Level.Level, specs.Correlation.{Given, bin, in_first, in_second, photons_of}, specs.Levels.{OpenIs, Chain, Complete}, specs.StandsFor.StandsFor, proofs.Gives.none_before, proofs.Follows.bin-suc, specs.Opens.{greatest, open_index, has_come, open_of, open_bin}}
 
 greatest_most : (ns : List ℕ) (n : ℕ) → AllByRecursion (λ m. m ≤ n) ns → unwrap_or (greatest ns) 0 ≤ n
 greatest_most [] n all = omega arith

@@ -1,23 +1,9 @@
 -- What bins add to the cells, and what they stand for.
 use Rattle.std.proofs.Common.{◌≡◌, ℕ, ◌+◌, ◌-◌, ◌*◌, ◌^◌, ◌<◌, ◌≤◌, true, false, ◌&&◌, cond, eqb, List, [], ◌∷◌, ◌++◌, length, get_or, refl, sym, ◌∙◌, append_assoc, append-nil, subst, arith, length-append}
-use Rattle.std.specs.List.{sum_by, count_by, AllByRecursion}
-use Rattle.std.proofs.Math.Nat.{mul-le-mul}
-use Rattle.std.proofs.lemmas.List.Sums.{sum_by-append, sum_by_push}
-use Rattle.tally_base.specs.Settings.{CorrelationView}
-use Rattle.tally_base.specs.Tally.{History}
-use Rattle.tally_base.specs.Limits.{record_limit}
-use Rattle.lag_ring.specs.declared.ring.Entry.{Entry}
-use Rattle.lag_ring.specs.Cells.{Cells}
-use Rattle.lag_ring.specs.Ring.{Ring, IsRising}
-use Rattle.lag_ring.proofs.Lists.{all_front, all_back, of_some}
-use Rattle.lag_ring.proofs.Rising.{all_weaker, all_push, rising_push}
-use Rattle.lag_ring.proofs.Sums.{pairs-append, sum_by-agree, sum_by-same, sum_by-zero}
-use Rattle.tau_cascade.specs.Correlation.{bin, in_first, in_second, correlation, skipped_lags, lag_count}
-use Rattle.tau_cascade.specs.Work.{occupied}
-use Rattle.tau_cascade.specs.Levels.{IsBin, RingIs, CellsAre, weight_before}
-use Rattle.tau_cascade.specs.Paired.{paired}
-use Rattle.tau_cascade.specs.Bins.{Follow, CanShutAll}
-use Rattle.tau_cascade.proofs.Pairs.{correlation-le, occupied-more, few_occupied}
+use Rattle.std.{specs.List.{sum_by, count_by, AllByRecursion}, proofs.Math.Nat.mul-le-mul, proofs.lemmas.List.Sums.{sum_by-append, sum_by_push}}
+use Rattle.tally_base.{specs.Settings.CorrelationView, specs.Tally.History, specs.Limits.record_limit}
+use Rattle.lag_ring.{specs.declared.ring.Entry.Entry, specs.Cells.Cells, specs.Ring.{Ring, IsRising}, proofs.Lists.{all_front, all_back, of_some}, proofs.Rising.{all_weaker, all_push, rising_push}, proofs.Sums.{pairs-append, sum_by-agree, sum_by-same, sum_by-zero}}
+use Rattle.tau_cascade.{specs.Correlation.{bin, in_first, in_second, correlation, skipped_lags, lag_count}, specs.Work.occupied, specs.Levels.{IsBin, RingIs, CellsAre, weight_before}, specs.Paired.paired, specs.Bins.{Follow, CanShutAll}, proofs.Pairs.{correlation-le, occupied-more, few_occupied}}
 
 module _ (set : CorrelationView) (level : ℕ) where
   -- at each lag the bins have what the photons have

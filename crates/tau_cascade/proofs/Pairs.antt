@@ -1,15 +1,9 @@
 -- What the pairs of a bin with the ring do to the cells of a level.
 use Rattle.std.proofs.Common.{◌≡◌, ℕ, ◌+◌, ◌*◌, ◌<◌, ◌≤◌, ◌++◌, length, map, get_or, ap, ◌∙◌, arith}
-use Rattle.std.specs.List.{count_by, AllByRecursion}
-use Rattle.std.proofs.lemmas.List.{length-map, map-append}
-use Rattle.std.proofs.lemmas.List.Sums.{sum_by-le, count_by-le-length}
-use Rattle.tally_base.specs.Settings.{CorrelationView}
-use Rattle.tally_base.specs.Tally.{History}
-use Rattle.tally_base.specs.Limits.{record_limit}
+use Rattle.std.{specs.List.{count_by, AllByRecursion}, proofs.lemmas.List.{length-map, map-append}, proofs.lemmas.List.Sums.{sum_by-le, count_by-le-length}}
+use Rattle.tally_base.{specs.Settings.CorrelationView, specs.Tally.History, specs.Limits.record_limit}
 use Rattle.lag_ring.proofs.Lists.{all_map}
-use Rattle.tau_cascade.specs.Correlation.{bin, is_pair, correlation}
-use Rattle.tau_cascade.specs.Work.{distinct, occupied}
-use Rattle.tau_cascade.proofs.Distinct.{distinct-late, distinct-le-length}
+use Rattle.tau_cascade.{specs.Correlation.{bin, is_pair, correlation}, specs.Work.{distinct, occupied}, proofs.Distinct.{distinct-late, distinct-le-length}}
 
 -- there are no more pairs than places squared
 pub correlation-le : (set : CorrelationView) (level k : ℕ) (h : History) → correlation set level k h ≤ length h * length h

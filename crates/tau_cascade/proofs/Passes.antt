@@ -1,22 +1,9 @@
 -- Bins that pass a level with no pair.
 use Rattle.std.proofs.Common.{◌≡◌, ℕ, suc, ◌+◌, ◌-◌, ◌*◌, ◌/◌, ◌^◌, ◌<◌, ◌≤◌, Some, List, [], ◌∷◌, ◌++◌, length, map, take, drop, set, get_or, refl, sym, ap, ◌∙◌, subst, arith}
-use Rattle.std.specs.List.{AllByRecursion}
-use Rattle.std.proofs.Math.Nat.{div-mul-le_self, div-le_self, mul-le-mul_right}
-use Rattle.std.proofs.lemmas.Nat.{shl-shr, shr-shr}
-use Rattle.std.proofs.lemmas.List.{take_more, take-take, map_push, get_or-drop, get_or-take, get_or-map, drop-set, drop_more, length-map, length-drop, length-set, length-take-le}
-use Rattle.tally_base.specs.Settings.{CorrelationView}
-use Rattle.tally_base.specs.Tally.{History}
-use Rattle.lag_ring.specs.declared.ring.Entry.{Entry}
-use Rattle.lag_ring.specs.Ring.{ring}
-use Rattle.lag_ring.proofs.Rising.{all_weaker}
-use Rattle.tau_cascade.specs.declared.level.Level.{Level}
-use Rattle.tau_cascade.specs.Correlation.{bin, skipped_lags}
-use Rattle.tau_cascade.specs.Levels.{IsBin}
-use Rattle.tau_cascade.specs.Bins.{raised, lowered, merged_onto, stretch, IsSpaced, Follow, CanTake, Took}
-use Rattle.tau_cascade.proofs.Keeping.{last_of}
-use Rattle.tau_cascade.proofs.Paired.{cells_all}
-use Rattle.tau_cascade.proofs.Spaced.{merged-apart, spaced_front, spaced_behind, spaced_nearer, spaced_take, all_take, spaced-raised, paired-far, all_behind, ring_far}
-use Rattle.tau_cascade.proofs.Takes.{parts, may_shut, took}
+use Rattle.std.{specs.List.AllByRecursion, proofs.Math.Nat.{div-mul-le_self, div-le_self, mul-le-mul_right}, proofs.lemmas.Nat.{shl-shr, shr-shr}, proofs.lemmas.List.{take_more, take-take, map_push, get_or-drop, get_or-take, get_or-map, drop-set, drop_more, length-map, length-drop, length-set, length-take-le}}
+use Rattle.tally_base.{specs.Settings.CorrelationView, specs.Tally.History}
+use Rattle.lag_ring.{specs.declared.ring.Entry.Entry, specs.Ring.ring, proofs.Rising.all_weaker}
+use Rattle.tau_cascade.{specs.declared.level.Level.Level, specs.Correlation.{bin, skipped_lags}, specs.Levels.IsBin, specs.Bins.{raised, lowered, merged_onto, stretch, IsSpaced, Follow, CanTake, Took}, proofs.Keeping.last_of, proofs.Paired.cells_all, proofs.Spaced.{merged-apart, spaced_front, spaced_behind, spaced_nearer, spaced_take, all_take, spaced-raised, paired-far, all_behind, ring_far}, proofs.Takes.{parts, may_shut, took}}
 
 -- the open bin goes before those that come, and the last of them is open
 module _ (set : CorrelationView) (level : ℕ) (l : Level) (o : Entry) (es : List Entry) (closed open' xs : History) (some : 0 < length es) (can : CanTake set level l es closed open' xs) (is : l.open ≡ Some o) (lags : 0 < set.lags) (spaced : IsSpaced (set.lags + 1) (o ∷ es)) (behind : AllByRecursion (λ f. f.index + set.lags < o.index) l.ring.entries) where

@@ -1,15 +1,9 @@
 -- Bins of one index, and the open bin that is closed in the end.
 use Rattle.std.proofs.Common.{◌≡◌, ℕ, ◌+◌, ◌<◌, Some, [], ◌∷◌, ◌++◌, append-nil, refl, sym, arith, length-append}
-use Rattle.std.specs.List.{AllByRecursion}
-use Rattle.std.proofs.lemmas.List.Sums.{sum_by-append}
-use Rattle.tally_base.specs.Settings.{CorrelationView}
-use Rattle.tally_base.specs.Tally.{History}
-use Rattle.lag_ring.specs.declared.ring.Entry.{Entry}
-use Rattle.lag_ring.proofs.Lists.{all_join}
-use Rattle.tau_cascade.specs.declared.level.Level.{Level}
-use Rattle.tau_cascade.specs.Correlation.{bin}
-use Rattle.tau_cascade.specs.Levels.{IsBin, CanFinish}
-use Rattle.tau_cascade.specs.Bins.{CanShutAll}
+use Rattle.std.{specs.List.AllByRecursion, proofs.lemmas.List.Sums.sum_by-append}
+use Rattle.tally_base.{specs.Settings.CorrelationView, specs.Tally.History}
+use Rattle.lag_ring.{specs.declared.ring.Entry.Entry, proofs.Lists.all_join}
+use Rattle.tau_cascade.{specs.declared.level.Level.Level, specs.Correlation.bin, specs.Levels.{IsBin, CanFinish}, specs.Bins.CanShutAll}
 
 module _ (set : CorrelationView) (level : ℕ) where
   -- two runs of photons in one bin

@@ -1,18 +1,8 @@
 -- Runs of bins, one window after the other.
 use Rattle.std.proofs.Common.{◌≡◌, ◌∙◌, ℕ, ◌+◌, ◌-◌, ◌*◌, ◌<◌, ◌≤◌, cond, eqb, List, [], ◌∷◌, ◌++◌, length, get_or, take, drop, refl, ap, append_assoc, arith}
-use Rattle.std.specs.List.{AllByRecursion}
-use Rattle.std.proofs.Math.Nat.{mul-le-mul_left}
-use Rattle.std.proofs.lemmas.List.{take-append-drop, take-take, drop-take, drop-append-le, drop-drop, length-take-le, length-drop}
-use Rattle.std.proofs.lemmas.List.Sums.{sum_by-append}
-use Rattle.lag_ring.specs.declared.ring.Entry.{Entry}
-use Rattle.lag_ring.specs.Ring.{IsRising}
-use Rattle.lag_ring.proofs.Lists.{all_front}
-use Rattle.lag_ring.proofs.Rising.{all_weaker, rising_front}
-use Rattle.tau_cascade.specs.Levels.{weight_before}
-use Rattle.tau_cascade.specs.Paired.{paired}
-use Rattle.tau_cascade.proofs.Nexts.{paired-append, take_parts, paired_part}
-use Rattle.tau_cascade.proofs.Together.{from_first}
-use Rattle.tau_cascade.proofs.Visits.{none_at_lag, rising_drop}
+use Rattle.std.{specs.List.AllByRecursion, proofs.Math.Nat.mul-le-mul_left, proofs.lemmas.List.{take-append-drop, take-take, drop-take, drop-append-le, drop-drop, length-take-le, length-drop}, proofs.lemmas.List.Sums.sum_by-append}
+use Rattle.lag_ring.{specs.declared.ring.Entry.Entry, specs.Ring.IsRising, proofs.Lists.all_front, proofs.Rising.{all_weaker, rising_front}}
+use Rattle.tau_cascade.{specs.Levels.weight_before, specs.Paired.paired, proofs.Nexts.{paired-append, take_parts, paired_part}, proofs.Together.from_first, proofs.Visits.{none_at_lag, rising_drop}}
 
 -- bins that are out of reach add nothing
 paired_far : (k lags index : ℕ) (far near es : List Entry) → k ≤ lags → AllByRecursion (λ f. f.index + lags < index) far → AllByRecursion (λ e. index ≤ e.index) es → paired k (far ++ near) es ≡ paired k near es

@@ -1,7 +1,6 @@
 -- What the settings of a correlation say.
 use Rattle.std.proofs.Common.{ℕ}
-use Rattle.tally_base.specs.Settings.{PartSettings}
-use Rattle.tally_base.specs.Settings.PartSettings.{CorrelationSettings}
+use Rattle.tally_base.{specs.Settings.PartSettings, specs.Settings.PartSettings.CorrelationSettings}
 
 -- how many levels there are, in a correlation
 abbrev pub levels_in : PartSettings → ℕ

@@ -1,21 +1,9 @@
 -- What a level shows.
-use Rattle.std.proofs.Common.{◌≡◌, ℕ, suc, zero, ◌+◌, ◌-◌, ◌<◌, ◌≤◌, Bool, true, false, ◌&&◌, ◌||◌, eqb, cond, List, [], ◌∷◌, length, get_or, refl, sym, ◌∙◌, zero-add, add-zero, arith}
-use Rattle.std.specs.List.{sum_by, count_by, slice_get}
-use Rattle.std.specs.declared.option.Option.{Option}
-use Rattle.std.specs.Option.{option_map}
-use Rattle.std.specs.Prelude.{None, Some}
-use Rattle.std.proofs.lemmas.Bool.{false≢true}
-use Rattle.std.proofs.lemmas.List.Sums.{sum_by-cons}
-use Rattle.tally_base.specs.declared.settings.CorrelationSet.{CorrelationSet}
-use Rattle.tally_base.specs.Settings.{CorrelationView, correlation_view}
-use Rattle.tally_base.specs.Tally.{History}
-use Rattle.lag_ring.specs.Cells.{Cells}
-use Rattle.lag_ring.specs.Ring.{Ring}
-use Rattle.lag_ring.proofs.Sums.{sum_by-same, sum_by-filter}
-use Rattle.tau_cascade.specs.declared.level.Level.{Level}
-use Rattle.tau_cascade.specs.Correlation.{Given, bin, in_first, in_second, is_pair, correlation, skipped_lags, lag_count, photons_of}
-use Rattle.tau_cascade.specs.StandsFor.{StandsFor}
-use Rattle.tau_cascade.specs.Levels.{RingIs, CellsAre, Chain, Complete}
+use Rattle.std.proofs.Common.{◌≡◌, ℕ, suc, zero, ◌+◌, ◌-◌, ◌<◌, ◌≤◌, Bool, true, false, ◌&&◌, ◌||◌, eqb, cond, List, [], ◌∷◌, length, get_or, refl, sym, ◌∙◌, zero-add, add-zero, arith, None, Some}
+use Rattle.std.{specs.List.{sum_by, count_by, slice_get}, specs.declared.option.Option.Option, specs.Option.option_map, proofs.lemmas.Bool.false≢true, proofs.lemmas.List.Sums.sum_by-cons}
+use Rattle.tally_base.{specs.declared.settings.CorrelationSet.CorrelationSet, specs.Settings.{CorrelationView, correlation_view}, specs.Tally.History}
+use Rattle.lag_ring.{specs.Cells.Cells, specs.Ring.Ring, proofs.Sums.{sum_by-same, sum_by-filter}}
+use Rattle.tau_cascade.{specs.declared.level.Level.Level, specs.Correlation.{Given, bin, in_first, in_second, is_pair, correlation, skipped_lags, lag_count, photons_of}, specs.StandsFor.StandsFor, specs.Levels.{RingIs, CellsAre, Chain, Complete}}
 
 zeros : {X : Type 0} (f : X → ℕ) (xs : List X) → ((x : X) → f x ≡ 0) → sum_by f xs ≡ 0
 zeros f [] none = refl

@@ -1,21 +1,9 @@
 -- Bins that are further apart than the lags.
 use Rattle.std.proofs.Common.{◌≡◌, ℕ, zero, suc, ◌+◌, ◌-◌, ◌/◌, ◌^◌, ◌<◌, ◌≤◌, false, eqb, List, [], ◌∷◌, ◌++◌, length, map, take, get_or, subst, refl, ap, ◌∙◌, append_assoc, append-nil, arith}
-use Rattle.std.specs.List.{AllByRecursion}
-use Rattle.std.proofs.Math.Nat.{div-mul-le_self}
-use Rattle.std.proofs.lemmas.Nat.{le-div, pow_pos}
-use Rattle.std.proofs.lemmas.List.{take_more}
-use Rattle.tally_base.specs.Settings.{CorrelationView}
-use Rattle.tally_base.specs.Tally.{History}
-use Rattle.lag_ring.specs.declared.ring.Entry.{Entry}
-use Rattle.lag_ring.specs.Ring.{Ring, ring}
-use Rattle.lag_ring.proofs.Lists.{all_map, all_both, all_front, all_back}
-use Rattle.lag_ring.proofs.Rising.{all_weaker, all_push}
-use Rattle.tau_cascade.specs.Levels.{RingIs, weight_before}
-use Rattle.tau_cascade.specs.Paired.{paired}
-use Rattle.tau_cascade.specs.Bins.{raised, merged, Follow, IsSpaced}
-use Rattle.tau_cascade.proofs.Closes.{ring_begun}
-use Rattle.tau_cascade.proofs.Keeping.{last_of}
-use Rattle.tau_cascade.proofs.Visits.{none_at_lag}
+use Rattle.std.{specs.List.AllByRecursion, proofs.Math.Nat.div-mul-le_self, proofs.lemmas.Nat.{le-div, pow_pos}, proofs.lemmas.List.take_more}
+use Rattle.tally_base.{specs.Settings.CorrelationView, specs.Tally.History}
+use Rattle.lag_ring.{specs.declared.ring.Entry.Entry, specs.Ring.{Ring, ring}, proofs.Lists.{all_map, all_both, all_front, all_back}, proofs.Rising.{all_weaker, all_push}}
+use Rattle.tau_cascade.{specs.Levels.{RingIs, weight_before}, specs.Paired.paired, specs.Bins.{raised, merged, Follow, IsSpaced}, proofs.Closes.ring_begun, proofs.Keeping.last_of, proofs.Visits.none_at_lag}
 
 -- a distance, some levels up
 shares : (i d j n : ℕ) → 0 < n → i + d ≤ j → i / n + d / n ≤ j / n

@@ -1,16 +1,9 @@
 -- What bins that come do to a level and those above it.
 use Rattle.std.proofs.Common.{◌≡◌, ℕ, zero, suc, ◌+◌, ◌<◌, ◌≤◌, Some, List, [], ◌∷◌, ◌++◌, length, map, take, sym, ap, ◌∙◌, append_assoc, append-nil, arith, length-append, add-one}
-use Rattle.std.specs.List.{sum_by, AllByRecursion}
-use Rattle.std.proofs.lemmas.List.Sums.{count_by-le-length}
-use Rattle.tally_base.specs.Settings.{CorrelationView}
-use Rattle.tally_base.specs.Tally.{History}
-use Rattle.tally_base.specs.Limits.{record_limit}
+use Rattle.std.{specs.List.{sum_by, AllByRecursion}, proofs.lemmas.List.Sums.count_by-le-length}
+use Rattle.tally_base.{specs.Settings.CorrelationView, specs.Tally.History, specs.Limits.record_limit}
 use Rattle.lag_ring.specs.declared.ring.Entry.{Entry}
-use Rattle.tau_cascade.specs.declared.level.Level.{Level}
-use Rattle.tau_cascade.specs.Correlation.{bin, in_first, in_second}
-use Rattle.tau_cascade.specs.Levels.{IsBin, RingIs, CellsAre, Chain}
-use Rattle.tau_cascade.specs.Bins.{raised, merged_onto, Follow, CanShutAll, CanTake, Took, CanCome}
-use Rattle.tau_cascade.proofs.Follows.{onto_follow, last_open, first_weights, second_weights, goes_up}
+use Rattle.tau_cascade.{specs.declared.level.Level.Level, specs.Correlation.{bin, in_first, in_second}, specs.Levels.{IsBin, RingIs, CellsAre, Chain}, specs.Bins.{raised, merged_onto, Follow, CanShutAll, CanTake, Took, CanCome}, proofs.Follows.{onto_follow, last_open, first_weights, second_weights, goes_up}}
 
 module _ (set : CorrelationView) (level : ℕ) (l : Level) (es : List Entry) (some : 0 < length es) (closed open' xs : History) (can : CanTake set level l es closed open' xs) where
   onto : Follow set level closed (merged_onto l.open es) (open' ++ xs)

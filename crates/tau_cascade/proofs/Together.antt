@@ -1,23 +1,8 @@
 -- Pairs of dense bins, lag by lag.
 use Rattle.std.proofs.Common.{◌≡◌, ◌∙◌, ℕ, zero, suc, ◌+◌, ◌-◌, ◌*◌, ◌^◌, ◌<◌, ◌≤◌, true, false, ltb, eqb, cond, List, [], ◌∷◌, ◌++◌, length, get_or, take, drop, refl, sym, ap, subst, arith, append_assoc}
-use Rattle.std.specs.List.{sum_by, filter, AllByRecursion}
-use Rattle.std.proofs.Math.Nat.{mul-le-mul_left}
-use Rattle.std.proofs.lemmas.Bool.Decides.{nat_tests}
-use Rattle.std.proofs.lemmas.List.{take-append-drop, take_more, take_all, drop_more, length-drop}
-use Rattle.std.proofs.lemmas.List.Sums.{sum_by-cons, sum_by-append, sum_by-le-sum_by}
-use Rattle.lag_ring.specs.declared.ring.Entry.{Entry}
-use Rattle.lag_ring.specs.declared.window.Side.TheVariants.{First, Second}
-use Rattle.lag_ring.specs.Ring.{IsRising}
-use Rattle.lag_ring.specs.Window.{weight_of, weight_at}
-use Rattle.lag_ring.proofs.Lists.{all_back, all_both}
-use Rattle.lag_ring.proofs.Rising.{all_weaker, all_push, rising_back}
-use Rattle.lag_ring.proofs.Sums.{sum_by-same, sum_by-agree, sum_by-filter, sum_by-zero}
-use Rattle.lag_ring.proofs.Windows.{window-before, part-le}
-use Rattle.tau_cascade.specs.Levels.{weight_before}
-use Rattle.tau_cascade.specs.Paired.{paired}
-use Rattle.tau_cascade.specs.Dense.{window_pairs, FitsWindow}
-use Rattle.tau_cascade.proofs.Nexts.{below_bins}
-use Rattle.tau_cascade.proofs.Visits.{rising_drop}
+use Rattle.std.{specs.List.{sum_by, filter, AllByRecursion}, proofs.Math.Nat.mul-le-mul_left, proofs.lemmas.Bool.Decides.nat_tests, proofs.lemmas.List.{take-append-drop, take_more, take_all, drop_more, length-drop}, proofs.lemmas.List.Sums.{sum_by-cons, sum_by-append, sum_by-le-sum_by}}
+use Rattle.lag_ring.{specs.declared.ring.Entry.Entry, specs.declared.window.Side.TheVariants.{First, Second}, specs.Ring.IsRising, specs.Window.{weight_of, weight_at}, proofs.Lists.{all_back, all_both}, proofs.Rising.{all_weaker, all_push, rising_back}, proofs.Sums.{sum_by-same, sum_by-agree, sum_by-filter, sum_by-zero}, proofs.Windows.{window-before, part-le}}
+use Rattle.tau_cascade.{specs.Levels.weight_before, specs.Paired.paired, specs.Dense.{window_pairs, FitsWindow}, proofs.Nexts.below_bins, proofs.Visits.rising_drop}
 
 -- bins that aren't before an index count nowhere
 before_only : (k index : ℕ) (es fs : List Entry) → 0 < k → AllByRecursion (λ f. index ≤ f.index) fs → weight_before k index (es ++ fs) ≡ weight_before k index es

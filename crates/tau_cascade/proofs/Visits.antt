@@ -1,17 +1,8 @@
 -- One entry more in the loop over entries.
 use Rattle.std.proofs.Common.{length, sym, ap, ◌∙◌, ◌≡◌, ℕ, zero, suc, [], ◌∷◌, ◌++◌, drop, refl, ◌+◌, ◌-◌, ◌*◌, ◌<◌, ◌≤◌, true, false, ◌&&◌, eqb, ltb, leb, List, get_or, take, cond, arith}
-use Rattle.std.specs.List.{sum_by, AllByRecursion}
-use Rattle.std.proofs.Math.Nat.{mul-le-mul_right}
-use Rattle.std.proofs.lemmas.Grind.{common_steps}
-use Rattle.std.proofs.lemmas.List.{drop_more}
-use Rattle.std.proofs.lemmas.List.Elements.{All-from_recursion}
-use Rattle.std.proofs.lemmas.List.Sums.{sum_by_more, sum_by_more_le, sum_by-append, sum_by-take-le, sum_by-take-drop}
-use Rattle.lag_ring.specs.declared.ring.Entry.{Entry}
-use Rattle.lag_ring.specs.Ring.{IsRising}
-use Rattle.lag_ring.proofs.Rising.{all_weaker}
-use Rattle.lag_ring.proofs.Sums.{sum_by-zero}
-use Rattle.tau_cascade.specs.Levels.{weight_before, entries_at_lags}
-use Rattle.tau_cascade.proofs.Lags.{at_lags}
+use Rattle.std.{specs.List.{sum_by, AllByRecursion}, proofs.Math.Nat.mul-le-mul_right, proofs.lemmas.Grind.common_steps, proofs.lemmas.List.drop_more, proofs.lemmas.List.Elements.All-from_recursion, proofs.lemmas.List.Sums.{sum_by_more, sum_by_more_le, sum_by-append, sum_by-take-le, sum_by-take-drop}}
+use Rattle.lag_ring.{specs.declared.ring.Entry.Entry, specs.Ring.IsRising, proofs.Rising.all_weaker, proofs.Sums.sum_by-zero}
+use Rattle.tau_cascade.{specs.Levels.{weight_before, entries_at_lags}, proofs.Lags.at_lags}
 
 bounded : (old u v a w most : ℕ) → u + a ≤ v → old + v * w ≤ most → old + u * w + a * w ≤ most
 bounded old u v a w most part whole = let scaled : (u + a) * w ≤ v * w = mul-le-mul_right w part in omega (arith, scaled)

@@ -1,21 +1,8 @@
 -- A level's additions are at most its lags times its occupied bins.
 use Rattle.std.proofs.Common.{rules, ◌≡◌, ℕ, zero, suc, ◌+◌, ◌*◌, ◌%◌, ◌<◌, ◌≤◌, take, slice_get, Bool, true, false, List, [], ◌∷◌, ◌++◌, length, map, sym, ap, ◌∙◌, refl, append_assoc, append-nil, subst, arith}
-use Rattle.std.proofs.Math.Nat.{mul-le-mul_left}
-use Rattle.std.specs.Option.{option_map, option_map_or}
-use Rattle.std.proofs.lemmas.Grind.{common_steps}
-use Rattle.std.proofs.lemmas.List.{map-append, take_all}
-use Rattle.std.proofs.lemmas.List.Sums.{sum_by-cons}
-use Rattle.tally_base.specs.declared.settings.CorrelationSet.{CorrelationSet}
-use Rattle.tally_base.specs.Settings.{CorrelationView, correlation_view}
-use Rattle.tally_base.specs.Tally.{History}
-use Rattle.tau_cascade.specs.declared.level.Level.{Level}
-use Rattle.tau_cascade.specs.declared.cascade.Cascade.{Cascade}
-use Rattle.tau_cascade.specs.Cascade.{Holds, set_of, spent_by, added_below}
-use Rattle.tau_cascade.specs.StandsFor.{StandsFor}
-use Rattle.tau_cascade.specs.Correlation.{bin, lag_count, photons_of}
-use Rattle.tau_cascade.specs.Work.{occupied, lags_at, work_from, work}
-use Rattle.tau_cascade.specs.Levels.{Chain, Complete, CellsAre, spent}
-use Rattle.tau_cascade.proofs.Distinct.{distinct-le-append}
+use Rattle.std.{proofs.Math.Nat.mul-le-mul_left, specs.Option.{option_map, option_map_or}, proofs.lemmas.Grind.common_steps, proofs.lemmas.List.{map-append, take_all}, proofs.lemmas.List.Sums.sum_by-cons}
+use Rattle.tally_base.{specs.declared.settings.CorrelationSet.CorrelationSet, specs.Settings.{CorrelationView, correlation_view}, specs.Tally.History}
+use Rattle.tau_cascade.{specs.declared.level.Level.Level, specs.declared.cascade.Cascade.Cascade, specs.Cascade.{Holds, set_of, spent_by, added_below}, specs.StandsFor.StandsFor, specs.Correlation.{bin, lag_count, photons_of}, specs.Work.{occupied, lags_at, work_from, work}, specs.Levels.{Chain, Complete, CellsAre, spent}, proofs.Distinct.distinct-le-append}
 
 occupied-le : (level : ℕ) (all front back : History) → all ≡ front ++ back → occupied level front ≤ occupied level all
 occupied-le level all front back same = rw (same, map-append (bin level) front back) (distinct-le-append (map (bin level) front) (map (bin level) back))

@@ -1,18 +1,10 @@
 -- Bins that come to a level one after the other, and those that it closes.
 use Rattle.std.specs.Prelude.{◌≡◌, ℕ, ◌+◌, ◌*◌, ◌/◌, ◌^◌, ◌<◌, ◌≤◌, ◌==◌, ⊤, false, Option, None, Some, List, [], ◌∷◌, ◌++◌, map, take, drop, length, if◌then◌else◌}
 use Rattle.std.specs.List.{AllByRecursion}
-use Rattle.tally_base.specs.Settings.{CorrelationView}
-use Rattle.tally_base.specs.Tally.{History, greatest_time}
-use Rattle.tally_base.specs.Limits.{record_limit}
-use Rattle.event_block.specs.declared.block.Block.{Block}
-use Rattle.event_block.specs.Columns.{gathered, events_in}
-use Rattle.event_block.specs.Order.{InOrder}
-use Rattle.lag_ring.specs.declared.ring.Entry.{Entry}
-use Rattle.lag_ring.specs.Ring.{Ring}
-use Rattle.lag_ring.specs.Cells.{Cells}
-use Rattle.tau_cascade.specs.declared.level.Level.{Level}
-use Rattle.tau_cascade.specs.Correlation.{Given, bin, in_first, in_second, photons_of}
-use Rattle.tau_cascade.specs.Levels.{IsBin, LevelIs, RingIs, CellsAre, Chain}
+use Rattle.tally_base.{specs.Settings.CorrelationView, specs.Tally.{History, greatest_time}, specs.Limits.record_limit}
+use Rattle.event_block.{specs.declared.block.Block.Block, specs.Columns.{gathered, events_in}, specs.Order.InOrder}
+use Rattle.lag_ring.{specs.declared.ring.Entry.Entry, specs.Ring.Ring, specs.Cells.Cells}
+use Rattle.tau_cascade.{specs.declared.level.Level.Level, specs.Correlation.{Given, bin, in_first, in_second, photons_of}, specs.Levels.{IsBin, LevelIs, RingIs, CellsAre, Chain}}
 
 -- the bin so many levels up in which a bin lies
 abbrev pub raised : ℕ → Entry → Entry

@@ -1,16 +1,9 @@
 -- What a correlation shows.
 use Rattle.std.specs.Prelude.{ℕ, Bool, ◌+◌, zero, suc, Option, slice_get}
 use Rattle.std.specs.Option.{option_map, option_map_or}
-use Rattle.tally_base.specs.declared.settings.CorrelationSet.{CorrelationSet}
-use Rattle.tally_base.specs.Settings.{PartSettings, correlation_view}
-use Rattle.tally_base.specs.Settings.PartSettings.{CorrelationSettings}
-use Rattle.tally_base.specs.Tally.{History}
-use Rattle.lag_ring.specs.declared.ring.Entry.{Entry}
-use Rattle.lag_ring.specs.Cells.{Cells}
-use Rattle.lag_ring.specs.Ring.{Ring}
-use Rattle.tau_cascade.specs.declared.cascade.Cascade.{Cascade}
-use Rattle.tau_cascade.specs.StandsFor.{StandsFor}
-use Rattle.tau_cascade.specs.Levels.{spent}
+use Rattle.tally_base.{specs.declared.settings.CorrelationSet.CorrelationSet, specs.Settings.{PartSettings, correlation_view}, specs.Settings.PartSettings.CorrelationSettings, specs.Tally.History}
+use Rattle.lag_ring.{specs.declared.ring.Entry.Entry, specs.Cells.Cells, specs.Ring.Ring}
+use Rattle.tau_cascade.{specs.declared.cascade.Cascade.Cascade, specs.StandsFor.StandsFor, specs.Levels.spent}
 
 -- what it was opened with
 abbrev pub set_of : Cascade → CorrelationSet

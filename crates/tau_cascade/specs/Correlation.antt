@@ -1,9 +1,6 @@
 -- The correlation of two groups, as a count of pairs.
 use Rattle.std.specs.Prelude.{ℕ, ◌+◌, ◌-◌, ◌/◌, ◌^◌, Bool, ◌&&◌, ◌||◌, ◌==◌, filter, sum_by, count_by, if◌then◌else◌}
-use Rattle.tally_base.specs.declared.event.Event.{Event}
-use Rattle.tally_base.specs.Events.{is_photon, is_in}
-use Rattle.tally_base.specs.Settings.{CorrelationView}
-use Rattle.tally_base.specs.Tally.{History}
+use Rattle.tally_base.{specs.declared.event.Event.Event, specs.Events.{is_photon, is_in}, specs.Settings.CorrelationView, specs.Tally.History}
 
 -- an event with its groups
 abbrev pub Given : Type 0

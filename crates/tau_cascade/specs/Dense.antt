@@ -1,9 +1,7 @@
 -- Pairs of bins with what stands in a window.
 use Rattle.std.specs.Prelude.{ℕ, ◌+◌, ◌-◌, ◌^◌, ◌<◌, ◌≤◌, List, length, sum_by}
 use Rattle.std.specs.List.{AllByRecursion}
-use Rattle.lag_ring.specs.declared.ring.Entry.{Entry}
-use Rattle.lag_ring.specs.declared.window.Side.TheVariants.{First, Second}
-use Rattle.lag_ring.specs.Window.{weight_of, product_at}
+use Rattle.lag_ring.{specs.declared.ring.Entry.Entry, specs.declared.window.Side.TheVariants.{First, Second}, specs.Window.{weight_of, product_at}}
 
 -- the second weights of later bins times what stands so many lags before each in a window of 192 lags
 abbrev pub window_pairs : List ℕ → ℕ → List Entry → ℕ → ℕ

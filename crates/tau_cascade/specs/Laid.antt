@@ -1,10 +1,7 @@
 -- Bins that are laid close together.
 use Rattle.std.specs.Prelude.{ℕ, ◌≡◌, ◌+◌, ◌-◌, ◌*◌, ◌^◌, ◌<◌, ◌≤◌, min, List, [], ◌∷◌, length, slice_index, sum_by}
 use Rattle.std.specs.List.{AllByRecursion}
-use Rattle.lag_ring.specs.declared.ring.Entry.{Entry}
-use Rattle.lag_ring.specs.declared.window.Side.TheVariants.{Second}
-use Rattle.lag_ring.specs.Ring.{IsRising}
-use Rattle.lag_ring.specs.Window.{product_at}
+use Rattle.lag_ring.{specs.declared.ring.Entry.Entry, specs.declared.window.Side.TheVariants.Second, specs.Ring.IsRising, specs.Window.product_at}
 
 -- bins behind one of this index that lies at this place, each as far from the one before it as it is, and no further than the reach
 abbrev pub laid : ℕ → ℕ → ℕ → List Entry → List Entry

@@ -1,19 +1,9 @@
 -- What holds of every correlation.
 use Rattle.std.proofs.Common.{◌≡◌, ℕ, suc, ◌+◌, ◌-◌, ◌*◌, ◌/◌, ◌%◌, ◌≤◌, Bool, true, false, cond, List, [], ◌∷◌, length, arith, rules}
 use Rattle.std.specs.Prelude.{is_some}
-use Rattle.std.specs.List.{sum_by}
-use Rattle.std.proofs.Math.Logic.{∥∥₁_elim}
-use Rattle.std.proofs.Props.{props}
-use Rattle.std.proofs.lemmas.List.Sums.{sum_by-cons}
-use Rattle.tally_base.specs.declared.settings.CorrelationSet.{CorrelationSet}
-use Rattle.tally_base.specs.Settings.{CorrelationView, correlation_view, entries}
-use Rattle.tally_base.specs.Tally.{History, greatest_time}
-use Rattle.tau_cascade.specs.declared.cascade.Cascade.{Cascade}
-use Rattle.tau_cascade.specs.declared.level.Level.{Level}
-use Rattle.tau_cascade.specs.Cascade.{Holds, settings}
-use Rattle.tau_cascade.specs.Correlation.{lag_count, photons_of}
-use Rattle.tau_cascade.specs.StandsFor.{WentThrough, entries_of}
-use Rattle.tau_cascade.specs.Levels.{Chain, Complete, RingIs, CellsAre}
+use Rattle.std.{specs.List.sum_by, proofs.Math.Logic.∥∥₁_elim, proofs.Props.props, proofs.lemmas.List.Sums.sum_by-cons}
+use Rattle.tally_base.{specs.declared.settings.CorrelationSet.CorrelationSet, specs.Settings.{CorrelationView, correlation_view, entries}, specs.Tally.{History, greatest_time}}
+use Rattle.tau_cascade.{specs.declared.cascade.Cascade.Cascade, specs.declared.level.Level.Level, specs.Cascade.{Holds, settings}, specs.Correlation.{lag_count, photons_of}, specs.StandsFor.{WentThrough, entries_of}, specs.Levels.{Chain, Complete, RingIs, CellsAre}}
 
 pub taken_is : (t : Cascade) (h : History) → Holds t h → t.taken ≡ length h
 taken_is t h is = is.taken

@@ -1,16 +1,9 @@
 -- What levels stand for: photons that came to them, in order, and how far they are paired.
 use Rattle.std.specs.Prelude.{◌≡◌, ℕ, ◌+◌, ◌-◌, ◌*◌, ◌/◌, ◌<◌, ◌≤◌, suc, ⊤, ◌==◌, ◌&&◌, nat_lt, nat_le, count_by, sum_by, Option, None, Some, List, [], ◌∷◌, ◌++◌, length, slice_index}
 use Rattle.std.specs.List.{AllByRecursion}
-use Rattle.tally_base.specs.Settings.{CorrelationView}
-use Rattle.tally_base.specs.Tally.{History}
-use Rattle.tally_base.specs.Limits.{record_limit}
-use Rattle.lag_ring.specs.declared.ring.Entry.{Entry}
-use Rattle.lag_ring.specs.Ring.{Ring, IsRising}
-use Rattle.lag_ring.specs.Cells.{Cells}
-use Rattle.lag_ring.specs.Kept.{weight_where, Weighs, Keeps}
-use Rattle.tau_cascade.specs.declared.level.Level.{Level}
-use Rattle.tau_cascade.specs.Correlation.{bin, in_first, in_second, correlation, skipped_lags, lag_count}
-use Rattle.tau_cascade.specs.Work.{occupied}
+use Rattle.tally_base.{specs.Settings.CorrelationView, specs.Tally.History, specs.Limits.record_limit}
+use Rattle.lag_ring.{specs.declared.ring.Entry.Entry, specs.Ring.{Ring, IsRising}, specs.Cells.Cells, specs.Kept.{weight_where, Weighs, Keeps}}
+use Rattle.tau_cascade.{specs.declared.level.Level.Level, specs.Correlation.{bin, in_first, in_second, correlation, skipped_lags, lag_count}, specs.Work.occupied}
 
 -- the first weight of the entry that stands k before the index, or 0
 abbrev pub weight_before : ℕ → ℕ → List Entry → ℕ

@@ -1,14 +1,7 @@
 -- What the fields of a correlation stand for.
 use Rattle.std.specs.Prelude.{◌≡◌, ℕ, ◌+◌, ◌<◌, ◌≤◌, Bool, true, false, is_some, IsTrue, List, length, if◌then◌else◌}
-use Rattle.tally_base.specs.declared.event.Event.{Event}
-use Rattle.tally_base.specs.declared.settings.CorrelationSet.{CorrelationSet}
-use Rattle.tally_base.specs.Events.{is_photon}
-use Rattle.tally_base.specs.Settings.{CorrelationView, correlation_view}
-use Rattle.tally_base.specs.Tally.{History, greatest_time}
-use Rattle.tally_base.specs.Limits.{record_limit}
-use Rattle.tau_cascade.specs.declared.level.Level.{Level}
-use Rattle.tau_cascade.specs.Correlation.{photons_of}
-use Rattle.tau_cascade.specs.Levels.{Chain, Complete}
+use Rattle.tally_base.{specs.declared.event.Event.Event, specs.declared.settings.CorrelationSet.CorrelationSet, specs.Events.is_photon, specs.Settings.{CorrelationView, correlation_view}, specs.Tally.{History, greatest_time}, specs.Limits.record_limit}
+use Rattle.tau_cascade.{specs.declared.level.Level.Level, specs.Correlation.photons_of, specs.Levels.{Chain, Complete}}
 
 -- the photons went from level to level, and in the end into closed bins everywhere
 abbrev pub WentThrough : Bool → CorrelationView → List Level → History → Type 0

@@ -1,7 +1,6 @@
 -- How many additions a correlation of these events may make.
 use Rattle.std.specs.Prelude.{ℕ, ◌+◌, ◌*◌, ◌/◌, zero, suc, Bool, false, ◌||◌, ◌==◌, List, [], ◌∷◌, map, if◌then◌else◌}
-use Rattle.tally_base.specs.Settings.{CorrelationView}
-use Rattle.tally_base.specs.Tally.{History}
+use Rattle.tally_base.{specs.Settings.CorrelationView, specs.Tally.History}
 use Rattle.tau_cascade.specs.Correlation.{bin, photons_of}
 
 -- whether a number is in a list

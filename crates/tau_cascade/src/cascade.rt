@@ -1,13 +1,8 @@
 // A correlation over its levels.
 ghost use Rattle.std.specs.Prelude.{◌≡◌, ◌+◌, ◌<◌, ◌≤◌, [], ◌∷◌, ◌++◌, false, length, vec_len, if◌then◌else◌};
-ghost use Rattle.tally_base.specs.Settings.{correlation_view};
-ghost use Rattle.tally_base.specs.Tally.{History};
-ghost use Rattle.tally_base.specs.Limits.{record_limit, time_limit};
-ghost use Rattle.tau_cascade.specs.Correlation.{photons_of};
+ghost use Rattle.tally_base.{specs.Settings.correlation_view, specs.Tally.History, specs.Limits.{record_limit, time_limit}};
+ghost use Rattle.tau_cascade.{specs.Correlation.photons_of, specs.StandsFor.{StandsFor, CanGive}, specs.Levels.{Chain, spent}, specs.Bins.CanGiveBlock};
 ghost use Rattle.event_block.specs.Columns.{events_in, IsSorted};
-ghost use Rattle.tau_cascade.specs.StandsFor.{StandsFor, CanGive};
-ghost use Rattle.tau_cascade.specs.Levels.{Chain, spent};
-ghost use Rattle.tau_cascade.specs.Bins.{CanGiveBlock};
 
 use crate::bins::{LEVELS, LIST, gather, spacing};
 use crate::carry::{Coming, carry_all, end_all};
@@ -40,12 +35,8 @@ impl Cascade {
     ghost use Rattle.std.specs.Prelude.{◌≡◌, ◌+◌, ◌-◌, ◌<◌, ◌≤◌, ◌++◌, true, IfOk, None, Some, length, slice_index};
     ghost use Rattle.std.specs.Option.{ForSome, option_map};
     ghost use Rattle.tally_base.specs.Settings.PartSettings.{CorrelationSettings};
-    ghost use Rattle.event_block.specs.Columns.{gathered, events_in, IsSorted};
-    ghost use Rattle.event_block.specs.Tables.{MayTake, HasTaken};
-    ghost use Rattle.tau_cascade.specs.Cascade.{Holds, cells_at, ring_at, open_at, set_of, spent_by, added_below};
-    ghost use Rattle.tau_cascade.specs.Correlation.{correlation, lag_count, skipped_lags};
-    ghost use Rattle.tau_cascade.specs.Opens.{open_bin};
-    ghost use Rattle.tau_cascade.specs.Work.{work};
+    ghost use Rattle.event_block.{specs.Columns.{gathered, events_in, IsSorted}, specs.Tables.{MayTake, HasTaken}};
+    ghost use Rattle.tau_cascade.{specs.Cascade.{Holds, cells_at, ring_at, open_at, set_of, spent_by, added_below}, specs.Correlation.{correlation, lag_count, skipped_lags}, specs.Opens.open_bin, specs.Work.work};
 
     /// A correlation of no events, with all the memory that it ever takes, or `AllocError` where it is
     /// wanting.
@@ -222,9 +213,7 @@ fn give_block<L: Ledger>(
 impl Tally for Cascade {
     ghost use Rattle.std.specs.Prelude.{◌≡◌, ◌+◌, ◌<◌, ◌≤◌, ◌++◌, ◌∷◌, [], true, false, IsTrue, sum_by, if◌then◌else◌};
     ghost use Rattle.tally_base.specs.Tally.{moves_floor};
-    ghost use Rattle.tau_cascade.specs.Cascade.{Holds, set_of, settings, is_closed, taken_by, floor_by, spent_by};
-    ghost use Rattle.tau_cascade.specs.StandsFor.{entries_of};
-    ghost use Rattle.tau_cascade.specs.Laws.{taken_is, floor_is, within_bound};
+    ghost use Rattle.tau_cascade.{specs.Cascade.{Holds, set_of, settings, is_closed, taken_by, floor_by, spent_by}, specs.StandsFor.entries_of, specs.Laws.{taken_is, floor_is, within_bound}};
 
     ghost holds = { Holds };
 

@@ -1,12 +1,8 @@
 // Pairs of dense bins, lag by lag.
 ghost use Rattle.std.specs.Prelude.{◌≡◌, ◌≢◌, ℕ, ◌+◌, ◌-◌, ◌^◌, ◌<◌, ◌≤◌, IfSome, IsTrue, filter, length, nat_lt, slice_index, sum_by, take, drop};
 ghost use Rattle.std.specs.List.{AllByRecursion};
-ghost use Rattle.lag_ring.specs.Ring.{IsRising};
-ghost use Rattle.lag_ring.specs.declared.window.Side.TheVariants.{First, Second};
-ghost use Rattle.lag_ring.specs.Window.{weight_of, ServesLater};
-ghost use Rattle.lag_ring.specs.Cells.{Spends};
-ghost use Rattle.tau_cascade.specs.Paired.{paired};
-ghost use Rattle.tau_cascade.specs.Dense.{window_pairs, FitsWindow};
+ghost use Rattle.lag_ring.{specs.Ring.IsRising, specs.declared.window.Side.TheVariants.{First, Second}, specs.Window.{weight_of, ServesLater}, specs.Cells.Spends};
+ghost use Rattle.tau_cascade.{specs.Paired.paired, specs.Dense.{window_pairs, FitsWindow}};
 
 use arrayvec::ArrayVec;
 use lag_ring::{

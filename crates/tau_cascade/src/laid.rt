@@ -1,12 +1,8 @@
 // Pairs of bins that are laid close together: a bin further from the one before it than the lags reach is laid
 // just out of reach, so that all have places in a short window.
 ghost use Rattle.std.specs.Prelude.{◌≡◌, ℕ, ◌+◌, ◌-◌, ◌*◌, ◌%◌, ◌^◌, ◌<◌, ◌≤◌, ◌==◌, ◌++◌, true, false, List, length, min, slice_index, sum_by, take, drop, if◌then◌else◌};
-ghost use Rattle.lag_ring.specs.Ring.{IsRising};
-ghost use Rattle.lag_ring.specs.declared.window.Side.TheVariants.{First, Second};
-ghost use Rattle.lag_ring.specs.Window.{weight_at, product_at};
-ghost use Rattle.lag_ring.specs.Cells.{Spends};
-ghost use Rattle.tau_cascade.specs.Paired.{paired};
-ghost use Rattle.tau_cascade.specs.Laid.{laid, laid_pairs, IsBehind, IsLight, IsLaid};
+ghost use Rattle.lag_ring.{specs.Ring.IsRising, specs.declared.window.Side.TheVariants.{First, Second}, specs.Window.{weight_at, product_at}, specs.Cells.Spends};
+ghost use Rattle.tau_cascade.{specs.Paired.paired, specs.Laid.{laid, laid_pairs, IsBehind, IsLight, IsLaid}};
 
 use crate::dense::add_sums;
 use lag_ring::{Entry, FEW_LAGS, PairCells};

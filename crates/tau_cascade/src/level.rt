@@ -1,11 +1,9 @@
 // One level: its open bin, the ring of its last closed bins, and its cells.
 ghost use Rattle.std.specs.Prelude.{◌≡◌, ◌+◌, ◌<◌, ◌≤◌, ◌++◌, filter, length, nat_le, take, drop};
 ghost use Rattle.std.specs.List.{AllByRecursion};
-ghost use Rattle.lag_ring.specs.Ring.{IsRising, ring as ring_of};
-ghost use Rattle.tally_base.specs.Settings.{correlation_view};
-ghost use Rattle.tally_base.specs.Tally.{History};
-ghost use Rattle.tau_cascade.specs.Correlation.{skipped_lags};
-ghost use Rattle.tau_cascade.specs.Levels.{RingIs, CellsAre};
+ghost use Rattle.lag_ring.{specs.Ring.IsRising, specs.Ring.ring as ring_of};
+ghost use Rattle.tally_base.{specs.Settings.correlation_view, specs.Tally.History};
+ghost use Rattle.tau_cascade.{specs.Correlation.skipped_lags, specs.Levels.{RingIs, CellsAre}};
 
 use crate::bins::{LIST, RING, lay_out, merge_onto, raised};
 use crate::pairing::pair_all;
@@ -81,8 +79,7 @@ fn keep_all(ring: &mut LagRing, bins: &[Entry], before: u64)
 
 impl Level {
     ghost use Rattle.std.specs.Prelude.{ℕ, ◌*◌, ◌/◌, ◌^◌, ◌-◌, ◌∷◌, ◌++◌, [], IfOk, IfSome, Some, map, slice_set};
-    ghost use Rattle.tau_cascade.specs.Levels.{LevelIs, CanFinish, Finished};
-    ghost use Rattle.tau_cascade.specs.Bins.{raised, lowered, stretch, IsSpaced, CanShutAll, CanTake, Takes, HoldsOfAll};
+    ghost use Rattle.tau_cascade.{specs.Levels.{LevelIs, CanFinish, Finished}, specs.Bins.{raised, lowered, stretch, IsSpaced, CanShutAll, CanTake, Takes, HoldsOfAll}};
 
     /// A level to which nothing came, or `AllocError` where memory for it is wanting.
     pub(crate) fn open(alloc: Global, set: &CorrelationSet, level: u32) -> Result<Level, AllocError>

@@ -1,10 +1,8 @@
 // Pairs of bins with those before them.
 ghost use Rattle.std.specs.Prelude.{◌≡◌, ℕ, ◌+◌, ◌-◌, ◌*◌, ◌^◌, ◌<◌, ◌≤◌, length, take, drop, slice_index, if◌then◌else◌, ◌==◌, ◌&&◌, nat_lt, nat_le};
 ghost use Rattle.std.specs.List.{AllByRecursion};
-ghost use Rattle.lag_ring.specs.Ring.{IsRising};
-ghost use Rattle.lag_ring.specs.Cells.{Spends};
-ghost use Rattle.tau_cascade.specs.Levels.{weight_before, entries_at_lags};
-ghost use Rattle.tau_cascade.specs.Paired.{paired};
+ghost use Rattle.lag_ring.{specs.Ring.IsRising, specs.Cells.Spends};
+ghost use Rattle.tau_cascade.{specs.Levels.{weight_before, entries_at_lags}, specs.Paired.paired};
 
 use crate::dense::{ROOM, is_dense, pair_together, window_from};
 use crate::laid::pair_close;

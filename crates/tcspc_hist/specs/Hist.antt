@@ -1,11 +1,7 @@
 -- What a histogram stands for.
 use Rattle.std.specs.Prelude.{◌≡◌, ℕ, ◌<◌, false, slice_index, length}
-use Rattle.tally_base.specs.declared.settings.HistSet.{HistSet}
-use Rattle.tally_base.specs.Settings.{PartSettings, hist_view}
-use Rattle.tally_base.specs.Settings.PartSettings.{HistSettings}
-use Rattle.tally_base.specs.Tally.{History, greatest_time}
-use Rattle.tcspc_hist.specs.declared.hist.Hist.{Hist}
-use Rattle.tcspc_hist.specs.HistogramCounts.{in_bin, count_over}
+use Rattle.tally_base.{specs.declared.settings.HistSet.HistSet, specs.Settings.{PartSettings, hist_view}, specs.Settings.PartSettings.HistSettings, specs.Tally.{History, greatest_time}}
+use Rattle.tcspc_hist.{specs.declared.hist.Hist.Hist, specs.HistogramCounts.{in_bin, count_over}}
 
 -- what it was opened with
 abbrev pub set_of : Hist → HistSet

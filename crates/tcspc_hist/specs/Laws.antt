@@ -1,10 +1,8 @@
 -- What holds of every histogram.
 use Rattle.std.specs.Prelude.{◌≡◌, ◌≤◌, ◌+◌, false, length}
 use Rattle.std.proofs.Common.{rules}
-use Rattle.tally_base.specs.Settings.{entries}
-use Rattle.tally_base.specs.Tally.{History, greatest_time}
-use Rattle.tcspc_hist.specs.declared.hist.Hist.{Hist}
-use Rattle.tcspc_hist.specs.Hist.{Holds, settings}
+use Rattle.tally_base.{specs.Settings.entries, specs.Tally.{History, greatest_time}}
+use Rattle.tcspc_hist.{specs.declared.hist.Hist.Hist, specs.Hist.{Holds, settings}}
 
 pub taken_is : (t : Hist) (h : History) → Holds t h → t.taken ≡ length h
 taken_is t h is = is.taken

@@ -1,8 +1,6 @@
 // A histogram of photons by their dtimes.
 ghost use Rattle.std.specs.Prelude.{◌≡◌, ◌+◌, ◌*◌, ◌/◌, ◌^◌, ◌<◌, ◌≤◌, ℕ, vec_len, sum, length, slice_index, nat_le, ◌==◌, if◌then◌else◌};
-ghost use Rattle.tally_base.specs.Settings.{hist_view};
-ghost use Rattle.tally_base.specs.Tally.{History};
-ghost use Rattle.tally_base.specs.Limits.{record_limit};
+ghost use Rattle.tally_base.{specs.Settings.hist_view, specs.Tally.History, specs.Limits.record_limit};
 ghost use Rattle.event_block.specs.Columns.{gathered, events_in, IsSorted};
 ghost use Rattle.tcspc_hist.specs.HistogramCounts.{in_bin, count_over};
 
@@ -143,8 +141,7 @@ fn bin_of(width: u32, dtime: u16) -> u32
 
 impl Tally for Hist {
     ghost use Rattle.std.specs.Prelude.{◌+◌, length};
-    ghost use Rattle.tcspc_hist.specs.Hist.{Holds, settings};
-    ghost use Rattle.tcspc_hist.specs.Laws.{taken_is, floor_is, within_bound};
+    ghost use Rattle.tcspc_hist.{specs.Hist.{Holds, settings}, specs.Laws.{taken_is, floor_is, within_bound}};
 
     ghost holds = { Holds };
 

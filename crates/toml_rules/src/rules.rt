@@ -2,8 +2,7 @@
 ghost use Rattle.std.specs.Prelude.{◌≡◌, Bool, ◌≤◌, map, length, true, OnOk};
 ghost use Rattle.toml.specs.Data.{Data};
 ghost use Rattle.toml.specs.View.{view};
-ghost use Rattle.toml_rules.specs.Rules.{held, kept, each};
-ghost use Rattle.toml_rules.specs.Values.{list_at};
+ghost use Rattle.toml_rules.{specs.Rules.{held, kept, each}, specs.Values.list_at};
 
 use crate::values::list_at;
 use tally_base::Fault;

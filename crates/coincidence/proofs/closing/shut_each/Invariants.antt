@@ -1,6 +1,5 @@
 use Rattle.std.proofs.Common.{◌≡◌, ◌+◌, ◌++◌, drop}
-use Rattle.tally_base.specs.Settings.{coincidence_view}
-use Rattle.tally_base.specs.Tally.{History}
+use Rattle.tally_base.{specs.Settings.coincidence_view, specs.Tally.History}
 use Rattle.coincidence.specs.Closing.{CanShutAll}
 use Rattle.coincidence.proofs.closing.shut_each.Given as goal
 

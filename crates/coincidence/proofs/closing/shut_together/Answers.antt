@@ -1,9 +1,7 @@
 use Rattle.std.proofs.Common.{arith, ◌∙◌}
-use Rattle.std.proofs.Props.{props}
-use Rattle.std.proofs.Math.Logic.{∥∥₁_map, ∥∥₁_elim}
+use Rattle.std.{proofs.Props.props, proofs.Math.Logic.{∥∥₁_map, ∥∥₁_elim}}
 use Rattle.tally_base.specs.Settings.{coincidence_view}
-use Rattle.coincidence.proofs.Chain.{all_fit, all_count, all_cells}
-use Rattle.coincidence.proofs.Together.{shut_parts}
+use Rattle.coincidence.{proofs.Chain.{all_fit, all_count, all_cells}, proofs.Together.shut_parts}
 use Rattle.coincidence.proofs.closing.shut_together.Goals as goal
 
 pub pair_lags-requires-clause-fits : goal.pair_lags-requires-clause-fits

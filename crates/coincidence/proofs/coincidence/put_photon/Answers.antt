@@ -1,7 +1,6 @@
 use Rattle.std.proofs.Common.{sym, ◌≡◌, true, ◌||◌, ◌∙◌, [], ◌∷◌}
 use Rattle.std.proofs.Math.Logic.{∥∥₁_map}
-use Rattle.tally_base.specs.Events.{is_photon, is_in}
-use Rattle.tally_base.specs.Settings.{coincidence_view}
+use Rattle.tally_base.{specs.Events.{is_photon, is_in}, specs.Settings.coincidence_view}
 use Rattle.coincidence.proofs.Gives.{may_put, photons-push, some_group}
 use Rattle.coincidence.proofs.coincidence.put_photon.Goals as goal
 

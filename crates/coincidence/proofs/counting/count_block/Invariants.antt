@@ -1,10 +1,7 @@
 use Rattle.std.proofs.Common.{◌≤◌, ◌+◌, ◌++◌, false, sum}
-use Rattle.tally_base.specs.Settings.{startstop_view}
-use Rattle.tally_base.specs.Tally.{History}
-use Rattle.event_block.specs.Columns.{item, event_at, rows}
-use Rattle.event_block.specs.Order.{floor_after}
-use Rattle.coincidence.specs.Counted.{Counted}
-use Rattle.coincidence.specs.Starts.{since_in}
+use Rattle.tally_base.{specs.Settings.startstop_view, specs.Tally.History}
+use Rattle.event_block.{specs.Columns.{item, event_at, rows}, specs.Order.floor_after}
+use Rattle.coincidence.{specs.Counted.Counted, specs.Starts.since_in}
 use Rattle.coincidence.proofs.counting.count_block.Given as goal
 
 abbrev pub invariant-loop-at : goal.invariant-loop-at

@@ -1,5 +1,4 @@
-use Rattle.std.proofs.Props.{props}
-use Rattle.std.proofs.Math.Logic.{∥∥₁_elim}
+use Rattle.std.{proofs.Props.props, proofs.Math.Logic.∥∥₁_elim}
 use Rattle.coincidence.proofs.Gathers.{gather_joins, gather_shuts, gather_first, gather_fits}
 use Rattle.coincidence.proofs.gathering.gather_bin.Goals as goal
 

@@ -1,9 +1,6 @@
 use Rattle.std.proofs.Common.{◌≡◌, ◌<◌, ◌+◌, ◌/◌, ℕ, arith}
 use Rattle.tally_base.specs.Settings.{coincidence_view, coincidence_cells}
-use Rattle.coincidence.specs.Pairing.{shifted_by}
-use Rattle.coincidence.specs.Closing.{strip_pairs}
-use Rattle.coincidence.proofs.Visits.{shifted_inside, one_fits}
-use Rattle.coincidence.proofs.WindowPairs.{range-more, range-le, strip-term}
+use Rattle.coincidence.{specs.Pairing.shifted_by, specs.Closing.strip_pairs, proofs.Visits.{shifted_inside, one_fits}, proofs.WindowPairs.{range-more, range-le, strip-term}}
 use Rattle.coincidence.proofs.lags.add_groups.Goals as goal
 
 pub add_pairs-requires-clause-sum : goal.add_pairs-requires-clause-sum

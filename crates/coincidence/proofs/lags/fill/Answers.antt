@@ -1,8 +1,5 @@
 use Rattle.std.proofs.Common.{◌<◌, ◌+◌, ◌^◌, ℕ, eqb, cond, length, arith}
-use Rattle.lag_ring.specs.declared.ring.Entry.{Entry}
-use Rattle.lag_ring.specs.Window.{weight_of}
-use Rattle.lag_ring.proofs.Lists.{all_back}
-use Rattle.lag_ring.proofs.Windows.{weight_at-le}
+use Rattle.lag_ring.{specs.declared.ring.Entry.Entry, specs.Window.weight_of, proofs.Lists.all_back, proofs.Windows.weight_at-le}
 use Rattle.coincidence.proofs.WindowPairs.{three-sums}
 use Rattle.coincidence.proofs.lags.fill.Goals as goal
 

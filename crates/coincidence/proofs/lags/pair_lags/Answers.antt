@@ -1,7 +1,6 @@
 use Rattle.std.proofs.Common.{◌<◌, ◌≤◌, ◌+◌, ◌-◌, arith}
 use Rattle.std.proofs.lemmas.List.{get_or-replicate}
-use Rattle.lag_ring.specs.declared.ring.Entry.{Entry}
-use Rattle.lag_ring.proofs.Rising.{all_weaker}
+use Rattle.lag_ring.{specs.declared.ring.Entry.Entry, proofs.Rising.all_weaker}
 use Rattle.coincidence.proofs.lags.pair_lags.Goals as goal
 
 pub pair_over-requires-clause-empty : goal.pair_over-requires-clause-empty

@@ -1,13 +1,8 @@
 use Rattle.std.proofs.Common.{refl, ◌≡◌, ◌∙◌, ◌<◌, ◌≤◌, ◌+◌, ◌-◌, ◌^◌, ◌++◌, ℕ, ltb, length, get_or, arith}
 use Rattle.std.specs.List.{filter, AllByRecursion}
 use Rattle.tally_base.specs.Settings.{coincidence_view}
-use Rattle.lag_ring.specs.declared.ring.Entry.{Entry}
-use Rattle.lag_ring.specs.Window.{weight_of, weight_at}
-use Rattle.lag_ring.proofs.Lists.{all_filter}
-use Rattle.lag_ring.proofs.Rising.{all_weaker}
-use Rattle.lag_ring.proofs.Windows.{weight_at-le}
-use Rattle.coincidence.specs.Closing.{earlier_side, later_side}
-use Rattle.coincidence.proofs.WindowPairs.{window-lags, few_earlier, few_later}
+use Rattle.lag_ring.{specs.declared.ring.Entry.Entry, specs.Window.{weight_of, weight_at}, proofs.Lists.all_filter, proofs.Rising.all_weaker, proofs.Windows.weight_at-le}
+use Rattle.coincidence.{specs.Closing.{earlier_side, later_side}, proofs.WindowPairs.{window-lags, few_earlier, few_later}}
 use Rattle.coincidence.proofs.lags.pair_over.Goals as goal
 
 pub fill-requires-clause-early : goal.fill-requires-clause-early

@@ -2,8 +2,7 @@ use Rattle.std.proofs.Common.{◌≡◌, ◌<◌, ◌+◌, ◌-◌, ℕ, get_or}
 use Rattle.std.specs.List.{sum_by}
 use Rattle.tally_base.specs.Settings.{coincidence_view}
 use Rattle.lag_ring.specs.Window.{product_at}
-use Rattle.coincidence.specs.Closing.{later_side}
-use Rattle.coincidence.proofs.WindowPairs.{strip-window}
+use Rattle.coincidence.{specs.Closing.later_side, proofs.WindowPairs.strip-window}
 use Rattle.coincidence.proofs.lags.pair_strip.Goals as goal
 
 pub add_sums-requires-clause-fits : goal.add_sums-requires-clause-fits

@@ -1,7 +1,5 @@
 use Rattle.std.proofs.Common.{◌<◌}
-use Rattle.std.specs.List.{AllByRecursion-prop}
-use Rattle.std.proofs.Props.{props}
-use Rattle.std.proofs.Math.Logic.{∥∥₁_elim, ∥∥₁_map}
+use Rattle.std.{specs.List.AllByRecursion-prop, proofs.Props.props, proofs.Math.Logic.{∥∥₁_elim, ∥∥₁_map}}
 use Rattle.tally_base.specs.Settings.{coincidence_view}
 use Rattle.lag_ring.specs.declared.ring.Entry.{Entry}
 use Rattle.coincidence.proofs.Shut.{both_fit, before, may_fit, may_count, cells_shut}

@@ -1,5 +1,4 @@
-use Rattle.std.proofs.Props.{props}
-use Rattle.std.proofs.Math.Logic.{∥∥₁_elim}
+use Rattle.std.{proofs.Props.props, proofs.Math.Logic.∥∥₁_elim}
 use Rattle.tally_base.specs.Settings.{coincidence_view}
 use Rattle.coincidence.proofs.Shut.{both_fit, alone_fits, alone_counts, cells_alone, ring_alone}
 use Rattle.coincidence.proofs.pairing.begin.Goals as goal

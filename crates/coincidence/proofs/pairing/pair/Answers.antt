@@ -1,6 +1,5 @@
 use Rattle.std.proofs.Common.{◌<◌}
-use Rattle.lag_ring.specs.declared.ring.Entry.{Entry}
-use Rattle.lag_ring.proofs.Lists.{all_back}
+use Rattle.lag_ring.{specs.declared.ring.Entry.Entry, proofs.Lists.all_back}
 use Rattle.coincidence.proofs.pairing.pair.Goals as goal
 
 pub pair_entries-requires-2-clause-after : goal.pair_entries-requires-2-clause-after

@@ -1,8 +1,7 @@
 use Rattle.std.proofs.Common.{rules, arith, ◌≡◌}
 use Rattle.std.proofs.lemmas.List.Sums.{sum_by_more_le}
 use Rattle.tally_base.specs.Settings.{coincidence_view}
-use Rattle.coincidence.specs.Pairing.{pairs_of}
-use Rattle.coincidence.proofs.Visits.{no_pairs}
+use Rattle.coincidence.{specs.Pairing.pairs_of, proofs.Visits.no_pairs}
 use Rattle.coincidence.proofs.pairing.pair_direction.Goals as goal
 
 pub pair_earlier-requires-clause-fits : goal.pair_earlier-requires-clause-fits

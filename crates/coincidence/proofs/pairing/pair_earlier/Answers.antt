@@ -1,7 +1,6 @@
 use Rattle.std.proofs.Common.{rules, ℕ, ◌-◌, ◌/◌, ◌<◌, ◌≤◌, arith}
 use Rattle.tally_base.specs.Settings.{coincidence_view, coincidence_cells}
-use Rattle.coincidence.specs.Pairing.{shifted_by}
-use Rattle.coincidence.proofs.Visits.{pairs_near, pairs_far, shifted_inside, one_fits}
+use Rattle.coincidence.{specs.Pairing.shifted_by, proofs.Visits.{pairs_near, pairs_far, shifted_inside, one_fits}}
 use Rattle.coincidence.proofs.pairing.pair_earlier.Goals as goal
 
 pub add_pairs-requires-clause-inside : goal.add_pairs-requires-clause-inside

@@ -1,6 +1,5 @@
 use Rattle.std.proofs.Common.{arith, ◌+◌, ◌<◌, ◌≤◌}
-use Rattle.lag_ring.specs.declared.ring.Entry.{Entry}
-use Rattle.lag_ring.proofs.Rising.{all_weaker}
+use Rattle.lag_ring.{specs.declared.ring.Entry.Entry, proofs.Rising.all_weaker}
 use Rattle.coincidence.proofs.pairing.shut.Goals as goal
 
 pub begin-requires-clause-far : goal.begin-requires-clause-far

@@ -1,10 +1,7 @@
 use Rattle.std.proofs.Common.{◌≡◌, ◌+◌, ◌++◌}
-use Rattle.tally_base.specs.Settings.{coincidence_view}
-use Rattle.tally_base.specs.Tally.{History}
+use Rattle.tally_base.{specs.Settings.coincidence_view, specs.Tally.History}
 use Rattle.event_block.specs.Columns.{item, rows, gathered}
-use Rattle.coincidence.specs.Pairs.{photons_of_groups}
-use Rattle.coincidence.specs.Pairing.{pairing_of, Came}
-use Rattle.coincidence.specs.StandsFor.{CanTake}
+use Rattle.coincidence.{specs.Pairs.photons_of_groups, specs.Pairing.{pairing_of, Came}, specs.StandsFor.CanTake}
 use Rattle.coincidence.proofs.taking.take_each.Given as goal
 
 abbrev pub invariant-loop-at : goal.invariant-loop-at

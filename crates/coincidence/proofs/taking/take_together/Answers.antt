@@ -1,8 +1,7 @@
 use Rattle.std.proofs.Common.{◌++◌}
 use Rattle.std.proofs.Math.Logic.{∥∥₁_map}
 use Rattle.tally_base.specs.Settings.{coincidence_view}
-use Rattle.coincidence.specs.Closing.{CanShutAll}
-use Rattle.coincidence.proofs.GatherRows.{can_shut_all}
+use Rattle.coincidence.{specs.Closing.CanShutAll, proofs.GatherRows.can_shut_all}
 use Rattle.coincidence.proofs.taking.take_together.Goals as goal
 
 pub gather_block-open-requires-clause-stands : goal.gather_block-open-requires-clause-stands

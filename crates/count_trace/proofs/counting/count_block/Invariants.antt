@@ -1,5 +1,4 @@
-use Rattle.std.proofs.Common.{ℕ, ◌≡◌, ◌<◌, ◌≤◌, ◌+◌, ◌*◌, sum}
-use Rattle.std.specs.Prelude.{slice_index}
+use Rattle.std.proofs.Common.{ℕ, ◌≡◌, ◌<◌, ◌≤◌, ◌+◌, ◌*◌, sum, slice_index}
 use Rattle.tally_base.specs.Settings.{trace_view}
 use Rattle.event_block.specs.Columns.{item, rows}
 use Rattle.count_trace.specs.TraceCounts.{in_trace_bin, count_before, count_beyond}

@@ -1,11 +1,8 @@
 use Rattle.std.proofs.Common.{◌≡◌, ◌≤◌, ◌+◌, ◌-◌, ◌++◌, true, length, sum}
-use Rattle.tally_base.specs.Settings.{image_view, cube_view}
-use Rattle.tally_base.specs.Tally.{History}
-use Rattle.event_block.specs.Columns.{count, item, event_at, rows}
-use Rattle.event_block.specs.Order.{floor_after}
+use Rattle.tally_base.{specs.Settings.{image_view, cube_view}, specs.Tally.History}
+use Rattle.event_block.{specs.Columns.{count, item, event_at, rows}, specs.Order.floor_after}
 use Rattle.marker_map.specs.Lines.{image_of, markers_given, line_start}
-use Rattle.flim_cube.specs.Cells.{counts_of}
-use Rattle.flim_cube.specs.Counted.{Counted, in_rest}
+use Rattle.flim_cube.{specs.Cells.counts_of, specs.Counted.{Counted, in_rest}}
 use Rattle.flim_cube.proofs.count.count_block.Given as goal
 
 abbrev pub invariant-runs : goal.invariant-runs

@@ -1,21 +1,10 @@
-use Rattle.std.proofs.Common.{◌≡◌, ◌∙◌, ◌<◌, ◌%◌, ◌/◌, ◌++◌, true, List, cond, sym, ap, subst, rules, arith, append_assoc}
-use Rattle.std.specs.Prelude.{nat_lt, if◌then◌else◌}
+use Rattle.std.proofs.Common.{◌≡◌, ◌∙◌, ◌<◌, ◌%◌, ◌/◌, ◌++◌, true, List, cond, sym, ap, subst, rules, arith, append_assoc, nat_lt, if◌then◌else◌}
 use Rattle.std.proofs.lemmas.Bool.Decides.{nat_tests}
-use Rattle.tally_base.specs.declared.event.EventKind.TheVariants.{Photon, Marker}
-use Rattle.tally_base.specs.Divisors.{divisor_of}
-use Rattle.tally_base.specs.Events.{is_in}
-use Rattle.tally_base.specs.Settings.{cube_view}
-use Rattle.event_block.specs.Columns.{item, rows, code_at, dtime_at, groups_at, time_at}
-use Rattle.event_block.proofs.Rows.{more_rows}
-use Rattle.marker_map.specs.declared.lines.Lines.{Lines}
-use Rattle.marker_map.specs.Lines.{Saw, image_of}
-use Rattle.marker_map.specs.Marks.{Mark}
-use Rattle.marker_map.specs.Places.{place_of}
-use Rattle.scan_image.specs.Counted.{IsStripOf}
-use Rattle.scan_image.proofs.Steps.{only_group, few_more}
-use Rattle.flim_cube.specs.Cells.{counts_of}
-use Rattle.flim_cube.specs.Counted.{Counted}
-use Rattle.flim_cube.proofs.Steps.{photon_step}
+use Rattle.tally_base.{specs.declared.event.EventKind.TheVariants.{Photon, Marker}, specs.Divisors.divisor_of, specs.Events.is_in, specs.Settings.cube_view}
+use Rattle.event_block.{specs.Columns.{item, rows, code_at, dtime_at, groups_at, time_at}, proofs.Rows.more_rows}
+use Rattle.marker_map.{specs.declared.lines.Lines.Lines, specs.Lines.{Saw, image_of}, specs.Marks.Mark, specs.Places.place_of}
+use Rattle.scan_image.{specs.Counted.IsStripOf, proofs.Steps.{only_group, few_more}}
+use Rattle.flim_cube.{specs.Cells.counts_of, specs.Counted.Counted, proofs.Steps.photon_step}
 use Rattle.flim_cube.proofs.count.count_on.Goals as goal
 
 pub place-place-requires : goal.place-place-requires

@@ -1,12 +1,9 @@
 use Rattle.std.proofs.Common.{◌≡◌, ◌≤◌, ◌+◌, ◌++◌, length, sum}
-use Rattle.tally_base.specs.Settings.{image_view, cube_view}
-use Rattle.tally_base.specs.Tally.{History}
+use Rattle.tally_base.{specs.Settings.{image_view, cube_view}, specs.Tally.History}
 use Rattle.event_block.specs.Columns.{item, rows}
-use Rattle.marker_map.specs.declared.lines.Lines.{Lines}
-use Rattle.marker_map.specs.Lines.{image_of}
+use Rattle.marker_map.{specs.declared.lines.Lines.Lines, specs.Lines.image_of}
 use Rattle.scan_image.specs.Counted.{IsStripOf}
-use Rattle.flim_cube.specs.Cells.{counts_of}
-use Rattle.flim_cube.specs.Counted.{Counted, in_rest}
+use Rattle.flim_cube.{specs.Cells.counts_of, specs.Counted.{Counted, in_rest}}
 use Rattle.flim_cube.proofs.count.count_on.Given as goal
 
 abbrev pub invariant-loop-at : goal.invariant-loop-at

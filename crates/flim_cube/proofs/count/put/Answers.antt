@@ -1,8 +1,6 @@
-use Rattle.std.proofs.Common.{◌≡◌, ◌+◌, ◌*◌, ◌<◌, ◌&&◌, length, get_or, refl, rules, arith}
-use Rattle.std.specs.Prelude.{slice_index, ◌==◌, if◌then◌else◌}
+use Rattle.std.proofs.Common.{◌≡◌, ◌+◌, ◌*◌, ◌<◌, ◌&&◌, length, get_or, refl, rules, arith, slice_index, ◌==◌, if◌then◌else◌}
 use Rattle.std.proofs.lemmas.Grind.{common_steps}
-use Rattle.flim_cube.specs.Cells.{counts_of}
-use Rattle.flim_cube.proofs.Cells.{raised_in}
+use Rattle.flim_cube.{specs.Cells.counts_of, proofs.Cells.raised_in}
 use Rattle.flim_cube.proofs.count.put.Goals as goal
 
 pub returns-in-Some-2-clause-cells : goal.returns-in-Some-2-clause-cells

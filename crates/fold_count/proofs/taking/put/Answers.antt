@@ -1,13 +1,8 @@
-use Rattle.std.proofs.Common.{◌∙◌, ◌+◌, ◌^◌, ◌<◌, List, [], ◌∷◌, length, sym, ap, refl}
+use Rattle.std.proofs.Common.{◌∙◌, ◌+◌, ◌^◌, ◌<◌, List, [], ◌∷◌, length, sym, ap, refl, bit_or}
 use Rattle.std.proofs.lemmas.Nat.{or_lt}
-use Rattle.std.specs.Prelude.{bit_or}
 use Rattle.tally_base.specs.Settings.{fold_view}
-use Rattle.lag_ring.specs.declared.ring.Entry.{Entry}
-use Rattle.lag_ring.proofs.Lists.{all_front}
-use Rattle.lag_ring.proofs.Rising.{all_push}
-use Rattle.fold_count.specs.Folded.{front_of}
-use Rattle.fold_count.proofs.Nested.{last_of}
-use Rattle.fold_count.proofs.Pushed.{parted_photon}
+use Rattle.lag_ring.{specs.declared.ring.Entry.Entry, proofs.Lists.all_front, proofs.Rising.all_push}
+use Rattle.fold_count.{specs.Folded.front_of, proofs.Nested.last_of, proofs.Pushed.parted_photon}
 use Rattle.fold_count.proofs.taking.put.Goals as goal
 
 pub returns-clause-sound : goal.returns-clause-sound

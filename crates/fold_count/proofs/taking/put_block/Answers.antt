@@ -1,8 +1,5 @@
 use Rattle.std.proofs.Common.{◌<◌, ◌++◌, false, rules, arith, append_assoc}
-use Rattle.event_block.specs.Columns.{item, event_at, rows}
-use Rattle.event_block.specs.Order.{floor_after}
-use Rattle.event_block.proofs.Rows.{more_rows}
-use Rattle.event_block.proofs.Order.{floor-more, order-at}
+use Rattle.event_block.{specs.Columns.{item, event_at, rows}, specs.Order.floor_after, proofs.Rows.more_rows, proofs.Order.{floor-more, order-at}}
 use Rattle.fold_count.proofs.taking.put_block.Goals as goal
 
 pub put_event-last-requires-clause-in_time : goal.put_event-last-requires-clause-in_time

@@ -1,9 +1,6 @@
-use Rattle.std.proofs.Common.{◌<◌, ap, arith, length}
-use Rattle.std.specs.Prelude.{nat_lt}
-use Rattle.lag_ring.proofs.Lists.{all_front, all_back}
-use Rattle.lag_ring.proofs.Rising.{rising_front, rising_back}
-use Rattle.fold_count.specs.Folded.{photons_in}
-use Rattle.fold_count.proofs.Bins.{where_at_most, photons_append}
+use Rattle.std.proofs.Common.{◌<◌, ap, arith, length, nat_lt}
+use Rattle.lag_ring.{proofs.Lists.{all_front, all_back}, proofs.Rising.{rising_front, rising_back}}
+use Rattle.fold_count.{specs.Folded.photons_in, proofs.Bins.{where_at_most, photons_append}}
 use Rattle.fold_count.proofs.waiting.count_closed.Goals as goal
 
 pub count_front-requires-clause-inside : goal.count_front-requires-clause-inside

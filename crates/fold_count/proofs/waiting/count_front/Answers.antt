@@ -1,5 +1,4 @@
-use Rattle.std.proofs.Common.{◌∙◌, ◌+◌, true, sym, ap, sum, take, arith}
-use Rattle.std.specs.Prelude.{nat_lt, ◌==◌, slice_index}
+use Rattle.std.proofs.Common.{◌∙◌, ◌+◌, true, sym, ap, sum, take, arith, nat_lt, ◌==◌, slice_index}
 use Rattle.lag_ring.specs.declared.ring.Entry.{Entry}
 use Rattle.fold_count.proofs.Bins.{all_before, where_true, room_for_next}
 use Rattle.fold_count.proofs.waiting.count_front.Goals as goal

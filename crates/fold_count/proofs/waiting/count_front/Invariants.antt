@@ -1,5 +1,4 @@
-use Rattle.std.proofs.Common.{◌≡◌, ◌+◌, ◌<◌, ℕ, length, sum, take}
-use Rattle.std.specs.Prelude.{slice_index, nat_lt}
+use Rattle.std.proofs.Common.{◌≡◌, ◌+◌, ◌<◌, ℕ, length, sum, take, slice_index, nat_lt}
 use Rattle.fold_count.specs.Folded.{photons_of, photons_where}
 use Rattle.fold_count.proofs.waiting.count_front.Given as goal
 

@@ -1,9 +1,6 @@
-use Rattle.std.proofs.Common.{◌≡◌, ◌∙◌, ◌-◌, ◌<◌, List, length, refl, sym, ap, rules, arith}
-use Rattle.std.specs.Prelude.{bit_or, slice_set}
-use Rattle.lag_ring.specs.declared.ring.Entry.{Entry}
-use Rattle.lag_ring.specs.Ring.{Ring}
-use Rattle.fold_count.specs.Folded.{joined}
-use Rattle.fold_count.proofs.Nested.{join, partly_none, partly_next, partly_stop, length-partly, ring_is}
+use Rattle.std.proofs.Common.{◌≡◌, ◌∙◌, ◌-◌, ◌<◌, List, length, refl, sym, ap, rules, arith, bit_or, slice_set}
+use Rattle.lag_ring.{specs.declared.ring.Entry.Entry, specs.Ring.Ring}
+use Rattle.fold_count.{specs.Folded.joined, proofs.Nested.{join, partly_none, partly_next, partly_stop, length-partly, ring_is}}
 use Rattle.fold_count.proofs.waiting.meet.Goals as goal
 
 pub back-init : goal.back-init

@@ -1,11 +1,7 @@
-use Rattle.std.proofs.Common.{◌<◌, [], ◌∷◌, filter, length, ap, arith, length-append}
+use Rattle.std.proofs.Common.{◌<◌, [], ◌∷◌, filter, length, ap, arith, length-append, nat_lt, nat_le}
 use Rattle.std.proofs.lemmas.List.{length-map}
-use Rattle.std.specs.Prelude.{nat_lt, nat_le}
-use Rattle.lag_ring.specs.Ring.{ring as ring_of}
-use Rattle.lag_ring.proofs.Lists.{all_front}
-use Rattle.fold_count.specs.Folded.{joined}
-use Rattle.fold_count.proofs.Bins.{of_push, of_late, where_at_most, photons_push, photons_kept, kept_short, kept_long, below_kept, few_after, room_left}
-use Rattle.fold_count.proofs.Nested.{join, below_joined, photons_joined, last_of}
+use Rattle.lag_ring.{specs.Ring.ring as ring_of, proofs.Lists.all_front}
+use Rattle.fold_count.{specs.Folded.joined, proofs.Bins.{of_push, of_late, where_at_most, photons_push, photons_kept, kept_short, kept_long, below_kept, few_after, room_left}, proofs.Nested.{join, below_joined, photons_joined, last_of}}
 use Rattle.fold_count.proofs.waiting.settle.Goals as goal
 
 pub count_closed-requires-clause-inside : goal.count_closed-requires-clause-inside

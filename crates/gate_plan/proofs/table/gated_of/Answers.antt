@@ -1,9 +1,7 @@
 use Rattle.std.proofs.Common.{◌≡◌, [], arith, length, ap, length-append}
 use Rattle.std.proofs.lemmas.List.Sums.{sum_by_push}
-use Rattle.gate_plan.specs.Parting.{gated_bit, gated_sum}
-use Rattle.gate_plan.proofs.Parts.{gated_some, gated_none, none_left}
+use Rattle.gate_plan.{specs.Parting.{gated_bit, gated_sum}, proofs.Parts.{gated_some, gated_none, none_left}, proofs.table.gated_of.Goals.{then-not-is_empty, else-not-is_empty}}
 use Rattle.gate_plan.proofs.table.gated_of.Goals as goal
-use Rattle.gate_plan.proofs.table.gated_of.Goals.{then-not-is_empty, else-not-is_empty}
 
 pub groups-preserved : goal.groups-preserved
 groups-preserved c =

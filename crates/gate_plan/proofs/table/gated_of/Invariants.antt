@@ -1,7 +1,6 @@
 use Rattle.std.proofs.Common.{◌≡◌, ◌+◌, ◌*◌, ◌^◌, ◌≤◌, ℕ, map, drop, length}
 use Rattle.tally_base.specs.Settings.{group_view}
-use Rattle.gate_plan.specs.Taking.{bits_of}
-use Rattle.gate_plan.specs.Parting.{takes_gated, gated_bits, gated_sum}
+use Rattle.gate_plan.{specs.Taking.bits_of, specs.Parting.{takes_gated, gated_bits, gated_sum}}
 use Rattle.gate_plan.proofs.table.gated_of.Given as goal
 
 abbrev pub invariant-groups : goal.invariant-groups

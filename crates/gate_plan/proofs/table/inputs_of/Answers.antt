@@ -1,7 +1,6 @@
 use Rattle.std.proofs.Common.{◌≡◌, rules, arith}
 use Rattle.std.proofs.lemmas.Grind.{common_steps}
-use Rattle.gate_plan.specs.Taking.{is_among}
-use Rattle.gate_plan.proofs.Inputs.{filled_on, has_all}
+use Rattle.gate_plan.{specs.Taking.is_among, proofs.Inputs.{filled_on, has_all}}
 use Rattle.gate_plan.proofs.table.inputs_of.Goals as goal
 
 pub loop-input-preserved : goal.loop-input-preserved

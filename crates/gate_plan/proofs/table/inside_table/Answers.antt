@@ -1,7 +1,6 @@
 use Rattle.std.proofs.Common.{◌+◌, ◌-◌, ◌*◌, ◌^◌, min, get_or, false, rules, arith}
 use Rattle.std.proofs.lemmas.Grind.{common_steps}
-use Rattle.gate_plan.specs.Taking.{one_if}
-use Rattle.gate_plan.proofs.Bits.{filled_more}
+use Rattle.gate_plan.{specs.Taking.one_if, proofs.Bits.filled_more}
 use Rattle.gate_plan.proofs.table.inside_table.Goals as goal
 
 pub loop-input-preserved : goal.loop-input-preserved

@@ -1,7 +1,6 @@
 use Rattle.std.proofs.Common.{◌≡◌, ◌+◌, ◌*◌, ◌^◌, ◌<◌, ◌≤◌, map, drop, length}
 use Rattle.tally_base.specs.Settings.{group_view}
-use Rattle.gate_plan.specs.Taking.{bits_of}
-use Rattle.gate_plan.specs.Parting.{takes_plainly, plain_bits}
+use Rattle.gate_plan.{specs.Taking.bits_of, specs.Parting.{takes_plainly, plain_bits}}
 use Rattle.gate_plan.proofs.table.plain_of.Given as goal
 
 abbrev pub invariant-groups : goal.invariant-groups

@@ -1,8 +1,7 @@
 use Rattle.std.proofs.Common.{map, rules, arith}
 use Rattle.std.proofs.lemmas.Grind.{common_steps}
 use Rattle.tally_base.specs.Settings.{group_view}
-use Rattle.gate_plan.specs.Parting.{plain_bits}
-use Rattle.gate_plan.proofs.Bits.{filled_more}
+use Rattle.gate_plan.{specs.Parting.plain_bits, proofs.Bits.filled_more}
 use Rattle.gate_plan.proofs.table.plain_table.Goals as goal
 
 pub loop-input-preserved : goal.loop-input-preserved

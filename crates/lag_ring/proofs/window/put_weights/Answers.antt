@@ -1,6 +1,5 @@
 use Rattle.std.proofs.Common.{arith, ◌<◌, ◌^◌, length}
-use Rattle.lag_ring.specs.declared.ring.Entry.{Entry}
-use Rattle.lag_ring.proofs.Windows.{place_fits}
+use Rattle.lag_ring.{specs.declared.ring.Entry.Entry, proofs.Windows.place_fits}
 use Rattle.lag_ring.proofs.window.put_weights.Goals as goal
 
 pub put_weight-requires-clause-fits : goal.put_weight-requires-clause-fits

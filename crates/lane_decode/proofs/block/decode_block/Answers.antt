@@ -1,6 +1,5 @@
 use Rattle.std.proofs.Common.{map, ap, ◌∙◌}
-use Rattle.ptu_definitions.specs.Fours.{numbers}
-use Rattle.ptu_definitions.proofs.FoursLemmas.{numbers-chunks}
+use Rattle.ptu_definitions.{specs.Fours.numbers, proofs.FoursLemmas.numbers-chunks}
 use Rattle.lane_decode.proofs.block.decode_block.Goals as goal
 
 pub returns : goal.returns

@@ -1,8 +1,6 @@
 use Rattle.std.proofs.Common.{◌≡◌, ◌∙◌, ◌<◌, ◌≤◌, ◌-◌, ◌/◌, ap, arith}
 use Rattle.tally_base.specs.Settings.{trace_view}
-use Rattle.long_trace.specs.States.{state_of}
-use Rattle.long_trace.proofs.Steps.{of_group}
-use Rattle.long_trace.proofs.BinSteps.{binned-early, binned-not, none-group, same_bin, CountsOn-none, CountsOn-in}
+use Rattle.long_trace.{specs.States.state_of, proofs.Steps.of_group, proofs.BinSteps.{binned-early, binned-not, none-group, same_bin, CountsOn-none, CountsOn-in}}
 use Rattle.long_trace.proofs.counting.count_at.Goals as goal
 
 pub returns-then-time-set-clause-counts : goal.returns-then-time-set-clause-counts

@@ -1,7 +1,6 @@
 use Rattle.std.proofs.Common.{◌∙◌, ◌<◌, ◌≤◌, ◌-◌, ◌/◌, sym, ap, arith}
 use Rattle.tally_base.specs.Settings.{trace_view}
-use Rattle.long_trace.specs.States.{state_of}
-use Rattle.long_trace.proofs.BinSteps.{binned-is, later_bin, CountsOn-next}
+use Rattle.long_trace.{specs.States.state_of, proofs.BinSteps.{binned-is, later_bin, CountsOn-next}}
 use Rattle.long_trace.proofs.counting.open_next.Goals as goal
 
 pub returns-clause-counts : goal.returns-clause-counts

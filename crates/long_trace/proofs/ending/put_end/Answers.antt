@@ -1,10 +1,7 @@
 use Rattle.std.proofs.Common.{◌≡◌, ◌∙◌, ◌++◌, [], List, ℕ, ap}
-use Rattle.std.specs.declared.option.Option.{Option}
-use Rattle.std.proofs.lemmas.Result.{err_from_is_err_and, on_ok_weaker, on_err_weaker}
-use Rattle.bench_io.specs.Sinks.{AppendsShort, PassesOn}
-use Rattle.bench_io.proofs.Bytes.{PassesOn-trans, Appends-flushed, AppendsShort-flushed, AppendsShort-passed, AppendsShort-more, AppendsShort-same, Appends-same}
-use Rattle.long_trace.specs.Texts.{bin_line, frequencies_text, above, before_line, above_line}
-use Rattle.long_trace.proofs.Ends.{end-same, end-front}
+use Rattle.std.{specs.declared.option.Option.Option, proofs.lemmas.Result.{err_from_is_err_and, on_ok_weaker, on_err_weaker}}
+use Rattle.bench_io.{specs.Sinks.{AppendsShort, PassesOn}, proofs.Bytes.{PassesOn-trans, Appends-flushed, AppendsShort-flushed, AppendsShort-passed, AppendsShort-more, AppendsShort-same, Appends-same}}
+use Rattle.long_trace.{specs.Texts.{bin_line, frequencies_text, above, before_line, above_line}, proofs.Ends.{end-same, end-front}}
 use Rattle.long_trace.proofs.ending.put_end.Goals as goal
 
 -- what was put is what was to be put

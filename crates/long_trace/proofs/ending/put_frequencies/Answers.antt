@@ -1,7 +1,6 @@
 use Rattle.std.proofs.Common.{◌∙◌, ◌<◌, ap, rules, arith}
 use Rattle.std.proofs.lemmas.Result.{err_from_is_err_and}
-use Rattle.long_trace.specs.Texts.{frequency_limit, frequency_line}
-use Rattle.long_trace.proofs.Ends.{next-put, next-cut, all-put}
+use Rattle.long_trace.{specs.Texts.{frequency_limit, frequency_line}, proofs.Ends.{next-put, next-cut, all-put}}
 use Rattle.long_trace.proofs.ending.put_frequencies.Goals as goal
 
 pub loop-count-preserved : goal.loop-count-preserved

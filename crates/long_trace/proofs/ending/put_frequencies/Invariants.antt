@@ -1,5 +1,4 @@
-use Rattle.std.proofs.Common.{◌≡◌, ℕ, ◌<◌, List, ◌++◌}
-use Rattle.std.specs.Prelude.{slice_index}
+use Rattle.std.proofs.Common.{◌≡◌, ℕ, ◌<◌, List, ◌++◌, slice_index}
 use Rattle.bench_io.specs.Sinks.{PassesOn}
 use Rattle.long_trace.specs.Texts.{frequency_limit, frequency, frequency_lines}
 use Rattle.long_trace.proofs.ending.put_frequencies.Given as goal

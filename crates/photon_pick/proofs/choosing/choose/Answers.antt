@@ -1,9 +1,7 @@
-use Rattle.std.proofs.Common.{◌≡◌, ◌+◌, ◌<◌, ◌≤◌, ℕ, Bool, true, false, length, sym, rules, arith}
-use Rattle.std.specs.Prelude.{if◌then◌else◌}
+use Rattle.std.proofs.Common.{◌≡◌, ◌+◌, ◌<◌, ◌≤◌, ℕ, Bool, true, false, length, sym, rules, arith, if◌then◌else◌}
 use Rattle.event_block.specs.Columns.{event_at}
 use Rattle.gate_plan.specs.Groups.{sorting_of}
-use Rattle.photon_pick.specs.Chosen.{is_chosen}
-use Rattle.photon_pick.proofs.Chooses.{chosen-more, inside-more}
+use Rattle.photon_pick.{specs.Chosen.is_chosen, proofs.Chooses.{chosen-more, inside-more}}
 use Rattle.photon_pick.proofs.choosing.choose.Goals as goal
 
 pub loop-at-preserved : goal.loop-at-preserved

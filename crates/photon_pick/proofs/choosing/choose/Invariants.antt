@@ -1,9 +1,7 @@
-use Rattle.std.proofs.Common.{◌≡◌, ◌<◌, ◌≤◌, ℕ, filter, length}
-use Rattle.std.specs.Prelude.{slice_index}
+use Rattle.std.proofs.Common.{◌≡◌, ◌<◌, ◌≤◌, ℕ, filter, length, slice_index}
 use Rattle.event_block.specs.Columns.{event_at, rows}
 use Rattle.gate_plan.specs.Groups.{sorting_of}
-use Rattle.photon_pick.specs.Chosen.{is_chosen}
-use Rattle.photon_pick.specs.Places.{events_at}
+use Rattle.photon_pick.{specs.Chosen.is_chosen, specs.Places.events_at}
 use Rattle.photon_pick.proofs.choosing.choose.Given as goal
 
 abbrev pub invariant-loop-at : goal.invariant-loop-at

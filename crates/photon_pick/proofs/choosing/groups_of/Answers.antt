@@ -1,7 +1,5 @@
 use Rattle.std.proofs.Common.{sym, arith}
-use Rattle.gate_plan.specs.Groups.{sorting_of}
-use Rattle.gate_plan.specs.Shifting.{shifted_dtime}
-use Rattle.gate_plan.proofs.Parts.{of_shifted, of_shifted_marker}
+use Rattle.gate_plan.{specs.Groups.sorting_of, specs.Shifting.shifted_dtime, proofs.Parts.{of_shifted, of_shifted_marker}}
 use Rattle.photon_pick.proofs.choosing.groups_of.Goals as goal
 
 pub returns-in-Photon : goal.returns-in-Photon

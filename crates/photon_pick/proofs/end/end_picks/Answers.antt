@@ -3,16 +3,10 @@ use Rattle.std.specs.declared.option.Option.{Option}
 use Rattle.tally_base.specs.declared.fault.Fault.{Fault}
 use Rattle.abs_time.specs.declared.clock.Clock.{Clock}
 use Rattle.settle.specs.declared.settle.Settle.{Settle}
-use Rattle.ptu_definitions.specs.declared.records.Summary.{Summary}
-use Rattle.ptu_definitions.specs.Prefixes.{first}
-use Rattle.ptu_definitions.specs.Streams.{Reading, record_refusal}
-use Rattle.ptu_definitions.specs.Words.{words_of}
+use Rattle.ptu_definitions.{specs.declared.records.Summary.Summary, specs.Prefixes.first, specs.Streams.{Reading, record_refusal}, specs.Words.words_of}
 use Rattle.gate_plan.specs.Groups.{sorting_of}
 use Rattle.record_stream.specs.Standing.{how_of, Stands}
-use Rattle.photon_pick.specs.declared.taker.Picks.{Picks}
-use Rattle.photon_pick.specs.Chosen.{is_chosen}
-use Rattle.photon_pick.specs.Taking.{stand, took_none}
-use Rattle.photon_pick.proofs.Ends.{ends-on, ends-cut}
+use Rattle.photon_pick.{specs.declared.taker.Picks.Picks, specs.Chosen.is_chosen, specs.Taking.{stand, took_none}, proofs.Ends.{ends-on, ends-cut}}
 use Rattle.photon_pick.proofs.end.end_picks.Goals as goal
 
 clear : (how : Reading) (clock : Clock) (sum : Summary) (count : ℕ) (settle : Settle) (carried : List ℕ) (refused : Option Fault) (bytes : List ℕ) → Stands how clock sum count settle carried refused bytes → refused ≡ None → record_refusal how (words_of bytes) ≡ None

@@ -1,5 +1,4 @@
-use Rattle.photon_pick.specs.Places.{events_at}
-use Rattle.photon_pick.specs.Giving.{pen, Gave}
+use Rattle.photon_pick.{specs.Places.events_at, specs.Giving.{pen, Gave}}
 use Rattle.photon_pick.proofs.giving.give_photons.Given as goal
 
 abbrev pub invariant-loop-k : goal.invariant-loop-k

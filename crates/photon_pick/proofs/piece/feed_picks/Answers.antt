@@ -1,10 +1,7 @@
 use Rattle.std.proofs.Common.{◌+◌, refl}
 use Rattle.gate_plan.specs.Groups.{sorting_of}
 use Rattle.record_stream.specs.Standing.{how_of}
-use Rattle.photon_pick.specs.declared.taker.Picks.{Picks}
-use Rattle.photon_pick.specs.Chosen.{is_chosen}
-use Rattle.photon_pick.specs.Taking.{stand, took_none}
-use Rattle.photon_pick.proofs.Feeds.{feeds-on, feeds-cut}
+use Rattle.photon_pick.{specs.declared.taker.Picks.Picks, specs.Chosen.is_chosen, specs.Taking.{stand, took_none}, proofs.Feeds.{feeds-on, feeds-cut}}
 use Rattle.photon_pick.proofs.piece.feed_picks.Goals as goal
 
 pub returns-in-Ok-clause-writes : goal.returns-in-Ok-clause-writes

@@ -1,7 +1,6 @@
 use Rattle.std.proofs.Common.{◌≡◌, true, false}
 use Rattle.toml.specs.View.{view}
-use Rattle.plan_text.specs.Version.{is_second}
-use Rattle.plan_text.specs.Document.{known_keys, has_known_keys}
+use Rattle.plan_text.{specs.Version.is_second, specs.Document.{known_keys, has_known_keys}}
 use Rattle.plan_text.proofs.document.has_known_keys.Goals as goal
 
 pub returns-then-is_second : goal.returns-then-is_second

@@ -1,8 +1,7 @@
 use Rattle.std.proofs.Common.{◌≡◌, ◌≤◌, ◌++◌, map, drop, length, option_map}
 use Rattle.arrayvec.specs.ArrayVec.{array_vec_len}
 use Rattle.toml.specs.View.{view}
-use Rattle.plan_text.specs.Folds.{numbers_from}
-use Rattle.plan_text.proofs.Numbers.{NumbersTo}
+use Rattle.plan_text.{specs.Folds.numbers_from, proofs.Numbers.NumbersTo}
 use Rattle.plan_text.proofs.folds.numbers_from.Given as goal
 
 abbrev pub invariant-items : goal.invariant-items

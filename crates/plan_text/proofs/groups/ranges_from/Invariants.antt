@@ -1,8 +1,7 @@
 use Rattle.std.proofs.Common.{◌≡◌, ◌≤◌, ◌++◌, map, drop, length, option_map}
 use Rattle.arrayvec.specs.ArrayVec.{array_vec_len}
 use Rattle.toml.specs.View.{view}
-use Rattle.plan_text.specs.Groups.{ranges_from}
-use Rattle.plan_text.proofs.Gates.{RiseTo}
+use Rattle.plan_text.{specs.Groups.ranges_from, proofs.Gates.RiseTo}
 use Rattle.plan_text.proofs.groups.ranges_from.Given as goal
 
 abbrev pub invariant-items : goal.invariant-items

@@ -1,9 +1,7 @@
 use Rattle.std.proofs.Common.{sym}
 use Rattle.toml.specs.View.{view}
 use Rattle.toml_rules.proofs.Least.{names_least, all_kept_nowhere, all_kept_inside}
-use Rattle.plan_text.specs.Plan.{plan_rules}
-use Rattle.plan_text.proofs.Rise.{plan_rules_rise}
-use Rattle.plan_text.proofs.Whole.{plan_is_whole}
+use Rattle.plan_text.{specs.Plan.plan_rules, proofs.Rise.plan_rules_rise, proofs.Whole.plan_is_whole}
 use Rattle.plan_text.proofs.read.plan_by_rules.Goals as goal
 
 pub returns-in-Err-clause-refused : goal.returns-in-Err-clause-refused

@@ -1,14 +1,9 @@
 use Rattle.std.proofs.Common.{refl, sym, ap, ◌∙◌, inl}
 use Rattle.std.proofs.lemmas.Result.{IfErr-weaker, err_from_is_err_and}
 use Rattle.tally_base.specs.declared.slot.Slot.TheVariants.{Data}
-use Rattle.bench_io.proofs.Bytes.{Appends-nil, Keeps-from_none}
-use Rattle.bench_io.proofs.Rises.{Rose-behind}
-use Rattle.bench_io.proofs.States.{Keeps-trans}
+use Rattle.bench_io.{proofs.Bytes.{Appends-nil, Keeps-from_none}, proofs.Rises.Rose-behind, proofs.States.Keeps-trans}
 use Rattle.plan_text.specs.Reading.{plan_view}
-use Rattle.ptu_cli.specs.Endings.{Span, HasCauses}
-use Rattle.ptu_cli.proofs.PlanTold.{has-plan, none-lacking, takes-later, answers-unplanned, unplanned-causes, answers-lacking, lacking-causes, plan-answers, plan-causes}
-use Rattle.ptu_cli.proofs.WorkTold.{few-told}
-use Rattle.ptu_cli.proofs.Once.{stays-same, once-none, once-behind, once-opened, once-unopened}
+use Rattle.ptu_cli.{specs.Endings.{Span, HasCauses}, proofs.PlanTold.{has-plan, none-lacking, takes-later, answers-unplanned, unplanned-causes, answers-lacking, lacking-causes, plan-answers, plan-causes}, proofs.WorkTold.few-told, proofs.Once.{stays-same, once-none, once-behind, once-opened, once-unopened}}
 use Rattle.ptu_cli.proofs.by_plan.by_plan.Goals as goal
 
 pub returns-in_err-plan : goal.returns-in_err-plan

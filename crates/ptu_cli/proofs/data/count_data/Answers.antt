@@ -1,12 +1,7 @@
 use Rattle.std.proofs.Common.{◌++◌, [], None, Ok, Err, inr}
 use Rattle.std.proofs.lemmas.Result.{err_from_is_err_and}
 use Rattle.bench_io.proofs.Bytes.{Consumes-trans}
-use Rattle.ptu_cli.proofs.Pieces.{file_counts-cut, file_counts-open, within_limit}
-use Rattle.ptu_cli.proofs.Composed.{AnswersAs-unheaded, AnswersAs-behind, Says-refused}
-use Rattle.ptu_cli.specs.Outcomes.{IsCut}
-use Rattle.ptu_cli.specs.Behaviours.{counting}
-use Rattle.ptu_cli.proofs.Few.{few-behind, stops-map, stops-inside, stops-behind}
-use Rattle.ptu_cli.proofs.Once.{once-none, once-behind}
+use Rattle.ptu_cli.{proofs.Pieces.{file_counts-cut, file_counts-open, within_limit}, proofs.Composed.{AnswersAs-unheaded, AnswersAs-behind, Says-refused}, specs.Outcomes.IsCut, specs.Behaviours.counting, proofs.Few.{few-behind, stops-map, stops-inside, stops-behind}, proofs.Once.{once-none, once-behind}}
 use Rattle.ptu_cli.proofs.data.count_data.Goals as goal
 
 pub returns-in_err-found-clause-answer : goal.returns-in_err-found-clause-answer

@@ -1,19 +1,10 @@
 use Rattle.std.proofs.Common.{◌≡◌, [], refl, sym, ap, ◌∙◌, append-nil, arith, ◌≤◌, ◌++◌, ℕ, List, length, Err, take, append_assoc, subst, inr}
 use Rattle.std.proofs.lemmas.Result.{IfErr-weaker, err_from_is_err_and}
-use Rattle.tally_base.specs.declared.slot.Slot.TheVariants.{Data}
-use Rattle.tally_base.proofs.Reasons.{HasReason-inside}
-use Rattle.bench_io.proofs.Bytes.{Consumes-kept, Consumes-trans}
-use Rattle.bench_io.proofs.States.{OnlyReads-trans}
-use Rattle.ptu_definitions.specs.Words.{words_of}
-use Rattle.ptu_definitions.specs.Counted.{counted, record_limit}
-use Rattle.ptu_definitions.specs.Shown.{Shows}
+use Rattle.tally_base.{specs.declared.slot.Slot.TheVariants.Data, proofs.Reasons.HasReason-inside, specs.Faults.fault_in}
+use Rattle.bench_io.{proofs.Bytes.{Consumes-kept, Consumes-trans}, proofs.States.OnlyReads-trans}
+use Rattle.ptu_definitions.{specs.Words.words_of, specs.Counted.{counted, record_limit}, specs.Shown.Shows}
 use Rattle.record_layout.specs.Counting.{HasCounted}
-use Rattle.ptu_cli.proofs.Told.{Says-at_end, Says-shown}
-use Rattle.ptu_cli.proofs.Pieces.{counted-open, within_limit}
-use Rattle.tally_base.specs.Faults.{fault_in}
-use Rattle.ptu_cli.specs.Outcomes.{MayChange}
-use Rattle.ptu_cli.proofs.Few.{stops-unread, stops-piece}
-use Rattle.ptu_cli.proofs.Once.{once-read, once-unread}
+use Rattle.ptu_cli.{proofs.Told.{Says-at_end, Says-shown}, proofs.Pieces.{counted-open, within_limit}, specs.Outcomes.MayChange, proofs.Few.{stops-unread, stops-piece}, proofs.Once.{once-read, once-unread}}
 use Rattle.ptu_cli.proofs.data.count_rest.Goals as goal
 
 pub returns-then-len-eq0-clause-reason : goal.returns-then-len-eq0-clause-reason

@@ -1,10 +1,8 @@
 use Rattle.std.proofs.Common.{◌++◌, ◌≤◌, List, ℕ, length, None}
 use Rattle.std.specs.Io.KnownBytes.{Consumes}
-use Rattle.tally_base.specs.declared.slot.Slot.TheVariants.{Data}
-use Rattle.tally_base.specs.declared.header.RecordType.{RecordType}
+use Rattle.tally_base.{specs.declared.slot.Slot.TheVariants.Data, specs.declared.header.RecordType.RecordType}
 use Rattle.bench_io.specs.Inputs.{OnlyReads}
-use Rattle.ptu_definitions.specs.Words.{words_of}
-use Rattle.ptu_definitions.specs.Counted.{record_limit}
+use Rattle.ptu_definitions.{specs.Words.words_of, specs.Counted.record_limit}
 use Rattle.record_layout.specs.Counting.{HasCounted, room}
 use Rattle.ptu_cli.specs.Once.{InputsOnce}
 use Rattle.ptu_cli.proofs.data.count_rest.Given as goal

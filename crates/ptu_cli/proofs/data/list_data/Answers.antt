@@ -2,13 +2,7 @@ use Rattle.std.proofs.Common.{[], refl}
 use Rattle.std.proofs.lemmas.Result.{IfErr-weaker, err_from_is_err_and}
 use Rattle.tally_base.proofs.Reasons.{HasReason-follows, HasReason-with}
 use Rattle.bench_io.proofs.Rises.{Rose-behind}
-use Rattle.ptu_cli.proofs.EventEnds.{reason-piece}
-use Rattle.ptu_cli.proofs.EventReasons.{reads-header, reads-behind, cuts-first, cuts-behind}
-use Rattle.ptu_cli.proofs.EventComposed.{answers-header, answers-first, answers-behind}
-use Rattle.ptu_cli.specs.Outcomes.{IsCut}
-use Rattle.ptu_cli.specs.Behaviours.{listing_all}
-use Rattle.ptu_cli.proofs.Few.{few-map, few-behind}
-use Rattle.ptu_cli.proofs.Once.{stays-same, stays-behind, once-none, once-behind, Rose-kept}
+use Rattle.ptu_cli.{proofs.EventEnds.reason-piece, proofs.EventReasons.{reads-header, reads-behind, cuts-first, cuts-behind}, proofs.EventComposed.{answers-header, answers-first, answers-behind}, specs.Outcomes.IsCut, specs.Behaviours.listing_all, proofs.Few.{few-map, few-behind}, proofs.Once.{stays-same, stays-behind, once-none, once-behind, Rose-kept}}
 use Rattle.ptu_cli.proofs.data.list_data.Goals as goal
 
 pub returns-in_err-found-clause-answer : goal.returns-in_err-found-clause-answer

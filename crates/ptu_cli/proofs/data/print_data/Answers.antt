@@ -1,15 +1,8 @@
 use Rattle.std.proofs.Common.{◌≡◌, length, rules, ◌++◌, [], take, refl, sym, ap, ◌∙◌, append-nil, arith, inr}
-use Rattle.bench_io.proofs.Bytes.{Appends-nil, Appends-same, Consumes-nil, Consumes-kept, Consumes-trans}
-use Rattle.bench_io.proofs.States.{OnlyReads-refl, OnlyReads-trans}
-use Rattle.table_out.specs.HeaderText.{header_text}
-use Rattle.table_out.proofs.StepTexts.{header_text-nil}
-use Rattle.ptu_cli.proofs.Pieces.{IsCut-nil}
-use Rattle.ptu_cli.proofs.HeaderEnds.{text-appended, text-cut, outcome-done, outcome-refused, outcome-ended}
+use Rattle.bench_io.{proofs.Bytes.{Appends-nil, Appends-same, Consumes-nil, Consumes-kept, Consumes-trans}, proofs.States.{OnlyReads-refl, OnlyReads-trans}}
+use Rattle.table_out.{specs.HeaderText.header_text, proofs.StepTexts.header_text-nil}
+use Rattle.ptu_cli.{proofs.Pieces.IsCut-nil, proofs.HeaderEnds.{text-appended, text-cut, outcome-done, outcome-refused, outcome-ended}, specs.Outcomes.{IsCut, header_outcome}, proofs.Told.{some_left, Says-at_end, Says-shown}, proofs.Few.{few-none, few-piece}, proofs.Once.{stays-same, once-refl, once-read, once-unread, Rose-kept}}
 use Rattle.tally_base.specs.declared.slot.Slot.TheVariants.{Data}
-use Rattle.ptu_cli.specs.Outcomes.{IsCut, header_outcome}
-use Rattle.ptu_cli.proofs.Told.{some_left, Says-at_end, Says-shown}
-use Rattle.ptu_cli.proofs.Few.{few-none, few-piece}
-use Rattle.ptu_cli.proofs.Once.{stays-same, once-refl, once-read, once-unread, Rose-kept}
 use Rattle.ptu_cli.proofs.data.print_data.Goals as goal
 
 pub pieces-init : goal.pieces-init

@@ -4,9 +4,7 @@ use Rattle.tally_base.specs.declared.slot.Slot.TheVariants.{Data}
 use Rattle.bench_io.specs.Inputs.{OnlyReads}
 use Rattle.ptu_header.specs.Reading.{bytes_taken, is_open}
 use Rattle.table_out.specs.HeaderText.{header_text}
-use Rattle.ptu_cli.specs.Outcomes.{IsCut}
-use Rattle.ptu_cli.specs.Printing.{Prints}
-use Rattle.ptu_cli.specs.Once.{InputsOnce}
+use Rattle.ptu_cli.{specs.Outcomes.IsCut, specs.Printing.Prints, specs.Once.InputsOnce}
 use Rattle.ptu_cli.proofs.data.print_data.Given as goal
 
 -- the text of the bytes that were taken is written

@@ -1,16 +1,9 @@
 use Rattle.std.proofs.Common.{◌≡◌, arith, [], ◌++◌, Ok, Err, take, refl, sym, ap, ◌∙◌, append-nil, inr}
-use Rattle.std.proofs.lemmas.List.{length-take}
-use Rattle.std.proofs.lemmas.Slice.{between_is}
-use Rattle.tally_base.specs.declared.slot.Slot.TheVariants.{Data}
-use Rattle.tally_base.proofs.Reasons.{HasReason-inside}
-use Rattle.bench_io.proofs.Bytes.{Consumes-nil, Consumes-kept, Consumes-trans}
-use Rattle.bench_io.proofs.States.{OnlyReads-refl}
-use Rattle.ptu_cli.proofs.Pieces.{IsCut-nil, some_used}
+use Rattle.std.{proofs.lemmas.List.length-take, proofs.lemmas.Slice.between_is}
+use Rattle.tally_base.{specs.declared.slot.Slot.TheVariants.Data, proofs.Reasons.HasReason-inside}
+use Rattle.bench_io.{proofs.Bytes.{Consumes-nil, Consumes-kept, Consumes-trans}, proofs.States.OnlyReads-refl}
+use Rattle.ptu_cli.{proofs.Pieces.{IsCut-nil, some_used}, specs.Outcomes.IsCut, proofs.Told.{Says-at_end, Says-shown}, proofs.Few.{stops-unread, stops-piece}, proofs.Once.{once-refl, once-read, once-unread}}
 use Rattle.ptu_definitions.specs.Headers.{header_answer}
-use Rattle.ptu_cli.specs.Outcomes.{IsCut}
-use Rattle.ptu_cli.proofs.Told.{Says-at_end, Says-shown}
-use Rattle.ptu_cli.proofs.Few.{stops-unread, stops-piece}
-use Rattle.ptu_cli.proofs.Once.{once-refl, once-read, once-unread}
 use Rattle.ptu_cli.proofs.data.read_header.Goals as goal
 
 pub returns-then-len-eq0-clause-reason : goal.returns-then-len-eq0-clause-reason

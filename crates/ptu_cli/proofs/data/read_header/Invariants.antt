@@ -3,8 +3,7 @@ use Rattle.std.specs.Io.KnownBytes.{Consumes}
 use Rattle.tally_base.specs.declared.slot.Slot.TheVariants.{Data}
 use Rattle.bench_io.specs.Inputs.{OnlyReads}
 use Rattle.ptu_header.specs.Reading.{HasRead, bytes_taken, is_open}
-use Rattle.ptu_cli.specs.Outcomes.{IsCut}
-use Rattle.ptu_cli.specs.Once.{InputsOnce}
+use Rattle.ptu_cli.{specs.Outcomes.IsCut, specs.Once.InputsOnce}
 use Rattle.ptu_cli.proofs.data.read_header.Given as goal
 
 -- the reader was given the bytes that were taken

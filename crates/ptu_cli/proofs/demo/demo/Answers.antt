@@ -2,11 +2,7 @@ use Rattle.std.proofs.Common.{◌≡◌, refl, inl}
 use Rattle.std.proofs.lemmas.Result.{err_from_is_err_and}
 use Rattle.bench_io.proofs.Bytes.{Appends-nil, Keeps-from_none}
 use Rattle.plan_text.specs.Reading.{plan_view}
-use Rattle.ptu_cli.specs.Demo.{demo_plan}
-use Rattle.ptu_cli.specs.Endings.{HasCauses}
-use Rattle.ptu_cli.proofs.Demos.{demo-view, plan-wanted, demo-outside, demo-causes, ends-demo, untold-causes}
-use Rattle.ptu_cli.proofs.Answers.{alone-answers}
-use Rattle.ptu_cli.proofs.Once.{stays-same, out-once}
+use Rattle.ptu_cli.{specs.Demo.demo_plan, specs.Endings.HasCauses, proofs.Demos.{demo-view, plan-wanted, demo-outside, demo-causes, ends-demo, untold-causes}, proofs.Answers.alone-answers, proofs.Once.{stays-same, out-once}}
 use Rattle.ptu_cli.proofs.demo.demo.Goals as goal
 
 pub returns-in_err-plan-clause-answer : goal.returns-in_err-plan-clause-answer

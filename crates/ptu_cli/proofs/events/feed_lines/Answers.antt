@@ -1,7 +1,5 @@
 use Rattle.std.proofs.Common.{arith}
-use Rattle.ptu_cli.specs.EventLines.{listed_none}
-use Rattle.ptu_cli.proofs.Listing.{writes_on, writes_cut, stays-open}
-use Rattle.ptu_cli.proofs.Once.{stays-ahead, fed-once}
+use Rattle.ptu_cli.{specs.EventLines.listed_none, proofs.Listing.{writes_on, writes_cut, stays-open}, proofs.Once.{stays-ahead, fed-once}}
 use Rattle.ptu_cli.proofs.events.feed_lines.Goals as goal
 
 pub returns-in-Ok-clause-writes : goal.returns-in-Ok-clause-writes

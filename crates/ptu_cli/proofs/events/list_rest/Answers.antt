@@ -1,15 +1,9 @@
 use Rattle.std.proofs.Common.{◌≡◌, [], refl, ap, ◌∙◌, append-nil, arith, ◌++◌, Ok, Err, take, append_assoc}
 use Rattle.std.proofs.lemmas.Result.{err_from_is_err_and}
-use Rattle.bench_io.proofs.Bytes.{Consumes-nil, Consumes-kept, Consumes-trans}
-use Rattle.bench_io.proofs.Rises.{Rose-behind}
-use Rattle.bench_io.proofs.States.{OnlyReads-refl, OnlyReads-trans}
+use Rattle.bench_io.{proofs.Bytes.{Consumes-nil, Consumes-kept, Consumes-trans}, proofs.Rises.Rose-behind, proofs.States.{OnlyReads-refl, OnlyReads-trans}}
 use Rattle.ptu_definitions.specs.Words.{words_of}
-use Rattle.tally_base.specs.declared.slot.Slot.TheVariants.{Data}
-use Rattle.tally_base.specs.Faults.{fault_in}
-use Rattle.ptu_cli.proofs.EventEnds.{Wrote-none, Wrote-trans, answers-piece, cuts-piece, streamed-clear, answers-end, reason-piece}
-use Rattle.ptu_cli.proofs.EventReasons.{streamed-open}
-use Rattle.ptu_cli.proofs.Few.{few-none, few-piece}
-use Rattle.ptu_cli.proofs.Once.{stays-same, stays-behind, once-refl, once-read, once-unread, Rose-kept}
+use Rattle.tally_base.{specs.declared.slot.Slot.TheVariants.Data, specs.Faults.fault_in}
+use Rattle.ptu_cli.{proofs.EventEnds.{Wrote-none, Wrote-trans, answers-piece, cuts-piece, streamed-clear, answers-end, reason-piece}, proofs.EventReasons.streamed-open, proofs.Few.{few-none, few-piece}, proofs.Once.{stays-same, stays-behind, once-refl, once-read, once-unread, Rose-kept}}
 use Rattle.ptu_cli.proofs.events.list_rest.Goals as goal
 
 pub pieces-init : goal.pieces-init

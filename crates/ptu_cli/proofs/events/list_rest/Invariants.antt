@@ -1,12 +1,10 @@
 use Rattle.std.proofs.Common.{◌≡◌, ◌+◌, ◌*◌, ◌-◌, ◌++◌, List, ℕ, None}
 use Rattle.std.specs.Io.KnownBytes.{Consumes}
-use Rattle.tally_base.specs.declared.slot.Slot.TheVariants.{Data}
-use Rattle.tally_base.specs.Limits.{record_limit}
+use Rattle.tally_base.{specs.declared.slot.Slot.TheVariants.Data, specs.Limits.record_limit}
 use Rattle.bench_io.specs.Inputs.{OnlyReads}
 use Rattle.ptu_definitions.specs.Words.{words_of}
 use Rattle.record_stream.specs.Standing.{how_of, refused_with, bytes_in, HasStreamed}
-use Rattle.ptu_cli.specs.EventPieces.{Wrote}
-use Rattle.ptu_cli.specs.Once.{InputsOnce}
+use Rattle.ptu_cli.{specs.EventPieces.Wrote, specs.Once.InputsOnce}
 use Rattle.ptu_cli.proofs.events.list_rest.Given as goal
 
 -- the lines of the bytes that were taken are written

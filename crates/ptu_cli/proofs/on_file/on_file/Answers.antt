@@ -2,9 +2,7 @@ use Rattle.std.proofs.Common.{None, refl, sym, ap, ◌∙◌, inl}
 use Rattle.std.proofs.lemmas.Result.{IfErr-weaker}
 use Rattle.tally_base.specs.declared.slot.Slot.TheVariants.{Plan, Data}
 use Rattle.bench_io.proofs.Bytes.{Appends-nil, Keeps-from_none}
-use Rattle.ptu_cli.specs.Endings.{Span, HasCauses}
-use Rattle.ptu_cli.proofs.WorkTold.{file-answers, file-causes, few-told}
-use Rattle.ptu_cli.proofs.Once.{once-refl, once-behind, once-opened, once-unopened}
+use Rattle.ptu_cli.{specs.Endings.{Span, HasCauses}, proofs.WorkTold.{file-answers, file-causes, few-told}, proofs.Once.{once-refl, once-behind, once-opened, once-unopened}}
 use Rattle.ptu_cli.proofs.on_file.on_file.Goals as goal
 
 pub returns-in-Err : goal.returns-in-Err

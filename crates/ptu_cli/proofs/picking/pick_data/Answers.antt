@@ -1,25 +1,14 @@
 use Rattle.std.proofs.Common.{◌∙◌, [], Ok, Err, refl, sym, ap, inl, arith, ⊎_elim}
-use Rattle.std.proofs.lemmas.Result.{IfErr-weaker, err_from_is_err_and}
+use Rattle.std.{proofs.lemmas.Result.{IfErr-weaker, err_from_is_err_and}, specs.List.slice_range}
 use Rattle.tally_base.proofs.Reasons.{HasReason-follows, HasReason-with, HasReason-inside}
 use Rattle.bench_io.proofs.Rises.{Rose-behind}
 use Rattle.plan_text.specs.Reading.{plan_view}
 use Rattle.tally_engine.specs.Plans.{reading_by}
-use Rattle.std.specs.List.{slice_range}
-use Rattle.ptu_definitions.specs.Streams.{Reading}
-use Rattle.ptu_definitions.specs.Words.{words_of}
-use Rattle.gate_plan.specs.Groups.{sorting_of}
-use Rattle.gate_plan.specs.Shifting.{sorting}
+use Rattle.ptu_definitions.{specs.Streams.Reading, specs.Words.words_of}
+use Rattle.gate_plan.{specs.Groups.sorting_of, specs.Shifting.sorting}
 use Rattle.record_stream.specs.Standing.{how_of}
 use Rattle.photon_pick.proofs.Stays.{has-none}
-use Rattle.ptu_cli.specs.Outcomes.{IsCut}
-use Rattle.ptu_cli.specs.Endings.{span}
-use Rattle.ptu_cli.specs.PickOutcomes.{chosen_by}
-use Rattle.ptu_cli.specs.Behaviours.{picking}
-use Rattle.ptu_cli.proofs.Few.{few-map, few-behind}
-use Rattle.ptu_cli.proofs.Once.{stays-same, stays-behind, once-none, once-behind, Rose-kept}
-use Rattle.ptu_cli.proofs.TextEnds.{writes-reason, writes-once}
-use Rattle.ptu_cli.proofs.TraceComposed.{misfit-inside}
-use Rattle.ptu_cli.proofs.PickComposed.{writes-moved, answers-moved, reason-moved, gates-number, is-picked, unheaded-answers, cut-goes, cut-reads, misfit-answers, first-text, picked-answers, picked-reads, picked-cuts, suited-goes, first-answers, first-cuts, head-cuts}
+use Rattle.ptu_cli.{specs.Outcomes.IsCut, specs.Endings.span, specs.PickOutcomes.chosen_by, specs.Behaviours.picking, proofs.Few.{few-map, few-behind}, proofs.Once.{stays-same, stays-behind, once-none, once-behind, Rose-kept}, proofs.TextEnds.{writes-reason, writes-once}, proofs.TraceComposed.misfit-inside, proofs.PickComposed.{writes-moved, answers-moved, reason-moved, gates-number, is-picked, unheaded-answers, cut-goes, cut-reads, misfit-answers, first-text, picked-answers, picked-reads, picked-cuts, suited-goes, first-answers, first-cuts, head-cuts}}
 use Rattle.ptu_cli.proofs.picking.pick_data.Goals as goal
 
 pub returns-in_err-found-clause-answer : goal.returns-in_err-found-clause-answer

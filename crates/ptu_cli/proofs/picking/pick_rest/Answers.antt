@@ -1,20 +1,13 @@
 use Rattle.std.proofs.Common.{◌≡◌, [], Ok, Err, refl, ◌∙◌, append-nil, arith, ◌++◌, take, append_assoc}
 use Rattle.std.proofs.lemmas.Result.{err_from_is_err_and}
-use Rattle.bench_io.proofs.Bytes.{Consumes-nil, Consumes-kept, Consumes-trans}
-use Rattle.bench_io.proofs.Rises.{Rose-behind}
-use Rattle.bench_io.proofs.States.{OnlyReads-refl, OnlyReads-trans}
+use Rattle.bench_io.{proofs.Bytes.{Consumes-nil, Consumes-kept, Consumes-trans}, proofs.Rises.Rose-behind, proofs.States.{OnlyReads-refl, OnlyReads-trans}}
 use Rattle.told_text.proofs.Texts.{WroteText-none, WroteText-trans}
 use Rattle.tally_base.specs.declared.slot.Slot.TheVariants.{Data}
 use Rattle.ptu_definitions.specs.Words.{words_of}
 use Rattle.gate_plan.specs.Groups.{sorting_of}
 use Rattle.record_stream.specs.Standing.{how_of}
-use Rattle.photon_pick.specs.Chosen.{is_chosen}
-use Rattle.photon_pick.proofs.Stays.{unrefused}
-use Rattle.ptu_cli.proofs.EventEnds.{streamed-clear}
-use Rattle.ptu_cli.proofs.Few.{few-none, few-piece}
-use Rattle.ptu_cli.proofs.Once.{stays-behind, once-refl, once-none, once-read, once-unread, Rose-kept}
-use Rattle.ptu_cli.proofs.TextEnds.{piece-answers, piece-cuts, end-answers, end-cuts, writes-reason, writes-once}
-use Rattle.ptu_cli.proofs.PickComposed.{is-picked, writes-moved, end-moved}
+use Rattle.photon_pick.{specs.Chosen.is_chosen, proofs.Stays.unrefused}
+use Rattle.ptu_cli.{proofs.EventEnds.streamed-clear, proofs.Few.{few-none, few-piece}, proofs.Once.{stays-behind, once-refl, once-none, once-read, once-unread, Rose-kept}, proofs.TextEnds.{piece-answers, piece-cuts, end-answers, end-cuts, writes-reason, writes-once}, proofs.PickComposed.{is-picked, writes-moved, end-moved}}
 use Rattle.ptu_cli.proofs.picking.pick_rest.Goals as goal
 
 pub pieces-init : goal.pieces-init

@@ -1,15 +1,12 @@
 use Rattle.std.proofs.Common.{◌≡◌, ◌+◌, ◌*◌, ◌-◌, ◌++◌, List, ℕ, None}
 use Rattle.std.specs.Io.KnownBytes.{Consumes}
-use Rattle.tally_base.specs.declared.slot.Slot.TheVariants.{Data}
-use Rattle.tally_base.specs.Limits.{record_limit}
+use Rattle.tally_base.{specs.declared.slot.Slot.TheVariants.Data, specs.Limits.record_limit}
 use Rattle.bench_io.specs.Inputs.{OnlyReads}
 use Rattle.told_text.specs.Texts.{WroteText}
 use Rattle.ptu_definitions.specs.Words.{words_of}
 use Rattle.gate_plan.specs.Groups.{sorting_of}
 use Rattle.record_stream.specs.Standing.{how_of, refused_with, bytes_in, HasStreamed}
-use Rattle.photon_pick.specs.Chosen.{is_chosen}
-use Rattle.photon_pick.specs.Pieces.{IsNoFurther}
-use Rattle.photon_pick.specs.Texts.{text_in, HasPickedIn}
+use Rattle.photon_pick.{specs.Chosen.is_chosen, specs.Pieces.IsNoFurther, specs.Texts.{text_in, HasPickedIn}}
 use Rattle.ptu_cli.specs.Once.{InputsOnce}
 use Rattle.ptu_cli.proofs.picking.pick_rest.Given as goal
 

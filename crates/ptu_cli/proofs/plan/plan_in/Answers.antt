@@ -1,11 +1,8 @@
 use Rattle.std.proofs.Common.{◌≡◌, ◌+◌, rules, None, take, length, arith, sym, ◌∙◌}
-use Rattle.std.proofs.lemmas.Result.{IfErr-weaker, err_from_is_err_and}
-use Rattle.std.proofs.lemmas.List.{length-take-le}
+use Rattle.std.{proofs.lemmas.Result.{IfErr-weaker, err_from_is_err_and}, proofs.lemmas.List.length-take-le}
 use Rattle.tally_base.specs.declared.slot.Slot.TheVariants.{Plan as PlanSlot}
 use Rattle.plan_text.specs.Reading.{text_limit}
-use Rattle.ptu_cli.proofs.Plans.{uses-read, plan_told, plan_reason, ended_short}
-use Rattle.ptu_cli.proofs.WorkTold.{taken-told}
-use Rattle.ptu_cli.proofs.Once.{once-refl, once-none, once-behind, once-opened, once-unopened}
+use Rattle.ptu_cli.{proofs.Plans.{uses-read, plan_told, plan_reason, ended_short}, proofs.WorkTold.taken-told, proofs.Once.{once-refl, once-none, once-behind, once-opened, once-unopened}}
 use Rattle.ptu_cli.proofs.plan.plan_in.Goals as goal
 
 pub returns-in-Err-clause-uses : goal.returns-in-Err-clause-uses

@@ -1,10 +1,8 @@
 use Rattle.std.proofs.Common.{rules, sym, subst, List, ℕ, length, take, ◌-◌}
 use Rattle.std.specs.Io.KnownBytes.{Consumes}
 use Rattle.tally_base.specs.declared.slot.Slot.TheVariants.{Plan as PlanSlot}
-use Rattle.bench_io.proofs.Bytes.{Consumes-trans}
-use Rattle.bench_io.proofs.States.{OnlyReads-trans}
-use Rattle.ptu_cli.proofs.Texts.{read_behind}
-use Rattle.ptu_cli.proofs.Once.{once-read, once-unread}
+use Rattle.bench_io.{proofs.Bytes.Consumes-trans, proofs.States.OnlyReads-trans}
+use Rattle.ptu_cli.{proofs.Texts.read_behind, proofs.Once.{once-read, once-unread}}
 use Rattle.ptu_cli.proofs.plan.read_text.Goals as goal
 
 pub pieces-preserved : goal.pieces-preserved

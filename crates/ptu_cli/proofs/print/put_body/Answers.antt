@@ -1,6 +1,5 @@
 use Rattle.std.proofs.Common.{◌++◌, ◌∙◌, take, append_assoc}
-use Rattle.std.proofs.lemmas.List.{take_more}
-use Rattle.std.proofs.lemmas.Result.{err_from_is_err_and}
+use Rattle.std.{proofs.lemmas.List.take_more, proofs.lemmas.Result.err_from_is_err_and}
 use Rattle.ptu_cli.proofs.Bodies.{PutsBody-next, CutsBody-next}
 use Rattle.ptu_cli.proofs.print.put_body.Goals as goal
 

@@ -1,8 +1,7 @@
 use Rattle.std.proofs.Common.{refl, inl, inr, [], slice_range, append-nil}
 use Rattle.std.proofs.lemmas.Result.{err_from_is_err_and}
 use Rattle.bench_io.proofs.Bytes.{Consumes-nil}
-use Rattle.ptu_cli.proofs.Runs.{SameEngine-refl, ends-refused}
-use Rattle.ptu_cli.proofs.Once.{once-refl}
+use Rattle.ptu_cli.{proofs.Runs.{SameEngine-refl, ends-refused}, proofs.Once.once-refl}
 use Rattle.ptu_cli.proofs.run.feed_data.Goals as goal
 
 pub returns-in_err-feed-clause-answer : goal.returns-in_err-feed-clause-answer

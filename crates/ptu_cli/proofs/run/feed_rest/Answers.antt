@@ -1,15 +1,10 @@
 use Rattle.std.proofs.Common.{◌≡◌, [], ◌++◌, ℕ, List, Err, take, sym, ap, ◌∙◌, append-nil, append_assoc, subst, arith, refl}
 use Rattle.std.proofs.lemmas.Result.{err_from_is_err_and}
 use Rattle.tally_base.specs.declared.slot.Slot.TheVariants.{Data}
-use Rattle.bench_io.proofs.Bytes.{Consumes-nil, Consumes-kept, Consumes-trans}
-use Rattle.bench_io.proofs.States.{OnlyReads-refl, OnlyReads-trans}
+use Rattle.bench_io.{proofs.Bytes.{Consumes-nil, Consumes-kept, Consumes-trans}, proofs.States.{OnlyReads-refl, OnlyReads-trans}}
 use Rattle.tally_engine.specs.Engine.{HasFed, Finishes, reading_of}
-use Rattle.ptu_definitions.specs.Shown.{Shows}
-use Rattle.ptu_definitions.specs.Streams.{streamed}
-use Rattle.ptu_cli.proofs.EventEnds.{streamed-clear}
-use Rattle.ptu_cli.proofs.Runs.{SameEngine-refl, SameEngine-trans, ends-finished, ends-refused, fed-open}
-use Rattle.ptu_cli.proofs.Few.{stops-unread, stops-piece}
-use Rattle.ptu_cli.proofs.Once.{once-refl, once-read, once-unread}
+use Rattle.ptu_definitions.{specs.Shown.Shows, specs.Streams.streamed}
+use Rattle.ptu_cli.{proofs.EventEnds.streamed-clear, proofs.Runs.{SameEngine-refl, SameEngine-trans, ends-finished, ends-refused, fed-open}, proofs.Few.{stops-unread, stops-piece}, proofs.Once.{once-refl, once-read, once-unread}}
 use Rattle.ptu_cli.proofs.run.feed_rest.Goals as goal
 
 pub pieces-init : goal.pieces-init

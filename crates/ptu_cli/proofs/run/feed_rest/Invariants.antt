@@ -1,7 +1,6 @@
 use Rattle.std.proofs.Common.{◌≡◌, ◌+◌, ◌*◌, ◌-◌, ◌++◌, List, ℕ, None}
 use Rattle.std.specs.Io.KnownBytes.{Consumes}
-use Rattle.tally_base.specs.declared.slot.Slot.TheVariants.{Data}
-use Rattle.tally_base.specs.Limits.{record_limit}
+use Rattle.tally_base.{specs.declared.slot.Slot.TheVariants.Data, specs.Limits.record_limit}
 use Rattle.bench_io.specs.Inputs.{OnlyReads}
 use Rattle.tally_engine.specs.Engine.{HasFed, SameEngine, refused_by, bytes_fed}
 use Rattle.ptu_cli.specs.Once.{InputsOnce}

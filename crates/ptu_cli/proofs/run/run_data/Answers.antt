@@ -1,16 +1,9 @@
 use Rattle.std.proofs.Common.{rules, ◌++◌, sym, subst, inl, inr, List, ℕ}
-use Rattle.std.proofs.lemmas.Result.{err_from_is_err_and}
+use Rattle.std.{proofs.lemmas.Result.err_from_is_err_and, specs.declared.option.Option.Option}
 use Rattle.bench_io.proofs.Bytes.{Consumes-trans}
 use Rattle.plan_text.specs.Reading.{plan_view}
-use Rattle.ptu_cli.proofs.Pieces.{few_behind}
-use Rattle.ptu_cli.proofs.Runs.{report-cut, report-open, answers-run, answers-unheaded, answers-unopened, unheaded-reason, unopened-reason, unread-data, unfed-reason}
-use Rattle.std.specs.declared.option.Option.{Option}
+use Rattle.ptu_cli.{proofs.Pieces.few_behind, proofs.Runs.{report-cut, report-open, answers-run, answers-unheaded, answers-unopened, unheaded-reason, unopened-reason, unread-data, unfed-reason}, specs.Outcomes.IsCut, specs.Behaviours.reporting, specs.Works.TakesFew, proofs.Few.{few-map, few-behind}, proofs.Once.{once-none, once-behind}}
 use Rattle.tally_base.specs.declared.slot.Slot.TheVariants.{Data}
-use Rattle.ptu_cli.specs.Outcomes.{IsCut}
-use Rattle.ptu_cli.specs.Behaviours.{reporting}
-use Rattle.ptu_cli.specs.Works.{TakesFew}
-use Rattle.ptu_cli.proofs.Few.{few-map, few-behind}
-use Rattle.ptu_cli.proofs.Once.{once-none, once-behind}
 use Rattle.ptu_cli.proofs.run.run_data.Goals as goal
 
 pub returns-in_err-found-clause-reason : goal.returns-in_err-found-clause-reason

@@ -1,9 +1,7 @@
 use Rattle.std.proofs.Common.{refl}
 use Rattle.gate_plan.specs.Groups.{sorting_of}
 use Rattle.record_stream.specs.Standing.{how_of}
-use Rattle.ptu_cli.specs.TraceLines.{traced_none}
-use Rattle.ptu_cli.proofs.EventEnds.{streamed-clear, not_written}
-use Rattle.ptu_cli.proofs.TraceFeeds.{ends-both, both-once}
+use Rattle.ptu_cli.{specs.TraceLines.traced_none, proofs.EventEnds.{streamed-clear, not_written}, proofs.TraceFeeds.{ends-both, both-once}}
 use Rattle.ptu_cli.proofs.tracing.end_lines.Goals as goal
 
 pub returns-clause-writes : goal.returns-clause-writes

@@ -1,8 +1,7 @@
 use Rattle.std.proofs.lemmas.Result.{err_from_is_err_and}
 use Rattle.gate_plan.specs.Groups.{sorting_of}
 use Rattle.record_stream.specs.Standing.{how_of}
-use Rattle.ptu_cli.proofs.Once.{stays-behind, out-once}
-use Rattle.ptu_cli.proofs.TraceLast.{last-refused, last-ended}
+use Rattle.ptu_cli.{proofs.Once.{stays-behind, out-once}, proofs.TraceLast.{last-refused, last-ended}}
 use Rattle.ptu_cli.proofs.tracing.end_trace.Goals as goal
 
 pub returns-in_err-last_lines-clause-writes : goal.returns-in_err-last_lines-clause-writes

@@ -1,10 +1,7 @@
 use Rattle.std.proofs.Common.{arith}
 use Rattle.std.proofs.lemmas.Result.{on_ok_weaker}
 use Rattle.gate_plan.specs.Groups.{sorting_of}
-use Rattle.ptu_cli.specs.TraceLines.{traced_none}
-use Rattle.ptu_cli.proofs.Listing.{stays-open}
-use Rattle.ptu_cli.proofs.Once.{stays-ahead, fed-once}
-use Rattle.ptu_cli.proofs.TraceFeeds.{feeds-on, feeds-cut}
+use Rattle.ptu_cli.{specs.TraceLines.traced_none, proofs.Listing.stays-open, proofs.Once.{stays-ahead, fed-once}, proofs.TraceFeeds.{feeds-on, feeds-cut}}
 use Rattle.ptu_cli.proofs.tracing.feed_lines.Goals as goal
 
 pub returns-in-Ok-clause-writes : goal.returns-in-Ok-clause-writes

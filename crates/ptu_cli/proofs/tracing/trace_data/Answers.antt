@@ -1,20 +1,12 @@
 use Rattle.std.proofs.Common.{◌≡◌, ◌∙◌, [], Some, Err, refl, sym, ap, inl, ⊎_elim}
 use Rattle.std.proofs.lemmas.Result.{IfErr-weaker, err_from_is_err_and}
-use Rattle.tally_base.proofs.Reasons.{HasReason-follows, HasReason-with, HasReason-inside}
-use Rattle.tally_base.specs.Settings.{trace_view}
+use Rattle.tally_base.{proofs.Reasons.{HasReason-follows, HasReason-with, HasReason-inside}, specs.Settings.trace_view}
 use Rattle.bench_io.proofs.Rises.{Rose-behind}
 use Rattle.plan_text.specs.Reading.{plan_view}
 use Rattle.long_trace.specs.LongTrace.{set_of}
 use Rattle.gate_plan.specs.Shifting.{sorting}
 use Rattle.tally_engine.specs.Plans.{reading_by}
-use Rattle.ptu_cli.specs.Outcomes.{IsCut}
-use Rattle.ptu_cli.specs.Behaviours.{tracing}
-use Rattle.ptu_cli.proofs.EventReasons.{streamed-open}
-use Rattle.ptu_cli.proofs.Few.{few-map, few-behind}
-use Rattle.ptu_cli.proofs.Once.{stays-same, stays-behind, once-none, once-behind, Rose-kept}
-use Rattle.ptu_cli.proofs.TextEnds.{writes-reason}
-use Rattle.ptu_cli.proofs.TraceTexts.{text-front, refused-ends, is-text}
-use Rattle.ptu_cli.proofs.TraceComposed.{settled-none, first-text, first-cut, first-front, ends-may, misfit-inside, unheaded-answers, cut-reads, misfit-answers, traced-answers, traced-reads, traced-cuts, suited-may, first-answers, first-cuts}
+use Rattle.ptu_cli.{specs.Outcomes.IsCut, specs.Behaviours.tracing, proofs.EventReasons.streamed-open, proofs.Few.{few-map, few-behind}, proofs.Once.{stays-same, stays-behind, once-none, once-behind, Rose-kept}, proofs.TextEnds.writes-reason, proofs.TraceTexts.{text-front, refused-ends, is-text}, proofs.TraceComposed.{settled-none, first-text, first-cut, first-front, ends-may, misfit-inside, unheaded-answers, cut-reads, misfit-answers, traced-answers, traced-reads, traced-cuts, suited-may, first-answers, first-cuts}}
 use Rattle.ptu_cli.proofs.tracing.trace_data.Goals as goal
 
 pub returns-in_err-found-clause-answer : goal.returns-in_err-found-clause-answer

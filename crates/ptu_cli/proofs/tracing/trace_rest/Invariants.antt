@@ -1,17 +1,13 @@
 use Rattle.std.proofs.Common.{◌≡◌, ◌+◌, ◌*◌, ◌-◌, ◌++◌, List, ℕ, None, Some}
 use Rattle.std.specs.Io.KnownBytes.{Consumes}
-use Rattle.tally_base.specs.declared.slot.Slot.TheVariants.{Data}
-use Rattle.tally_base.specs.Limits.{record_limit}
-use Rattle.tally_base.specs.Settings.{trace_view}
+use Rattle.tally_base.{specs.declared.slot.Slot.TheVariants.Data, specs.Limits.record_limit, specs.Settings.trace_view}
 use Rattle.bench_io.specs.Inputs.{OnlyReads}
 use Rattle.ptu_definitions.specs.Words.{words_of}
 use Rattle.gate_plan.specs.Groups.{sorting_of}
 use Rattle.record_stream.specs.Standing.{how_of, refused_with, bytes_in, HasStreamed}
 use Rattle.long_trace.specs.LongTrace.{set_of}
-use Rattle.ptu_cli.specs.TraceOutcomes.{words_traced}
+use Rattle.ptu_cli.{specs.TraceOutcomes.words_traced, specs.TracePieces.{IsBehindStream, TracesBytes}, specs.Once.InputsOnce}
 use Rattle.told_text.specs.Texts.{WroteText}
-use Rattle.ptu_cli.specs.TracePieces.{IsBehindStream, TracesBytes}
-use Rattle.ptu_cli.specs.Once.{InputsOnce}
 use Rattle.ptu_cli.proofs.tracing.trace_rest.Given as goal
 
 -- the lines of the bins that the bytes taken close are written

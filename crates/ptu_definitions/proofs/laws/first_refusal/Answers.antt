@@ -1,5 +1,4 @@
-use Rattle.ptu_definitions.proofs.Firsts.{first-refusal, refused-first, none-refused, given-before, given-all}
-use Rattle.ptu_definitions.proofs.StreamLemmas.{refused-more, given-stays}
+use Rattle.ptu_definitions.{proofs.Firsts.{first-refusal, refused-first, none-refused, given-before, given-all}, proofs.StreamLemmas.{refused-more, given-stays}}
 use Rattle.ptu_definitions.proofs.laws.first_refusal.Goals as goal
 
 pub returns-clause-first : goal.returns-clause-first

@@ -1,5 +1,4 @@
-use Rattle.ptu_definitions.proofs.SeenLemmas.{seen-header, seen_preamble-header}
-use Rattle.ptu_definitions.proofs.SeenLaws.{seen-longest, seen-none}
+use Rattle.ptu_definitions.{proofs.SeenLemmas.{seen-header, seen_preamble-header}, proofs.SeenLaws.{seen-longest, seen-none}}
 use Rattle.ptu_definitions.proofs.laws.seen_longest.Goals as goal
 
 pub returns-clause-front : goal.returns-clause-front

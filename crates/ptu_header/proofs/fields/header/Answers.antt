@@ -1,6 +1,5 @@
 use Rattle.std.proofs.Common.{◌≡◌, None, sym, ap, ◌∙◌, refl, rules, FitsSigned, to_z, of_z}
-use Rattle.std.specs.Int.{w64, cast_signed}
-use Rattle.std.proofs.lemmas.Int.{to_z-of_z}
+use Rattle.std.{specs.Int.{w64, cast_signed}, proofs.lemmas.Int.to_z-of_z}
 use Rattle.tally_base.specs.RecordTypes.{type_of, type_with}
 use Rattle.ptu_definitions.specs.Fields.{header_of}
 use Rattle.ptu_header.proofs.Types.{type_of-cast_signed}

@@ -1,8 +1,5 @@
 use Rattle.std.proofs.Common.{arith}
-use Rattle.ptu_made.specs.Generator.{made_words}
-use Rattle.ptu_made.proofs.Meanings.{all-made}
-use Rattle.ptu_made.proofs.MadeEvents.{few-words}
-use Rattle.ptu_made.proofs.Unrefused.{unrefused}
+use Rattle.ptu_made.{specs.Generator.made_words, proofs.Meanings.all-made, proofs.MadeEvents.few-words, proofs.Unrefused.unrefused}
 use Rattle.ptu_made.proofs.laws.no_record_is_refused.Goals as goal
 
 pub returns : goal.returns

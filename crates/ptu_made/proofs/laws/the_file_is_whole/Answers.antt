@@ -1,13 +1,8 @@
 use Rattle.std.proofs.Common.{arith}
 use Rattle.std.proofs.lemmas.List.{length-append}
 use Rattle.tally_base.specs.declared.header.Mode.TheVariants.{T2}
-use Rattle.short_file.specs.ShortFiles.{short_header, short_file, bytes_in}
-use Rattle.short_file.proofs.ShortHeaders.{short-answer, size}
-use Rattle.short_file.proofs.WordBytes.{length-bytes_in}
-use Rattle.ptu_made.specs.Generator.{made_words}
-use Rattle.ptu_made.specs.MadeFile.{made_file}
-use Rattle.ptu_made.proofs.Meanings.{all-made, words-bytes}
-use Rattle.ptu_made.proofs.MadeEvents.{few-words}
+use Rattle.short_file.{specs.ShortFiles.{short_header, short_file, bytes_in}, proofs.ShortHeaders.{short-answer, size}, proofs.WordBytes.length-bytes_in}
+use Rattle.ptu_made.{specs.Generator.made_words, specs.MadeFile.made_file, proofs.Meanings.{all-made, words-bytes}, proofs.MadeEvents.few-words}
 use Rattle.ptu_made.proofs.laws.the_file_is_whole.Goals as goal
 
 pub returns-clause-header : goal.returns-clause-header

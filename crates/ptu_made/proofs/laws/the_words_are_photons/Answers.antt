@@ -1,6 +1,4 @@
-use Rattle.ptu_made.specs.Generator.{made_words}
-use Rattle.ptu_made.proofs.Meanings.{all-made, all_means}
-use Rattle.ptu_made.proofs.MadeEvents.{made-events, wraps-le}
+use Rattle.ptu_made.{specs.Generator.made_words, proofs.Meanings.{all-made, all_means}, proofs.MadeEvents.{made-events, wraps-le}}
 use Rattle.ptu_made.proofs.laws.the_words_are_photons.Goals as goal
 
 pub returns-clause-words : goal.returns-clause-words

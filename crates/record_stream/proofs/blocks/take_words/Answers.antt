@@ -1,14 +1,8 @@
 use Rattle.std.proofs.Common.{◌≡◌, ◌++◌, [], ℕ, List, length, refl, ap, sym, subst, ◌∙◌, Err, append_assoc, append-nil, arith}
-use Rattle.std.specs.Int.{from_le_bytes, w32}
-use Rattle.std.proofs.lemmas.List.{map-append}
-use Rattle.std.proofs.lemmas.Result.{err_from_is_err_and}
-use Rattle.ptu_definitions.specs.Fours.{numbers}
-use Rattle.ptu_definitions.specs.Streams.{Reading}
-use Rattle.event_block.specs.Columns.{event_at}
-use Rattle.event_block.proofs.Rows.{length-rows}
-use Rattle.record_stream.specs.Feeding.{GaveOn, Fed}
-use Rattle.record_stream.specs.Walking.{how_of, IsBehind}
-use Rattle.record_stream.proofs.Feeds.{GaveOn-refl, GaveOn-trans, Fed-trans, Fed-more}
+use Rattle.std.{specs.Int.{from_le_bytes, w32}, proofs.lemmas.List.map-append, proofs.lemmas.Result.err_from_is_err_and}
+use Rattle.ptu_definitions.{specs.Fours.numbers, specs.Streams.Reading}
+use Rattle.event_block.{specs.Columns.event_at, proofs.Rows.length-rows}
+use Rattle.record_stream.{specs.Feeding.{GaveOn, Fed}, specs.Walking.{how_of, IsBehind}, proofs.Feeds.{GaveOn-refl, GaveOn-trans, Fed-trans, Fed-more}}
 use Rattle.record_stream.proofs.blocks.take_words.Goals as goal
 
 parted : (words seen rest front back : List ℕ) → words ≡ seen ++ rest → rest ≡ front ++ back → words ≡ (seen ++ front) ++ back

@@ -1,9 +1,6 @@
-use Rattle.std.proofs.Common.{◌≡◌, ◌-◌, ◌∙◌, ◌<◌, ap, arith, refl, Some}
-use Rattle.std.specs.Prelude.{if◌then◌else◌}
+use Rattle.std.proofs.Common.{◌≡◌, ◌-◌, ◌∙◌, ◌<◌, ap, arith, refl, Some, if◌then◌else◌}
 use Rattle.event_block.specs.Columns.{event_at, time_at, rows}
-use Rattle.record_stream.specs.OneMore.{first_with, last_with}
-use Rattle.record_stream.specs.Summing.{time_if}
-use Rattle.record_stream.proofs.Summaries.{first-rows, last-rows}
+use Rattle.record_stream.{specs.OneMore.{first_with, last_with}, specs.Summing.time_if, proofs.Summaries.{first-rows, last-rows}}
 use Rattle.record_stream.proofs.count.add_block.Goals as goal
 
 pub returns-then-len-gt0-clause-value : goal.returns-then-len-gt0-clause-value

@@ -1,9 +1,7 @@
 use Rattle.std.proofs.Common.{Err, arith}
 use Rattle.std.proofs.lemmas.Result.{err_from_is_err_and}
 use Rattle.settle.specs.Standing.{kept_back, last_time}
-use Rattle.record_stream.specs.Walking.{how_of}
-use Rattle.record_stream.proofs.Settles.{floor-most}
-use Rattle.record_stream.proofs.Rests.{gave_none, broke_one, gave_one}
+use Rattle.record_stream.{specs.Walking.how_of, proofs.Settles.floor-most, proofs.Rests.{gave_none, broke_one, gave_one}}
 use Rattle.record_stream.proofs.settled.give_rest.Goals as goal
 
 pub loop-event-init : goal.loop-event-init

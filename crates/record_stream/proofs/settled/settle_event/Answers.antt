@@ -1,14 +1,9 @@
-use Rattle.std.specs.Prelude.{IfSome}
+use Rattle.std.proofs.Common.{IfSome, arith, ◌≤◌, ◌≡◌, ◌++◌, ◌∷◌, [], true, false, None, refl, ap, sym, subst, ◌∙◌, append-nil, inl}
 use Rattle.abs_time.specs.Placing.{placed_by}
-use Rattle.std.proofs.Common.{arith, ◌≤◌, ◌≡◌, ◌++◌, ◌∷◌, [], true, false, None, refl, ap, sym, subst, ◌∙◌, append-nil, inl}
 use Rattle.std.specs.Option.{option_to_list}
-use Rattle.tally_base.specs.declared.event.Event.{Event}
-use Rattle.tally_base.specs.Events.{is_ordered, stops_late}
-use Rattle.settle.specs.Settling.{told}
-use Rattle.settle.specs.Standing.{HasSettled, kept_back, last_time}
-use Rattle.record_stream.specs.Keeping.{CanWait}
-use Rattle.record_stream.specs.Walking.{how_of}
-use Rattle.record_stream.proofs.Settles.{tells-on, tells-off, ordered-on, ordered-off, unrefused-off, unrefused-early, unrefused-passed, refused-stopped, floor-late, floor-on, late-order, kept_on, that_goes, those_waiting, count_going, count_waiting, told_none, told_one, untold_one, none_late}
+use Rattle.tally_base.{specs.declared.event.Event.Event, specs.Events.{is_ordered, stops_late}}
+use Rattle.settle.{specs.Settling.told, specs.Standing.{HasSettled, kept_back, last_time}}
+use Rattle.record_stream.{specs.Keeping.CanWait, specs.Walking.how_of, proofs.Settles.{tells-on, tells-off, ordered-on, ordered-off, unrefused-off, unrefused-early, unrefused-passed, refused-stopped, floor-late, floor-on, late-order, kept_on, that_goes, those_waiting, count_going, count_waiting, told_none, told_one, untold_one, none_late}}
 use Rattle.record_stream.proofs.settled.settle_event.Goals as goal
 
 pub returns-then-not-is_ordered-clause-told : goal.returns-then-not-is_ordered-clause-told

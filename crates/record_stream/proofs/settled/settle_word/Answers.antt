@@ -1,11 +1,7 @@
 use Rattle.std.proofs.Common.{refl, subst}
 use Rattle.std.proofs.lemmas.Result.{err_from_is_err_and}
-use Rattle.abs_time.specs.declared.clock.Placed.TheVariants.{Event as InOrder, Late}
-use Rattle.record_stream.specs.Recorded.{IsPlaced}
-use Rattle.record_stream.specs.Walking.{how_of}
-use Rattle.record_stream.proofs.Placed.{skipped-event}
-use Rattle.record_stream.proofs.SettledWords.{came_in, gone_in, word_at, word_fed, skip_at, skip_fed}
-use Rattle.record_stream.proofs.Steps.{refused_fed}
+use Rattle.abs_time.{specs.declared.clock.Placed.TheVariants.Event as InOrder, specs.declared.clock.Placed.TheVariants.Late}
+use Rattle.record_stream.{specs.Recorded.IsPlaced, specs.Walking.how_of, proofs.Placed.skipped-event, proofs.SettledWords.{came_in, gone_in, word_at, word_fed, skip_at, skip_fed}, proofs.Steps.refused_fed}
 use Rattle.record_stream.proofs.settled.settle_word.Goals as goal
 
 pub returns-in_err-event-clause-fed : goal.returns-in_err-event-clause-fed

@@ -1,12 +1,7 @@
 use Rattle.std.proofs.Common.{◌++◌, take, ap, ◌∙◌, Err, arith}
 use Rattle.std.proofs.lemmas.Result.{err_from_is_err_and}
-use Rattle.ptu_definitions.specs.Fours.{numbers}
-use Rattle.ptu_definitions.specs.Streams.{Reading}
-use Rattle.record_stream.specs.Feeding.{GaveOn, Fed}
-use Rattle.record_stream.specs.Settling.{IsSettledBehind}
-use Rattle.record_stream.specs.Walking.{how_of}
-use Rattle.record_stream.proofs.Feeds.{GaveOn-trans, Fed-trans, Fed-more}
-use Rattle.record_stream.proofs.Fours.{more_at, all_at}
+use Rattle.ptu_definitions.{specs.Fours.numbers, specs.Streams.Reading}
+use Rattle.record_stream.{specs.Feeding.{GaveOn, Fed}, specs.Settling.IsSettledBehind, specs.Walking.how_of, proofs.Feeds.{GaveOn-trans, Fed-trans, Fed-more}, proofs.Fours.{more_at, all_at}}
 use Rattle.record_stream.proofs.settled.settle_words.Goals as goal
 
 pub returns-in_err-settle_word-clause-fed : goal.returns-in_err-settle_word-clause-fed

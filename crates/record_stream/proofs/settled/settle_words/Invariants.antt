@@ -1,10 +1,7 @@
 use Rattle.std.proofs.Common.{◌≡◌, ◌+◌, ◌≤◌, ◌++◌, List, ℕ, take}
 use Rattle.ptu_definitions.specs.Fours.{numbers}
 use Rattle.settle.specs.Standing.{last_time}
-use Rattle.record_stream.specs.Feeding.{Follows, GaveOn}
-use Rattle.record_stream.specs.Keeping.{IsKeeping}
-use Rattle.record_stream.specs.Settling.{IsSettledBehind}
-use Rattle.record_stream.specs.Walking.{how_of, given_by, records_of}
+use Rattle.record_stream.{specs.Feeding.{Follows, GaveOn}, specs.Keeping.IsKeeping, specs.Settling.IsSettledBehind, specs.Walking.{how_of, given_by, records_of}}
 use Rattle.record_stream.proofs.settled.settle_words.Given as goal
 
 abbrev pub invariant-loop-word : goal.invariant-loop-word

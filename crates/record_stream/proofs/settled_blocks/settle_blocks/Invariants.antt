@@ -1,11 +1,7 @@
 use Rattle.std.proofs.Common.{◌≡◌, ◌+◌, ◌≤◌, ◌++◌, List, ℕ, length}
 use Rattle.ptu_definitions.specs.Fours.{numbers}
 use Rattle.settle.specs.Standing.{last_time}
-use Rattle.record_stream.specs.Feeding.{Follows, GaveOn}
-use Rattle.record_stream.specs.Keeping.{IsKeeping}
-use Rattle.record_stream.specs.LettingGo.{AreBlank}
-use Rattle.record_stream.specs.Settling.{IsSettledBehind}
-use Rattle.record_stream.specs.Walking.{how_of, given_by, records_of}
+use Rattle.record_stream.{specs.Feeding.{Follows, GaveOn}, specs.Keeping.IsKeeping, specs.LettingGo.AreBlank, specs.Settling.IsSettledBehind, specs.Walking.{how_of, given_by, records_of}}
 use Rattle.record_stream.proofs.settled_blocks.settle_blocks.Given as goal
 
 abbrev pub invariant-many : goal.invariant-many

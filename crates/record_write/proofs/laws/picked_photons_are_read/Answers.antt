@@ -1,15 +1,9 @@
 use Rattle.std.proofs.Common.{◌≡◌, ◌≤◌, List, false, length, map, None}
 use Rattle.std.proofs.lemmas.List.Elements.{All-from_recursion}
-use Rattle.tally_base.specs.declared.event.Event.{Event}
-use Rattle.tally_base.specs.declared.event.Policy.{Policy}
-use Rattle.tally_base.specs.declared.header.Mode.{Mode}
-use Rattle.tally_base.specs.declared.header.Mode.TheVariants.{T2, T3}
+use Rattle.tally_base.{specs.declared.event.Event.Event, specs.declared.event.Policy.Policy, specs.declared.header.Mode.Mode, specs.declared.header.Mode.TheVariants.{T2, T3}}
 use Rattle.ptu_definitions.specs.Streams.{reading, record_refusal, given}
-use Rattle.short_file.specs.ShortFiles.{short_file, short_type, bytes_in}
-use Rattle.short_file.proofs.ShortHeaders.{short-answer}
-use Rattle.short_file.proofs.WordBytes.{words_of-bytes_in}
-use Rattle.record_write.specs.Picked.{picked_words, picked_events, CanBePicked}
-use Rattle.record_write.proofs.ReadBack.{IsPhotonOrWrap, small-words, photons-and-wraps, events-photons, kept-events, unrefused, given-events}
+use Rattle.short_file.{specs.ShortFiles.{short_file, short_type, bytes_in}, proofs.ShortHeaders.short-answer, proofs.WordBytes.words_of-bytes_in}
+use Rattle.record_write.{specs.Picked.{picked_words, picked_events, CanBePicked}, proofs.ReadBack.{IsPhotonOrWrap, small-words, photons-and-wraps, events-photons, kept-events, unrefused, given-events}}
 use Rattle.record_write.proofs.laws.picked_photons_are_read.Goals as goal
 
 pub returns-clause-header : goal.returns-clause-header

@@ -1,10 +1,6 @@
 use Rattle.std.proofs.Common.{◌≡◌, ℕ, ◌<◌, List, [], ◌∷◌, refl, arith}
-use Rattle.std.specs.List.{sum_by}
-use Rattle.std.proofs.lemmas.List.{get_or-replicate}
-use Rattle.lag_ring.specs.declared.ring.Entry.{Entry}
-use Rattle.lag_ring.specs.declared.window.Side.TheVariants.{First}
-use Rattle.lag_ring.specs.Window.{weight_of}
-use Rattle.lag_ring.proofs.Windows.{weight_at-le}
+use Rattle.std.{specs.List.sum_by, proofs.lemmas.List.get_or-replicate}
+use Rattle.lag_ring.{specs.declared.ring.Entry.Entry, specs.declared.window.Side.TheVariants.First, specs.Window.weight_of, proofs.Windows.weight_at-le}
 use Rattle.ring_rows.proofs.rings.sums_of_two.Goals as goal
 
 pub put_weights-requires-clause-fits : goal.put_weights-requires-clause-fits

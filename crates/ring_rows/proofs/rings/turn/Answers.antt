@@ -1,9 +1,6 @@
 use Rattle.std.proofs.Common.{◌+◌, ◌<◌, nat_le, ap, arith}
 use Rattle.std.specs.List.{filter}
-use Rattle.lag_ring.specs.declared.ring.Entry.{Entry}
-use Rattle.lag_ring.specs.Ring.{Ring}
-use Rattle.lag_ring.proofs.Rising.{all_push, all_weaker}
-use Rattle.lag_ring.proofs.Lists.{all_filter}
+use Rattle.lag_ring.{specs.declared.ring.Entry.Entry, specs.Ring.Ring, proofs.Rising.{all_push, all_weaker}, proofs.Lists.all_filter}
 use Rattle.ring_rows.proofs.rings.turn.Goals as goal
 
 pub push-requires-clause-above : goal.push-requires-clause-above

@@ -1,16 +1,9 @@
-use Rattle.std.proofs.Common.{◌≡◌, ◌∙◌, ◌+◌, ◌<◌, ◌≤◌, ◌%◌, [], ◌∷◌, ◌++◌, true, false, List, ap, subst, rules, arith, append_assoc}
-use Rattle.std.specs.Prelude.{nat_lt, if◌then◌else◌}
+use Rattle.std.proofs.Common.{◌≡◌, ◌∙◌, ◌+◌, ◌<◌, ◌≤◌, ◌%◌, [], ◌∷◌, ◌++◌, true, false, List, ap, subst, rules, arith, append_assoc, nat_lt, if◌then◌else◌}
 use Rattle.std.proofs.lemmas.Bool.Decides.{nat_tests}
-use Rattle.tally_base.specs.declared.event.EventKind.TheVariants.{Photon, Marker}
-use Rattle.tally_base.specs.Settings.{image_view}
-use Rattle.event_block.specs.Columns.{item, event_at, rows, code_at, dtime_at, time_at}
-use Rattle.event_block.proofs.Rows.{more_rows}
-use Rattle.event_block.proofs.Order.{floor-more}
-use Rattle.marker_map.specs.Lines.{Saw, line_start}
-use Rattle.marker_map.specs.Marks.{Mark, mark}
-use Rattle.scan_image.specs.Counted.{Counted}
-use Rattle.scan_image.proofs.Steps.{marker_step}
-use Rattle.scan_image.proofs.Later.{floor-below, floor-rises}
+use Rattle.tally_base.{specs.declared.event.EventKind.TheVariants.{Photon, Marker}, specs.Settings.image_view}
+use Rattle.event_block.{specs.Columns.{item, event_at, rows, code_at, dtime_at, time_at}, proofs.Rows.more_rows, proofs.Order.floor-more}
+use Rattle.marker_map.{specs.Lines.{Saw, line_start}, specs.Marks.{Mark, mark}}
+use Rattle.scan_image.{specs.Counted.Counted, proofs.Steps.marker_step, proofs.Later.{floor-below, floor-rises}}
 use Rattle.scan_image.proofs.count.count_block.Goals as goal
 
 pub count_run-run-requires-clause-in_time : goal.count_run-run-requires-clause-in_time

@@ -1,17 +1,9 @@
-use Rattle.std.proofs.Common.{◌≡◌, ◌∙◌, ◌+◌, ◌<◌, ◌≤◌, ◌%◌, [], ◌∷◌, ◌++◌, true, List, cond, sym, ap, subst, rules, arith, append_assoc}
-use Rattle.std.specs.Prelude.{nat_lt, if◌then◌else◌}
+use Rattle.std.proofs.Common.{◌≡◌, ◌∙◌, ◌+◌, ◌<◌, ◌≤◌, ◌%◌, [], ◌∷◌, ◌++◌, true, List, cond, sym, ap, subst, rules, arith, append_assoc, nat_lt, if◌then◌else◌}
 use Rattle.std.proofs.lemmas.Bool.Decides.{nat_tests}
-use Rattle.tally_base.specs.declared.event.EventKind.TheVariants.{Photon, Marker}
-use Rattle.tally_base.specs.Events.{is_in}
-use Rattle.tally_base.specs.Settings.{image_view}
-use Rattle.event_block.specs.Columns.{item, rows, code_at, dtime_at, groups_at, time_at}
-use Rattle.event_block.proofs.Rows.{more_rows}
-use Rattle.scan_image.specs.Counted.{Counted, IsStripOf}
-use Rattle.marker_map.specs.declared.lines.Lines.{Lines}
-use Rattle.marker_map.specs.Lines.{Saw, image_of}
-use Rattle.marker_map.specs.Marks.{Mark}
-use Rattle.marker_map.specs.Places.{place_of}
-use Rattle.scan_image.proofs.Steps.{photon_step, only_group, few_more}
+use Rattle.tally_base.{specs.declared.event.EventKind.TheVariants.{Photon, Marker}, specs.Events.is_in, specs.Settings.image_view}
+use Rattle.event_block.{specs.Columns.{item, rows, code_at, dtime_at, groups_at, time_at}, proofs.Rows.more_rows}
+use Rattle.scan_image.{specs.Counted.{Counted, IsStripOf}, proofs.Steps.{photon_step, only_group, few_more}}
+use Rattle.marker_map.{specs.declared.lines.Lines.Lines, specs.Lines.{Saw, image_of}, specs.Marks.Mark, specs.Places.place_of}
 use Rattle.scan_image.proofs.count.count_on.Goals as goal
 
 pub place-place-requires : goal.place-place-requires

@@ -1,6 +1,5 @@
 use Rattle.std.proofs.Common.{◌≡◌, None}
-use Rattle.record_stream.specs.Feeding.{Follows}
-use Rattle.record_stream.specs.Standing.{how_of, given_by, greatest_of, refused_with}
+use Rattle.record_stream.{specs.Feeding.Follows, specs.Standing.{how_of, given_by, greatest_of, refused_with}}
 use Rattle.stream_rows.proofs.settled.feed_pieces.Given as goal
 
 abbrev pub invariant-loop-piece : goal.invariant-loop-piece

@@ -1,7 +1,5 @@
 use Rattle.std.proofs.Common.{◌≡◌}
-use Rattle.table_out.specs.Puts.{PutsText}
-use Rattle.table_out.specs.Printed.{rows_of}
-use Rattle.table_out.specs.Report.{printed}
+use Rattle.table_out.{specs.Puts.PutsText, specs.Printed.rows_of, specs.Report.printed}
 use Rattle.table_out.proofs.cells.put_rows.Given as goal
 
 abbrev pub invariant-loop-row : goal.invariant-loop-row

@@ -1,7 +1,5 @@
-use Rattle.std.proofs.Common.{◌≡◌, ◌+◌, ◌≤◌, take}
-use Rattle.std.specs.Prelude.{count_by}
-use Rattle.tally_engine.specs.contracts.part.PartTally.TheImpl.{ghosts}
-use Rattle.tally_engine.specs.Parts.{settings_in}
+use Rattle.std.proofs.Common.{◌≡◌, ◌+◌, ◌≤◌, take, count_by}
+use Rattle.tally_engine.{specs.contracts.part.PartTally.TheImpl.ghosts, specs.Parts.settings_in}
 use Rattle.table_out.specs.Report.{same_kind}
 use Rattle.table_out.proofs.report.number_of.Given as goal
 

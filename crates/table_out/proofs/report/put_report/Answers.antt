@@ -1,9 +1,7 @@
 use Rattle.std.proofs.Common.{ℕ, List, ◌∙◌}
 use Rattle.std.proofs.lemmas.Result.{err_from_is_err_and, on_ok_weaker, on_err_weaker}
 use Rattle.bench_io.proofs.Bytes.{Appends-flushed, AppendsShort-flushed}
-use Rattle.table_out.specs.Report.{Table, EachHolds, head_text, parts_text}
-use Rattle.table_out.proofs.Putting.{puts-piece, puts-more, cuts-behind}
-use Rattle.table_out.proofs.Reports.{report-text}
+use Rattle.table_out.{specs.Report.{Table, EachHolds, head_text, parts_text}, proofs.Putting.{puts-piece, puts-more, cuts-behind}, proofs.Reports.report-text}
 use Rattle.table_out.proofs.report.put_report.Goals as goal
 
 pub returns-in_err-put_parts-clause-short : goal.returns-in_err-put_parts-clause-short

@@ -1,13 +1,9 @@
 use Rattle.std.proofs.Common.{◌≡◌, ◌∙◌, ◌+◌, ap, arith, map, length}
 use Rattle.std.proofs.lemmas.List.{length-map}
-use Rattle.event_block.specs.Columns.{gathered, events_in}
-use Rattle.event_block.specs.Order.{floor_after}
-use Rattle.gate_plan.specs.Groups.{sorting_of}
-use Rattle.gate_plan.specs.Shifting.{shifted}
+use Rattle.event_block.{specs.Columns.{gathered, events_in}, specs.Order.floor_after}
+use Rattle.gate_plan.{specs.Groups.sorting_of, specs.Shifting.shifted}
 use Rattle.record_stream.specs.Blocks.{orders_markers}
-use Rattle.tally_engine.specs.Histories.{with_groups}
-use Rattle.tally_engine.specs.contracts.part.PartTally.TheImpl.{ghosts}
-use Rattle.tally_engine.proofs.Shifts.{can_take-shifted, took-shifted, floor-shifted}
+use Rattle.tally_engine.{specs.Histories.with_groups, specs.contracts.part.PartTally.TheImpl.ghosts, proofs.Shifts.{can_take-shifted, took-shifted, floor-shifted}}
 use Rattle.tally_engine.proofs.give.flush.Goals as goal
 
 pub give_all-requires : goal.give_all-requires

@@ -1,12 +1,8 @@
-use Rattle.std.proofs.Common.{◌∙◌, ap, arith, length, length-append, [], ◌∷◌}
-use Rattle.std.specs.Prelude.{if◌then◌else◌}
+use Rattle.std.proofs.Common.{◌∙◌, ap, arith, length, length-append, [], ◌∷◌, if◌then◌else◌}
 use Rattle.tally_base.specs.Events.{is_ordered}
 use Rattle.event_block.specs.Columns.{gathered}
-use Rattle.tally_engine.specs.Ahead.{floor_with}
-use Rattle.tally_engine.proofs.Aheads.{pushed_floor}
+use Rattle.tally_engine.{specs.Ahead.floor_with, proofs.Aheads.pushed_floor, specs.contracts.part.PartTally.TheImpl.ghosts, proofs.Takes.{can_front, moves_push}}
 use Rattle.gate_plan.specs.Groups.{sorting_of}
-use Rattle.tally_engine.specs.contracts.part.PartTally.TheImpl.{ghosts}
-use Rattle.tally_engine.proofs.Takes.{can_front, moves_push}
 use Rattle.tally_engine.proofs.give.gather_one.Goals as goal
 
 pub make_room-requires : goal.make_room-requires

@@ -1,8 +1,6 @@
 use Rattle.std.proofs.Common.{rules, arith, ◌<◌, length}
-use Rattle.event_block.specs.Columns.{gathered, events_in}
-use Rattle.tally_engine.specs.contracts.part.PartTally.TheImpl.{ghosts}
-use Rattle.event_block.specs.Tables.{HasTaken}
-use Rattle.tally_engine.proofs.Sorts.{given_more, left_more}
+use Rattle.event_block.{specs.Columns.{gathered, events_in}, specs.Tables.HasTaken}
+use Rattle.tally_engine.{specs.contracts.part.PartTally.TheImpl.ghosts, proofs.Sorts.{given_more, left_more}}
 use Rattle.tally_engine.proofs.give.give_all.Goals as goal
 
 pub loop-part-preserved : goal.loop-part-preserved

@@ -1,9 +1,7 @@
-use Rattle.std.proofs.Common.{◌≡◌, ◌∙◌, ◌%◌, true, false, sym, ap, arith}
-use Rattle.std.specs.Prelude.{nat_lt, if◌then◌else◌}
+use Rattle.std.proofs.Common.{◌≡◌, ◌∙◌, ◌%◌, true, false, sym, ap, arith, nat_lt, if◌then◌else◌}
 use Rattle.std.proofs.lemmas.Bool.Decides.{nat_tests}
 use Rattle.tally_base.specs.declared.event.EventKind.TheVariants.{Photon, Marker}
-use Rattle.gate_plan.specs.Groups.{sorting_of}
-use Rattle.gate_plan.proofs.Parts.{of_photon, of_marker}
+use Rattle.gate_plan.{specs.Groups.sorting_of, proofs.Parts.{of_photon, of_marker}}
 use Rattle.tally_engine.proofs.give.groups_at.Goals as goal
 
 pub returns-then-code-lt256-clause-value : goal.returns-then-code-lt256-clause-value

@@ -1,5 +1,4 @@
-use Rattle.std.proofs.Common.{◌≡◌, ◌∙◌, ◌%◌, true, false, sym, ap, arith}
-use Rattle.std.specs.Prelude.{nat_lt, if◌then◌else◌}
+use Rattle.std.proofs.Common.{◌≡◌, ◌∙◌, ◌%◌, true, false, sym, ap, arith, nat_lt, if◌then◌else◌}
 use Rattle.std.proofs.lemmas.Bool.Decides.{nat_tests}
 use Rattle.tally_base.specs.declared.event.EventKind.TheVariants.{Photon, Marker}
 use Rattle.gate_plan.proofs.Parts.{of_photon, of_marker}

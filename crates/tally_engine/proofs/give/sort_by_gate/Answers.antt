@@ -1,8 +1,7 @@
 use Rattle.std.proofs.Common.{◌≡◌, ◌<◌, ◌≤◌, ℕ, length, rules, arith, refl, sym, subst}
 use Rattle.event_block.specs.Columns.{event_at, code_at, dtime_at, item, rows}
 use Rattle.gate_plan.specs.Taking.{groups_by}
-use Rattle.tally_engine.specs.Histories.{grouped}
-use Rattle.tally_engine.proofs.Sorts.{sorted_rows, set_more}
+use Rattle.tally_engine.{specs.Histories.grouped, proofs.Sorts.{sorted_rows, set_more}}
 use Rattle.tally_engine.proofs.give.sort_by_gate.Goals as goal
 
 pub loop-at-preserved : goal.loop-at-preserved

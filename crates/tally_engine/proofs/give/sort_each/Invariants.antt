@@ -1,8 +1,6 @@
-use Rattle.std.proofs.Common.{length, ℕ, ◌≡◌, ◌<◌, ◌≤◌}
-use Rattle.std.specs.Prelude.{slice_index}
+use Rattle.std.proofs.Common.{length, ℕ, ◌≡◌, ◌<◌, ◌≤◌, slice_index}
 use Rattle.event_block.specs.Columns.{event_at, code_at}
-use Rattle.gate_plan.specs.Groups.{sorting_of}
-use Rattle.gate_plan.specs.Taking.{groups_by}
+use Rattle.gate_plan.{specs.Groups.sorting_of, specs.Taking.groups_by}
 use Rattle.tally_engine.proofs.give.sort_each.Given as goal
 
 abbrev pub invariant-loop-at : goal.invariant-loop-at

@@ -1,11 +1,8 @@
 use Rattle.std.proofs.Common.{◌≡◌, ◌∙◌, ap, arith, length, [], ◌<◌, rules}
-use Rattle.event_block.specs.Columns.{gathered}
-use Rattle.event_block.specs.Order.{floor_after}
+use Rattle.event_block.{specs.Columns.gathered, specs.Order.floor_after}
 use Rattle.gate_plan.specs.Groups.{sorting_of}
 use Rattle.record_stream.specs.Blocks.{orders_markers}
-use Rattle.tally_engine.specs.Ahead.{floor_with}
-use Rattle.tally_engine.specs.contracts.part.PartTally.TheImpl.{ghosts}
-use Rattle.tally_engine.proofs.Behind.{can_parts, can_rest, moves_two}
+use Rattle.tally_engine.{specs.Ahead.floor_with, specs.contracts.part.PartTally.TheImpl.ghosts, proofs.Behind.{can_parts, can_rest, moves_two}}
 use Rattle.tally_engine.proofs.give_behind.give_behind.Goals as goal
 
 pub flush_waiting-requires : goal.flush_waiting-requires

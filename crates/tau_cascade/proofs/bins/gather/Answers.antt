@@ -1,12 +1,8 @@
-use Rattle.std.proofs.Common.{◌≡◌, ◌∙◌, ◌+◌, ◌<◌, ◌≤◌, cond, length, drop, rules, arith}
-use Rattle.std.specs.Prelude.{slice_set}
+use Rattle.std.proofs.Common.{◌≡◌, ◌∙◌, ◌+◌, ◌<◌, ◌≤◌, cond, length, drop, rules, arith, slice_set}
 use Rattle.std.proofs.lemmas.List.{drop-set-add, length-drop}
 use Rattle.tally_base.specs.Settings.{correlation_view}
-use Rattle.event_block.specs.Columns.{item, rows}
-use Rattle.event_block.proofs.Rows.{more_rows}
-use Rattle.tau_cascade.specs.Correlation.{in_first, in_second}
-use Rattle.tau_cascade.proofs.Blocks.{mine, weight_row, some_weight, gather_step}
-use Rattle.tau_cascade.proofs.Follows.{byte_small}
+use Rattle.event_block.{specs.Columns.{item, rows}, proofs.Rows.more_rows}
+use Rattle.tau_cascade.{specs.Correlation.{in_first, in_second}, proofs.Blocks.{mine, weight_row, some_weight, gather_step}, proofs.Follows.byte_small}
 use Rattle.tau_cascade.proofs.bins.gather.Goals as goal
 
 pub loop-at-preserved : goal.loop-at-preserved

@@ -1,5 +1,4 @@
-use Rattle.std.proofs.Common.{◌≡◌, ◌+◌, ◌/◌, ◌^◌, ◌<◌, ◌≤◌, take, drop, get_or, length, rules, arith, refl, ◌∙◌}
-use Rattle.std.specs.Prelude.{slice_set}
+use Rattle.std.proofs.Common.{◌≡◌, ◌+◌, ◌/◌, ◌^◌, ◌<◌, ◌≤◌, take, drop, get_or, length, rules, arith, refl, ◌∙◌, slice_set}
 use Rattle.std.proofs.lemmas.List.{take-set-le}
 use Rattle.lag_ring.specs.declared.ring.Entry.{Entry}
 use Rattle.tau_cascade.proofs.Follows.{fits_first, fits_second, merge_more, byte_small}

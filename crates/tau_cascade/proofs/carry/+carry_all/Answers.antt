@@ -1,11 +1,8 @@
 use Rattle.std.proofs.Common.{◌≡◌, ℕ, suc, ◌+◌, ◌-◌, ◌≤◌, take, drop, rules, arith}
-use Rattle.std.proofs.Math.Logic.{∥∥₁_map}
-use Rattle.std.proofs.lemmas.List.{length-take}
+use Rattle.std.{proofs.Math.Logic.∥∥₁_map, proofs.lemmas.List.length-take}
 use Rattle.tally_base.specs.Settings.{correlation_view}
 use Rattle.lag_ring.specs.declared.ring.Entry.{Entry}
-use Rattle.tau_cascade.specs.Bins.{stretch, IsSpaced}
-use Rattle.tau_cascade.proofs.Takes.{can_take, come_on, chain_took}
-use Rattle.tau_cascade.proofs.Passes.{here_spaced, next_spaced, raised-again, some_apart}
+use Rattle.tau_cascade.{specs.Bins.{stretch, IsSpaced}, proofs.Takes.{can_take, come_on, chain_took}, proofs.Passes.{here_spaced, next_spaced, raised-again, some_apart}}
 use Rattle.tau_cascade.proofs.carry.+carry_all.Goals as goal
 
 abbrev none : Entry

@@ -1,9 +1,7 @@
 use Rattle.std.proofs.Common.{sym, ◌≡◌, true, false, ◌||◌, ◌∙◌, [], ◌∷◌}
 use Rattle.std.proofs.Math.Logic.{∥∥₁_map}
-use Rattle.tally_base.specs.Events.{is_photon, is_in}
-use Rattle.tally_base.specs.Settings.{correlation_view}
-use Rattle.tau_cascade.specs.Correlation.{in_first, in_second, photons_of}
-use Rattle.tau_cascade.proofs.Gives.{may_come, either, neither, no_photon, weight_of, photons-push, photons-pass}
+use Rattle.tally_base.{specs.Events.{is_photon, is_in}, specs.Settings.correlation_view}
+use Rattle.tau_cascade.{specs.Correlation.{in_first, in_second, photons_of}, proofs.Gives.{may_come, either, neither, no_photon, weight_of, photons-push, photons-pass}}
 use Rattle.tau_cascade.proofs.cascade.give.Goals as goal
 
 pub carry_all-requires-clause-stands : goal.carry_all-requires-clause-stands

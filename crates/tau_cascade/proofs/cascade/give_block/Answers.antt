@@ -1,8 +1,7 @@
 use Rattle.std.proofs.Math.Logic.{∥∥₁_map}
 use Rattle.tally_base.specs.Settings.{correlation_view}
 use Rattle.event_block.specs.Columns.{events_in}
-use Rattle.tau_cascade.specs.Correlation.{photons_of}
-use Rattle.tau_cascade.proofs.Blocks.{block_comes, photons-append}
+use Rattle.tau_cascade.{specs.Correlation.photons_of, proofs.Blocks.{block_comes, photons-append}}
 use Rattle.tau_cascade.proofs.cascade.give_block.Goals as goal
 
 pub carry_all-requires-clause-stands : goal.carry_all-requires-clause-stands

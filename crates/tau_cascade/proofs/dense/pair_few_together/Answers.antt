@@ -1,8 +1,6 @@
 use Rattle.std.proofs.Common.{◌≡◌, ◌<◌, ◌+◌, ℕ, length, get_or, arith}
 use Rattle.std.proofs.lemmas.List.{get_or-replicate, take_rest}
-use Rattle.lag_ring.specs.declared.window.Side.TheVariants.{First}
-use Rattle.lag_ring.specs.Window.{weight_at}
-use Rattle.lag_ring.proofs.Windows.{weight_at-le}
+use Rattle.lag_ring.{specs.declared.window.Side.TheVariants.First, specs.Window.weight_at, proofs.Windows.weight_at-le}
 use Rattle.tau_cascade.proofs.Together.{window-paired-all}
 use Rattle.tau_cascade.proofs.dense.pair_few_together.Goals as goal
 

@@ -1,11 +1,6 @@
 use Rattle.std.proofs.Common.{◌≡◌, ◌∙◌, ◌<◌, ◌≤◌, ◌+◌, ◌-◌, ℕ, ltb, length, get_or, drop, arith}
-use Rattle.std.specs.List.{filter}
-use Rattle.std.proofs.lemmas.List.{get_or-replicate, take_rest}
-use Rattle.lag_ring.specs.declared.ring.Entry.{Entry}
-use Rattle.lag_ring.specs.declared.window.Side.TheVariants.{First}
-use Rattle.lag_ring.specs.Window.{weight_at}
-use Rattle.lag_ring.proofs.Lists.{all_filter}
-use Rattle.lag_ring.proofs.Windows.{weight_at-le}
+use Rattle.std.{specs.List.filter, proofs.lemmas.List.{get_or-replicate, take_rest}}
+use Rattle.lag_ring.{specs.declared.ring.Entry.Entry, specs.declared.window.Side.TheVariants.First, specs.Window.weight_at, proofs.Lists.all_filter, proofs.Windows.weight_at-le}
 use Rattle.tau_cascade.proofs.Together.{window-paired, few_counted}
 use Rattle.tau_cascade.proofs.dense.pair_many_together.Goals as goal
 

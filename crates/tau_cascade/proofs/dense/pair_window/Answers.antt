@@ -1,6 +1,5 @@
 use Rattle.std.proofs.Common.{◌≡◌, ◌∙◌, ◌<◌, ◌+◌, ◌-◌, ◌*◌, ℕ, min, arith}
-use Rattle.tau_cascade.specs.Dense.{window_pairs}
-use Rattle.tau_cascade.proofs.Together.{strip_more}
+use Rattle.tau_cascade.{specs.Dense.window_pairs, proofs.Together.strip_more}
 use Rattle.tau_cascade.proofs.dense.pair_window.Goals as goal
 
 pub loop-strip-preserved : goal.loop-strip-preserved

@@ -1,9 +1,6 @@
 use Rattle.std.proofs.Common.{◌≡◌, ◌∙◌, ℕ, ◌+◌, ◌*◌, ◌%◌, ◌≤◌, List, [], ◌∷◌, ◌++◌, eqb, length, get_or, take, drop, refl, arith}
-use Rattle.std.proofs.Math.Nat.{mul-le-mul_left}
-use Rattle.std.proofs.lemmas.List.{take_more}
-use Rattle.lag_ring.specs.declared.ring.Entry.{Entry}
-use Rattle.lag_ring.proofs.Rising.{all_weaker, all_push}
-use Rattle.lag_ring.proofs.Windows.{part-le}
+use Rattle.std.{proofs.Math.Nat.mul-le-mul_left, proofs.lemmas.List.take_more}
+use Rattle.lag_ring.{specs.declared.ring.Entry.Entry, proofs.Rising.{all_weaker, all_push}, proofs.Windows.part-le}
 use Rattle.tau_cascade.proofs.Close.{laid_next, weight_next, behind_next, behind_at, behind_whole}
 use Rattle.tau_cascade.proofs.laid.lay_all.Goals as goal
 

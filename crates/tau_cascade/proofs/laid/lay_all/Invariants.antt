@@ -1,7 +1,5 @@
 use Rattle.std.proofs.Common.{◌≡◌, ℕ, ◌+◌, ◌*◌, ◌<◌, ◌≤◌, List, ◌++◌, length, get_or, take}
-use Rattle.lag_ring.specs.declared.ring.Entry.{Entry}
-use Rattle.lag_ring.specs.declared.window.Side.TheVariants.{First}
-use Rattle.lag_ring.specs.Window.{weight_at}
+use Rattle.lag_ring.{specs.declared.ring.Entry.Entry, specs.declared.window.Side.TheVariants.First, specs.Window.weight_at}
 use Rattle.tau_cascade.specs.Laid.{laid, IsBehind, IsLight}
 use Rattle.tau_cascade.proofs.laid.lay_all.Given as goal
 

@@ -1,5 +1,4 @@
-use Rattle.std.proofs.Common.{arith}
-use Rattle.std.specs.Prelude.{bit_or}
+use Rattle.std.proofs.Common.{arith, bit_or}
 use Rattle.std.proofs.lemmas.Nat.{le_or_l, le_or_r}
 use Rattle.tau_cascade.proofs.laid.lay_one.Goals as goal
 

@@ -1,10 +1,7 @@
 use Rattle.std.proofs.Common.{◌≡◌, ◌∙◌, ℕ, ◌+◌, ◌-◌, ◌<◌, ◌≤◌, length, get_or, take, drop, refl, arith}
 use Rattle.std.proofs.lemmas.List.{get_or-replicate, take_rest, length-take-le, length-drop}
-use Rattle.lag_ring.specs.declared.window.Side.TheVariants.{First}
-use Rattle.lag_ring.specs.Window.{weight_at}
-use Rattle.lag_ring.proofs.Rising.{all_weaker}
-use Rattle.tau_cascade.specs.Laid.{laid}
-use Rattle.tau_cascade.proofs.Close.{laid-paired, all_room, front_room, behind_none, behind_front}
+use Rattle.lag_ring.{specs.declared.window.Side.TheVariants.First, specs.Window.weight_at, proofs.Rising.all_weaker}
+use Rattle.tau_cascade.{specs.Laid.laid, proofs.Close.{laid-paired, all_room, front_room, behind_none, behind_front}}
 use Rattle.tau_cascade.proofs.laid.pair_light.Goals as goal
 
 pub lay_all-before-requires-clause-room : goal.lay_all-before-requires-clause-room

@@ -1,12 +1,7 @@
 use Rattle.std.proofs.Common.{◌≡◌, ◌∙◌, ℕ, ◌+◌, ◌-◌, ◌*◌, ◌<◌, ◌≤◌, List, [], ◌∷◌, ◌++◌, length, get_or, take, drop, refl, sym, ap, arith, get_or-take, get_or-drop}
-use Rattle.std.specs.List.{sum_by}
-use Rattle.std.proofs.Math.Nat.{mul-le-mul}
-use Rattle.std.proofs.lemmas.List.{take_more}
-use Rattle.lag_ring.specs.declared.ring.Entry.{Entry}
-use Rattle.lag_ring.specs.declared.window.Side.TheVariants.{Second}
-use Rattle.lag_ring.specs.Window.{product_at}
-use Rattle.tau_cascade.specs.Laid.{laid}
-use Rattle.tau_cascade.proofs.Close.{behind_at, behind_next, behind_whole, is_light_at, laid_next, room_at, sums_next}
+use Rattle.std.{specs.List.sum_by, proofs.Math.Nat.mul-le-mul, proofs.lemmas.List.take_more}
+use Rattle.lag_ring.{specs.declared.ring.Entry.Entry, specs.declared.window.Side.TheVariants.Second, specs.Window.product_at}
+use Rattle.tau_cascade.{specs.Laid.laid, proofs.Close.{behind_at, behind_next, behind_whole, is_light_at, laid_next, room_at, sums_next}}
 use Rattle.tau_cascade.proofs.laid.sum_laid.Goals as goal
 
 abbrev none : Entry

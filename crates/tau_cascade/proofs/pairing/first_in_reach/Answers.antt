@@ -1,6 +1,5 @@
 use Rattle.std.proofs.Common.{◌+◌, ◌-◌, ◌<◌, take, get_or, arith}
-use Rattle.lag_ring.specs.declared.ring.Entry.{Entry}
-use Rattle.lag_ring.proofs.Rising.{all_weaker}
+use Rattle.lag_ring.{specs.declared.ring.Entry.Entry, proofs.Rising.all_weaker}
 use Rattle.tau_cascade.proofs.Keeping.{left_behind}
 use Rattle.tau_cascade.proofs.pairing.first_in_reach.Goals as goal
 

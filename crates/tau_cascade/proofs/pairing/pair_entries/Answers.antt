@@ -1,7 +1,6 @@
 use Rattle.std.proofs.Common.{rules, arith, ◌≡◌, ◌≤◌, ◌+◌, ◌-◌, get_or, take}
-use Rattle.tau_cascade.specs.Levels.{weight_before}
+use Rattle.tau_cascade.{specs.Levels.weight_before, proofs.Visits.{pairs_fit, cells_more, lags_more, rest_near}}
 use Rattle.lag_ring.specs.declared.ring.Entry.{Entry}
-use Rattle.tau_cascade.proofs.Visits.{pairs_fit, cells_more, lags_more, rest_near}
 use Rattle.tau_cascade.proofs.pairing.pair_entries.Goals as goal
 
 pub add_at_lag-requires-clause-sum : goal.add_at_lag-requires-clause-sum

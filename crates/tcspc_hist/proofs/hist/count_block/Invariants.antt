@@ -1,5 +1,4 @@
-use Rattle.std.proofs.Common.{ℕ, ◌≡◌, ◌<◌, ◌≤◌, ◌+◌, sum}
-use Rattle.std.specs.Prelude.{slice_index}
+use Rattle.std.proofs.Common.{ℕ, ◌≡◌, ◌<◌, ◌≤◌, ◌+◌, sum, slice_index}
 use Rattle.tally_base.specs.Settings.{hist_view}
 use Rattle.event_block.specs.Columns.{item, rows}
 use Rattle.tcspc_hist.specs.HistogramCounts.{in_bin, count_over}

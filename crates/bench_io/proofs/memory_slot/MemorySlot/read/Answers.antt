@@ -1,5 +1,4 @@
-use Rattle.std.proofs.Common.{length, arith}
-use Rattle.std.specs.Prelude.{slice_get}
+use Rattle.std.proofs.Common.{length, arith, slice_get}
 use Rattle.bench_io.proofs.MemoryFiles.{rest_of_file-taken}
 use Rattle.bench_io.proofs.memory_slot.MemorySlot.read.Goals as goal
 

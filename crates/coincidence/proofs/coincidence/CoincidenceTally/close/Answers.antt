@@ -1,7 +1,6 @@
 use Rattle.std.proofs.Math.Logic.{∥∥₁_map}
 use Rattle.tally_base.specs.Settings.{coincidence_view}
-use Rattle.coincidence.specs.Pairs.{photons_of_groups}
-use Rattle.coincidence.proofs.Gives.{may_end, end_counts}
+use Rattle.coincidence.{specs.Pairs.photons_of_groups, proofs.Gives.{may_end, end_counts}}
 use Rattle.coincidence.proofs.coincidence.CoincidenceTally.close.Goals as goal
 
 pub end-requires : goal.end-requires

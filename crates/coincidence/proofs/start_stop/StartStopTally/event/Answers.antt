@@ -1,15 +1,8 @@
-use Rattle.std.proofs.Common.{rules, [], ◌∷◌, ◌++◌, ◌≡◌, ◌+◌, ◌-◌, ◌<◌, ◌/◌, length, ℕ, Bool, true, arith, sym, refl}
-use Rattle.std.specs.Prelude.{nat_le, ◌==◌, if◌then◌else◌}
+use Rattle.std.proofs.Common.{rules, [], ◌∷◌, ◌++◌, ◌≡◌, ◌+◌, ◌-◌, ◌<◌, ◌/◌, length, ℕ, Bool, true, arith, sym, refl, nat_le, ◌==◌, if◌then◌else◌}
 use Rattle.std.proofs.lemmas.Grind.{common_steps}
-use Rattle.tally_base.specs.declared.event.Event.{Event}
-use Rattle.tally_base.specs.Settings.{startstop_view}
-use Rattle.tally_base.specs.Events.{is_photon, is_in}
-use Rattle.coincidence.specs.Ends.{ended}
-use Rattle.coincidence.specs.Starts.{start_in, since_in}
-use Rattle.coincidence.specs.Intervals.{count_intervals}
-use Rattle.coincidence.proofs.Ends.{ends_as}
+use Rattle.tally_base.{specs.declared.event.Event.Event, specs.Settings.startstop_view, specs.Events.{is_photon, is_in}}
+use Rattle.coincidence.{specs.Ends.ended, specs.Starts.{start_in, since_in}, specs.Intervals.count_intervals, proofs.Ends.ends_as, proofs.Intervals.{count-photon, start-photon}}
 use Rattle.event_block.proofs.Slices.{whole_slice}
-use Rattle.coincidence.proofs.Intervals.{count-photon, start-photon}
 use Rattle.coincidence.proofs.start_stop.StartStopTally.event.Goals as goal
 
 pub returns-then-is_photon-clause-follows : goal.returns-then-is_photon-clause-follows

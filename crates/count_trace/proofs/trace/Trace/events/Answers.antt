@@ -1,12 +1,6 @@
-use Rattle.std.proofs.Common.{◌≡◌, ◌∙◌, ◌-◌, ◌/◌, ◌&&◌, false, length, refl, sym, ap, rules, arith, length-append}
-use Rattle.std.specs.Prelude.{nat_lt, nat_le, ◌==◌}
-use Rattle.tally_base.specs.Settings.{trace_view}
-use Rattle.tally_base.specs.Tally.{greatest_time}
-use Rattle.event_block.specs.Columns.{item, gathered, events_in}
-use Rattle.event_block.specs.Order.{floor_after, InOrder}
-use Rattle.event_block.proofs.Rows.{length-rows}
-use Rattle.event_block.proofs.Greatest.{greatest-rows}
-use Rattle.event_block.proofs.Slices.{whole_slice}
+use Rattle.std.proofs.Common.{◌≡◌, ◌∙◌, ◌-◌, ◌/◌, ◌&&◌, false, length, refl, sym, ap, rules, arith, length-append, nat_lt, nat_le, ◌==◌}
+use Rattle.tally_base.{specs.Settings.trace_view, specs.Tally.greatest_time}
+use Rattle.event_block.{specs.Columns.{item, gathered, events_in}, specs.Order.{floor_after, InOrder}, proofs.Rows.length-rows, proofs.Greatest.greatest-rows, proofs.Slices.whole_slice}
 use Rattle.count_trace.proofs.Blocks.{count-append}
 use Rattle.count_trace.proofs.trace.Trace.events.Goals as goal
 

@@ -1,7 +1,6 @@
 use Rattle.std.proofs.Common.{rules, [], ◌∷◌, ◌++◌, ◌≡◌, ◌+◌, ◌<◌, length, ℕ, arith, eqb, cond}
 use Rattle.std.proofs.lemmas.Grind.{common_steps}
-use Rattle.tally_base.specs.Settings.{trace_view}
-use Rattle.tally_base.proofs.Cells.{raised}
+use Rattle.tally_base.{specs.Settings.trace_view, proofs.Cells.raised}
 use Rattle.count_trace.specs.TraceCounts.{in_trace_bin}
 use Rattle.count_trace.proofs.trace.TraceTally.event.Goals as goal
 

@@ -1,7 +1,5 @@
-use Rattle.std.proofs.Common.{◌≡◌, ◌∙◌, ◌-◌, ◌<◌, ◌≤◌, ◌||◌, true, false, sym, rules, arith}
-use Rattle.std.specs.Prelude.{nat_lt}
-use Rattle.event_block.specs.Columns.{code_at, count}
-use Rattle.event_block.proofs.Back.{back_step}
+use Rattle.std.proofs.Common.{◌≡◌, ◌∙◌, ◌-◌, ◌<◌, ◌≤◌, ◌||◌, true, false, sym, rules, arith, nat_lt}
+use Rattle.event_block.{specs.Columns.{code_at, count}, proofs.Back.back_step}
 use Rattle.event_block.proofs.block.Block.floor_after.Goals as goal
 
 pub returns-then-moves : goal.returns-then-moves

@@ -1,6 +1,5 @@
 use Rattle.std.proofs.Common.{◌≡◌, ◌≤◌}
-use Rattle.event_block.specs.Columns.{event_at, rows, count, gathered}
-use Rattle.event_block.specs.Order.{floor_after}
+use Rattle.event_block.{specs.Columns.{event_at, rows, count, gathered}, specs.Order.floor_after}
 use Rattle.event_block.proofs.block.Block.floor_after.Given as goal
 
 abbrev pub invariant-back : goal.invariant-back

@@ -1,6 +1,5 @@
 use Rattle.std.proofs.Common.{◌∙◌}
-use Rattle.event_block.specs.Columns.{groups_at, code_at}
-use Rattle.event_block.proofs.Sorted.{found}
+use Rattle.event_block.{specs.Columns.{groups_at, code_at}, proofs.Sorted.found}
 use Rattle.event_block.proofs.block.Block.has_photon.Goals as goal
 
 pub returns : goal.returns

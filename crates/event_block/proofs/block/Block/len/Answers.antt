@@ -1,6 +1,5 @@
 use Rattle.std.proofs.Common.{sym}
-use Rattle.event_block.specs.Columns.{row}
-use Rattle.event_block.proofs.Rows.{length-rows}
+use Rattle.event_block.{specs.Columns.row, proofs.Rows.length-rows}
 use Rattle.event_block.proofs.block.Block.len.Goals as goal
 
 pub returns-clause-value : goal.returns-clause-value

@@ -1,7 +1,5 @@
 use Rattle.std.proofs.Common.{◌<◌, refl, arith, rules}
-use Rattle.event_block.specs.Columns.{row}
-use Rattle.event_block.proofs.Rows.{length-rows, rows-push}
-use Rattle.event_block.proofs.Sorted.{none-push}
+use Rattle.event_block.{specs.Columns.row, proofs.Rows.{length-rows, rows-push}, proofs.Sorted.none-push}
 use Rattle.event_block.proofs.block.Block.push.Goals as goal
 
 pub returns-clause-more : goal.returns-clause-more

@@ -1,6 +1,5 @@
 use Rattle.std.proofs.Common.{◌∙◌, ◌-◌, ◌+◌, ◌++◌, ap, rules, arith}
-use Rattle.event_block.specs.Columns.{event_at, rows}
-use Rattle.event_block.proofs.Copied.{rows-copied}
+use Rattle.event_block.{specs.Columns.{event_at, rows}, proofs.Copied.rows-copied}
 use Rattle.event_block.proofs.block.Block.push_front.Goals as goal
 
 pub returns-clause-more : goal.returns-clause-more

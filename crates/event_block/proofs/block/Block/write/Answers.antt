@@ -1,6 +1,5 @@
 use Rattle.std.proofs.Common.{arith, rules}
-use Rattle.event_block.proofs.Rows.{rows-before, rows-written}
-use Rattle.event_block.proofs.Sorted.{none-push}
+use Rattle.event_block.{proofs.Rows.{rows-before, rows-written}, proofs.Sorted.none-push}
 use Rattle.event_block.proofs.block.Block.write.Goals as goal
 
 pub returns-clause-same : goal.returns-clause-same

@@ -1,13 +1,8 @@
 use Rattle.std.proofs.Common.{◌≡◌, ◌∙◌, ℕ, List, sym, ap, cond, arith}
 use Rattle.std.proofs.lemmas.Grind.{common_steps}
-use Rattle.tally_base.specs.declared.event.Event.{Event}
-use Rattle.tally_base.specs.Events.{is_in}
-use Rattle.tally_base.specs.Settings.{cube_view}
-use Rattle.marker_map.specs.Lines.{Saw}
-use Rattle.marker_map.specs.Places.{place_of}
-use Rattle.marker_map.specs.Marks.{Mark}
-use Rattle.flim_cube.specs.Cells.{counts_of}
-use Rattle.flim_cube.proofs.Steps.{photon_step, marker_step}
+use Rattle.tally_base.{specs.declared.event.Event.Event, specs.Events.is_in, specs.Settings.cube_view}
+use Rattle.marker_map.{specs.Lines.Saw, specs.Places.place_of, specs.Marks.Mark}
+use Rattle.flim_cube.{specs.Cells.counts_of, proofs.Steps.{photon_step, marker_step}}
 use Rattle.flim_cube.proofs.cube.FlimCubeTally.event.Goals as goal
 
 pub returns-in-Marker-clause-follows : goal.returns-in-Marker-clause-follows

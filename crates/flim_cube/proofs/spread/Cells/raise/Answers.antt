@@ -1,12 +1,7 @@
-use Rattle.std.proofs.Common.{◌≡◌, ◌∙◌, ℕ, ◌+◌, ◌*◌, ◌<◌, ◌≤◌, length, slice_index, set, inl, inr, ap, sym, rules, arith}
-use Rattle.std.specs.Prelude.{◌≢◌}
-use Rattle.std.specs.Int.{w64, from_le_bytes}
-use Rattle.std.proofs.lemmas.Bool.{cases_lt}
-use Rattle.std.proofs.lemmas.Nat.{mul-le, from_le_bytes-to_le_bytes_8}
+use Rattle.std.proofs.Common.{◌≡◌, ◌∙◌, ℕ, ◌+◌, ◌*◌, ◌<◌, ◌≤◌, length, slice_index, set, inl, inr, ap, sym, rules, arith, ◌≢◌}
+use Rattle.std.{specs.Int.{w64, from_le_bytes}, proofs.lemmas.Bool.cases_lt, proofs.lemmas.Nat.{mul-le, from_le_bytes-to_le_bytes_8}}
 use Rattle.event_block.proofs.Slices.{whole_slice}
-use Rattle.flim_cube.specs.Bytes.{byte_in, count_in, length_counts}
-use Rattle.flim_cube.specs.Cells.{counts_of}
-use Rattle.flim_cube.proofs.Bytes.{count_from, count_same, counts_set, other_cell}
+use Rattle.flim_cube.{specs.Bytes.{byte_in, count_in, length_counts}, specs.Cells.counts_of, proofs.Bytes.{count_from, count_same, counts_set, other_cell}}
 use Rattle.flim_cube.proofs.spread.Cells.raise.Goals as goal
 
 pub put_bytes-requires-clause-inside : goal.put_bytes-requires-clause-inside

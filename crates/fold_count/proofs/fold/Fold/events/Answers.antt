@@ -1,12 +1,6 @@
 use Rattle.std.proofs.Common.{◌≡◌, ◌∙◌, ◌++◌, false, length, refl, sym, ap, rules, arith, length-append}
-use Rattle.tally_base.specs.Settings.{fold_view}
-use Rattle.tally_base.specs.Tally.{greatest_time}
-use Rattle.event_block.specs.Columns.{item, gathered, events_in}
-use Rattle.event_block.specs.Order.{floor_after, InOrder}
-use Rattle.event_block.proofs.Rows.{length-rows}
-use Rattle.event_block.proofs.Greatest.{greatest-rows}
-use Rattle.event_block.proofs.Lower.{order-lower, floor-lower}
-use Rattle.event_block.proofs.Slices.{whole_slice}
+use Rattle.tally_base.{specs.Settings.fold_view, specs.Tally.greatest_time}
+use Rattle.event_block.{specs.Columns.{item, gathered, events_in}, specs.Order.{floor_after, InOrder}, proofs.Rows.length-rows, proofs.Greatest.greatest-rows, proofs.Lower.{order-lower, floor-lower}, proofs.Slices.whole_slice}
 use Rattle.fold_count.proofs.Pushed.{open_counts, counts_open}
 use Rattle.fold_count.proofs.fold.Fold.events.Goals as goal
 

@@ -1,10 +1,7 @@
-use Rattle.std.proofs.Common.{◌≡◌, ◌∙◌, ◌^◌, ℕ, [], length, replicate, refl, ap, rules, arith}
-use Rattle.std.specs.Prelude.{slice_index}
+use Rattle.std.proofs.Common.{◌≡◌, ◌∙◌, ◌^◌, ℕ, [], length, replicate, refl, ap, rules, arith, slice_index}
 use Rattle.tally_base.specs.Settings.{fold_view}
-use Rattle.lag_ring.specs.declared.ring.Entry.{Entry}
-use Rattle.lag_ring.specs.Ring.{Ring}
-use Rattle.fold_count.specs.Folded.{Parted, as_met, front_of}
-use Rattle.fold_count.proofs.Pushed.{parted_empty, zeros}
+use Rattle.lag_ring.{specs.declared.ring.Entry.Entry, specs.Ring.Ring}
+use Rattle.fold_count.{specs.Folded.{Parted, as_met, front_of}, proofs.Pushed.{parted_empty, zeros}}
 use Rattle.fold_count.proofs.fold.Fold.open.Goals as goal
 
 pub returns-clause-empty : goal.returns-clause-empty

@@ -1,9 +1,5 @@
 use Rattle.std.proofs.Common.{◌-◌, ◌∙◌, sym, map}
-use Rattle.gate_plan.specs.Shifting.{shifted}
-use Rattle.gate_plan.specs.Taking.{takes}
-use Rattle.gate_plan.specs.Groups.{sorting_of}
-use Rattle.gate_plan.proofs.Bits.{bit_is}
-use Rattle.gate_plan.proofs.Parts.{of_shifted, of_shifted_marker}
+use Rattle.gate_plan.{specs.Shifting.shifted, specs.Taking.takes, specs.Groups.sorting_of, proofs.Bits.bit_is, proofs.Parts.{of_shifted, of_shifted_marker}}
 use Rattle.gate_plan.proofs.gates.Gates.groups.Goals as goal
 
 pub returns-in-Photon-clause-number : goal.returns-in-Photon-clause-number

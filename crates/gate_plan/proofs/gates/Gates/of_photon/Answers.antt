@@ -1,7 +1,5 @@
 use Rattle.std.proofs.Common.{◌≡◌, arith, get_or, rules}
-use Rattle.gate_plan.specs.Groups.{sorting_of}
-use Rattle.gate_plan.specs.Parting.{plain_bits}
-use Rattle.gate_plan.proofs.Parts.{parted_fits, gated_fits, few_groups}
+use Rattle.gate_plan.{specs.Groups.sorting_of, specs.Parting.plain_bits, proofs.Parts.{parted_fits, gated_fits, few_groups}}
 use Rattle.gate_plan.proofs.gates.Gates.of_photon.Goals as goal
 
 pub bits_of_gated-requires : goal.bits_of_gated-requires

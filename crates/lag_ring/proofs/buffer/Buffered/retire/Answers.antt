@@ -1,5 +1,4 @@
-use Rattle.std.proofs.Common.{◌≡◌, Some, None, sym}
-use Rattle.std.specs.Prelude.{slice_get}
+use Rattle.std.proofs.Common.{◌≡◌, Some, None, sym, slice_get}
 use Rattle.lag_ring.proofs.Rising.{none_before_front, none_at_all}
 use Rattle.lag_ring.proofs.buffer.Buffered.retire.Goals as goal
 

@@ -1,9 +1,7 @@
 use Rattle.std.proofs.Common.{◌≡◌, refl, rules, slice_get, Some}
 use Rattle.std.proofs.lemmas.List.{length-set}
-use Rattle.lag_ring.specs.declared.ring.Entry.{Entry}
-use Rattle.lag_ring.proofs.Rising.{rising_set}
+use Rattle.lag_ring.{specs.declared.ring.Entry.Entry, proofs.Rising.rising_set, proofs.buffer.Buffered.set_b.Goals.{in-Some, in_default}}
 use Rattle.lag_ring.proofs.buffer.Buffered.set_b.Goals as goal
-use Rattle.lag_ring.proofs.buffer.Buffered.set_b.Goals.{in-Some, in_default}
 
 pub invariant_of-self : goal.invariant_of-self
 invariant_of-self c =

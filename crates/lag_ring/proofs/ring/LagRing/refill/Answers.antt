@@ -1,6 +1,5 @@
 use Rattle.std.proofs.Common.{◌≡◌, ap, sym}
-use Rattle.lag_ring.specs.Ring.{Ring}
-use Rattle.lag_ring.proofs.Rising.{upto_end}
+use Rattle.lag_ring.{specs.Ring.Ring, proofs.Rising.upto_end}
 use Rattle.lag_ring.proofs.ring.LagRing.refill.Goals as goal
 
 pub invariant_of-self : goal.invariant_of-self

@@ -1,9 +1,6 @@
-use Rattle.std.proofs.Common.{◌++◌}
-use Rattle.std.specs.Prelude.{nat_le, ◌==◌}
+use Rattle.std.proofs.Common.{◌++◌, nat_le, ◌==◌}
 use Rattle.tally_base.specs.Settings.{trace_view}
-use Rattle.long_trace.specs.Texts.{frequency_limit, span, counts, bin_line, summary_text}
-use Rattle.long_trace.specs.States.{state_of}
-use Rattle.long_trace.proofs.Ends.{all-counted, whole-any}
+use Rattle.long_trace.{specs.Texts.{frequency_limit, span, counts, bin_line, summary_text}, specs.States.state_of, proofs.Ends.{all-counted, whole-any}}
 use Rattle.long_trace.proofs.trace.LongTrace.finish.Goals as goal
 
 pub returns-in-Ok-clause-text : goal.returns-in-Ok-clause-text

@@ -1,8 +1,7 @@
 use Rattle.std.proofs.Common.{◌≡◌, ◌∷◌, [], refl, arith, ◌+◌}
 use Rattle.tally_base.specs.Settings.{trace_view}
 use Rattle.count_trace.specs.TraceCounts.{count_before}
-use Rattle.long_trace.proofs.BinSteps.{before-push}
-use Rattle.long_trace.proofs.Given.{GivenMore-counts, floor-one}
+use Rattle.long_trace.{proofs.BinSteps.before-push, proofs.Given.{GivenMore-counts, floor-one}}
 use Rattle.long_trace.proofs.trace.LongTrace.take.Goals as goal
 
 pub returns-clause-given : goal.returns-clause-given

@@ -1,12 +1,7 @@
-use Rattle.std.proofs.Common.{rules, ◌≡◌, ◌∙◌, ◌<◌, true, false, ap, sym, cond, None, Some, arith}
-use Rattle.std.specs.Prelude.{option_map}
+use Rattle.std.proofs.Common.{rules, ◌≡◌, ◌∙◌, ◌<◌, true, false, ap, sym, cond, None, Some, arith, option_map}
 use Rattle.std.proofs.lemmas.Grind.{common_steps}
 use Rattle.tally_base.specs.Settings.{image_view}
-use Rattle.marker_map.specs.Marks.{mark}
-use Rattle.marker_map.specs.Places.{is_line}
-use Rattle.marker_map.specs.Rows.{line_at, row_after}
-use Rattle.marker_map.proofs.Starts.{start-begins, start-stopped, greatest-push}
-use Rattle.marker_map.proofs.Steps.{open-begins, open-passes, next-begins, next-passes}
+use Rattle.marker_map.{specs.Marks.mark, specs.Places.is_line, specs.Rows.{line_at, row_after}, proofs.Starts.{start-begins, start-stopped, greatest-push}, proofs.Steps.{open-begins, open-passes, next-begins, next-passes}}
 use Rattle.marker_map.proofs.lines.Lines.marker.Goals as goal
 
 pub returns-then-has_bit-clause-follows : goal.returns-then-has_bit-clause-follows

@@ -2,15 +2,11 @@ use Rattle.std.proofs.Common.{◌≡◌, ◌∙◌, ◌+◌, true, All, filter, 
 use Rattle.std.proofs.lemmas.List.Elements.{All-weaker, All-filter, filter_passes}
 use Rattle.tally_base.specs.Events.{is_photon}
 use Rattle.ptu_definitions.specs.Fitting.{KindFits}
-use Rattle.event_block.specs.Columns.{gathered}
-use Rattle.event_block.specs.Order.{InOrder}
+use Rattle.event_block.{specs.Columns.gathered, specs.Order.InOrder}
 use Rattle.gate_plan.specs.Groups.{sorting_of}
 use Rattle.record_stream.specs.Blocks.{orders_markers}
 use Rattle.record_write.specs.Picker.{mode_of, last_by}
-use Rattle.photon_pick.specs.Chosen.{is_chosen}
-use Rattle.photon_pick.specs.Giving.{pen, Gave, Stopped}
-use Rattle.photon_pick.proofs.Wanted.{chosen-photon}
-use Rattle.photon_pick.proofs.BlockTakes.{order-chosen, last-chosen, up_to, Took-block, Refused-block}
+use Rattle.photon_pick.{specs.Chosen.is_chosen, specs.Giving.{pen, Gave, Stopped}, proofs.Wanted.chosen-photon, proofs.BlockTakes.{order-chosen, last-chosen, up_to, Took-block, Refused-block}}
 use Rattle.photon_pick.proofs.taker.PicksEventTaker.take_block.Goals as goal
 
 pub give_photons-given-requires-clause-photons : goal.give_photons-given-requires-clause-photons

@@ -1,8 +1,6 @@
 use Rattle.std.proofs.Common.{refl}
 use Rattle.std.proofs.lemmas.Result.{err_from_is_err_and}
-use Rattle.ptu_cli.specs.Endings.{Span}
-use Rattle.ptu_cli.proofs.CountEnds.{ends-uncounted, ends-counted, uncounted-reason, unlisted-reason}
-use Rattle.ptu_cli.proofs.Once.{stays-same, once-none, out-once}
+use Rattle.ptu_cli.{specs.Endings.Span, proofs.CountEnds.{ends-uncounted, ends-counted, uncounted-reason, unlisted-reason}, proofs.Once.{stays-same, once-none, out-once}}
 use Rattle.ptu_cli.proofs.command.CountingFileWork.read.Goals as goal
 
 pub returns-in_err-header-clause-answer : goal.returns-in_err-header-clause-answer

@@ -1,9 +1,7 @@
 use Rattle.std.proofs.Common.{refl}
 use Rattle.std.proofs.lemmas.Result.{err_from_is_err_and}
 use Rattle.plan_text.specs.Reading.{plan_view}
-use Rattle.ptu_cli.specs.Endings.{Span}
-use Rattle.ptu_cli.proofs.RunTold.{ends-uncounted, ends-reported, uncounted-reason, unreported-reason}
-use Rattle.ptu_cli.proofs.Once.{stays-same, once-none, out-once}
+use Rattle.ptu_cli.{specs.Endings.Span, proofs.RunTold.{ends-uncounted, ends-reported, uncounted-reason, unreported-reason}, proofs.Once.{stays-same, once-none, out-once}}
 use Rattle.ptu_cli.proofs.command.ReportingPlanWork.read.Goals as goal
 
 pub returns-in_err-results-clause-answer : goal.returns-in_err-results-clause-answer

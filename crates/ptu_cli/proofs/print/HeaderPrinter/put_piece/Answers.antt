@@ -1,14 +1,8 @@
 use Rattle.std.proofs.Common.{◌≡◌, ◌^◌, ◌≤◌, ◌++◌, List, ℕ, length, take, sym, ap, ◌∙◌, subst, append_assoc, arith, length-append}
-use Rattle.std.proofs.lemmas.List.{length-take}
-use Rattle.std.proofs.lemmas.Result.{err_from_is_err_and}
-use Rattle.ptu_definitions.specs.TagFields.{code_in}
-use Rattle.ptu_definitions.specs.Headers.{header_answer}
+use Rattle.std.{proofs.lemmas.List.length-take, proofs.lemmas.Result.err_from_is_err_and}
+use Rattle.ptu_definitions.{specs.TagFields.code_in, specs.Headers.header_answer}
 use Rattle.table_out.specs.HeaderText.{kind_with}
-use Rattle.ptu_cli.specs.Outcomes.{IsCut}
-use Rattle.ptu_cli.specs.Printing.{Prints}
-use Rattle.ptu_cli.specs.BodyPieces.{end_line}
-use Rattle.ptu_cli.proofs.Pieces.{whole-piece}
-use Rattle.ptu_cli.proofs.PrintSteps.{printer, parts, PutsHeader-next, CutsHeader-next, PutsHeader-end, text-preamble, text-tag, text-body, text-more, text-done, text-refused, Prints-preamble, Prints-tag, Prints-body, Prints-more, PassesOn-body, AppendsShort-body, AppendsShort-end}
+use Rattle.ptu_cli.{specs.Outcomes.IsCut, specs.Printing.Prints, specs.BodyPieces.end_line, proofs.Pieces.whole-piece, proofs.PrintSteps.{printer, parts, PutsHeader-next, CutsHeader-next, PutsHeader-end, text-preamble, text-tag, text-body, text-more, text-done, text-refused, Prints-preamble, Prints-tag, Prints-body, Prints-more, PassesOn-body, AppendsShort-body, AppendsShort-end}}
 use Rattle.ptu_cli.proofs.print.HeaderPrinter.put_piece.Goals as goal
 
 pub returns-in-More-clause-leaves : goal.returns-in-More-clause-leaves

@@ -1,14 +1,9 @@
-use Rattle.std.proofs.Common.{Err, refl, sym, ap, subst, ◌∙◌, arith, ◌≡◌, ◌≤◌, ◌<◌, ◌^◌, ◌+◌, ◌-◌, ◌++◌, [], ◌∷◌, ℕ, List, min, true, false, length, take, append-nil, length-append}
-use Rattle.std.specs.Prelude.{nat_eq}
-use Rattle.std.proofs.lemmas.Bool.Decides.{nat_tests}
-use Rattle.ptu_header.specs.Phases.{phase_after}
-use Rattle.std.proofs.lemmas.List.{length-take}
+use Rattle.std.proofs.Common.{Err, refl, sym, ap, subst, ◌∙◌, arith, ◌≡◌, ◌≤◌, ◌<◌, ◌^◌, ◌+◌, ◌-◌, ◌++◌, [], ◌∷◌, ℕ, List, min, true, false, length, take, append-nil, length-append, nat_eq}
+use Rattle.std.{proofs.lemmas.Bool.Decides.nat_tests, proofs.lemmas.List.length-take}
+use Rattle.ptu_header.{specs.Phases.phase_after, specs.Reading.{goes_on, HasRead}, proofs.Reading.{is_not, nothing-stays, reads-of, reads-open, steps-refused, limit-shown, more-clause, after-reads, body-more, body-ends, reads-join}}
 use Rattle.tally_base.specs.declared.fault.Fault.TheVariants.{HeaderLimit}
-use Rattle.ptu_definitions.specs.Headers.{header_answer}
-use Rattle.ptu_definitions.proofs.AnswerLemmas.{Shows-append}
+use Rattle.ptu_definitions.{specs.Headers.header_answer, proofs.AnswerLemmas.Shows-append}
 use Rattle.ptu_header.specs.declared.reader.Phase.TheVariants as Phases
-use Rattle.ptu_header.specs.Reading.{goes_on, HasRead}
-use Rattle.ptu_header.proofs.Reading.{is_not, nothing-stays, reads-of, reads-open, steps-refused, limit-shown, more-clause, after-reads, body-more, body-ends, reads-join}
 use Rattle.ptu_header.proofs.reader.HeaderReader.body.Goals as goal
 
 no_bytes : (piece : List ℕ) → nat_eq (length piece) 0 ≡ true → piece ≡ []

@@ -1,6 +1,5 @@
 use Rattle.std.proofs.Common.{◌-◌, refl, ap, ◌∙◌, arith}
-use Rattle.ptu_made.specs.Generator.{states, next_state, words_behind}
-use Rattle.ptu_made.proofs.Behind.{states-none, states-some, words_behind-cons}
+use Rattle.ptu_made.{specs.Generator.{states, next_state, words_behind}, proofs.Behind.{states-none, states-some, words_behind-cons}}
 use Rattle.ptu_made.proofs.photons.Photons.next.Goals as goal
 
 pub returns-then-self-eq0-clause-words : goal.returns-then-self-eq0-clause-words

@@ -1,9 +1,7 @@
-use Rattle.std.proofs.Common.{◌≡◌, ◌+◌, ◌++◌, ◌≤◌, length, drop, take, arith, sym, ap, ◌∙◌, append_assoc}
-use Rattle.std.specs.Prelude.{slice_range}
+use Rattle.std.proofs.Common.{◌≡◌, ◌+◌, ◌++◌, ◌≤◌, length, drop, take, arith, sym, ap, ◌∙◌, append_assoc, slice_range}
 use Rattle.std.proofs.lemmas.List.{take_at, length-take}
-use Rattle.ptu_made.proofs.Held.{held-split}
+use Rattle.ptu_made.{proofs.Held.held-split, specs.Left.words_left}
 use Rattle.short_file.specs.ShortFiles.{bytes_in}
-use Rattle.ptu_made.specs.Left.{words_left}
 use Rattle.ptu_made.proofs.unread.Unread.copy_held.Goals as goal
 
 pub returns-clause-bytes : goal.returns-clause-bytes

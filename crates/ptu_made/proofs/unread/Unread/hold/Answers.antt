@@ -1,6 +1,5 @@
 use Rattle.std.proofs.Common.{◌≡◌, ◌+◌, ◌-◌, ◌++◌, length, arith, ap, ◌∙◌}
-use Rattle.ptu_made.proofs.Held.{held-more}
-use Rattle.ptu_made.specs.Unread.{held_in}
+use Rattle.ptu_made.{proofs.Held.held-more, specs.Unread.held_in}
 use Rattle.ptu_made.proofs.unread.Unread.hold.Goals as goal
 
 pub returns-clause-bytes : goal.returns-clause-bytes

@@ -1,9 +1,7 @@
 use Rattle.std.proofs.Common.{◌≡◌, ◌<◌, ◌+◌, ◌*◌, ℕ, [], get_or, ◌∙◌, ap, sym, arith, ◌⊎◌, ⊎_elim}
 use Rattle.std.specs.Int.{from_le_bytes, w32}
-use Rattle.ptu_definitions.specs.declared.records.Raw.{Raw}
-use Rattle.ptu_definitions.specs.Times.{amount}
-use Rattle.record_layout.specs.declared.row.Row.{Row}
-use Rattle.record_layout.specs.InColumns.{IsRow, row_at}
+use Rattle.ptu_definitions.{specs.declared.records.Raw.Raw, specs.Times.amount}
+use Rattle.record_layout.{specs.declared.row.Row.Row, specs.InColumns.{IsRow, row_at}}
 use Rattle.record_layout.proofs.columns.Columns.fill.Goals as goal
 
 last_or : (i n : ℕ) → i < n + 1 → (i ≡ n) ⊎ (i < n)

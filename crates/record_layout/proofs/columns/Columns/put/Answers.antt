@@ -1,6 +1,5 @@
 use Rattle.std.proofs.Common.{◌≡◌, ◌^◌, ◌<◌, ℕ, List, length, get_or, set, refl, arith, rules}
-use Rattle.std.proofs.lemmas.Grind.{common_steps}
-use Rattle.std.proofs.lemmas.List.{get_or-set_same}
+use Rattle.std.{proofs.lemmas.Grind.common_steps, proofs.lemmas.List.get_or-set_same}
 use Rattle.record_layout.specs.InColumns.{joined, code_in, dtime_in}
 use Rattle.record_layout.proofs.columns.Columns.put.Goals as goal
 

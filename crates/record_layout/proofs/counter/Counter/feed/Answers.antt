@@ -1,6 +1,5 @@
 use Rattle.std.proofs.Common.{◌++◌, refl, arith}
-use Rattle.record_layout.specs.Begun.{begun_in}
-use Rattle.record_layout.proofs.Growing.{words-more, words-pass, counted-shows}
+use Rattle.record_layout.{specs.Begun.begun_in, proofs.Growing.{words-more, words-pass, counted-shows}}
 use Rattle.record_layout.proofs.counter.Counter.feed.Goals as goal
 
 pub returns-then-self-clause-taken : goal.returns-then-self-clause-taken

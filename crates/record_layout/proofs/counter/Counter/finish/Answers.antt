@@ -1,6 +1,5 @@
 use Rattle.std.proofs.Common.{arith}
-use Rattle.record_layout.specs.Begun.{begun_in}
-use Rattle.record_layout.proofs.Growing.{counted-limit, counted-whole, counted-cut}
+use Rattle.record_layout.{specs.Begun.begun_in, proofs.Growing.{counted-limit, counted-whole, counted-cut}}
 use Rattle.record_layout.proofs.counter.Counter.finish.Goals as goal
 
 pub returns-then-self-clause-answer : goal.returns-then-self-clause-answer

@@ -1,7 +1,5 @@
 use Rattle.ptu_definitions.specs.Prefixes.{listed}
-use Rattle.record_layout.specs.Begun.{begun_in}
-use Rattle.record_layout.proofs.BegunLemmas.{slice-listed}
-use Rattle.record_layout.proofs.Growing.{AreCounts-append, counts_of-both}
+use Rattle.record_layout.{specs.Begun.begun_in, proofs.BegunLemmas.slice-listed, proofs.Growing.{AreCounts-append, counts_of-both}}
 use Rattle.record_layout.proofs.counter.Counter.take.Goals as goal
 
 pub returns-clause-taken : goal.returns-clause-taken

@@ -1,14 +1,8 @@
 use Rattle.std.proofs.Common.{◌++◌, Err, subst, ◌∙◌}
 use Rattle.std.proofs.lemmas.Result.{err_from_is_err_and, on_ok_weaker}
-use Rattle.ptu_definitions.specs.Fours.{numbers}
-use Rattle.ptu_definitions.specs.Prefixes.{listed}
-use Rattle.ptu_definitions.specs.Words.{words_of}
-use Rattle.record_layout.specs.Begun.{begun_in}
-use Rattle.record_layout.proofs.BegunLemmas.{slice-listed}
-use Rattle.record_stream.specs.Feeding.{Fed}
-use Rattle.record_stream.specs.Standing.{how_of}
-use Rattle.record_stream.proofs.Feeds.{Fed-trans, Fed-more}
-use Rattle.record_stream.proofs.Fours.{cut-words, cut-rest}
+use Rattle.ptu_definitions.{specs.Fours.numbers, specs.Prefixes.listed, specs.Words.words_of}
+use Rattle.record_layout.{specs.Begun.begun_in, proofs.BegunLemmas.slice-listed}
+use Rattle.record_stream.{specs.Feeding.Fed, specs.Standing.how_of, proofs.Feeds.{Fed-trans, Fed-more}, proofs.Fours.{cut-words, cut-rest}}
 use Rattle.record_stream.proofs.stream.RecordStream.piece.Goals as goal
 
 pub returns-in_err-words-clause-fed : goal.returns-in_err-words-clause-fed

@@ -1,8 +1,7 @@
 use Rattle.std.proofs.Common.{◌≢◌, ap, sym, ◌∙◌, arith}
 use Rattle.std.proofs.lemmas.Result.{on_ok_weaker}
 use Rattle.ptu_definitions.specs.Streams.{Reading}
-use Rattle.record_stream.specs.Walking.{how_of}
-use Rattle.record_stream.proofs.Branches.{plain-is, some-is, plain-settles, follows_to}
+use Rattle.record_stream.{specs.Walking.how_of, proofs.Branches.{plain-is, some-is, plain-settles, follows_to}}
 use Rattle.record_stream.proofs.stream.RecordStream.words.Goals as goal
 
 pub take_words-requires-clause-follows : goal.take_words-requires-clause-follows

@@ -1,11 +1,8 @@
 use Rattle.std.proofs.Common.{◌+◌, ◌<◌, ◌≤◌, subst, ◌∙◌, arith, rules}
 use Rattle.std.proofs.lemmas.Result.{err_from_is_err_and}
 use Rattle.ptu_definitions.specs.Fitting.{KindFits}
-use Rattle.event_block.specs.Columns.{event_at, rows}
-use Rattle.event_block.proofs.Order.{order-at}
-use Rattle.event_block.proofs.Rows.{length-rows, rows-split}
-use Rattle.record_stream.specs.Blocks.{orders_markers}
-use Rattle.record_stream.proofs.Eaches.{all-rows, on_time-rows, ordered-moves, floor-step}
+use Rattle.event_block.{specs.Columns.{event_at, rows}, proofs.Order.order-at, proofs.Rows.{length-rows, rows-split}}
+use Rattle.record_stream.{specs.Blocks.orders_markers, proofs.Eaches.{all-rows, on_time-rows, ordered-moves, floor-step}}
 use Rattle.record_stream.proofs.taker.EventTaker.take_block.Goals as goal
 
 pub take-requires-clause-in_time : goal.take-requires-clause-in_time

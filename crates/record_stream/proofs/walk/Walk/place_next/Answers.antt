@@ -1,8 +1,6 @@
 use Rattle.std.proofs.Common.{◌≡◌, refl, sym, ◌∙◌, arith, map}
 use Rattle.abs_time.specs.Placing.{place_answer}
-use Rattle.record_stream.specs.Walking.{how_of}
-use Rattle.record_stream.proofs.Placed.{refusal-limit, refusal-reserved}
-use Rattle.record_stream.proofs.Steps.{records-is, word_refused, word_placed}
+use Rattle.record_stream.{specs.Walking.how_of, proofs.Placed.{refusal-limit, refusal-reserved}, proofs.Steps.{records-is, word_refused, word_placed}}
 use Rattle.record_stream.proofs.walk.Walk.place_next.Goals as goal
 
 pub returns-then-self-clause-refused : goal.returns-then-self-clause-refused

@@ -1,13 +1,9 @@
-use Rattle.std.proofs.Common.{◌≡◌, ◌∷◌, [], false, true, refl, ap, sym, ◌∙◌, map, None, Ok, add-zero}
+use Rattle.std.proofs.Common.{◌≡◌, ◌∷◌, [], false, true, refl, ap, sym, ◌∙◌, map, None, Ok, add-zero, ◌+◌}
 use Rattle.std.proofs.lemmas.Result.{err_from_is_err_and, on_ok_weaker}
-use Rattle.std.specs.Prelude.{◌+◌}
 use Rattle.tally_base.specs.Events.{stops_late}
 use Rattle.ptu_definitions.specs.Streams.{Reading, refusal}
-use Rattle.abs_time.specs.declared.clock.Placed.TheVariants.{Event as InOrder, Late}
-use Rattle.abs_time.specs.Placing.{place_answer}
-use Rattle.record_stream.specs.Walking.{how_of}
-use Rattle.record_stream.proofs.Placed.{refused-plain, fresh-plain, skipped-event, skipped-refusal, skipped-fresh}
-use Rattle.record_stream.proofs.Steps.{placed_at, refused_fed, skipped_fed, give_fed}
+use Rattle.abs_time.{specs.declared.clock.Placed.TheVariants.Event as InOrder, specs.declared.clock.Placed.TheVariants.Late, specs.Placing.place_answer}
+use Rattle.record_stream.{specs.Walking.how_of, proofs.Placed.{refused-plain, fresh-plain, skipped-event, skipped-refusal, skipped-fresh}, proofs.Steps.{placed_at, refused_fed, skipped_fed, give_fed}}
 use Rattle.record_stream.proofs.walk.Walk.step.Goals as goal
 
 pub returns-in_err-event-clause-fed : goal.returns-in_err-event-clause-fed

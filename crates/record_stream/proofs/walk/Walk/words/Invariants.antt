@@ -1,6 +1,5 @@
 use Rattle.std.proofs.Common.{◌≡◌, ◌+◌, ◌≤◌, ◌++◌, List, ℕ, take}
-use Rattle.record_stream.specs.Feeding.{Follows, GaveOn}
-use Rattle.record_stream.specs.Walking.{how_of, given_by, greatest_of, records_of, IsBehind}
+use Rattle.record_stream.{specs.Feeding.{Follows, GaveOn}, specs.Walking.{how_of, given_by, greatest_of, records_of, IsBehind}}
 use Rattle.ptu_definitions.specs.Fours.{numbers}
 use Rattle.record_stream.proofs.walk.Walk.words.Given as goal
 

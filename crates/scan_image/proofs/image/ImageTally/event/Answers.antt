@@ -1,14 +1,8 @@
-use Rattle.std.proofs.Common.{rules, [], ◌∷◌, ◌++◌, ◌≡◌, ◌∙◌, ℕ, true, false, ◌&&◌, sym, ap, subst, cond, arith}
-use Rattle.std.specs.Prelude.{None, Some, is_none}
+use Rattle.std.proofs.Common.{rules, [], ◌∷◌, ◌++◌, ◌≡◌, ◌∙◌, ℕ, true, false, ◌&&◌, sym, ap, subst, cond, arith, None, Some, is_none}
 use Rattle.std.proofs.lemmas.Grind.{common_steps}
-use Rattle.tally_base.specs.declared.event.Event.{Event}
-use Rattle.tally_base.specs.Events.{is_photon, is_in}
-use Rattle.tally_base.specs.Settings.{image_view}
-use Rattle.marker_map.specs.Lines.{Saw}
-use Rattle.marker_map.specs.Places.{place_of}
-use Rattle.scan_image.specs.ImageCounts.{markers, in_cell, is_at}
-use Rattle.scan_image.proofs.Cells.{raised_at}
-use Rattle.scan_image.proofs.Counts.{markers-marker, markers-photon, placed-added, placed-other}
+use Rattle.tally_base.{specs.declared.event.Event.Event, specs.Events.{is_photon, is_in}, specs.Settings.image_view}
+use Rattle.marker_map.{specs.Lines.Saw, specs.Places.place_of}
+use Rattle.scan_image.{specs.ImageCounts.{markers, in_cell, is_at}, proofs.Cells.raised_at, proofs.Counts.{markers-marker, markers-photon, placed-added, placed-other}}
 use Rattle.scan_image.proofs.image.ImageTally.event.Goals as goal
 
 pub returns-in-Marker-clause-follows : goal.returns-in-Marker-clause-follows

@@ -1,8 +1,7 @@
 use Rattle.std.proofs.Common.{◌≡◌, ◌∙◌, length, ap, refl, subst, sym}
 use Rattle.std.specs.List.{refill}
 use Rattle.arrayvec.specs.ArrayVec.{array_vec_len}
-use Rattle.settle.specs.Standing.{IsSettled}
-use Rattle.settle.proofs.Passing.{passed, refilled}
+use Rattle.settle.{specs.Standing.IsSettled, proofs.Passing.{passed, refilled}}
 use Rattle.settle.proofs.settle.Settle.pass.Goals as goal
 
 pub returns-clause-passed : goal.returns-clause-passed

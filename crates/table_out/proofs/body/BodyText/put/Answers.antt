@@ -1,12 +1,8 @@
-use Rattle.std.proofs.Common.{◌≡◌, ◌≢◌, ◌++◌, ◌∷◌, [], sym, ap, ◌∙◌, append-nil}
-use Rattle.std.specs.Prelude.{take_while, ◌==◌, not}
-use Rattle.std.specs.List.{flat_map}
-use Rattle.std.proofs.lemmas.Grind.{common_steps}
-use Rattle.std.proofs.Common.{arith}
+use Rattle.std.proofs.Common.{◌≡◌, ◌≢◌, ◌++◌, ◌∷◌, [], sym, ap, ◌∙◌, append-nil, take_while, ◌==◌, not, arith}
+use Rattle.std.{specs.List.flat_map, proofs.lemmas.Grind.common_steps}
 use Rattle.tally_base.specs.Hexadecimal.{hexadecimal}
 use Rattle.ptu_tag.specs.declared.kind.TagKind.TheVariants.{AnsiString}
-use Rattle.table_out.specs.HeaderText.{body_text, shown_byte}
-use Rattle.table_out.proofs.Bodies.{body_text-digits, body_text-passed, body_text-ended}
+use Rattle.table_out.{specs.HeaderText.{body_text, shown_byte}, proofs.Bodies.{body_text-digits, body_text-passed, body_text-ended}}
 use Rattle.table_out.proofs.body.BodyText.put.Goals as goal
 
 pub returns-in-Digits-clause-text : goal.returns-in-Digits-clause-text

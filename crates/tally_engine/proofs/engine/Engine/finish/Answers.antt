@@ -1,11 +1,7 @@
 use Rattle.std.proofs.Common.{rules, ◌≡◌, refl, sym, ap, ◌∙◌, length, None, Some}
 use Rattle.event_block.proofs.Slices.{whole_slice}
-use Rattle.record_stream.specs.Standing.{refused_with}
-use Rattle.tally_engine.specs.contracts.part.PartTally.TheImpl.{ghosts}
-use Rattle.tally_engine.proofs.Slices.{same_map}
-use Rattle.record_stream.proofs.Lasts.{streamed-refused}
-use Rattle.tally_engine.proofs.Opens.{part_worked}
-use Rattle.tally_engine.proofs.Refusals.{no_write}
+use Rattle.record_stream.{specs.Standing.refused_with, proofs.Lasts.streamed-refused}
+use Rattle.tally_engine.{specs.contracts.part.PartTally.TheImpl.ghosts, proofs.Slices.same_map, proofs.Opens.part_worked, proofs.Refusals.no_write}
 use Rattle.tally_engine.proofs.engine.Engine.finish.Goals as goal
 
 pub returns-clause-answer : goal.returns-clause-answer

@@ -1,10 +1,7 @@
 use Rattle.std.proofs.Common.{rules, arith, ◌≡◌, ◌<◌, length}
 use Rattle.event_block.specs.Columns.{gathered}
 use Rattle.gate_plan.specs.Groups.{sorting_of}
-use Rattle.tally_engine.specs.Ahead.{taken_with, floor_with}
-use Rattle.tally_engine.specs.contracts.part.PartTally.TheImpl.{ghosts}
-use Rattle.tally_engine.proofs.Aheads.{at_none}
-use Rattle.tally_engine.proofs.Behind.{can_block, waits_block, gave_block}
+use Rattle.tally_engine.{specs.Ahead.{taken_with, floor_with}, specs.contracts.part.PartTally.TheImpl.ghosts, proofs.Aheads.at_none, proofs.Behind.{can_block, waits_block, gave_block}}
 use Rattle.tally_engine.proofs.part_taker.PartTakerEventTaker.take_block.Goals as goal
 
 pub give_behind-requires : goal.give_behind-requires

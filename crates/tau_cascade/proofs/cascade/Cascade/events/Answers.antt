@@ -1,8 +1,7 @@
 use Rattle.std.proofs.Common.{rules, arith, refl, ◌≡◌, length, ◌++◌}
 use Rattle.std.proofs.Math.Logic.{∥∥₁_map}
 use Rattle.event_block.specs.Columns.{events_in}
-use Rattle.tau_cascade.proofs.Slices.{whole_slice}
-use Rattle.tau_cascade.proofs.Blocks.{may_give_block, block_counts}
+use Rattle.tau_cascade.{proofs.Slices.whole_slice, proofs.Blocks.{may_give_block, block_counts}}
 use Rattle.tau_cascade.proofs.cascade.Cascade.events.Goals as goal
 
 pub give_block-requires-clause-stands : goal.give_block-requires-clause-stands

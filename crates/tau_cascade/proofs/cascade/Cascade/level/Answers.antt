@@ -1,9 +1,6 @@
 use Rattle.std.proofs.Common.{rules, ◌≡◌, length}
-use Rattle.std.proofs.Props.{props}
-use Rattle.std.proofs.Math.Logic.{∥∥₁_elim}
-use Rattle.std.proofs.lemmas.Option.{slice_get_read}
-use Rattle.tau_cascade.proofs.Shown.{level_count, shown_ring}
-use Rattle.tau_cascade.proofs.Work.{spent_within, all_lent}
+use Rattle.std.{proofs.Props.props, proofs.Math.Logic.∥∥₁_elim, proofs.lemmas.Option.slice_get_read}
+use Rattle.tau_cascade.{proofs.Shown.{level_count, shown_ring}, proofs.Work.{spent_within, all_lent}}
 use Rattle.tau_cascade.proofs.cascade.Cascade.level.Goals as goal
 
 pub returns-clause-lags : goal.returns-clause-lags

@@ -1,9 +1,7 @@
 use Rattle.std.proofs.Common.{arith, refl, zero-add}
-use Rattle.std.proofs.lemmas.Grind.{common_steps}
-use Rattle.std.proofs.lemmas.List.Sums.{sum_by_push}
+use Rattle.std.{proofs.lemmas.Grind.common_steps, proofs.lemmas.List.Sums.sum_by_push}
 use Rattle.tally_base.specs.Settings.{correlation_view}
-use Rattle.tau_cascade.specs.declared.level.Level.{Level}
-use Rattle.tau_cascade.proofs.Opened.{chain_more}
+use Rattle.tau_cascade.{specs.declared.level.Level.Level, proofs.Opened.chain_more}
 use Rattle.tau_cascade.proofs.cascade.Cascade.open.Goals as goal
 
 pub loop-level-preserved : goal.loop-level-preserved

@@ -1,9 +1,7 @@
 use Rattle.std.proofs.Common.{rules, ◌≡◌, length}
 use Rattle.std.proofs.Math.Logic.{∥∥₁_map}
 use Rattle.tally_base.specs.Settings.{correlation_view}
-use Rattle.tau_cascade.specs.Correlation.{photons_of}
-use Rattle.tau_cascade.proofs.Slices.{whole_slice}
-use Rattle.tau_cascade.proofs.Gives.{may_end, end_counts}
+use Rattle.tau_cascade.{specs.Correlation.photons_of, proofs.Slices.whole_slice, proofs.Gives.{may_end, end_counts}}
 use Rattle.tau_cascade.proofs.cascade.CascadeTally.close.Goals as goal
 
 pub end_all-requires-clause-stands : goal.end_all-requires-clause-stands

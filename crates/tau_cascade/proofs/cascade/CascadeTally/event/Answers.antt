@@ -1,7 +1,6 @@
 use Rattle.std.proofs.Common.{rules, ◌≡◌, length, [], ◌∷◌, ◌++◌}
 use Rattle.std.proofs.Math.Logic.{∥∥₁_map}
-use Rattle.tau_cascade.proofs.Slices.{whole_slice}
-use Rattle.tau_cascade.proofs.Gives.{may_give, more_counts}
+use Rattle.tau_cascade.{proofs.Slices.whole_slice, proofs.Gives.{may_give, more_counts}}
 use Rattle.tau_cascade.proofs.cascade.CascadeTally.event.Goals as goal
 
 pub give-requires-clause-stands : goal.give-requires-clause-stands

@@ -1,12 +1,8 @@
 use Rattle.std.proofs.Common.{◌≡◌, ◌∙◌, ◌-◌, ◌++◌, Some, length, drop, slice_get, sym, ap, subst, arith}
-use Rattle.std.proofs.Props.{props}
-use Rattle.std.proofs.Math.Logic.{∥∥₁_elim}
-use Rattle.std.proofs.lemmas.List.{take-append-drop, take_rest, length-drop}
+use Rattle.std.{proofs.Props.props, proofs.Math.Logic.∥∥₁_elim, proofs.lemmas.List.{take-append-drop, take_rest, length-drop}}
 use Rattle.tally_base.specs.Settings.{correlation_view}
-use Rattle.lag_ring.specs.Ring.{IsRising}
-use Rattle.lag_ring.proofs.Rising.{rising_back}
-use Rattle.tau_cascade.proofs.Keeping.{rising-prop, ring_last}
-use Rattle.tau_cascade.proofs.Paired.{all_rising, all_fit, all_count, cells_all}
+use Rattle.lag_ring.{specs.Ring.IsRising, proofs.Rising.rising_back}
+use Rattle.tau_cascade.{proofs.Keeping.{rising-prop, ring_last}, proofs.Paired.{all_rising, all_fit, all_count, cells_all}}
 use Rattle.tau_cascade.proofs.level.Level.shut_all.Goals as goal
 
 pub pair_all-requires-clause-rising : goal.pair_all-requires-clause-rising

@@ -1,10 +1,7 @@
 use Rattle.std.proofs.Common.{◌≡◌, ◌∙◌, ◌+◌, ◌<◌, ◌≤◌, length, map, take, rules, arith}
-use Rattle.std.proofs.Props.{props}
-use Rattle.std.proofs.Math.Logic.{∥∥₁_map, ∥∥₁_elim}
-use Rattle.std.proofs.lemmas.List.{length-map, take-take, drop-take}
+use Rattle.std.{proofs.Props.props, proofs.Math.Logic.{∥∥₁_map, ∥∥₁_elim}, proofs.lemmas.List.{length-map, take-take, drop-take}}
 use Rattle.tally_base.specs.Settings.{correlation_view}
-use Rattle.tau_cascade.specs.Bins.{raised}
-use Rattle.tau_cascade.proofs.Takes.{first_fit, second_fit, parts, may_shut, took}
+use Rattle.tau_cascade.{specs.Bins.raised, proofs.Takes.{first_fit, second_fit, parts, may_shut, took}}
 use Rattle.tau_cascade.proofs.level.Level.take.Goals as goal
 
 pub lay_out-from-requires : goal.lay_out-from-requires

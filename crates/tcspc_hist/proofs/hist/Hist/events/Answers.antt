@@ -1,13 +1,7 @@
-use Rattle.std.proofs.Common.{◌≡◌, ◌∙◌, ◌/◌, false, length, refl, sym, ap, rules, arith, length-append}
-use Rattle.std.specs.Prelude.{nat_le, ◌==◌}
-use Rattle.tally_base.specs.Settings.{hist_view}
-use Rattle.event_block.specs.Columns.{item, gathered, events_in}
-use Rattle.event_block.specs.Order.{floor_after, InOrder}
-use Rattle.event_block.proofs.Rows.{length-rows}
-use Rattle.event_block.proofs.Greatest.{greatest-rows}
-use Rattle.tally_base.specs.Tally.{greatest_time}
+use Rattle.std.proofs.Common.{◌≡◌, ◌∙◌, ◌/◌, false, length, refl, sym, ap, rules, arith, length-append, nat_le, ◌==◌}
+use Rattle.tally_base.{specs.Settings.hist_view, specs.Tally.greatest_time}
+use Rattle.event_block.{specs.Columns.{item, gathered, events_in}, specs.Order.{floor_after, InOrder}, proofs.Rows.length-rows, proofs.Greatest.greatest-rows, proofs.Slices.whole_slice}
 use Rattle.tcspc_hist.proofs.Blocks.{count-append}
-use Rattle.event_block.proofs.Slices.{whole_slice}
 use Rattle.tcspc_hist.proofs.hist.Hist.events.Goals as goal
 
 pub returns : goal.returns

@@ -1,8 +1,7 @@
 use Rattle.std.proofs.Common.{rules, [], ◌∷◌, ◌++◌, ◌≡◌, ◌+◌, ◌<◌, length, ℕ, arith, eqb, cond}
 use Rattle.std.proofs.lemmas.Grind.{common_steps}
 use Rattle.tally_base.specs.Settings.{hist_view}
-use Rattle.tcspc_hist.proofs.Cells.{raised_by}
-use Rattle.tcspc_hist.specs.HistogramCounts.{in_bin}
+use Rattle.tcspc_hist.{proofs.Cells.raised_by, specs.HistogramCounts.in_bin}
 use Rattle.tcspc_hist.proofs.hist.HistTally.event.Goals as goal
 
 pub returns-then-bin-self-clause-follows : goal.returns-then-bin-self-clause-follows
