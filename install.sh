@@ -1,14 +1,17 @@
 #!/bin/sh
 # Copies the built program, its man page and its completion: PREFIX=/usr/local ./install.sh
 #
-# It builds the program first where it must, for the common level of processors, so that it runs on nearly every x86-64
-# machine of the last fifteen years; LEVEL=x86-64-v3 builds for processors with AVX2. The program stands alone: a file
-# of some 300 KB that needs the C library and nothing of this folder.
+# It builds the program first where it must. LEVEL=x86-64-v3 asks for a program for processors with AVX2, and
+# LEVEL=x86-64-v2 for one that runs on nearly every x86-64 machine of the last fifteen years. With no LEVEL it takes the
+# level of the program that is there, and x86-64-v2 where there is none. The program stands alone: one file that needs
+# the C library and nothing of this folder.
 
 set -eu
 root=$(cd -- "$(dirname -- "$0")" && pwd -P)
+out=${PTU_BUILD:-$root}/out
 prefix=${PREFIX:-/usr/local}
-PTU_LEVEL=${LEVEL:-x86-64-v2} "$root/ptu" count "$root/examples/bench.ptu" >/dev/null
+level=${LEVEL:-${PTU_LEVEL:-$(cat -- "$out/ptu.level" 2>/dev/null || echo x86-64-v2)}}
+PTU_LEVEL=$level "$root/ptu" count "$root/examples/bench.ptu" >/dev/null
 
 put() { # MODE FILE FOLDER NAME
     mkdir -p -- "$3"
@@ -16,7 +19,7 @@ put() { # MODE FILE FOLDER NAME
     chmod "$1" -- "$3/$4"
 }
 
-put 755 "${PTU_BUILD:-$root}/out/ptu" "$prefix/bin" ptu
+put 755 "$out/ptu" "$prefix/bin" ptu
 put 644 "$root/docs/ptu.1" "$prefix/share/man/man1" ptu.1
 put 644 "$root/examples/ptu.bash" "$prefix/share/bash-completion/completions" ptu
-printf 'installed in %s\n' "$prefix"
+printf 'installed in %s, for processors of level %s\n' "$prefix" "$level"
