@@ -1,8 +1,7 @@
 -- The events of a block for a table of coincidences.
 use Rattle.std.proofs.Common.{◌≡◌, ◌∙◌, ℕ, zero, suc, ◌+◌, ◌<◌, ◌≤◌, Bool, true, false, ◌&&◌, ◌||◌, List, [], ◌∷◌, ◌++◌, length, refl, sym, ap, arith, length-append, append-nil, append_assoc, ◌⊎◌, ⊎_elim, nat_lt}
 use Rattle.std.{proofs.lemmas.Bool.false≢true, proofs.lemmas.List.Elements.filter-append}
-use Rattle.tally_base.{specs.declared.event.Event.Event, specs.Events.{is_photon, is_in}, specs.Settings.CoincidenceView, specs.Tally.{History, greatest_time}, specs.Limits.record_limit}
-use Rattle.event_block.{specs.declared.block.Block.Block, specs.Columns.{rows, item, event_at, code_at, groups_at, time_at, gathered, events_in}, specs.Order.{floor_after, InOrder}, proofs.Back.moves_row, proofs.Greatest.greatest-rows, proofs.Order.{order-front, order-at}, proofs.Rows.{length-rows, more_rows}}
+use Rattle.tally_base.{specs.declared.event.Event.Event, specs.Events.{is_photon, is_in}, specs.Settings.CoincidenceView, specs.Tally.{History, greatest_time}, specs.Limits.record_limit, specs.declared.block.Block.Block, specs.Columns.{rows, item, event_at, code_at, groups_at, time_at, gathered, events_in}, specs.Floors.{floor_after, InOrder}, proofs.Back.moves_row, proofs.Greatest.greatest-rows, proofs.Floors.{order-front, order-at}, proofs.BlockRows.{length-rows, more_rows}}
 use Rattle.coincidence.{specs.declared.pairing.Pairing.Pairing, specs.Pairs.photons_of_groups, specs.declared.pairing.Bin.Bin, specs.Pairing.{bin_of, CanPut, Came}, specs.StandsFor.{StandsFor, CanGive, CanTake}, proofs.Gives.{mine, may_put, photons-push}, proofs.Blocks.in_group}
 
 last_or : (i n : ℕ) → i ≤ suc n → (i ≡ suc n) ⊎ (i ≤ n)

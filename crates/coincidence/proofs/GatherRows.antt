@@ -1,7 +1,6 @@
 -- The events of a block whose bins are gathered.
 use Rattle.std.proofs.Common.{◌≡◌, ◌∙◌, ℕ, ◌+◌, ◌<◌, Bool, true, false, ◌&&◌, ◌||◌, List, [], ◌∷◌, ◌++◌, length, refl, sym, ap, arith, append-nil, length-append, nat_lt, Option}
-use Rattle.tally_base.{specs.Events.{is_photon, is_in}, specs.Settings.CoincidenceView, specs.Tally.History}
-use Rattle.event_block.{specs.declared.block.Block.Block, specs.Columns.{rows, item, event_at, code_at, groups_at, time_at, gathered, events_in}, proofs.Back.moves_row, proofs.Rows.length-rows}
+use Rattle.tally_base.{specs.Events.{is_photon, is_in}, specs.Settings.CoincidenceView, specs.Tally.History, specs.declared.block.Block.Block, specs.Columns.{rows, item, event_at, code_at, groups_at, time_at, gathered, events_in}, proofs.Back.moves_row, proofs.BlockRows.length-rows}
 use Rattle.coincidence.{specs.declared.pairing.Bin.Bin, specs.declared.pairing.Pairing.Pairing, specs.Pairs.photons_of_groups, specs.Pairing.{bin_of, OpenIs}, specs.StandsFor.CanTake, specs.Closing.{Gathered, CanGather, CanShutAll}, proofs.Blocks.in_group, proofs.Blockwise.{found_photon, photons-same, one_more, row_after}, proofs.Gives.{one_photon, none_after, few_photons, photons-push}}
 
 -- where no group is found, an event brings no photon

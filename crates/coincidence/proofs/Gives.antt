@@ -1,9 +1,9 @@
 -- What an event does to the photons of the two groups.
-use Rattle.std.proofs.Common.{◌≡◌, ℕ, ◌+◌, ◌<◌, ◌≤◌, max, Bool, true, false, ◌&&◌, ◌||◌, cond, ◌⊎◌, inl, inr, [], ◌∷◌, ◌++◌, length, fold, refl, sym, ap, ◌∙◌, arith, length-append, zero-add, IsTrue}
-use Rattle.std.{specs.List.AllByRecursion, proofs.lemmas.Bool.false≢true, proofs.lemmas.List.Elements.filter-append, proofs.lemmas.List.Sums.{length-filter, count_by-le-length, fold_push}}
+use Rattle.std.proofs.Common.{◌≡◌, ℕ, ◌≤◌, max, Bool, true, false, ◌&&◌, ◌||◌, cond, [], ◌∷◌, ◌++◌, length, fold, refl, sym, ap, ◌∙◌, arith, length-append, zero-add}
+use Rattle.std.{specs.List.AllByRecursion, proofs.lemmas.Bool.false≢true, proofs.lemmas.List.Elements.filter-append, proofs.lemmas.List.Sums.{length-filter, count_by-le-length}}
 use Rattle.tally_base.{specs.declared.event.Event.Event, specs.Events.{is_photon, is_in}, specs.Settings.CoincidenceView, specs.Tally.{History, moves_floor, greatest_time}, specs.Limits.record_limit}
 use Rattle.lag_ring.proofs.Lists.{all_both, all_filter, all_passed}
-use Rattle.coincidence.{specs.declared.pairing.Pairing.Pairing, specs.StandsFor.{CanGive, StandsFor}, specs.Pairs.{in_first, in_second, photons_of_groups}, specs.Pairing.{bin_of, BinIs, CanPut, CanEnd, Came, PairingDone}}
+use Rattle.coincidence.{specs.declared.pairing.Pairing.Pairing, specs.StandsFor.{CanGive, StandsFor}, specs.Pairs.{in_first, in_second, photons_of_groups}, specs.Pairing.{bin_of, BinIs, CanPut, CanEnd, PairingDone}}
 
 abbrev pub mine : CoincidenceView → Event × ℕ → Bool
 mine set x = in_first set x || in_second set x
@@ -62,35 +62,6 @@ may_put set p e groups h can photon = record {
 -- it is among the photons
 pub photons-push : (set : CoincidenceView) (h : History) (x : Event × ℕ) → is_photon x.0 ≡ true → (is_in x.1 set.first || is_in x.1 set.second) ≡ true → photons_of_groups set (h ++ x ∷ []) ≡ photons_of_groups set h ++ x ∷ []
 photons-push set h x photon either = filter-append (mine set) h (x ∷ []) ∙ ap (λ xs. photons_of_groups set h ++ xs) (rw (photon, either) refl)
-
-pub some_group : (a b : Bool) → (a ≡ true) ⊎ ((a ≡ false) × (b ≡ true)) → (a || b) ≡ true
-some_group true b is = refl
-some_group false true is = refl
-some_group false false (inl is) = is
-some_group false false (inr is) = is.1
-
-floor_more : (b : Bool) (time g t : ℕ) → time ≡ g → (b ≡ true → time ≤ t) → cond b t time ≡ cond b (max g t) g
-floor_more true time g t is after = let upto : time ≤ t = after refl in omega (arith, is)
-floor_more false time g t is after = is
-
--- what a table that isn't closed may be given
-pub may_give : (closed : Bool) → closed ≡ false → (set : CoincidenceView) (p : Pairing) (count time : ℕ) (h : History) (e : Event) → StandsFor closed set p count time h → count < record_limit → (IsTrue (moves_floor false e) → time ≤ e.time) → CanGive set p e h
-may_give true open' set p count time h e is few after = absurd (false≢true (sym open'))
-may_give false open' set p count time h e is few after = record {
-  few = omega (arith, is.taken);
-  was = is.photons;
-  after = λ photon. omega (arith, is.floor, after photon);
-}
-
--- what it stands for then
-pub more_counts : (closed : Bool) → closed ≡ false → (set : CoincidenceView) (p p' : Pairing) (count time : ℕ) (h : History) (e : Event) (groups : ℕ) → StandsFor closed set p count time h → (IsTrue (moves_floor false e) → time ≤ e.time)
-    → Came set p' (photons_of_groups set (h ++ (e, groups) ∷ [])) → StandsFor closed set p' (count + 1) (cond (moves_floor false e) e.time time) (h ++ (e, groups) ∷ [])
-more_counts true open' set p p' count time h e groups is after came = absurd (false≢true (sym open'))
-more_counts false open' set p p' count time h e groups is after came = record {
-  taken = omega (arith, is.taken, length-append h ((e, groups) ∷ []));
-  floor = floor_more (is_photon e) time (greatest_time false h) e.time is.floor after ∙ sym (fold_push later 0 h (e, groups));
-  photons = came;
-}
 
 pub may_end : (closed : Bool) → closed ≡ false → (set : CoincidenceView) (p : Pairing) (count time : ℕ) (h : History) → StandsFor closed set p count time h → count ≤ record_limit → CanEnd set p (photons_of_groups set h)
 may_end true open' set p count time h is few = absurd (false≢true (sym open'))

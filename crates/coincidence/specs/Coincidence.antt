@@ -1,5 +1,5 @@
 -- What a table of coincidences stands for.
-use Rattle.std.specs.Prelude.{ℕ, Bool, ◌+◌, is_some, length, if◌then◌else◌}
+use Rattle.std.specs.Prelude.{ℕ, ◌+◌, is_some, length, if◌then◌else◌}
 use Rattle.tally_base.{specs.declared.settings.CoincidenceSet.CoincidenceSet, specs.Settings.{PartSettings, coincidence_view}, specs.Settings.PartSettings.CoincidenceSettings, specs.Tally.History}
 use Rattle.lag_ring.specs.Cells.{Cells}
 use Rattle.coincidence.{specs.declared.coincidence.Coincidence.Coincidence, specs.StandsFor.StandsFor}
@@ -10,18 +10,6 @@ set_of t = t.set
 
 abbrev pub settings : Coincidence → PartSettings
 settings t = CoincidenceSettings (coincidence_view t.set)
-
--- whether nothing more comes
-abbrev pub is_closed : Coincidence → Bool
-is_closed t = t.closed
-
--- how many events it was given
-abbrev pub taken_by : Coincidence → ℕ
-taken_by t = t.taken
-
--- the greatest time of the photons among them
-abbrev pub floor_by : Coincidence → ℕ
-floor_by t = t.floor
 
 -- It was given these events. Once it is closed, each cell is the count over them.
 abbrev pub Holds : Coincidence → History → Type 0

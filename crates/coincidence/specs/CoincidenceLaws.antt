@@ -1,9 +1,9 @@
 -- What holds of every table of coincidences.
-use Rattle.std.specs.Prelude.{◌≡◌, ◌+◌, ◌≤◌, Bool, true, false, is_some, length}
-use Rattle.std.proofs.Common.{cond, arith}
+use Rattle.std.specs.Prelude.{◌≡◌, ℕ, ◌+◌, ◌≤◌, Bool, true, false, ◌&&◌, ◌||◌, [], ◌∷◌, ◌++◌, is_some, length}
+use Rattle.std.proofs.Common.{cond, arith, ◌∙◌, ap, subst}
 use Rattle.std.{proofs.Math.Logic.∥∥₁_elim, proofs.Props.props}
-use Rattle.tally_base.{specs.Settings.{CoincidenceView, coincidence_cells, entries}, specs.Tally.{History, greatest_time}}
-use Rattle.coincidence.{specs.declared.coincidence.Coincidence.Coincidence, specs.declared.pairing.Pairing.Pairing, specs.Coincidence.{Holds, set_of, settings, held, bins_kept}, specs.StandsFor.HasPhotons, specs.Pairing.{RingIs, CellsAre}}
+use Rattle.tally_base.{specs.declared.event.Event.Event, specs.Events.{is_photon, is_in}, specs.Settings.{CoincidenceView, coincidence_view, coincidence_cells, entries}, specs.Tally.{History, greatest_time}, proofs.Markers.{same_length, same_greatest, same_filter}}
+use Rattle.coincidence.{specs.declared.coincidence.Coincidence.Coincidence, specs.declared.pairing.Pairing.Pairing, specs.Coincidence.{Holds, set_of, settings, held, bins_kept}, specs.StandsFor.HasPhotons, specs.Pairs.{in_first, in_second}, specs.Pairing.{RingIs, CellsAre}}
 
 pub taken_is : (t : Coincidence) (h : History) → Holds t h → t.taken ≡ length h
 taken_is t h is = is.taken
@@ -27,3 +27,13 @@ ring_within false set p came is = omega (arith, is.3.ring.keeps.within, is.3.rin
 
 pub few_bins : (t : Coincidence) → bins_kept t ≤ (set_of t).reach
 few_bins t = ∥∥₁_elim t.stands (hlevel props) (λ w. ring_within t.closed _ t.pairing _ w.1.photons)
+
+pub marker_groups : (t : Coincidence) (h : History) (e : Event) (groups : ℕ) → is_photon e ≡ false → Holds t (h ++ (e, 0) ∷ []) → Holds t (h ++ (e, groups) ∷ [])
+marker_groups t h e groups marker is =
+    let set = coincidence_view t.set in
+    let same = same_filter (λ x. in_first set x || in_second set x) (λ x marker. ap (λ b. (b && is_in x.1 set.first) || (b && is_in x.1 set.second)) marker) h e groups marker in
+    record {
+      taken = is.taken ∙ same_length h e groups;
+      floor = is.floor ∙ same_greatest false h e groups;
+      photons = subst (λ xs. HasPhotons t.closed set t.pairing xs) same is.photons;
+    }

@@ -1,12 +1,10 @@
 // The intervals that the photons of a block end.
 ghost use Rattle.std.specs.Prelude.{◌≡◌, ◌+◌, ◌/◌, ◌^◌, ◌<◌, ◌≤◌, ◌++◌, ◌==◌, ℕ, false, length, nat_le, slice_index, sum, if◌then◌else◌};
-ghost use Rattle.tally_base.{specs.Settings.startstop_view, specs.Tally.History, specs.Limits.record_limit};
-ghost use Rattle.event_block.{specs.Columns.{gathered, events_in, IsSorted}, specs.Order.{floor_after, InOrder}};
+ghost use Rattle.tally_base.{specs.Settings.startstop_view, specs.Tally.History, specs.Limits.record_limit, specs.Columns.{gathered, events_in, IsSorted}, specs.Floors.{floor_after, InOrder}};
 ghost use Rattle.coincidence.{specs.Counted.Counted, specs.Starts.since_in};
 
 use crate::start::{Start, ended, start_behind};
-use event_block::{BLOCK_SIZE, Block};
-use tally_base::{Divisor, StartStopSet};
+use tally_base::{BLOCK_SIZE, Block, Divisor, StartStopSet};
 
 /// Counts the intervals that the photons of a block end, and answers how many are now past the last bin.
 pub(crate) fn count_block(

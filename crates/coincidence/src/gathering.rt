@@ -1,15 +1,13 @@
 // Bins that the photons of a block close.
 ghost use Rattle.std.specs.Prelude.{◌≡◌, ◌+◌, ◌<◌, ◌≤◌, ◌++◌, []};
-ghost use Rattle.tally_base.{specs.Settings.{CoincidenceView, coincidence_view}, specs.Tally.History};
+ghost use Rattle.tally_base.{specs.Settings.{CoincidenceView, coincidence_view}, specs.Tally.History, specs.Columns.{gathered, events_in, IsSorted}};
 ghost use Rattle.lag_ring.{specs.Cells.Cells, specs.Ring.Ring};
 ghost use Rattle.arrayvec.specs.ArrayVec.{array_vec_len};
-ghost use Rattle.event_block.specs.Columns.{gathered, events_in, IsSorted};
 ghost use Rattle.coincidence.{specs.StandsFor.{CanTake, Gathers}, specs.Pairing.pairing_of, specs.Closing.{Gathered, CanGather}};
 
 use crate::pairing::Bin;
 use arrayvec::ArrayVec;
-use event_block::{BLOCK_SIZE, Block};
-use tally_base::CoincidenceSet;
+use tally_base::{BLOCK_SIZE, Block, CoincidenceSet};
 
 /// Takes photons of one tick, after all that came. They join the open bin, or put it behind those that
 /// are to be closed: the answer is the bin that is open then.

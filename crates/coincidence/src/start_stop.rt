@@ -1,14 +1,13 @@
 // A table of the times from a photon of one group to the next of another.
 ghost use Rattle.std.specs.Prelude.{◌≡◌, ◌+◌, ◌≤◌, vec_len, sum};
 ghost use Rattle.coincidence.specs.Starts.{since_in};
-ghost use Rattle.tally_base.{specs.Tally.History, specs.Limits.record_limit};
+ghost use Rattle.tally_base.specs.Tally.{History};
 
-use crate::counting::{bin_of, count_block, put};
-use crate::start::{Start, ended, no_start, start_behind};
-use event_block::Block;
+use crate::counting::count_block;
+use crate::start::{Start, no_start};
 use std::alloc::{AllocError, Global};
 use std::sync::ledger::Ledger;
-use tally_base::{Event, StartStopSet, Steps, Tally, is_in};
+use tally_base::{Block, StartStopSet, Steps, Tally};
 
 /// Counts the intervals from a photon of the start group to the next of the stop group by their length.
 ///
@@ -32,8 +31,7 @@ pub struct StartStop {
 }
 
 impl StartStop {
-    ghost use Rattle.std.specs.Prelude.{◌<◌, ◌++◌, length, IfOk, [], false};
-    ghost use Rattle.event_block.{specs.Columns.{gathered, events_in, IsSorted}, specs.Tables.{MayTake, HasTaken}};
+    ghost use Rattle.std.specs.Prelude.{◌<◌, length, IfOk, [], false};
     ghost use Rattle.tally_base.{specs.Settings.startstop_view, specs.Settings.PartSettings.StartStopSettings};
     ghost use Rattle.coincidence.{specs.Intervals.{in_interval, count_over}, specs.StartStop.{Holds, set_of}};
 
@@ -79,29 +77,11 @@ impl StartStop {
     {
         self.over
     }
-
-    /// Takes the events of a block, as `event` does one by one.
-    pub fn events(&mut self, block: &Block)
-        requires sorted { IsSorted block.now }
-        requires may { MayTake ⟦<StartStop as Tally>⟧ (gathered block.now) self.old }
-        ensures { HasTaken ⟦<StartStop as Tally>⟧ (gathered block.now) (events_in block.now)
-            self.old self.new }
-    {
-        self.taken += block.len() as u64;
-        self.floor = block.floor_after(false, self.floor);
-        self.over = count_block(
-            &self.set,
-            &mut self.cells,
-            self.over,
-            &mut self.start,
-            block,
-        );
-    }
 }
 
 impl Tally for StartStop {
     ghost use Rattle.std.specs.Prelude.{◌+◌, length};
-    ghost use Rattle.coincidence.{specs.StartStop.{Holds, settings}, specs.Laws.{taken_is, floor_is, within_bound}};
+    ghost use Rattle.coincidence.{specs.StartStop.{Holds, set_of, settings}, specs.Laws.{taken_is, floor_is, within_bound, marker_groups}};
 
     ghost holds = { Holds };
 
@@ -115,23 +95,26 @@ impl Tally for StartStop {
 
     ghost closed = { λ t. t.closed };
 
+    ghost same_set = { λ old new. set_of new ≡ set_of old };
+
     ghost taken_is = { taken_is };
 
     ghost floor_is = { floor_is };
 
     ghost within = { within_bound };
 
-    fn event<L: Ledger>(&mut self, e: &Event, groups: u64, _steps: &mut Steps<L>) {
-        self.taken += 1;
-        if e.is_photon() {
-            // No branch on the groups, which are as good as random from photon to photon.
-            let start = self.start;
-            let stops = is_in(groups, self.set.stop);
-            self.start = start_behind(start, e.time, is_in(groups, self.set.start), stops);
-            self.floor = e.time;
-            let bin = bin_of(e.time - start.since, self.set.width);
-            self.over += put(&mut self.cells, bin, ended(start, stops));
-        }
+    ghost marker_groups = { marker_groups };
+
+    fn events<L: Ledger>(&mut self, block: &Block, _steps: &mut Steps<L>) {
+        self.taken += block.len() as u64;
+        self.floor = block.floor_after(false, self.floor);
+        self.over = count_block(
+            &self.set,
+            &mut self.cells,
+            self.over,
+            &mut self.start,
+            block,
+        );
     }
 
     fn close<L: Ledger>(&mut self, _steps: &mut Steps<L>) {

@@ -1,16 +1,14 @@
 // The photons of a block, for a table of coincidences.
 ghost use Rattle.std.specs.Prelude.{◌≡◌, ◌+◌};
-ghost use Rattle.tally_base.{specs.Settings.coincidence_view, specs.Tally.History};
-ghost use Rattle.event_block.specs.Columns.{gathered, events_in, IsSorted};
+ghost use Rattle.tally_base.{specs.Settings.coincidence_view, specs.Tally.History, specs.Columns.{gathered, events_in, IsSorted}};
 ghost use Rattle.coincidence.specs.StandsFor.{CanTake, TakesOn};
 
 use crate::closing::{MANY, shut_all};
 use crate::gathering::gather_block;
 use crate::pairing::{Bin, Pairing, put};
 use arrayvec::ArrayVec;
-use event_block::{BLOCK_SIZE, Block};
 use std::sync::ledger::Ledger;
-use tally_base::{CoincidenceSet, Steps};
+use tally_base::{BLOCK_SIZE, Block, CoincidenceSet, Steps};
 
 /// Gives the photons of a block to the bins, and leaves out those of other groups. Where many bins are
 /// in reach, those that it closes are paired together.

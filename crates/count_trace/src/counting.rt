@@ -1,12 +1,10 @@
 // The photons of a block, counted by their times.
 ghost use Rattle.std.specs.Prelude.{◌≡◌, ◌+◌, ◌*◌, ◌^◌, ◌<◌, ◌≤◌, ◌==◌, ℕ, length, nat_le, slice_index, sum, if◌then◌else◌};
-ghost use Rattle.tally_base.{specs.Settings.trace_view, specs.Limits.record_limit};
-ghost use Rattle.event_block.specs.Columns.{gathered, events_in, IsSorted};
+ghost use Rattle.tally_base.{specs.Settings.trace_view, specs.Limits.record_limit, specs.Columns.{gathered, events_in, IsSorted}};
 ghost use Rattle.count_trace.specs.TraceCounts.{in_trace_bin, count_before, count_beyond};
 
 use crate::bin::Bin;
-use event_block::{BLOCK_SIZE, Block};
-use tally_base::TraceSet;
+use tally_base::{BLOCK_SIZE, Block, TraceSet};
 
 /// How many photons came outside a trace.
 #[derive(Clone, Copy)]

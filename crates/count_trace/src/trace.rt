@@ -1,13 +1,12 @@
 // A trace of photons over the time of the file.
 ghost use Rattle.std.specs.Prelude.{◌≡◌, ◌+◌, ◌*◌, ◌≤◌, vec_len, sum};
-ghost use Rattle.tally_base.{specs.Tally.History, specs.Limits.record_limit};
+ghost use Rattle.tally_base.specs.Tally.{History};
 
 use crate::bin::Bin;
 use crate::counting::{Outside, count_block};
-use event_block::Block;
 use std::alloc::{AllocError, Global};
 use std::sync::ledger::Ledger;
-use tally_base::{Event, EventKind, Steps, Tally, TraceSet, is_in};
+use tally_base::{Block, Steps, Tally, TraceSet};
 
 /// Counts the photons of a group by their times, in ticks in T2 and sync periods in T3.
 ///
@@ -30,8 +29,7 @@ pub struct Trace {
 }
 
 impl Trace {
-    ghost use Rattle.std.specs.Prelude.{◌<◌, ◌++◌, length, IfOk, [], false};
-    ghost use Rattle.event_block.{specs.Columns.{gathered, events_in, IsSorted}, specs.Tables.{MayTake, HasTaken}};
+    ghost use Rattle.std.specs.Prelude.{◌<◌, length, IfOk, [], false};
     ghost use Rattle.tally_base.{specs.Settings.trace_view, specs.Settings.PartSettings.TraceSettings};
     ghost use Rattle.count_trace.{specs.TraceCounts.{in_trace_bin, count_before, count_beyond}, specs.Trace.{Holds, set_of}};
 
@@ -90,14 +88,36 @@ impl Trace {
     {
         self.beyond
     }
+}
 
-    /// Takes the events of a block, as `event` does one by one.
-    pub fn events(&mut self, block: &Block)
-        requires sorted { IsSorted block.now }
-        requires may { MayTake ⟦<Trace as Tally>⟧ (gathered block.now) self.old }
-        ensures { HasTaken ⟦<Trace as Tally>⟧ (gathered block.now) (events_in block.now)
-            self.old self.new }
-    {
+impl Tally for Trace {
+    ghost use Rattle.std.specs.Prelude.{◌+◌, length};
+    ghost use Rattle.count_trace.{specs.Trace.{Holds, set_of, settings}, specs.Laws.{taken_is, floor_is, within_bound, marker_groups}};
+
+    ghost holds = { Holds };
+
+    ghost taken = { λ t. t.taken };
+
+    ghost floor = { λ t. t.floor };
+
+    // The bin of the last event is an entry, beside the cells and the two rest counts.
+    ghost held = { λ t. length t.cells.items + 3 };
+
+    ghost settings = { settings };
+
+    ghost closed = { λ t. t.closed };
+
+    ghost same_set = { λ old new. set_of new ≡ set_of old };
+
+    ghost taken_is = { taken_is };
+
+    ghost floor_is = { floor_is };
+
+    ghost within = { within_bound };
+
+    ghost marker_groups = { marker_groups };
+
+    fn events<L: Ledger>(&mut self, block: &Block, _steps: &mut Steps<L>) {
         self.taken += block.len() as u64;
         self.floor = block.floor_after(false, self.floor);
         let mut outside = Outside {
@@ -113,49 +133,6 @@ impl Trace {
         );
         self.before = outside.before;
         self.beyond = outside.beyond;
-    }
-}
-
-impl Tally for Trace {
-    ghost use Rattle.std.specs.Prelude.{◌+◌, length};
-    ghost use Rattle.count_trace.{specs.Trace.{Holds, settings}, specs.Laws.{taken_is, floor_is, within_bound}};
-
-    ghost holds = { Holds };
-
-    ghost taken = { λ t. t.taken };
-
-    ghost floor = { λ t. t.floor };
-
-    // The bin of the last event is an entry, beside the cells and the two rest counts.
-    ghost held = { λ t. length t.cells.items + 3 };
-
-    ghost settings = { settings };
-
-    ghost closed = { λ t. t.closed };
-
-    ghost taken_is = { taken_is };
-
-    ghost floor_is = { floor_is };
-
-    ghost within = { within_bound };
-
-    fn event<L: Ledger>(&mut self, e: &Event, groups: u64, _steps: &mut Steps<L>) {
-        self.taken += 1;
-        if e.is_photon() {
-            self.floor = e.time;
-            if is_in(groups, self.set.group) {
-                if e.time < self.set.origin {
-                    self.before += 1;
-                } else {
-                    self.kept = Bin::of(&self.set, self.kept, e.time);
-                    if self.kept.index < u64::from(self.set.bins) {
-                        self.cells[self.kept.index as usize] += 1;
-                    } else {
-                        self.beyond += 1;
-                    }
-                }
-            }
-        }
     }
 
     fn close<L: Ledger>(&mut self, _steps: &mut Steps<L>) {

@@ -3,7 +3,7 @@ use Rattle.std.proofs.Common.{◌≡◌, ◌∙◌, ℕ, ◌+◌, Bool, true, fa
 use Rattle.tally_base.{specs.declared.event.Event.Event, specs.declared.event.EventKind.TheVariants.{Photon, Marker}, specs.Events.is_in, specs.Settings.ImageView, specs.Tally.History}
 use Rattle.tcspc_hist.specs.HistogramCounts.{dtime_passes}
 use Rattle.marker_map.specs.Places.{place_of}
-use Rattle.scan_image.{specs.ImageCounts.markers, proofs.Behind.count_behind-push}
+use Rattle.scan_image.{specs.ImageCounts.markers, specs.Behind.count_behind-push}
 use Rattle.flim_cube.specs.CubeCounts.{is_met, count_met}
 
 added : (n more : ℕ) (group passes test : Bool) → more ≡ cond group 1 0 → passes ≡ test → n + cond (group && passes) 1 0 ≡ n + cond test more 0

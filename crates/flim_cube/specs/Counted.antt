@@ -1,7 +1,6 @@
 -- The counts of a cube over events.
 use Rattle.std.specs.Prelude.{◌≡◌, ℕ, ◌+◌, ◌*◌, ◌<◌, List, slice_index}
-use Rattle.tally_base.{specs.Settings.CubeView, specs.Tally.History}
-use Rattle.event_block.specs.declared.block.Block.{Block}
+use Rattle.tally_base.{specs.Settings.CubeView, specs.Tally.History, specs.declared.block.Block.Block}
 use Rattle.marker_map.{specs.declared.lines.Lines.Lines, specs.Lines.Saw}
 use Rattle.scan_image.{specs.Counted.with_front, specs.ImageCounts.{markers, count_outside}}
 use Rattle.flim_cube.{specs.declared.count.Rest.Rest, specs.CubeCounts.{in_cell, count_over}}

@@ -1,16 +1,14 @@
 // The photons of a block, counted by their places and their dtimes.
 ghost use Rattle.std.specs.Prelude.{◌≡◌, ◌+◌, ◌*◌, ◌/◌, ◌^◌, ◌<◌, ◌≤◌, ◌++◌, ℕ, true, sum, length, slice_index, is_none, IfSome, if◌then◌else◌};
-ghost use Rattle.tally_base.{specs.Settings.{image_view, cube_view}, specs.Tally.History, specs.Limits.record_limit, specs.Divisors.divisor_of};
-ghost use Rattle.event_block.{specs.Columns.{count, code_at, time_at, gathered, events_in, IsSorted}, specs.Order.{floor_after, InOrder}};
+ghost use Rattle.tally_base.{specs.Settings.{image_view, cube_view}, specs.Tally.History, specs.Limits.record_limit, specs.Divisors.divisor_of, specs.Columns.{count, code_at, time_at, gathered, events_in, IsSorted}, specs.Floors.{floor_after, InOrder}};
 ghost use Rattle.marker_map.{specs.Lines.{image_of, markers_given, line_start}, specs.declared.lines.Lines.Lines, specs.Strips.start_of};
 ghost use Rattle.scan_image.specs.Counted.{IsStripOf, IsOfSize};
 ghost use Rattle.flim_cube.{specs.Cells.counts_of, specs.CubeCounts.{is_in_cell, is_over}, specs.Counted.{Counted, CountsOn, in_rest}};
 
 use crate::spread::Cells;
-use event_block::{BLOCK_SIZE, Block};
 use marker_map::{Strip, Way};
 use scan_image::Lines;
-use tally_base::{CubeSet, Divisor};
+use tally_base::{BLOCK_SIZE, Block, CubeSet, Divisor};
 
 /// How many photons of the group are in no cell.
 #[derive(Clone, Copy)]
@@ -175,7 +173,7 @@ fn count_on(
 
 /// Adds to the cell of a place and a bin, or to the rest.
 #[inline(always)]
-pub(crate) fn put(
+fn put(
     set: &CubeSet,
     cells: &mut Cells,
     rest: Rest,
@@ -219,15 +217,6 @@ fn bin_by(ticks: &Divisor, dtime: u16) -> u32
     ensures { result ≡ dtime / divisor_of ticks.now }
 {
     ticks.short_quotient(u64::from(dtime)) as u32
-}
-
-/// The bin of one dtime.
-#[inline(always)]
-pub(crate) fn bin_of(width: u32, dtime: u16) -> u32
-    requires { 0 < width }
-    ensures { result ≡ dtime / width }
-{
-    u32::from(dtime) / width
 }
 
 /// Where the cell of a column, a row and a bin stands.

@@ -4,13 +4,12 @@ ghost use Rattle.tally_base.{specs.Settings.{image_view, cube_view}, specs.Tally
 ghost use Rattle.marker_map.specs.Lines.{image_of, markers_given, line_start};
 ghost use Rattle.flim_cube.specs.Cells.{counts_of};
 
-use crate::count::{Rest, bin_of, cell_of, count_block, put};
+use crate::count::{Rest, cell_of, count_block};
 use crate::spread::Cells;
-use event_block::Block;
 use scan_image::Lines;
 use std::alloc::{AllocError, Global};
 use std::sync::ledger::Ledger;
-use tally_base::{CubeSet, Event, EventKind, Steps, Tally, is_in};
+use tally_base::{Block, CubeSet, Steps, Tally};
 
 /// Counts the photons of a group by their places in a scan and by their dtimes.
 ///
@@ -36,8 +35,7 @@ pub struct FlimCube {
 }
 
 impl FlimCube {
-    ghost use Rattle.std.specs.Prelude.{◌++◌, length, true, IfOk, [], false};
-    ghost use Rattle.event_block.{specs.Columns.{gathered, events_in, IsSorted}, specs.Tables.{MayTake, HasTaken}};
+    ghost use Rattle.std.specs.Prelude.{length, true, IfOk, [], false};
     ghost use Rattle.tally_base.specs.Settings.PartSettings.{CubeSettings};
     ghost use Rattle.scan_image.specs.ImageCounts.{count_outside};
     ghost use Rattle.flim_cube.{specs.CubeCounts.{in_cell, count_over}, specs.Cube.{Holds, set_of}};
@@ -99,28 +97,10 @@ impl FlimCube {
     {
         self.rest.over
     }
-
-    /// Takes the events of a block, as `event` does one by one.
-    pub fn events(&mut self, block: &Block)
-        requires sorted { IsSorted block.now }
-        requires may { MayTake ⟦<FlimCube as Tally>⟧ (gathered block.now) self.old }
-        ensures { HasTaken ⟦<FlimCube as Tally>⟧ (gathered block.now) (events_in block.now)
-            self.old self.new }
-    {
-        self.taken += block.len() as u64;
-        self.floor = block.floor_after(true, self.floor);
-        self.rest = count_block(
-            &self.set,
-            &mut self.lines,
-            &mut self.cells,
-            self.rest,
-            block,
-        );
-    }
 }
 
 impl Tally for FlimCube {
-    ghost use Rattle.flim_cube.{specs.Cells.entries_of, specs.Cube.{Holds, settings}, specs.Laws.{taken_is, floor_is, within_bound}};
+    ghost use Rattle.flim_cube.{specs.Cells.entries_of, specs.Cube.{Holds, set_of, settings}, specs.Laws.{taken_is, floor_is, within_bound, marker_groups}};
 
     ghost holds = { Holds };
 
@@ -136,32 +116,26 @@ impl Tally for FlimCube {
 
     ghost closed = { λ t. t.closed };
 
+    ghost same_set = { λ old new. set_of new ≡ set_of old };
+
     ghost taken_is = { taken_is };
 
     ghost floor_is = { floor_is };
 
     ghost within = { within_bound };
 
-    #[inline(always)]
-    fn event<L: Ledger>(&mut self, e: &Event, groups: u64, _steps: &mut Steps<L>) {
-        self.taken += 1;
-        self.floor = e.time;
-        match e.kind {
-            EventKind::Marker { bits } => self.lines.marker(bits, e.time),
-            EventKind::Photon { dtime, .. } => {
-                // No branch on the group, which is as good as random from photon to photon.
-                let more = u64::from(is_in(groups, self.set.image.group));
-                let place = self.lines.place(e.time);
-                self.rest = put(
-                    &self.set,
-                    &mut self.cells,
-                    self.rest,
-                    place,
-                    bin_of(self.set.dwidth, dtime),
-                    more,
-                );
-            }
-        }
+    ghost marker_groups = { marker_groups };
+
+    fn events<L: Ledger>(&mut self, block: &Block, _steps: &mut Steps<L>) {
+        self.taken += block.len() as u64;
+        self.floor = block.floor_after(true, self.floor);
+        self.rest = count_block(
+            &self.set,
+            &mut self.lines,
+            &mut self.cells,
+            self.rest,
+            block,
+        );
     }
 
     fn close<L: Ledger>(&mut self, _steps: &mut Steps<L>) {

@@ -44,14 +44,6 @@ number_agree p q (x ∷ xs) (y ∷ ys) c d same agree =
     let rest : number_of p xs ≡ number_of q ys = number_agree p q xs ys c d (omega (arith, same)) (λ k inside. agree (suc k) (omega (arith, inside))) in
     rw (here, rest) refl
 
--- tests that agree everywhere give one number
-pub number_same : {X : Type 0} (p q : X → Bool) (xs : List X) → ((x : X) → p x ≡ q x) → number_of p xs ≡ number_of q xs
-number_same p q [] same = refl
-number_same p q (x ∷ xs) same =
-    let here : p x ≡ q x = same x in
-    let rest : number_of p xs ≡ number_of q xs = number_same p q xs same in
-    rw (here, rest) refl
-
 -- where no digit is set
 pub number_none : {X : Type 0} (p : X → Bool) (xs : List X) (d : X) → ((k : ℕ) → k < length xs → p (get_or xs k d) ≡ false) → number_of p xs ≡ 0
 number_none p [] d none = refl

@@ -3,7 +3,7 @@ use Rattle.std.proofs.Common.{◌≡◌, ◌∙◌, ℕ, zero, suc, ◌+◌, ◌
 use Rattle.std.{specs.List.{list_any, AllByRecursion}, proofs.lemmas.Bool.cases_lt, proofs.lemmas.Bool.Decides.nat_tests, proofs.lemmas.List.Sums.sum_by-cons}
 use Rattle.tally_base.{specs.declared.event.Event.Event, specs.Events.{is_photon, is_in}, specs.Settings.FoldView, specs.Tally.History}
 use Rattle.lag_ring.{specs.declared.ring.Entry.Entry, proofs.Rising.{all_push, all_weaker}, proofs.Lists.all_front, specs.Ring.Ring}
-use Rattle.fold_count.{specs.FoldCounts.{is_of, is_of_any, is_seen, number_of, seen_set}, specs.Folded.{is_from, met_from, joined, Parted, Stands, Counts}, proofs.Numbers.{number_agree, number_none, number_same}, proofs.Unions.number_or, proofs.Lists.{any_push, any_same, count_agree, count_push, count_same}, proofs.Bins.where_push, proofs.Nested.{where_joined, met_joined, last_of}, proofs.Settled.of_any}
+use Rattle.fold_count.{specs.FoldCounts.{is_of, is_of_any, is_seen, number_of, seen_set}, specs.Folded.{is_from, met_from, joined, Parted, Stands, Counts}, specs.Laws.number_same, proofs.Numbers.{number_agree, number_none}, proofs.Unions.number_or, proofs.Lists.{any_push, any_same, count_agree, count_push, count_same}, proofs.Bins.where_push, proofs.Nested.{where_joined, met_joined, last_of}, proofs.Settled.of_any}
 
 none_first : (a b : Bool) → a ≡ false → (a && b) ≡ false
 none_first a b is = ap (λ a. a && b) is

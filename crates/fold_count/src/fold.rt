@@ -3,12 +3,11 @@ ghost use Rattle.std.specs.Prelude.{◌≡◌, ◌+◌, ◌≤◌, false, sum};
 ghost use Rattle.tally_base.{specs.Settings.fold_view, specs.Tally.History, specs.Limits.record_limit};
 ghost use Rattle.fold_count.specs.Folded.{IsSound, IsSound-prop, waiting, photons_in};
 
-use crate::taking::{count_all, put_block, put_event};
-use event_block::Block;
+use crate::taking::{count_all, put_block};
 use lag_ring::{Entry, LagRing};
 use std::alloc::{AllocError, Global};
 use std::sync::ledger::Ledger;
-use tally_base::{Event, FoldSet, Steps, Tally, floor_behind};
+use tally_base::{Block, FoldSet, Steps, Tally};
 
 /// Counts the photons of up to six groups by which of these groups have a photon in the window that begins
 /// at the photon, itself and others of its tick among them.
@@ -35,8 +34,7 @@ pub struct Fold {
 }
 
 impl Fold {
-    ghost use Rattle.std.specs.Prelude.{◌<◌, ◌++◌, ◌^◌, length, true, IfOk, []};
-    ghost use Rattle.event_block.{specs.Columns.{gathered, events_in, IsSorted}, specs.Tables.{MayTake, HasTaken}};
+    ghost use Rattle.std.specs.Prelude.{◌<◌, ◌^◌, length, true, IfOk, []};
     ghost use Rattle.tally_base.specs.Settings.PartSettings.{FoldSettings};
     ghost use Rattle.fold_count.{specs.FoldCounts.in_set, specs.Fold.{Holds, set_of}};
 
@@ -88,23 +86,11 @@ impl Fold {
     {
         self.cells[set as usize]
     }
-
-    /// Takes the events of a block, as `event` does one by one.
-    pub fn events(&mut self, block: &Block)
-        requires sorted { IsSorted block.now }
-        requires may { MayTake ⟦<Fold as Tally>⟧ (gathered block.now) self.old }
-        ensures { HasTaken ⟦<Fold as Tally>⟧ (gathered block.now) (events_in block.now)
-            self.old self.new }
-    {
-        self.taken += block.len() as u64;
-        self.floor = block.floor_after(false, self.floor);
-        self.bin = put_block(&mut self.cells, &mut self.ring, self.bin, &self.set, block);
-    }
 }
 
 impl Tally for Fold {
     ghost use Rattle.std.specs.Prelude.{length};
-    ghost use Rattle.fold_count.{specs.Fold.{Holds, settings, held}, specs.Laws.{taken_is, floor_is, within_bound}};
+    ghost use Rattle.fold_count.{specs.Fold.{Holds, set_of, settings, held}, specs.Laws.{taken_is, floor_is, within_bound, marker_groups}};
 
     ghost holds = { Holds };
 
@@ -118,23 +104,20 @@ impl Tally for Fold {
 
     ghost closed = { λ t. t.closed };
 
+    ghost same_set = { λ old new. set_of new ≡ set_of old };
+
     ghost taken_is = { taken_is };
 
     ghost floor_is = { floor_is };
 
     ghost within = { within_bound };
 
-    fn event<L: Ledger>(&mut self, e: &Event, groups: u64, _steps: &mut Steps<L>) {
-        self.taken += 1;
-        self.floor = floor_behind(self.floor, e);
-        self.bin = put_event(
-            &mut self.cells,
-            &mut self.ring,
-            self.bin,
-            &self.set,
-            e,
-            groups,
-        );
+    ghost marker_groups = { marker_groups };
+
+    fn events<L: Ledger>(&mut self, block: &Block, _steps: &mut Steps<L>) {
+        self.taken += block.len() as u64;
+        self.floor = block.floor_after(false, self.floor);
+        self.bin = put_block(&mut self.cells, &mut self.ring, self.bin, &self.set, block);
     }
 
     fn close<L: Ledger>(&mut self, _steps: &mut Steps<L>) {

@@ -1,14 +1,12 @@
 // The events that a fold is given.
 ghost use Rattle.std.specs.Prelude.{◌≡◌, ◌+◌, ◌<◌, ◌≤◌, ◌++◌, ◌∷◌, [], ℕ, true, false, ◌^◌, IsTrue, length, sum, if◌then◌else◌};
-ghost use Rattle.tally_base.{specs.declared.event.Event.Event, specs.Events.{is_photon, is_in}, specs.Settings.fold_view, specs.Tally.History, specs.Limits.{record_limit, time_limit}};
-ghost use Rattle.event_block.{specs.Columns.{gathered, events_in, IsSorted}, specs.Order.{floor_after, InOrder}};
+ghost use Rattle.tally_base.{specs.declared.event.Event.Event, specs.Events.{is_photon, is_in}, specs.Settings.fold_view, specs.Tally.History, specs.Limits.{record_limit, time_limit}, specs.Columns.{gathered, events_in, IsSorted}, specs.Floors.{floor_after, InOrder}};
 ghost use Rattle.fold_count.{specs.FoldCounts.{is_of_any, number_of}, specs.Folded.{IsSound, Stands, AreCounts, waiting, photons_in}};
 
 use crate::groups::set_in;
 use crate::waiting::settle;
-use event_block::{BLOCK_SIZE, Block};
 use lag_ring::{Entry, LagRing};
-use tally_base::{Event, FoldSet};
+use tally_base::{BLOCK_SIZE, Block, Event, FoldSet};
 
 /// The bin that is open at a time, which is not before the open one. Before a later one opens, those that
 /// are further back than the window are counted.

@@ -1,7 +1,6 @@
 -- A trace that is given events, and then more.
 use Rattle.std.proofs.Common.{◌≡◌, ◌∙◌, ◌+◌, ◌≤◌, Bool, true, false, List, [], ◌∷◌, ◌++◌, ℕ, max, length, refl, sym, ap, arith, append-nil, append_assoc, length-append, IsTrue, nat_lt, if◌then◌else◌}
-use Rattle.tally_base.{specs.declared.event.Event.Event, specs.Events.is_photon, specs.Tally.{History, greatest_time}, specs.Settings.trace_view}
-use Rattle.event_block.proofs.Greatest.{greatest-push}
+use Rattle.tally_base.{specs.declared.event.Event.Event, specs.Events.is_photon, specs.Tally.{History, greatest_time}, specs.Settings.trace_view, proofs.Greatest.greatest-push}
 use Rattle.count_trace.{specs.TraceCounts.count_before, proofs.Blocks.count-append}
 use Rattle.long_trace.{specs.declared.trace.LongTrace.LongTrace, specs.LongTrace.{GivenMore, set_of}, specs.Texts.{first_line, closed_lines, open_text}, specs.Bins.CountsOn, specs.States.state_of}
 

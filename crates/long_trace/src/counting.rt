@@ -1,8 +1,7 @@
 // The photons of a trace, counted by their times.
 ghost use Rattle.std.specs.Prelude.{◌≡◌, ℕ, ◌+◌, ◌*◌, ◌^◌, ◌<◌, ◌≤◌, ◌++◌, ◌∷◌, ◌&&◌, [], false, true, max, nat_lt, nat_le, ◌==◌, slice_index, sum, length, if◌then◌else◌};
 ghost use Rattle.arrayvec.specs.ArrayVec.{array_vec_len};
-ghost use Rattle.event_block.{specs.Columns.{gathered, events_in, IsSorted}, specs.Order.{floor_after, InOrder}};
-ghost use Rattle.tally_base.{specs.declared.event.Event.Event, specs.Events.{is_photon, is_in}, specs.Limits.record_limit, specs.Settings.trace_view};
+ghost use Rattle.tally_base.{specs.Columns.{gathered, events_in, IsSorted}, specs.Floors.{floor_after, InOrder}, specs.declared.event.Event.Event, specs.Events.{is_photon, is_in}, specs.Limits.record_limit, specs.Settings.trace_view};
 ghost use Rattle.count_trace.specs.TraceCounts.{count_before};
 ghost use Rattle.long_trace.{specs.Texts.frequency_limit, specs.Bins.CountsOn, specs.States.state_of};
 
@@ -10,8 +9,7 @@ use crate::closed::Closed;
 use crate::lines::{LINE_SIZE, LINES_SIZE, put_bin};
 use arrayvec::ArrayVec;
 use count_trace::Bin;
-use event_block::{BLOCK_SIZE, Block};
-use tally_base::TraceSet;
+use tally_base::{BLOCK_SIZE, Block, TraceSet};
 
 /// The newest bin, of which more photons may come, and how many came so far.
 #[derive(Clone, Copy)]

@@ -11,8 +11,7 @@ use crate::lines::{LINE_SIZE, LINES_SIZE, first_line};
 use arrayvec::ArrayVec;
 use bench_io::{Sink, write_all};
 use count_trace::Bin;
-use event_block::Block;
-use tally_base::{Event, Failed, Fault, TraceSet, floor_behind, is_in};
+use tally_base::{Block, Event, Failed, Fault, TraceSet, floor_behind, is_in};
 
 /// Counts the photons of a group by their times, in bins without end, in ticks in T2 and sync periods in T3.
 ///
@@ -40,8 +39,7 @@ pub struct LongTrace {
 
 impl LongTrace {
     ghost use Rattle.std.specs.Prelude.{◌++◌, ◌∷◌, [], IsTrue, false, length};
-    ghost use Rattle.event_block.{specs.Columns.{gathered, events_in, IsSorted}, specs.Order.{floor_after, InOrder}};
-    ghost use Rattle.tally_base.{specs.Limits.record_limit, specs.Settings.trace_view, specs.Tally.History};
+    ghost use Rattle.tally_base.{specs.Columns.{gathered, events_in, IsSorted}, specs.Floors.{floor_after, InOrder}, specs.Limits.record_limit, specs.Settings.trace_view, specs.Tally.History};
     ghost use Rattle.long_trace.{specs.Texts.{first_line, open_text, whole_text}, specs.Written.{AppendsRest, CutsRest}, specs.LongTrace.{Holds, GivenMore, set_of, taken_of, floor_of, held}};
 
     /// A trace of no events. It doesn't look at the number of bins.

@@ -1,7 +1,6 @@
 -- One event more in a block.
 use Rattle.std.proofs.Common.{◌≡◌, ℕ, ◌+◌, ◌≤◌, ◌++◌, ◌∷◌, [], Bool, true, false, length, ap, arith, length-append, if◌then◌else◌}
-use Rattle.tally_base.{specs.declared.event.Event.Event, specs.Tally.moves_floor, specs.Limits.time_limit}
-use Rattle.event_block.{specs.declared.block.Block.Block, specs.Columns.{event_at, gathered}, specs.Order.{floor_after, InOrder}, proofs.Order.{floor-push, order-push}, proofs.Rows.length-rows}
+use Rattle.tally_base.{specs.declared.event.Event.Event, specs.Tally.moves_floor, specs.Limits.time_limit, specs.declared.block.Block.Block, specs.Columns.{event_at, gathered}, specs.Floors.{floor_after, InOrder}, proofs.Floors.{floor-push, order-push}, proofs.BlockRows.length-rows}
 
 pub len-push : (b b' : Block) (e : Event) → gathered b' ≡ gathered b ++ e ∷ [] → b'.len ≡ b.len + 1
 len-push b b' e more = omega (arith, length-rows (event_at b') b'.len, length-rows (event_at b) b.len, ap length more, length-append (gathered b) (e ∷ []))

@@ -1,16 +1,15 @@
 // Cells of known events, where memory is had.
 ghost use Rattle.std.specs.Prelude.{◌≡◌, ◌+◌, ◌<◌, ◌≤◌, ◌%◌, ◌∷◌, ◌++◌, [], IfOk, length, true, false};
-ghost use Rattle.event_block.{specs.Columns.{gathered, IsSorted}, specs.Order.{floor_after, InOrder}};
+ghost use Rattle.tally_base.{specs.Columns.{gathered, IsSorted}, specs.Floors.{floor_after, InOrder}};
 ghost use Rattle.tau_cascade.specs.Cascade.{set_of};
 
 use crate::given::{END, Given, put_event};
-use event_block::Block;
 use std::alloc::Global;
 use std::marker::Brand;
 use std::process::Abort;
 use std::sync::ledger::{Blank, Ledger};
 use std::test::Fail;
-use tally_base::{CorrelationSet, Event, EventKind, Steps, Tally};
+use tally_base::{Block, CorrelationSet, Event, EventKind, Steps, Tally};
 use tau_cascade::Cascade;
 
 const PHOTON: EventKind = EventKind::Photon { input: 1, dtime: 9 };

@@ -1,17 +1,16 @@
 // Coincidences of known events, where memory is had.
 ghost use Rattle.std.specs.Prelude.{◌≡◌, true, false, ◌+◌, ◌<◌, ◌≤◌, ◌^◌, ◌∷◌, ◌++◌, [], IfOk, length};
-ghost use Rattle.event_block.{specs.Columns.{gathered, IsSorted}, specs.Order.{floor_after, InOrder}};
+ghost use Rattle.tally_base.{specs.Columns.{gathered, IsSorted}, specs.Floors.{floor_after, InOrder}};
 ghost use Rattle.coincidence.specs.Coincidence.{set_of};
 
 use crate::given::{END, Given, put_event};
 use coincidence::Coincidence;
-use event_block::Block;
 use std::alloc::Global;
 use std::marker::Brand;
 use std::process::Abort;
 use std::sync::ledger::{Blank, Ledger};
 use std::test::Fail;
-use tally_base::{CoincidenceSet, Event, EventKind, Steps, Tally};
+use tally_base::{Block, CoincidenceSet, Event, EventKind, Steps, Tally};
 
 const PHOTON: EventKind = EventKind::Photon { input: 1, dtime: 0 };
 

@@ -1,9 +1,8 @@
 // Events with their times and groups, and blocks of them.
 ghost use Rattle.std.specs.Prelude.{◌≡◌, ◌<◌, ◌≤◌, ◌∷◌, ◌++◌, [], length};
-ghost use Rattle.event_block.specs.Columns.{gathered, IsSorted};
+ghost use Rattle.tally_base.specs.Columns.{gathered, IsSorted};
 
-use event_block::Block;
-use tally_base::{Event, EventKind};
+use tally_base::{Block, Event, EventKind};
 
 /// The greatest time of a file.
 pub(crate) const END: u64 = (1 << 62) + (1 << 28);

@@ -1,9 +1,8 @@
 -- A block of events more for a picker.
 use Rattle.std.proofs.Common.{◌≡◌, ◌∙◌, ℕ, ◌+◌, ◌<◌, ◌≤◌, Bool, true, false, List, [], ◌∷◌, ◌++◌, Some, cond, ap, sym, subst, refl, arith, append_assoc, append-nil, inl, inr, max, length, length-append, ⊎_elim, IsTrue, if◌then◌else◌}
 use Rattle.std.{specs.List.filter, proofs.lemmas.List.Elements.filter-append}
-use Rattle.tally_base.{specs.declared.event.Event.Event, specs.declared.fault.Fault.Fault, specs.declared.header.Mode.Mode, specs.Events.{is_photon, is_ordered}, specs.FaultCounts.Rose, specs.Tally.moves_floor}
+use Rattle.tally_base.{specs.declared.event.Event.Event, specs.declared.fault.Fault.Fault, specs.declared.header.Mode.Mode, specs.Events.{is_photon, is_ordered}, specs.FaultCounts.Rose, specs.Tally.moves_floor, specs.Floors.{floor_after, InOrder}}
 use Rattle.ptu_definitions.{specs.Kept.{Marked, floor_of}, specs.Prefixes.each_after, specs.Settled.not_marked, proofs.DeliveredLaws.{not_marked-append, not_marked-false}, proofs.PrefixLemmas.each_after-append}
-use Rattle.event_block.specs.Order.{floor_after, InOrder}
 use Rattle.record_stream.{specs.Blocks.{orders_markers, on_time}, proofs.Adding.moves_by, proofs.Eaches.{not_late, ordered-moves}, proofs.Floors.moved_floor-push}
 use Rattle.record_write.{specs.Picked.{is_too_late, photon_words}, specs.Picker.{mode_of, HasPicked}, specs.Writing.{PutsWords, CutsWords}, proofs.Puts.{puts-more, cuts-behind}}
 use Rattle.photon_pick.{specs.Giving.{Pen, pen, Gave, Stopped}, specs.Late.too_late, specs.Taking.{Stand, Took, Refused, chosen_of}}

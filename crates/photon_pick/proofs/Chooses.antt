@@ -1,8 +1,7 @@
 -- One place more among those that are chosen.
 use Rattle.std.proofs.Common.{◌≡◌, ◌∙◌, ℕ, ◌+◌, ◌<◌, Bool, true, false, List, [], ◌∷◌, ◌++◌, ap, sym, refl, arith, length, get_or, set, append-nil, ◌⊎◌, ⊎_elim, inr, slice_index, if◌then◌else◌}
 use Rattle.std.{specs.List.filter, proofs.lemmas.Grind.common_steps, proofs.lemmas.List.get_or-set_same, proofs.lemmas.List.Elements.filter-append}
-use Rattle.tally_base.specs.declared.event.Event.{Event}
-use Rattle.event_block.{specs.Columns.{event_at, rows}, specs.declared.block.Block.Block, proofs.Rows.{same-rows, more_rows}}
+use Rattle.tally_base.{specs.declared.event.Event.Event, specs.Columns.{event_at, rows}, specs.declared.block.Block.Block, proofs.BlockRows.{same-rows, more_rows}}
 use Rattle.photon_pick.specs.Places.{events_at}
 
 other : (xs : List ℕ) (n k v : ℕ) → k < n → get_or (set xs n v) k 0 ≡ get_or xs k 0

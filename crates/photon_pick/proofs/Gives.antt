@@ -1,9 +1,8 @@
 -- One photon more for a picker.
 use Rattle.std.proofs.Common.{◌≡◌, ◌∙◌, ℕ, ◌+◌, ◌<◌, ◌≤◌, true, false, List, [], ◌∷◌, ◌++◌, ap, sym, subst, refl, arith, append_assoc, append-nil, inl, inr}
 use Rattle.std.proofs.lemmas.List.Elements.{filter-append}
-use Rattle.tally_base.{specs.declared.event.Event.Event, specs.declared.fault.Fault.Fault, specs.declared.fault.Fault.TheVariants.{PickTime, WriteFault}, specs.FaultCounts.Rose}
+use Rattle.tally_base.{specs.declared.event.Event.Event, specs.declared.fault.Fault.Fault, specs.declared.fault.Fault.TheVariants.{PickTime, WriteFault}, specs.FaultCounts.Rose, specs.Columns.rows, specs.Floors.{floor_after, InOrder}, proofs.BlockRows.{rows-split, more_rows}, proofs.Floors.{floor-push, floor-append, order-parts}}
 use Rattle.ptu_definitions.{specs.Prefixes.each_after, proofs.PrefixLemmas.each_after-append}
-use Rattle.event_block.{specs.Columns.rows, specs.Order.{floor_after, InOrder}, proofs.Rows.{rows-split, more_rows}, proofs.Order.{floor-push, floor-append, order-parts}}
 use Rattle.record_write.{specs.Picked.{is_too_late, photon_words}, specs.Picker.{mode_of, last_by, HasPicked}, specs.Writing.{PutsWords, CutsWords}, proofs.Puts.{puts-more, cuts-behind}}
 use Rattle.photon_pick.{specs.Late.too_late, specs.Giving.{Pen, Gave, Stopped, words_behind}}
 

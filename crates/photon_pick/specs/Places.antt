@@ -1,7 +1,6 @@
 -- Events of a block by their places.
 use Rattle.std.specs.Prelude.{ℕ, List, slice_index}
-use Rattle.tally_base.specs.declared.event.Event.{Event}
-use Rattle.event_block.{specs.Columns.{event_at, rows}, specs.declared.block.Block.Block}
+use Rattle.tally_base.{specs.declared.event.Event.Event, specs.Columns.{event_at, rows}, specs.declared.block.Block.Block}
 
 -- the events at the first so many of these places
 abbrev pub events_at : Block → List ℕ → ℕ → List Event

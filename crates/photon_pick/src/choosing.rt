@@ -1,12 +1,11 @@
 // Which events of a block are photons of a group.
 ghost use Rattle.std.specs.Prelude.{◌≡◌, ◌<◌, ◌≤◌, ◌&&◌, ℕ, false, filter, slice_index};
-ghost use Rattle.event_block.specs.Columns.{count, gathered};
+ghost use Rattle.tally_base.specs.Columns.{count, gathered};
 ghost use Rattle.gate_plan.{specs.Groups.sorting_of, specs.Parting.gated_bits, specs.Taking.groups_in};
 ghost use Rattle.photon_pick.{specs.Chosen.is_chosen, specs.Places.events_at};
 
-use event_block::{BLOCK_SIZE, Block};
 use gate_plan::Gates;
-use tally_base::{Event, EventKind, is_in};
+use tally_base::{BLOCK_SIZE, Block, Event, EventKind, is_in};
 
 /// The groups that an event is in. Where no group has a gate, its input alone tells.
 #[inline(always)]

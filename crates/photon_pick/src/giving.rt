@@ -1,19 +1,17 @@
 // Photons of a block, given to a picker.
 ghost use Rattle.std.specs.Prelude.{◌≡◌, ◌<◌, ◌≤◌, ℕ, All, true, slice_index, OnOk, IfErr};
-ghost use Rattle.tally_base.specs.Events.{is_photon};
-ghost use Rattle.event_block.{specs.Columns.{count, gathered}, specs.Order.{floor_after, InOrder}};
+ghost use Rattle.tally_base.{specs.Events.is_photon, specs.Columns.{count, gathered}, specs.Floors.{floor_after, InOrder}};
 ghost use Rattle.record_stream.specs.Blocks.{AllFit};
 ghost use Rattle.record_write.specs.Picker.{mode_of, last_by};
 ghost use Rattle.photon_pick.{specs.Places.events_at, specs.Giving.{pen, Gave, Stopped}};
 
 use bench_io::{Block, Sink};
-use event_block::BLOCK_SIZE;
 use record_write::Picker;
-use tally_base::Fault;
+use tally_base::{BLOCK_SIZE, Fault};
 
 /// Gives the photons at the first so many of these places of a block to a picker, until it refuses one.
 pub(crate) fn give_photons<O: Sink>(
-    events: &event_block::Block,
+    events: &tally_base::Block,
     places: &[u8; BLOCK_SIZE],
     many: usize,
     picker: &mut Picker,

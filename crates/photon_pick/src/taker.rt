@@ -8,11 +8,10 @@ ghost use Rattle.photon_pick.specs.Chosen.{is_chosen};
 use crate::choosing::choose;
 use crate::giving::give_photons;
 use bench_io::{Block, Sink};
-use event_block::BLOCK_SIZE;
 use gate_plan::Gates;
 use record_stream::{EventTaker, moved_floor, orders_markers};
 use record_write::Picker;
-use tally_base::{Event, Failed, Fault, Mode, is_in};
+use tally_base::{BLOCK_SIZE, Event, Failed, Fault, Mode, is_in};
 
 /// Whether an event is a photon of a group, by its shifted dtime, that isn't late.
 #[inline(always)]
@@ -97,7 +96,7 @@ impl<'g, 'p, 'o, O: Sink> EventTaker for Picks<'g, 'p, 'o, O> {
         }
     }
 
-    fn take_block(&mut self, block: &mut event_block::Block) -> Result<(), Failed> {
+    fn take_block(&mut self, block: &mut tally_base::Block) -> Result<(), Failed> {
         self.taken += block.len() as u64;
         self.floor = block.floor_after(orders_markers(self.mode), self.floor);
         // All places first, and then the photons: so no branch depends on the group.

@@ -1,10 +1,9 @@
 -- The lines of a block of events more.
 use Rattle.std.proofs.Common.{◌≡◌, ◌+◌, ℕ, List, [], ◌++◌, refl, sym, ap, subst, ◌∙◌, append_assoc, arith, length, length-append}
 use Rattle.std.specs.declared.option.Option.{Option}
-use Rattle.tally_base.{specs.declared.event.Event.Event, specs.declared.header.Mode.Mode}
+use Rattle.tally_base.{specs.declared.event.Event.Event, specs.declared.header.Mode.Mode, specs.Floors.{floor_after, InOrder}}
 use Rattle.bench_io.{specs.Sinks.{AppendsShort, PassesOn}, proofs.Bytes.{PassesOn-trans, AppendsShort-passed}}
 use Rattle.ptu_definitions.specs.Kept.{Marked}
-use Rattle.event_block.specs.Order.{floor_after, InOrder}
 use Rattle.record_stream.specs.Blocks.{orders_markers, on_time}
 use Rattle.tally_engine.proofs.Behind.{length-on_time, floor_of-block}
 use Rattle.table_out.specs.EventText.{events_text}

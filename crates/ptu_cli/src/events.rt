@@ -66,7 +66,7 @@ impl<'o, O: Sink> EventTaker for EventLines<'o, O> {
         Ok(())
     }
 
-    fn take_block(&mut self, block: &mut event_block::Block) -> Result<(), Failed> {
+    fn take_block(&mut self, block: &mut tally_base::Block) -> Result<(), Failed> {
         if block.len() == 0 {
             return Ok(());
         }

@@ -82,7 +82,7 @@ impl<'g, 't, 'o, O: Sink> EventTaker for TraceLines<'g, 't, 'o, O> {
         Ok(())
     }
 
-    fn take_block(&mut self, block: &mut event_block::Block) -> Result<(), Failed> {
+    fn take_block(&mut self, block: &mut tally_base::Block) -> Result<(), Failed> {
         if block.len() == 0 {
             return Ok(());
         }

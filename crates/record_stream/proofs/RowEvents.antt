@@ -1,9 +1,8 @@
 -- The event of a record, by its code.
 use Rattle.std.proofs.Common.{◌≡◌, ◌+◌, ◌<◌, ◌≤◌, ℕ, List, [], ◌∷◌, Bool, true, false, refl, sym, arith, ⊎_elim, nat_lt, nat_le, ◌==◌, if◌then◌else◌}
 use Rattle.std.{proofs.lemmas.Bool.{cases_lt, leb-true}, proofs.lemmas.Bool.Decides.nat_tests}
-use Rattle.tally_base.{specs.declared.event.Event.Event, specs.declared.header.Mode.Mode, specs.declared.header.Mode.TheVariants.{T2, T3}}
+use Rattle.tally_base.{specs.declared.event.Event.Event, specs.declared.header.Mode.Mode, specs.declared.header.Mode.TheVariants.{T2, T3}, specs.Columns.event_by}
 use Rattle.ptu_definitions.{specs.declared.records.Raw.Raw, specs.declared.records.Raw.TheVariants.{Wrap, Reserved}, specs.Settled.ordered, specs.Times.event_of}
-use Rattle.event_block.specs.Columns.{event_by}
 use Rattle.record_layout.{specs.declared.row.Row.Row, specs.Rowed.raw_of}
 use Rattle.record_stream.{specs.Blocks.{chosen, greatest_with, IsOnTime}, specs.Rows.{ordered_below, gathered_below, event_below, greatest_with_row}}
 

@@ -1,7 +1,6 @@
 -- What is known of a record by its code.
 use Rattle.std.specs.Prelude.{ℕ, ◌+◌, Bool, true, false, nat_lt, List, [], ◌∷◌, if◌then◌else◌}
-use Rattle.tally_base.{specs.declared.event.Event.Event, specs.declared.header.Mode.Mode, specs.declared.header.Mode.TheVariants.{T2, T3}}
-use Rattle.event_block.specs.Columns.{event_by}
+use Rattle.tally_base.{specs.declared.event.Event.Event, specs.declared.header.Mode.Mode, specs.declared.header.Mode.TheVariants.{T2, T3}, specs.Columns.event_by}
 use Rattle.record_layout.specs.declared.row.Row.{Row}
 
 -- the codes below this one are those of events in order

@@ -1,9 +1,8 @@
 -- How far a walk is.
 use Rattle.std.specs.Prelude.{ℕ, Bool, true, ◌≡◌, ◌+◌, ◌≤◌, List, ◌++◌, length}
-use Rattle.tally_base.specs.declared.event.Event.{Event}
+use Rattle.tally_base.{specs.declared.event.Event.Event, specs.Columns.{count, sorted}, specs.declared.block.Block.Block}
 use Rattle.ptu_definitions.{specs.declared.records.Summary.Summary, specs.Streams.{Reading, reading}, specs.Fours.numbers}
 use Rattle.abs_time.{specs.declared.clock.Clock.Clock, specs.Placing.{greatest_by, placed_by}}
-use Rattle.event_block.{specs.Columns.{count, sorted}, specs.declared.block.Block.Block}
 use Rattle.record_stream.{specs.Blocks.chosen as chosen_of, specs.Blocks.{Adds, IsInLine, RisesWithin}, specs.Feeding.{IsAt, Follows}, specs.declared.taker.EventTaker.Ghosts, specs.OneMore.with_event, specs.Summing.summed, specs.declared.walk.Walk.Walk}
 
 abbrev pub how_of : Walk → Reading

@@ -1,18 +1,16 @@
 // The words of a piece in blocks, without a branch on what each record is.
 ghost use Rattle.std.specs.Prelude.{◌≡◌, ◌+◌, ◌*◌, ◌^◌, ◌<◌, ◌≤◌, ◌++◌, ◌∷◌, ◌&&◌, [], List, ℕ, length, map, count_by, true, false, nat_lt, nat_le, if◌then◌else◌, OnOk, OnErr, IfErr};
-ghost use Rattle.tally_base.{specs.declared.header.Mode.Mode, specs.declared.fault.Fault.TheVariants.WriteFault, specs.FaultCounts.HasCause, specs.Events.stops_reserved, specs.Limits.wrap_limit};
+ghost use Rattle.tally_base.{specs.declared.header.Mode.Mode, specs.declared.fault.Fault.TheVariants.WriteFault, specs.FaultCounts.HasCause, specs.Events.stops_reserved, specs.Limits.wrap_limit, specs.Columns.{count, sorted, gathered, written}};
 ghost use Rattle.ptu_definitions.{specs.Fours.numbers, specs.Kinds.{is_reserved, counts_of}, specs.Kept.Marked, specs.Times.event_of};
 ghost use Rattle.abs_time.specs.Placing.{base_of, placed_by};
-ghost use Rattle.event_block.specs.Columns.{count, sorted, gathered, written};
 ghost use Rattle.record_layout.{specs.InColumns.HasRows, specs.Rowed.raw_of};
 ghost use Rattle.record_stream.{specs.Blocks.{on_time, BrokeAmong}, specs.Rows.{ordered_below, gathered_below, event_below, greatest_with_row}, specs.Feeding.Fed, specs.Walking.{how_of, given_by, greatest_of, records_of, summary_in, clock_in, IsBehind, Gathers, IsBlank, IsFollowed, WalksOn, Stays}};
 
 use crate::count::{add_block, stops_reserved};
 use crate::taker::EventTaker;
 use crate::walk::Walk;
-use event_block::{BLOCK_SIZE, Block};
 use record_layout::{Columns, RecordLayout, Row};
-use tally_base::{Fault, Mode, WRAP_LIMIT};
+use tally_base::{BLOCK_SIZE, Block, Fault, Mode, WRAP_LIMIT};
 
 /// The greatest sum of wraps that those of a block of words can't make greater than 2^62.
 pub(crate) const EARLY_ENOUGH: u64 = WRAP_LIMIT - (1 << 56);

@@ -1,14 +1,12 @@
 // The summary of a stream, one record and one event at a time.
 ghost use Rattle.std.specs.Prelude.{◌≡◌, ◌+◌, ◌<◌, ◌≤◌, ◌&&◌, if◌then◌else◌};
-ghost use Rattle.tally_base.{specs.Events.{stops_late, stops_reserved}, specs.Limits.record_limit};
+ghost use Rattle.tally_base.{specs.Events.{stops_late, stops_reserved}, specs.Limits.record_limit, specs.Columns.gathered};
 ghost use Rattle.ptu_definitions.specs.Kinds.{is_reserved};
 ghost use Rattle.record_stream.{specs.OneMore.{with_raw, with_event, with_block}, specs.Summing.{time_if, summed}};
-ghost use Rattle.event_block.specs.Columns.{gathered};
 ghost use Rattle.record_layout.specs.Sums.{IsSplit};
 
-use event_block::Block;
 use ptu_definitions::{KindCounts, Raw, Summary};
-use tally_base::{Event, OnReserved, Order};
+use tally_base::{Block, Event, OnReserved, Order};
 
 /// What a stream counted so far: a summary, whose times mean nothing until an event is kept. So the loop
 /// over the words keeps each field in a register.

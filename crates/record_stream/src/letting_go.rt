@@ -2,14 +2,13 @@
 ghost use Rattle.std.specs.Prelude.{◌≡◌, ◌≢◌, ◌+◌, ◌-◌, ◌<◌, ◌≤◌, ◌++◌, List, ℕ, true, length, take, drop};
 ghost use Rattle.std.specs.Option.{option_to_list};
 ghost use Rattle.abs_time.specs.Placing.{placed_by};
-ghost use Rattle.event_block.specs.Columns.{count, sorted, gathered};
+ghost use Rattle.tally_base.specs.Columns.{count, sorted, gathered};
 ghost use Rattle.record_stream.{specs.Keeping.IsKeeping, specs.LettingGo.{AreOrdered, ComesNext, IsFull, LetsGo, IsDelivered}, specs.Settling.IsSettledBehind, specs.Walking.{how_of, clock_in, IsBlank}};
 
 use crate::walk::Walk;
 use arrayvec::ArrayVec;
-use event_block::{BLOCK_SIZE, Block};
 use settle::Settle;
-use tally_base::Event;
+use tally_base::{BLOCK_SIZE, Block, Event};
 
 /// Puts an event behind the others, if there is one.
 #[inline(always)]

@@ -1,10 +1,9 @@
 // The words of a piece in blocks, where events are put in their places.
 ghost use Rattle.std.specs.Prelude.{◌≡◌, ◌≢◌, ◌+◌, ◌<◌, ◌≤◌, ◌++◌, [], List, ℕ, false, length, OnOk};
 ghost use Rattle.std.specs.Option.{option_to_list};
-ghost use Rattle.tally_base.{specs.declared.event.Event.Event, specs.declared.fault.Fault.TheVariants.WriteFault, specs.FaultCounts.HasCause};
+ghost use Rattle.tally_base.{specs.declared.event.Event.Event, specs.declared.fault.Fault.TheVariants.WriteFault, specs.FaultCounts.HasCause, specs.Columns.{count, sorted, gathered, written}, specs.Floors.InOrder};
 ghost use Rattle.ptu_definitions.specs.Fours.{numbers};
 ghost use Rattle.abs_time.specs.Placing.{placed_by};
-ghost use Rattle.event_block.{specs.Columns.{count, sorted, gathered, written}, specs.Order.InOrder};
 ghost use Rattle.settle.specs.Standing.{last_time};
 ghost use Rattle.record_stream.{specs.Blocks.{orders_markers, on_time, AllFit, PlacesRise}, specs.Feeding.{Follows, Fed}, specs.Keeping.IsKeeping, specs.LettingGo.{AreBlank, LetsGo, IsDelivered}, specs.Settling.{IsSettledBehind, IsFollowedBy, SettlesOn}, specs.Walking.{how_of, given_by, greatest_of, records_of, clock_in, summary_in, IsBlank, Stays}};
 
@@ -15,10 +14,9 @@ use crate::settled::settle_words;
 use crate::taker::EventTaker;
 use crate::walk::Walk;
 use arrayvec::ArrayVec;
-use event_block::{BLOCK_SIZE, Block};
 use record_layout::{Columns, RecordLayout};
 use settle::Settle;
-use tally_base::{Event, Fault};
+use tally_base::{BLOCK_SIZE, Block, Event, Fault};
 
 /// Room for a block of words.
 #[derive(Drop)]

@@ -1,12 +1,10 @@
 // What events are given to.
 ghost use Rattle.std.specs.Prelude.{◌≡◌, ℕ, ◌+◌, ◌<◌, ◌≤◌, ◌&&◌, not, IsTrue, List, [], ◌∷◌, ◌++◌, length, OnOk, OnErr, max};
-ghost use Rattle.tally_base.{specs.declared.header.Mode.Mode, specs.FaultCounts.HasCause, specs.Events.is_ordered, specs.Limits.{record_limit, time_limit}};
+ghost use Rattle.tally_base.{specs.declared.header.Mode.Mode, specs.FaultCounts.HasCause, specs.Events.is_ordered, specs.Limits.{record_limit, time_limit}, specs.Columns.{sorted, gathered}, specs.Floors.{floor_after, InOrder}};
 ghost use Rattle.ptu_definitions.{specs.Fitting.KindFits, specs.Kept.{Marked, floor_of}};
 ghost use Rattle.record_stream.{specs.Floors.moved_floor, specs.Blocks.{orders_markers, on_time, AllFit, BrokeAmong}};
-ghost use Rattle.event_block.{specs.Columns.{sorted, gathered}, specs.Order.{floor_after, InOrder}};
 
-use event_block::Block;
-use tally_base::{Event, EventKind, Failed, Mode};
+use tally_base::{Block, Event, EventKind, Failed, Mode};
 
 /// What a stream gives its events to, each with whether it is late.
 pub trait EventTaker {

@@ -3,7 +3,7 @@ use Rattle.std.proofs.Common.{◌≡◌, ◌∙◌, ℕ, ◌+◌, Bool, true, fa
 use Rattle.std.{specs.List.cons_option, proofs.lemmas.List.append-nil, proofs.lemmas.List.Elements.filter_map-append}
 use Rattle.tally_base.{specs.declared.event.Event.Event, specs.declared.event.EventKind.TheVariants.{Photon, Marker}, specs.Events.{is_photon, is_in}, specs.Settings.ImageView, specs.Tally.History}
 use Rattle.marker_map.{specs.Marks.mark, specs.Places.place_of}
-use Rattle.scan_image.{specs.ImageCounts.{mark_at, markers, is_placed, count_placed}, proofs.Behind.count_behind-push}
+use Rattle.scan_image.{specs.ImageCounts.{mark_at, markers, is_placed, count_placed}, specs.Behind.count_behind-push}
 
 pub markers-marker : (h : History) (x : Event × ℕ) (bits : ℕ) → x.0.kind ≡ Marker bits → markers (h ++ x ∷ []) ≡ markers h ++ mark bits x.0.time ∷ []
 markers-marker h x bits is = filter_map-append (λ x. mark_at x.0.time x.0.kind) h (x ∷ []) ∙ ap (λ kind. markers h ++ cons_option (mark_at x.0.time kind) []) is

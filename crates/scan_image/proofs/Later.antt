@@ -1,7 +1,6 @@
 -- Events that come in order, and later ones.
 use Rattle.std.proofs.Common.{◌≡◌, ℕ, zero, suc, ◌+◌, ◌<◌, ◌≤◌, true, arith, refl, ap, ◌∙◌, ◌⊎◌, ⊎_elim}
-use Rattle.tally_base.specs.declared.event.Event.{Event}
-use Rattle.event_block.{specs.Columns.rows, specs.Order.{floor_after, InOrder}, proofs.Order.{floor-more, order-at}}
+use Rattle.tally_base.{specs.declared.event.Event.Event, specs.Columns.rows, specs.Floors.{floor_after, InOrder}, proofs.Floors.{floor-more, order-at}}
 
 last_or : (i j : ℕ) → i ≤ suc j → (i ≡ suc j) ⊎ (i ≤ j)
 last_or i j few = grind (arith, few)

@@ -1,5 +1,4 @@
 pub mod Rows
-pub mod Behind
 pub mod Cells
 pub mod Counts
 pub mod Totals

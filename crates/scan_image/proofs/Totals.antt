@@ -3,7 +3,7 @@ use Rattle.std.proofs.Common.{◌≡◌, ◌∙◌, ℕ, zero, suc, ◌+◌, ◌
 use Rattle.std.{specs.declared.option.Option.Option, specs.List.range_with_len, proofs.lemmas.Grind.common_steps, proofs.lemmas.List.append-nil, proofs.lemmas.List.Sums.{sum_by-cons, sum_by_push}}
 use Rattle.tally_base.{specs.declared.event.Event.Event, specs.Events.{is_photon, is_in}, specs.Settings.ImageView, specs.Tally.History}
 use Rattle.marker_map.{specs.Marks.Mark, specs.Places.{line_of, row_of, column_in, runs_back, within, place_of}}
-use Rattle.scan_image.{specs.ImageCounts.{markers, is_at, in_cell, count_outside}, specs.Totals.{in_all_cells, photons_of_group}, proofs.Behind.one_if, proofs.Counts.{placed-photon, placed-other}}
+use Rattle.scan_image.{specs.ImageCounts.{markers, is_at, in_cell, count_outside}, specs.Totals.{in_all_cells, photons_of_group}, specs.Behind.one_if, proofs.Counts.{placed-photon, placed-other}}
 
 pub sum-agree : (f g : ℕ → ℕ) → ((i : ℕ) → f i ≡ g i) → (xs : List ℕ) → sum_by f xs ≡ sum_by g xs
 sum-agree f g same [] = refl

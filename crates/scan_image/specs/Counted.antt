@@ -1,7 +1,6 @@
 -- The counts of an image over events.
 use Rattle.std.specs.Prelude.{◌≡◌, ℕ, ◌+◌, ◌*◌, ◌<◌, ◌++◌, List, slice_index}
-use Rattle.tally_base.{specs.declared.settings.ImageSet.ImageSet, specs.Settings.ImageView, specs.Tally.History}
-use Rattle.event_block.{specs.declared.block.Block.Block, specs.Columns.{item, rows}}
+use Rattle.tally_base.{specs.declared.settings.ImageSet.ImageSet, specs.Settings.ImageView, specs.Tally.History, specs.declared.block.Block.Block, specs.Columns.{item, rows}}
 use Rattle.marker_map.{specs.declared.lines.Lines.Lines, specs.declared.strip.Strip.Strip, specs.Lines.{Saw, image_of}, specs.Marks.Mark, specs.Places.place_of, specs.Strips.{place_on, width_of, height_of}}
 use Rattle.scan_image.specs.ImageCounts.{markers, in_cell, count_outside}
 

@@ -3,3 +3,4 @@ pub mod Totals
 pub mod Image
 pub mod Laws
 pub mod Counted
+pub mod Behind

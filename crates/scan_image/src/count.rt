@@ -1,13 +1,11 @@
 // The photons of a block, counted by their places.
 ghost use Rattle.std.specs.Prelude.{◌≡◌, ◌+◌, ◌*◌, ◌^◌, ◌<◌, ◌≤◌, ◌++◌, ℕ, true, sum, length, slice_index, is_none, IfSome, if◌then◌else◌};
-ghost use Rattle.tally_base.{specs.Settings.image_view, specs.Tally.History, specs.Limits.record_limit};
-ghost use Rattle.event_block.{specs.Columns.{count, code_at, time_at, gathered, events_in, IsSorted}, specs.Order.{floor_after, InOrder}};
+ghost use Rattle.tally_base.{specs.Settings.image_view, specs.Tally.History, specs.Limits.record_limit, specs.Columns.{count, code_at, time_at, gathered, events_in, IsSorted}, specs.Floors.{floor_after, InOrder}};
 ghost use Rattle.marker_map.{specs.Lines.{image_of, markers_given, line_start}, specs.declared.lines.Lines.Lines, specs.Strips.start_of};
 ghost use Rattle.scan_image.{specs.Counted.{Counted, CountsOn, IsStripOf, IsOfSize}, specs.ImageCounts.is_at};
 
-use event_block::{BLOCK_SIZE, Block};
 use marker_map::{Lines, Strip, Way};
-use tally_base::ImageSet;
+use tally_base::{BLOCK_SIZE, Block, ImageSet};
 
 /// Counts the photons of a block, and answers how many are now outside the image.
 // Not inlined, so that its loops have the registers for themselves.

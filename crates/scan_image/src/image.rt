@@ -1,14 +1,13 @@
 // An image of a scan.
 ghost use Rattle.std.specs.Prelude.{◌≡◌, ◌+◌, ◌*◌, ◌<◌, ◌≤◌, vec_len, sum};
-ghost use Rattle.tally_base.{specs.Settings.image_view, specs.Tally.History, specs.Limits.record_limit};
+ghost use Rattle.tally_base.{specs.Settings.image_view, specs.Tally.History};
 ghost use Rattle.marker_map.specs.Lines.{image_of, markers_given, line_start};
 
 use crate::count::{cell_of, count_block};
-use event_block::Block;
 use marker_map::Lines;
 use std::alloc::{AllocError, Global};
 use std::sync::ledger::Ledger;
-use tally_base::{Event, EventKind, ImageSet, Steps, Tally, is_in};
+use tally_base::{Block, ImageSet, Steps, Tally};
 
 /// Counts the photons of a group by their places in a scan.
 ///
@@ -33,8 +32,7 @@ pub struct Image {
 }
 
 impl Image {
-    ghost use Rattle.std.specs.Prelude.{◌++◌, length, true, IfOk, [], false};
-    ghost use Rattle.event_block.{specs.Columns.{gathered, events_in, IsSorted}, specs.Tables.{MayTake, HasTaken}};
+    ghost use Rattle.std.specs.Prelude.{length, true, IfOk, [], false};
     ghost use Rattle.tally_base.specs.Settings.PartSettings.{ImageSettings};
     ghost use Rattle.scan_image.{specs.ImageCounts.{in_cell, count_outside}, specs.Image.{Holds, set_of}};
 
@@ -82,29 +80,11 @@ impl Image {
     {
         self.outside
     }
-
-    /// Takes the events of a block, as `event` does one by one.
-    pub fn events(&mut self, block: &Block)
-        requires sorted { IsSorted block.now }
-        requires may { MayTake ⟦<Image as Tally>⟧ (gathered block.now) self.old }
-        ensures { HasTaken ⟦<Image as Tally>⟧ (gathered block.now) (events_in block.now)
-            self.old self.new }
-    {
-        self.taken += block.len() as u64;
-        self.floor = block.floor_after(true, self.floor);
-        self.outside = count_block(
-            &self.set,
-            &mut self.lines,
-            &mut self.cells,
-            self.outside,
-            block,
-        );
-    }
 }
 
 impl Tally for Image {
     ghost use Rattle.std.specs.Prelude.{length};
-    ghost use Rattle.scan_image.{specs.Image.{Holds, settings}, specs.Laws.{taken_is, floor_is, within_bound}};
+    ghost use Rattle.scan_image.{specs.Image.{Holds, set_of, settings}, specs.Laws.{taken_is, floor_is, within_bound, marker_groups}};
 
     ghost holds = { Holds };
 
@@ -120,28 +100,26 @@ impl Tally for Image {
 
     ghost closed = { λ t. t.closed };
 
+    ghost same_set = { λ old new. set_of new ≡ set_of old };
+
     ghost taken_is = { taken_is };
 
     ghost floor_is = { floor_is };
 
     ghost within = { within_bound };
 
-    #[inline(always)]
-    fn event<L: Ledger>(&mut self, e: &Event, groups: u64, _steps: &mut Steps<L>) {
-        self.taken += 1;
-        self.floor = e.time;
-        match e.kind {
-            EventKind::Marker { bits } => self.lines.marker(bits, e.time),
-            EventKind::Photon { .. } => {
-                // No branch on the group, which is as good as random from photon to photon.
-                let more = u64::from(is_in(groups, self.set.group));
-                if let Some((column, row)) = self.lines.place(e.time) {
-                    self.cells[cell_of(&self.set, column, row)] += more;
-                } else {
-                    self.outside += more;
-                }
-            }
-        }
+    ghost marker_groups = { marker_groups };
+
+    fn events<L: Ledger>(&mut self, block: &Block, _steps: &mut Steps<L>) {
+        self.taken += block.len() as u64;
+        self.floor = block.floor_after(true, self.floor);
+        self.outside = count_block(
+            &self.set,
+            &mut self.lines,
+            &mut self.cells,
+            self.outside,
+            block,
+        );
     }
 
     fn close<L: Ledger>(&mut self, _steps: &mut Steps<L>) {

@@ -1,7 +1,6 @@
 -- The lines of the events of a block, from the last one on.
 use Rattle.std.proofs.Common.{◌≡◌, ◌∙◌, ◌+◌, ◌-◌, ◌<◌, ◌≤◌, ℕ, List, [], ◌∷◌, ◌++◌, false, map, drop, ap, sym, arith, append_assoc, append-nil}
-use Rattle.tally_base.specs.declared.event.Event.{Event}
-use Rattle.event_block.{specs.Columns.rows, proofs.Rows.rows-last}
+use Rattle.tally_base.{specs.declared.event.Event.Event, specs.Columns.rows, proofs.BlockRows.rows-last}
 use Rattle.table_out.specs.EventText.{event_text, events_text}
 
 -- the lines of events of which none is late

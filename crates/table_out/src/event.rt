@@ -1,12 +1,11 @@
 // The lines of events.
 ghost use Rattle.std.specs.Prelude.{◌≡◌, ◌+◌, ◌≤◌, ◌++◌, length, drop, map, false};
-ghost use Rattle.event_block.specs.Columns.{gathered};
+ghost use Rattle.tally_base.specs.Columns.{gathered};
 ghost use Rattle.table_out.specs.EventText.{event_text, events_text, kind_text, line_end};
 
 use crate::backwards::{LINE_SIZE, write_number, write_text};
 use arrayvec::ArrayVec;
-use event_block::{BLOCK_SIZE, Block};
-use tally_base::{Event, EventKind, put_text};
+use tally_base::{BLOCK_SIZE, Block, Event, EventKind, put_text};
 
 /// Room for the lines of a block of events, in bytes.
 pub const LINES_SIZE: usize = BLOCK_SIZE * LINE_SIZE;

@@ -1,5 +1,15 @@
 pub mod Digits
 pub mod Reasons
 pub mod Rows
-pub mod Cells
 pub mod Shares
+pub mod BlockRows
+pub mod Copied
+pub mod Floors
+pub mod Props
+pub mod Greatest
+pub mod Back
+pub mod Slices
+pub mod Sorted
+pub mod Lower
+pub mod One
+pub mod Markers

@@ -8,3 +8,7 @@ pub mod Divisors
 pub mod Gates
 pub mod Settings
 pub mod Tally
+pub mod Size
+pub mod Codes
+pub mod Columns
+pub mod Floors

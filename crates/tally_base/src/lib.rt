@@ -1,6 +1,7 @@
 //! What every part of the program speaks of: record types, headers, events, the settings of a plan, what every table is, slots, faults and their lines.
 #![tactic(auto)]
 
+mod block;
 mod divisor;
 mod event;
 mod fault;
@@ -13,6 +14,7 @@ mod slot;
 mod steps;
 mod tally;
 
+pub use block::{BLOCK_SIZE, Block};
 pub use divisor::Divisor;
 pub use event::{Event, EventKind, OnReserved, Order, Policy, is_in};
 pub use fault::{Fault, fault_line};

@@ -1,7 +1,6 @@
 -- How far a stream is with one event more, and with none that waits.
 use Rattle.std.proofs.Common.{◌≡◌, ◌∙◌, ◌+◌, ℕ, List, [], ◌∷◌, ◌++◌, Bool, true, false, ap, refl, length, arith, ◌&&◌, not, if◌then◌else◌}
-use Rattle.tally_base.{specs.declared.event.Event.Event, specs.declared.header.Mode.Mode, specs.declared.header.Mode.TheVariants.{T2, T3}, specs.Events.is_ordered, specs.Tally.moves_floor}
-use Rattle.event_block.{specs.declared.block.Block.Block, specs.Order.floor_after, proofs.Order.floor-push}
+use Rattle.tally_base.{specs.declared.event.Event.Event, specs.declared.header.Mode.Mode, specs.declared.header.Mode.TheVariants.{T2, T3}, specs.Events.is_ordered, specs.Tally.moves_floor, specs.declared.block.Block.Block, specs.Floors.floor_after, proofs.Floors.floor-push}
 use Rattle.tally_engine.{specs.declared.reached.Reached.Reached, specs.Ahead.{floor_with, IsAt, NoneWaits}}
 use Rattle.record_stream.specs.Blocks.{orders_markers}
 

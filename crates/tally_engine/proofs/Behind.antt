@@ -1,12 +1,11 @@
 -- A block more for all tables.
 use Rattle.std.proofs.Common.{◌≡◌, ◌+◌, ◌≤◌, ◌<◌, ℕ, List, [], ◌∷◌, ◌++◌, Bool, true, false, max, refl, sym, ap, ◌∙◌, append_assoc, append-nil, arith, length, length-append, ◌&&◌, not, IsTrue, if◌then◌else◌, slice_index_or}
 use Rattle.std.{proofs.lemmas.List.map-append, proofs.lemmas.List.Elements.filter-append}
-use Rattle.tally_base.{specs.declared.event.Event.Event, specs.declared.header.Mode.Mode, specs.declared.header.Mode.TheVariants.{T2, T3}, specs.declared.tally.Tally.Ghosts, specs.Events.is_ordered, specs.Settings.is_strict, specs.Tally.moves_floor, specs.Limits.record_limit}
+use Rattle.tally_base.{specs.declared.event.Event.Event, specs.declared.header.Mode.Mode, specs.declared.header.Mode.TheVariants.{T2, T3}, specs.declared.tally.Tally.Ghosts, specs.Events.is_ordered, specs.Settings.is_strict, specs.Tally.moves_floor, specs.Limits.record_limit, specs.Floors.{floor_after, InOrder}, proofs.Floors.{floor-append, order-append, order-parts}, proofs.Lower.order-looser}
 use Rattle.ptu_definitions.{specs.Kept.{Marked, floor_of}, specs.Settled.not_marked}
 use Rattle.gate_plan.specs.Shifting.{Sorting}
 use Rattle.record_stream.{specs.Blocks.{orders_markers, on_time}, proofs.Adding.moves_by, proofs.Floors.moved_floor-push, proofs.Eaches.{not_late, ordered-moves}}
-use Rattle.event_block.{specs.Order.{floor_after, InOrder}, proofs.Order.{floor-append, order-append, order-parts}, proofs.Lower.order-looser, specs.Tables.{MayTake, HasTaken}}
-use Rattle.tally_engine.{specs.Histories.with_groups, specs.Give.{Holding, Moves}, specs.Taker.{Waits, Gave}}
+use Rattle.tally_engine.{specs.Histories.with_groups, specs.Give.{Holding, Moves}, specs.Taker.{Waits, Gave}, specs.Tables.{MayTake, HasTaken}}
 
 -- a strict table is of a mode that orders markers
 fewer : (mode : Mode) (strict : Bool) → (mode ≡ T2 → strict ≡ false) → IsTrue strict → IsTrue (orders_markers mode)

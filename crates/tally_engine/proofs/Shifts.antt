@@ -1,8 +1,8 @@
 -- Shifted events come in the order of the events.
 use Rattle.std.proofs.Common.{◌≡◌, ◌≢◌, ◌∙◌, ◌+◌, ◌≤◌, ◌<◌, ◌⊎◌, ⊎_elim, ℕ, zero, suc, Bool, true, false, List, [], ◌∷◌, refl, ap, sym, map, arith, length, IsTrue, if◌then◌else◌}
 use Rattle.std.proofs.lemmas.List.{length-map, map-append}
-use Rattle.tally_base.{specs.declared.event.Event.Event, specs.declared.event.EventKind.EventKind, specs.declared.event.EventKind.TheVariants.{Photon, Marker}, specs.declared.tally.Tally.Ghosts, specs.Events.{is_photon, is_photon_kind}, specs.Settings.{ShiftView, is_strict}, specs.Tally.{History, moves_floor}}
-use Rattle.event_block.{specs.Columns.rows, specs.Order.{floor_after, InOrder}, specs.Tables.{MayTake, HasTaken}}
+use Rattle.tally_base.{specs.declared.event.Event.Event, specs.declared.event.EventKind.EventKind, specs.declared.event.EventKind.TheVariants.{Photon, Marker}, specs.declared.tally.Tally.Ghosts, specs.Events.{is_photon, is_photon_kind}, specs.Settings.{ShiftView, is_strict}, specs.Tally.{History, moves_floor}, specs.Columns.rows, specs.Floors.{floor_after, InOrder}}
+use Rattle.tally_engine.specs.Tables.{MayTake, HasTaken}
 use Rattle.gate_plan.specs.Shifting.{Sorting, shifted, shifted_kind}
 
 photon_kind : (by : Sorting) (kind : EventKind) → is_photon_kind (shifted_kind by kind) ≡ is_photon_kind kind

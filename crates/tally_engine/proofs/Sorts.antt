@@ -1,8 +1,7 @@
 -- Rows that are sorted, and tables that are given something one by one.
 use Rattle.std.proofs.Common.{◌≡◌, ◌+◌, ◌≤◌, ◌<◌, ℕ, zero, suc, List, [], ◌∷◌, refl, arith, length, get_or, set, ◌⊎◌, ⊎_elim}
 use Rattle.std.{proofs.lemmas.Grind.common_steps, proofs.lemmas.List.{get_or-set_same, map-append}}
-use Rattle.tally_base.{specs.declared.event.Event.Event, specs.Settings.GroupView}
-use Rattle.event_block.specs.Columns.{rows}
+use Rattle.tally_base.{specs.declared.event.Event.Event, specs.Settings.GroupView, specs.Columns.rows}
 use Rattle.gate_plan.specs.Taking.{groups_by}
 use Rattle.tally_engine.specs.Histories.{grouped}
 

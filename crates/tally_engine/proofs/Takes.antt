@@ -1,12 +1,11 @@
 -- One event more for all tables.
 use Rattle.std.proofs.Common.{◌≡◌, ◌+◌, ◌≤◌, ◌<◌, ℕ, List, [], ◌∷◌, ◌++◌, Bool, true, false, refl, sym, ap, ◌∙◌, map, append_assoc, append-nil, arith, length, length-append, ◌&&◌, not, IsTrue, if◌then◌else◌, slice_index_or}
 use Rattle.std.{proofs.lemmas.List.map-append, proofs.lemmas.List.Elements.filter-append}
-use Rattle.tally_base.{specs.declared.event.Event.Event, specs.declared.header.Mode.Mode, specs.declared.header.Mode.TheVariants.{T2, T3}, specs.declared.tally.Tally.Ghosts, specs.Events.is_ordered, specs.Settings.is_strict, specs.Tally.{History, moves_floor}, specs.Limits.{record_limit, time_limit}}
+use Rattle.tally_base.{specs.declared.event.Event.Event, specs.declared.header.Mode.Mode, specs.declared.header.Mode.TheVariants.{T2, T3}, specs.declared.tally.Tally.Ghosts, specs.Events.is_ordered, specs.Settings.is_strict, specs.Tally.{History, moves_floor}, specs.Limits.{record_limit, time_limit}, specs.Floors.{floor_after, InOrder}, proofs.Floors.{floor-push, order-push, order-front, order-last}}
 use Rattle.ptu_definitions.{specs.Kept.Marked, specs.Settled.not_marked}
 use Rattle.gate_plan.{specs.Shifting.{Sorting, shifted}, specs.Taking.{groups_by, groups_in}}
-use Rattle.tally_engine.{specs.Histories.{grouped, with_groups}, specs.Give.{kept_of, Holding, Moves}, specs.Taker.{Standing, Waits, Gave}}
+use Rattle.tally_engine.{specs.Histories.{grouped, with_groups}, specs.Give.{kept_of, Holding, Moves}, specs.Taker.{Standing, Waits, Gave}, specs.Tables.{MayTake, HasTaken}}
 use Rattle.record_stream.proofs.Floors.{moved_floor-push}
-use Rattle.event_block.{specs.Order.{floor_after, InOrder}, proofs.Order.{floor-push, order-push, order-front, order-last}, specs.Tables.{MayTake, HasTaken}}
 
 not_marked-late : (l : Marked) (e : Event) → not_marked (l ++ (e, true) ∷ []) ≡ not_marked l
 not_marked-late l e = rw (filter-append, append-nil) refl

@@ -1,7 +1,6 @@
 -- How far a stream is, with the events that wait for its tables.
 use Rattle.std.specs.Prelude.{◌≡◌, ℕ, ◌+◌, List, [], length}
-use Rattle.tally_base.{specs.declared.event.Event.Event, specs.declared.header.Mode.Mode}
-use Rattle.event_block.{specs.declared.block.Block.Block, specs.Columns.{sorted, gathered}, specs.Order.floor_after}
+use Rattle.tally_base.{specs.declared.event.Event.Event, specs.declared.header.Mode.Mode, specs.declared.block.Block.Block, specs.Columns.{sorted, gathered}, specs.Floors.floor_after}
 use Rattle.tally_engine.specs.declared.reached.Reached.{Reached}
 use Rattle.record_stream.specs.Blocks.{orders_markers}
 

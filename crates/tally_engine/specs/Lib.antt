@@ -8,3 +8,4 @@ pub mod Pieces
 pub mod Plans
 pub mod Same
 pub mod Taker
+pub mod Tables

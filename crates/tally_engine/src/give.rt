@@ -1,17 +1,15 @@
 // A block of events to every table.
 ghost use Rattle.std.specs.Prelude.{◌≡◌, ℕ, ◌+◌, ◌<◌, ◌≤◌, ◌++◌, ◌∷◌, [], All, List, false, map, length, if◌then◌else◌};
-ghost use Rattle.tally_base.{specs.declared.event.Event.Event, specs.Settings.GroupView, specs.Events.is_ordered, specs.Limits.record_limit};
-ghost use Rattle.event_block.{specs.Codes.kind_of, specs.Columns.{sorted, gathered, events_in, IsSorted}, specs.Tables.{MayTake, HasTaken}};
+ghost use Rattle.tally_base.{specs.declared.event.Event.Event, specs.Settings.GroupView, specs.Events.is_ordered, specs.Limits.record_limit, specs.Codes.kind_of, specs.Columns.{sorted, gathered, events_in, IsSorted}};
 ghost use Rattle.gate_plan.{specs.Groups.sorting_of, specs.Shifting.{shifted, shifted_dtime}, specs.Taking.groups_by, specs.Parting.{plain_bits, gated_bits, TellsGroups}};
 ghost use Rattle.record_stream.specs.Floors.{moved_floor};
-ghost use Rattle.tally_engine.{specs.Ahead.{taken_with, floor_with, IsAt, NoneWaits}, specs.Give.{Each, Moves, Closed, kept_of}, specs.Histories.{grouped, with_groups}};
+ghost use Rattle.tally_engine.{specs.Ahead.{taken_with, floor_with, IsAt, NoneWaits}, specs.Give.{Each, Moves, Closed, kept_of}, specs.Histories.{grouped, with_groups}, specs.Tables.{MayTake, HasTaken}};
 
 use crate::part::Part;
 use crate::reached::Reached;
-use event_block::{BLOCK_SIZE, Block};
 use gate_plan::{Gates, OnlyGate};
 use std::sync::ledger::Ledger;
-use tally_base::{Event, Mode, Steps, Tally};
+use tally_base::{BLOCK_SIZE, Block, Event, Mode, Steps, Tally};
 
 /// Gives an event to a block behind its others, unless it is late or there is no table. Where the block
 /// is full, its events first go to every table.

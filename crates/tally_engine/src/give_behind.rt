@@ -1,18 +1,16 @@
 // A block of events to every table, behind events that wait.
 ghost use Rattle.std.specs.Prelude.{◌≡◌, ◌+◌, ◌<◌, ◌≤◌, ◌++◌, [], All, false, length};
-ghost use Rattle.tally_base.specs.Limits.{record_limit};
-ghost use Rattle.event_block.{specs.Columns.{sorted, gathered}, specs.Order.floor_after, specs.Tables.{MayTake, HasTaken}};
+ghost use Rattle.tally_base.{specs.Limits.record_limit, specs.Columns.{sorted, gathered}, specs.Floors.floor_after};
 ghost use Rattle.gate_plan.specs.Groups.{sorting_of};
 ghost use Rattle.record_stream.specs.Blocks.{orders_markers};
-ghost use Rattle.tally_engine.{specs.Ahead.{taken_with, floor_with, NoneWaits}, specs.Give.{Each, Moves}, specs.Histories.with_groups};
+ghost use Rattle.tally_engine.{specs.Ahead.{taken_with, floor_with, NoneWaits}, specs.Give.{Each, Moves}, specs.Histories.with_groups, specs.Tables.{MayTake, HasTaken}};
 
 use crate::give::flush;
 use crate::part::Part;
 use crate::reached::Reached;
-use event_block::Block;
 use gate_plan::Gates;
 use std::sync::ledger::Ledger;
-use tally_base::{Mode, Steps, Tally};
+use tally_base::{Block, Mode, Steps, Tally};
 
 /// Gives the events of a block to every table, behind those that wait in another block.
 pub(crate) fn give_behind<L: Ledger>(

@@ -1,21 +1,19 @@
 // The taker of a stream's events that gives them to every table.
 ghost use Rattle.std.specs.Prelude.{◌≡◌, ℕ, ◌+◌, ◌*◌, ◌<◌, ◌≤◌, [], List, All, length, false, None, OnOk, IfErr};
 ghost use Rattle.record_stream.specs.Standing.{how_of, given_by, greatest_of, refused_with, bytes_in, HasStreamed};
-ghost use Rattle.tally_base.{specs.Faults.{fault_in, is_outside}, specs.Limits.record_limit};
-ghost use Rattle.tally_engine.{specs.Histories.with_groups, specs.Parts.Ends, specs.Pieces.{AnswersPiece, TablesFollow}, specs.Same.SameTables, specs.Ahead.{taken_with, floor_with}, specs.Give.Each, specs.Taker.{Standing, Waits}};
+ghost use Rattle.tally_base.{specs.Faults.{fault_in, is_outside}, specs.Limits.record_limit, specs.Columns.{sorted, gathered}, proofs.Props.in_order-prop};
+ghost use Rattle.tally_engine.{specs.Histories.with_groups, specs.Parts.Ends, specs.Pieces.{AnswersPiece, TablesFollow}, specs.Same.SameTables, specs.Ahead.{taken_with, floor_with}, specs.Give.Each, specs.Taker.{Standing, Waits}, specs.Tables.{MayTake, HasTaken}};
 ghost use Rattle.gate_plan.specs.Groups.{sorting_of};
-ghost use Rattle.event_block.{specs.Columns.{sorted, gathered}, proofs.Props.in_order-prop, specs.Tables.{MayTake, HasTaken}};
 ghost use Rattle.std.proofs.Props.{props};
 
 use crate::give::gather;
 use crate::give_behind::{flush_waiting, give_behind};
 use crate::part::Part;
 use crate::reached::Reached;
-use event_block::Block;
 use gate_plan::Gates;
 use record_stream::{EventTaker, RecordStream, Summary};
 use std::sync::ledger::Ledger;
-use tally_base::{Event, Failed, Fault, Mode, Steps, Tally};
+use tally_base::{Block, Event, Failed, Fault, Mode, Steps, Tally};
 
 /// Gives each event that isn't late to every table, with its groups. A block of them it passes on as it is;
 /// those that come one by one it gathers in a block of its own, so that the kind of a table is tested once

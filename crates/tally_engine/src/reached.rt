@@ -3,9 +3,8 @@ ghost use Rattle.std.specs.Prelude.{◌≡◌};
 ghost use Rattle.tally_base.specs.Limits.{record_limit};
 ghost use Rattle.record_stream.{specs.Floors.moved_floor, specs.Blocks.orders_markers};
 
-use event_block::Block;
 use record_stream::{moved_floor, orders_markers};
-use tally_base::{Event, Mode};
+use tally_base::{Block, Event, Mode};
 
 /// How far the tables of an engine are within a piece.
 #[derive(Clone, Copy)]
@@ -18,7 +17,7 @@ pub(crate) struct Reached {
 
 impl Reached {
     ghost use Rattle.std.specs.Prelude.{◌+◌, ◌<◌, ◌≤◌, length};
-    ghost use Rattle.event_block.{specs.Columns.gathered, specs.Order.floor_after};
+    ghost use Rattle.tally_base.{specs.Columns.gathered, specs.Floors.floor_after};
 
     /// One event more, which no table is given.
     #[inline(always)]

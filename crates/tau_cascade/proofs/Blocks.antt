@@ -2,8 +2,7 @@
 use Rattle.std.proofs.Common.{◌≡◌, ℕ, zero, suc, ◌+◌, ◌<◌, ◌≤◌, Bool, true, false, ◌&&◌, ◌||◌, cond, ltb, List, [], ◌∷◌, ◌++◌, length, map, take, refl, sym, ap, ◌∙◌, append-nil, arith, length-append, zero-add, slice_set, nat_lt}
 use mir.Val.{bool_byte}
 use Rattle.std.{specs.List.AllByRecursion, proofs.lemmas.Bool.false≢true, proofs.lemmas.Grind.common_steps, proofs.lemmas.List.{map-append, take_more_set}, proofs.lemmas.List.Elements.filter-append}
-use Rattle.tally_base.{specs.declared.settings.CorrelationSet.CorrelationSet, specs.Events.{is_photon, is_in}, specs.Settings.{CorrelationView, correlation_view}, specs.Tally.{History, greatest_time}, specs.Limits.record_limit}
-use Rattle.event_block.{specs.declared.block.Block.Block, specs.Columns.{rows, item, event_at, code_at, groups_at, gathered, events_in}, specs.Order.{floor_after, InOrder}, proofs.Back.moves_row, proofs.Greatest.greatest-rows, proofs.Order.{order-front, order-last}, proofs.Rows.length-rows}
+use Rattle.tally_base.{specs.declared.settings.CorrelationSet.CorrelationSet, specs.Events.{is_photon, is_in}, specs.Settings.{CorrelationView, correlation_view}, specs.Tally.{History, greatest_time}, specs.Limits.record_limit, specs.declared.block.Block.Block, specs.Columns.{rows, item, event_at, code_at, groups_at, gathered, events_in}, specs.Floors.{floor_after, InOrder}, proofs.Back.moves_row, proofs.Greatest.greatest-rows, proofs.Floors.{order-front, order-last}, proofs.BlockRows.length-rows}
 use Rattle.lag_ring.specs.declared.ring.Entry.{Entry}
 use Rattle.tau_cascade.{specs.declared.level.Level.Level, specs.Correlation.{Given, bin, in_first, in_second, photons_of}, specs.StandsFor.StandsFor, specs.Levels.{IsBin, Chain}, specs.Bins.{raised, bin_of, photon_bins, Come, CanCome, CanGiveBlock}, proofs.Follows.{come_push, raised-none}, proofs.Gives.{bin-zero, none_before, mine-photon, few_photons}}
 

@@ -1,5 +1,5 @@
 -- What a correlation shows.
-use Rattle.std.specs.Prelude.{ℕ, Bool, ◌+◌, zero, suc, Option, slice_get}
+use Rattle.std.specs.Prelude.{ℕ, ◌+◌, zero, suc, Option, slice_get}
 use Rattle.std.specs.Option.{option_map, option_map_or}
 use Rattle.tally_base.{specs.declared.settings.CorrelationSet.CorrelationSet, specs.Settings.{PartSettings, correlation_view}, specs.Settings.PartSettings.CorrelationSettings, specs.Tally.History}
 use Rattle.lag_ring.{specs.declared.ring.Entry.Entry, specs.Cells.Cells, specs.Ring.Ring}
@@ -11,18 +11,6 @@ set_of t = t.set
 
 abbrev pub settings : Cascade → PartSettings
 settings t = CorrelationSettings (correlation_view t.set)
-
--- whether nothing more comes
-abbrev pub is_closed : Cascade → Bool
-is_closed t = t.closed
-
--- how many events it was given
-abbrev pub taken_by : Cascade → ℕ
-taken_by t = t.taken
-
--- the greatest time of the photons among them
-abbrev pub floor_by : Cascade → ℕ
-floor_by t = t.floor
 
 -- it stands for these events
 abbrev pub Holds : Cascade → History → Type 0

@@ -1,9 +1,9 @@
 -- What holds of every correlation.
-use Rattle.std.proofs.Common.{◌≡◌, ℕ, suc, ◌+◌, ◌-◌, ◌*◌, ◌/◌, ◌%◌, ◌≤◌, Bool, true, false, cond, List, [], ◌∷◌, length, arith, rules}
+use Rattle.std.proofs.Common.{◌≡◌, ℕ, suc, ◌+◌, ◌-◌, ◌*◌, ◌/◌, ◌%◌, ◌≤◌, Bool, true, false, cond, List, [], ◌∷◌, ◌++◌, ◌&&◌, ◌||◌, ◌∙◌, ap, subst, length, arith, rules}
 use Rattle.std.specs.Prelude.{is_some}
 use Rattle.std.{specs.List.sum_by, proofs.Math.Logic.∥∥₁_elim, proofs.Props.props, proofs.lemmas.List.Sums.sum_by-cons}
-use Rattle.tally_base.{specs.declared.settings.CorrelationSet.CorrelationSet, specs.Settings.{CorrelationView, correlation_view, entries}, specs.Tally.{History, greatest_time}}
-use Rattle.tau_cascade.{specs.declared.cascade.Cascade.Cascade, specs.declared.level.Level.Level, specs.Cascade.{Holds, settings}, specs.Correlation.{lag_count, photons_of}, specs.StandsFor.{WentThrough, entries_of}, specs.Levels.{Chain, Complete, RingIs, CellsAre}}
+use Rattle.tally_base.{specs.declared.event.Event.Event, specs.Events.{is_photon, is_in}, specs.declared.settings.CorrelationSet.CorrelationSet, specs.Settings.{CorrelationView, correlation_view, entries}, specs.Tally.{History, greatest_time}, proofs.Markers.{same_length, same_greatest, same_filter}}
+use Rattle.tau_cascade.{specs.declared.cascade.Cascade.Cascade, specs.declared.level.Level.Level, specs.Cascade.{Holds, settings}, specs.Correlation.{in_first, in_second, lag_count, photons_of}, specs.StandsFor.{WentThrough, entries_of}, specs.Levels.{Chain, Complete, RingIs, CellsAre}}
 
 pub taken_is : (t : Cascade) (h : History) → Holds t h → t.taken ≡ length h
 taken_is t h is = is.taken
@@ -46,3 +46,13 @@ pub within_bound : (t : Cascade) → sum_by entries_of t.levels.items ≤ entrie
 within_bound t =
     let sized : length t.levels.items ≡ t.set.levels = search rules in
     ∥∥₁_elim t.stands (hlevel props) (λ w. stands_bound t.closed t.set t.levels.items (photons_of (correlation_view t.set) w.0) sized w.1.through)
+
+pub marker_groups : (t : Cascade) (h : History) (e : Event) (groups : ℕ) → is_photon e ≡ false → Holds t (h ++ (e, 0) ∷ []) → Holds t (h ++ (e, groups) ∷ [])
+marker_groups t h e groups marker is =
+    let set = correlation_view t.set in
+    let same = same_filter (λ x. in_first set x || in_second set x) (λ x marker. ap (λ b. (b && is_in x.1 set.first) || (b && is_in x.1 set.second)) marker) h e groups marker in
+    record {
+      taken = is.taken ∙ same_length h e groups;
+      floor = is.floor ∙ same_greatest false h e groups;
+      through = subst (λ xs. WentThrough t.closed set t.levels.items xs) same is.through;
+    }

@@ -1,6 +1,6 @@
 -- What the fields of a correlation stand for.
-use Rattle.std.specs.Prelude.{◌≡◌, ℕ, ◌+◌, ◌<◌, ◌≤◌, Bool, true, false, is_some, IsTrue, List, length, if◌then◌else◌}
-use Rattle.tally_base.{specs.declared.event.Event.Event, specs.declared.settings.CorrelationSet.CorrelationSet, specs.Events.is_photon, specs.Settings.{CorrelationView, correlation_view}, specs.Tally.{History, greatest_time}, specs.Limits.record_limit}
+use Rattle.std.specs.Prelude.{◌≡◌, ℕ, ◌+◌, Bool, true, false, is_some, List, length, if◌then◌else◌}
+use Rattle.tally_base.{specs.declared.settings.CorrelationSet.CorrelationSet, specs.Settings.{CorrelationView, correlation_view}, specs.Tally.{History, greatest_time}}
 use Rattle.tau_cascade.{specs.declared.level.Level.Level, specs.Correlation.photons_of, specs.Levels.{Chain, Complete}}
 
 -- the photons went from level to level, and in the end into closed bins everywhere
@@ -17,9 +17,3 @@ pub record StandsFor (closed : Bool) (set : CorrelationSet) (ls : List Level) (c
 -- the entries that a level keeps
 abbrev pub entries_of : Level → ℕ
 entries_of l = length l.ring.entries + length l.cells.cells + (if is_some l.open then 1 else 0)
-
--- an event may be given, after those that were
-pub record CanGive (set : CorrelationView) (ls : List Level) (e : Event) (h : History) : Type 0 where
-  pub few : length h < record_limit
-  pub chain : Chain set 0 ls (photons_of set h)
-  pub after : IsTrue (is_photon e) → greatest_time false h ≤ e.time

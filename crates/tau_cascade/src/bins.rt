@@ -1,12 +1,10 @@
 // Bins that come to a level, and those that it closes.
 ghost use Rattle.std.specs.Prelude.{◌≡◌, ◌+◌, ◌^◌, ◌<◌, ◌≤◌, false, [], ◌∷◌, ◌++◌, length, map, take, drop, sum_by, if◌then◌else◌};
-ghost use Rattle.tally_base.specs.Settings.{correlation_view};
-ghost use Rattle.event_block.specs.Columns.{events_in, IsSorted};
+ghost use Rattle.tally_base.{specs.Settings.correlation_view, specs.Columns.{events_in, IsSorted}};
 ghost use Rattle.tau_cascade.specs.Bins.{raised, IsSpaced, merged, merged_onto, photon_bins};
 
-use event_block::Block;
 use lag_ring::{Entry, LagRing};
-use tally_base::CorrelationSet;
+use tally_base::{Block, CorrelationSet};
 
 /// How many bins a list has room for: those of a ring, and behind them those of a block.
 pub(crate) const LIST: usize = 192;

@@ -1,17 +1,15 @@
 // A correlation over its levels.
-ghost use Rattle.std.specs.Prelude.{◌≡◌, ◌+◌, ◌<◌, ◌≤◌, [], ◌∷◌, ◌++◌, false, length, vec_len, if◌then◌else◌};
-ghost use Rattle.tally_base.{specs.Settings.correlation_view, specs.Tally.History, specs.Limits.{record_limit, time_limit}};
-ghost use Rattle.tau_cascade.{specs.Correlation.photons_of, specs.StandsFor.{StandsFor, CanGive}, specs.Levels.{Chain, spent}, specs.Bins.CanGiveBlock};
-ghost use Rattle.event_block.specs.Columns.{events_in, IsSorted};
+ghost use Rattle.std.specs.Prelude.{◌≡◌, ◌+◌, ◌<◌, ◌≤◌, [], ◌++◌, false, length, vec_len};
+ghost use Rattle.tally_base.{specs.Settings.correlation_view, specs.Tally.History, specs.Limits.record_limit, specs.Columns.{events_in, IsSorted}};
+ghost use Rattle.tau_cascade.{specs.Correlation.photons_of, specs.StandsFor.StandsFor, specs.Levels.{Chain, spent}, specs.Bins.CanGiveBlock};
 
 use crate::bins::{LEVELS, LIST, gather, spacing};
 use crate::carry::{Coming, carry_all, end_all};
 use crate::level::{Closed, Level, skipped_lags};
-use event_block::Block;
 use lag_ring::{Entry, PairCells};
 use std::alloc::{AllocError, Global};
 use std::sync::ledger::Ledger;
-use tally_base::{CorrelationSet, Event, Steps, Tally, floor_behind, is_in};
+use tally_base::{Block, CorrelationSet, Steps, Tally};
 
 /// Counts the pairs of a photon of the first group and one of the second by how far the second is behind
 /// the first, on levels of coarser and coarser time.
@@ -34,8 +32,7 @@ pub struct Cascade {
 impl Cascade {
     ghost use Rattle.std.specs.Prelude.{◌≡◌, ◌+◌, ◌-◌, ◌<◌, ◌≤◌, ◌++◌, true, IfOk, None, Some, length, slice_index};
     ghost use Rattle.std.specs.Option.{ForSome, option_map};
-    ghost use Rattle.tally_base.specs.Settings.PartSettings.{CorrelationSettings};
-    ghost use Rattle.event_block.{specs.Columns.{gathered, events_in, IsSorted}, specs.Tables.{MayTake, HasTaken}};
+    ghost use Rattle.tally_base.{specs.Settings.PartSettings.CorrelationSettings, specs.Columns.{events_in, IsSorted}};
     ghost use Rattle.tau_cascade.{specs.Cascade.{Holds, cells_at, ring_at, open_at, set_of, spent_by, added_below}, specs.Correlation.{correlation, lag_count, skipped_lags}, specs.Opens.open_bin, specs.Work.work};
 
     /// A correlation of no events, with all the memory that it ever takes, or `AllocError` where it is
@@ -59,20 +56,6 @@ impl Cascade {
             floor: 0,
             closed: false,
         })
-    }
-
-    /// Takes the events of a block, as `event` does one by one.
-    pub fn events<L: Ledger>(&mut self, block: &Block, steps: &mut Steps<L>)
-        requires sorted { IsSorted block.now }
-        requires may { MayTake ⟦<Cascade as Tally>⟧ (gathered block.now) self.old }
-        ensures took { HasTaken ⟦<Cascade as Tally>⟧ (gathered block.now) (events_in block.now)
-            self.old self.new }
-        ensures same_set { set_of self.new ≡ set_of self.old }
-        ensures steps { steps.new + spent_by self.old ≡ steps.old + spent_by self.new }
-    {
-        self.taken += block.len() as u64;
-        self.floor = block.floor_after(false, self.floor);
-        give_block(&mut self.levels, &self.set, block, steps);
     }
 
     /// What it was opened with.
@@ -135,44 +118,6 @@ impl Cascade {
     }
 }
 
-/// Gives an event to the levels.
-fn give<L: Ledger>(
-    levels: &mut [Level],
-    set: &CorrelationSet,
-    e: &Event,
-    groups: u64,
-    steps: &mut Steps<L>,
-)
-    requires stands { ∥ ((h : History)
-        × CanGive (correlation_view set.now) levels.old e.now h) ∥₁ }
-    requires depth { length levels.old ≤ LEVELS }
-    ensures same { length levels.new ≡ length levels.old }
-    ensures follows { (h : History) → CanGive (correlation_view set.now) levels.old e.now h
-        → Chain (correlation_view set.now) 0 levels.new
-        (photons_of (correlation_view set.now) (h ++ (e.now, groups) ∷ [])) }
-    ensures steps { steps.new + spent levels.old ≡ steps.old + spent levels.new }
-{
-    if e.is_photon() {
-        let a = is_in(groups, set.first);
-        let b = is_in(groups, set.second);
-        if a || b {
-            let bin = Entry {
-                index: e.time,
-                a: u64::from(a),
-                b: u64::from(b),
-            };
-            let mut bins = [bin; LIST];
-            let mut spare = [bin; LIST];
-            let one = Coming {
-                closed: Closed { from: 0, count: 1 },
-                levels: 0,
-                apart: 0,
-            };
-            carry_all(levels, set, 0, &mut bins, one, &mut spare, steps);
-        }
-    }
-}
-
 /// Gives the events of a block to the levels.
 fn give_block<L: Ledger>(
     levels: &mut [Level],
@@ -211,9 +156,8 @@ fn give_block<L: Ledger>(
 }
 
 impl Tally for Cascade {
-    ghost use Rattle.std.specs.Prelude.{◌≡◌, ◌+◌, ◌<◌, ◌≤◌, ◌++◌, ◌∷◌, [], true, false, IsTrue, sum_by, if◌then◌else◌};
-    ghost use Rattle.tally_base.specs.Tally.{moves_floor};
-    ghost use Rattle.tau_cascade.{specs.Cascade.{Holds, set_of, settings, is_closed, taken_by, floor_by, spent_by}, specs.StandsFor.entries_of, specs.Laws.{taken_is, floor_is, within_bound}};
+    ghost use Rattle.std.specs.Prelude.{◌≡◌, ◌+◌, ◌<◌, ◌≤◌, ◌++◌, [], true, false, sum_by};
+    ghost use Rattle.tau_cascade.{specs.Cascade.{Holds, set_of, settings, spent_by}, specs.StandsFor.entries_of, specs.Laws.{taken_is, floor_is, within_bound, marker_groups}};
 
     ghost holds = { Holds };
 
@@ -227,42 +171,25 @@ impl Tally for Cascade {
 
     ghost closed = { λ t. t.closed };
 
+    ghost spent = { spent_by };
+
+    ghost same_set = { λ old new. set_of new ≡ set_of old };
+
     ghost taken_is = { taken_is };
 
     ghost floor_is = { floor_is };
 
     ghost within = { within_bound };
 
-    fn event<L: Ledger>(&mut self, e: &Event, groups: u64, steps: &mut Steps<L>)
-        requires open { is_closed self.old ≡ false }
-        requires room { taken_by self.old < record_limit }
-        requires in_time { e.now.time ≤ time_limit }
-        requires in_order { IsTrue (moves_floor false e.now) → floor_by self.old ≤ e.now.time }
-        ensures follows { (h : History) → Holds self.old h
-            → Holds self.new (h ++ (e.now, groups) ∷ []) }
-        ensures still_open { is_closed self.new ≡ false }
-        ensures one_more { taken_by self.new ≡ taken_by self.old + 1 }
-        ensures moved { floor_by self.new ≡ (if moves_floor false e.now
-            then e.now.time else floor_by self.old) }
-        ensures same_settings { settings self.new ≡ settings self.old }
-        ensures same_set { set_of self.new ≡ set_of self.old }
-        ensures steps { steps.new + spent_by self.old ≡ steps.old + spent_by self.new }
-    {
-        self.taken += 1;
-        self.floor = floor_behind(self.floor, e);
-        give(&mut self.levels, &self.set, e, groups, steps);
+    ghost marker_groups = { marker_groups };
+
+    fn events<L: Ledger>(&mut self, block: &Block, steps: &mut Steps<L>) {
+        self.taken += block.len() as u64;
+        self.floor = block.floor_after(false, self.floor);
+        give_block(&mut self.levels, &self.set, block, steps);
     }
 
-    fn close<L: Ledger>(&mut self, steps: &mut Steps<L>)
-        requires open { is_closed self.old ≡ false }
-        ensures keeps { (h : History) → Holds self.old h → Holds self.new h }
-        ensures now_closed { is_closed self.new ≡ true }
-        ensures same_taken { taken_by self.new ≡ taken_by self.old }
-        ensures same_floor { floor_by self.new ≡ floor_by self.old }
-        ensures same_settings { settings self.new ≡ settings self.old }
-        ensures same_set { set_of self.new ≡ set_of self.old }
-        ensures steps { steps.new + spent_by self.old ≡ steps.old + spent_by self.new }
-    {
+    fn close<L: Ledger>(&mut self, steps: &mut Steps<L>) {
         end_all(&mut self.levels, &self.set, 0, steps);
         self.closed = true;
     }

@@ -1,13 +1,11 @@
 // A histogram of photons by their dtimes.
 ghost use Rattle.std.specs.Prelude.{◌≡◌, ◌+◌, ◌*◌, ◌/◌, ◌^◌, ◌<◌, ◌≤◌, ℕ, vec_len, sum, length, slice_index, nat_le, ◌==◌, if◌then◌else◌};
-ghost use Rattle.tally_base.{specs.Settings.hist_view, specs.Tally.History, specs.Limits.record_limit};
-ghost use Rattle.event_block.specs.Columns.{gathered, events_in, IsSorted};
+ghost use Rattle.tally_base.{specs.Settings.hist_view, specs.Tally.History, specs.Limits.record_limit, specs.Columns.{gathered, events_in, IsSorted}};
 ghost use Rattle.tcspc_hist.specs.HistogramCounts.{in_bin, count_over};
 
-use event_block::{BLOCK_SIZE, Block};
 use std::alloc::{AllocError, Global};
 use std::sync::ledger::Ledger;
-use tally_base::{Event, EventKind, HistSet, Steps, Tally, is_in};
+use tally_base::{BLOCK_SIZE, Block, HistSet, Steps, Tally};
 
 /// Counts the photons of a group by their dtimes, that is by the ticks since their syncs.
 ///
@@ -26,9 +24,8 @@ pub struct Hist {
 }
 
 impl Hist {
-    ghost use Rattle.std.specs.Prelude.{◌++◌, IfOk, [], false};
+    ghost use Rattle.std.specs.Prelude.{IfOk, [], false};
     ghost use Rattle.tally_base.specs.Settings.PartSettings.{HistSettings};
-    ghost use Rattle.event_block.specs.Tables.{MayTake, HasTaken};
     ghost use Rattle.tcspc_hist.specs.Hist.{Holds, set_of};
 
     /// A histogram of no events, with all the memory that it ever takes, or `AllocError` where it is wanting.
@@ -72,18 +69,6 @@ impl Hist {
             → result ≡ count_over (hist_view (set_of self.now)) h }
     {
         self.over
-    }
-
-    /// Takes the events of a block, as `event` does one by one.
-    pub fn events(&mut self, block: &Block)
-        requires sorted { IsSorted block.now }
-        requires may { MayTake ⟦<Hist as Tally>⟧ (gathered block.now) self.old }
-        ensures { HasTaken ⟦<Hist as Tally>⟧ (gathered block.now) (events_in block.now)
-            self.old self.new }
-    {
-        self.taken += block.len() as u64;
-        self.floor = block.floor_after(false, self.floor);
-        self.over = count_block(&self.set, &mut self.cells, self.over, block);
     }
 }
 
@@ -141,7 +126,7 @@ fn bin_of(width: u32, dtime: u16) -> u32
 
 impl Tally for Hist {
     ghost use Rattle.std.specs.Prelude.{◌+◌, length};
-    ghost use Rattle.tcspc_hist.{specs.Hist.{Holds, settings}, specs.Laws.{taken_is, floor_is, within_bound}};
+    ghost use Rattle.tcspc_hist.{specs.Hist.{Holds, set_of, settings}, specs.Laws.{taken_is, floor_is, within_bound, marker_groups}};
 
     ghost holds = { Holds };
 
@@ -155,26 +140,20 @@ impl Tally for Hist {
 
     ghost closed = { λ t. t.closed };
 
+    ghost same_set = { λ old new. set_of new ≡ set_of old };
+
     ghost taken_is = { taken_is };
 
     ghost floor_is = { floor_is };
 
     ghost within = { within_bound };
 
-    #[inline(always)]
-    fn event<L: Ledger>(&mut self, e: &Event, groups: u64, _steps: &mut Steps<L>) {
-        self.taken += 1;
-        if let EventKind::Photon { dtime, .. } = e.kind {
-            self.floor = e.time;
-            // No branch on the group, which is as good as random from photon to photon.
-            let more = u64::from(is_in(groups, self.set.group));
-            let bin = bin_of(self.set.width, dtime);
-            if bin < self.set.bins {
-                self.cells[bin as usize] += more;
-            } else {
-                self.over += more;
-            }
-        }
+    ghost marker_groups = { marker_groups };
+
+    fn events<L: Ledger>(&mut self, block: &Block, _steps: &mut Steps<L>) {
+        self.taken += block.len() as u64;
+        self.floor = block.floor_after(false, self.floor);
+        self.over = count_block(&self.set, &mut self.cells, self.over, block);
     }
 
     fn close<L: Ledger>(&mut self, _steps: &mut Steps<L>) {

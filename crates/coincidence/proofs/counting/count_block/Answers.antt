@@ -1,7 +1,6 @@
 use Rattle.std.proofs.Common.{◌≡◌, ◌∙◌, ◌+◌, ◌<◌, ◌++◌, true, false, length, ap, rules, arith, append_assoc, nat_lt}
 use Rattle.std.proofs.lemmas.Bool.Decides.{nat_tests}
-use Rattle.tally_base.{specs.Events.is_in, specs.Settings.startstop_view, specs.Tally.moves_floor}
-use Rattle.event_block.{specs.Columns.{item, event_at, rows, code_at, groups_at, time_at}, specs.Order.floor_after, proofs.Back.moves_row, proofs.Rows.more_rows, proofs.Order.{floor-more, order-at}}
+use Rattle.tally_base.{specs.Events.is_in, specs.Settings.startstop_view, specs.Tally.moves_floor, specs.Columns.{item, event_at, rows, code_at, groups_at, time_at}, specs.Floors.floor_after, proofs.Back.moves_row, proofs.BlockRows.more_rows, proofs.Floors.{floor-more, order-at}}
 use Rattle.coincidence.{specs.Starts.since_in, proofs.Blocks.{photon_step, marker_step, in_group, later, kept_floor}, proofs.counting.count_block.Goals.{then-code-lt256, else-code-lt256}}
 use Rattle.coincidence.proofs.counting.count_block.Goals as goal
 

@@ -1,6 +1,5 @@
 use Rattle.std.proofs.Common.{◌≤◌, ◌+◌, ◌++◌, false, sum}
-use Rattle.tally_base.{specs.Settings.startstop_view, specs.Tally.History}
-use Rattle.event_block.{specs.Columns.{item, event_at, rows}, specs.Order.floor_after}
+use Rattle.tally_base.{specs.Settings.startstop_view, specs.Tally.History, specs.Columns.{item, event_at, rows}, specs.Floors.floor_after}
 use Rattle.coincidence.{specs.Counted.Counted, specs.Starts.since_in}
 use Rattle.coincidence.proofs.counting.count_block.Given as goal
 

@@ -1,8 +1,7 @@
 use Rattle.std.proofs.Common.{◌≤◌, ◌++◌}
-use Rattle.tally_base.{specs.Settings.coincidence_view, specs.Tally.History}
+use Rattle.tally_base.{specs.Settings.coincidence_view, specs.Tally.History, specs.Columns.{item, rows, gathered}}
 use Rattle.lag_ring.{specs.Cells.Cells, specs.Ring.Ring}
 use Rattle.arrayvec.specs.ArrayVec.{array_vec_len}
-use Rattle.event_block.specs.Columns.{item, rows, gathered}
 use Rattle.coincidence.{specs.Pairs.photons_of_groups, specs.Pairing.pairing_of, specs.StandsFor.CanTake, specs.Closing.Gathered}
 use Rattle.coincidence.proofs.gathering.gather_block.Given as goal
 

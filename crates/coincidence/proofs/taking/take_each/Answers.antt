@@ -1,7 +1,6 @@
 use Rattle.std.proofs.Common.{◌<◌, [], ◌∷◌, rules, arith}
 use Rattle.std.proofs.Math.Logic.{∥∥₁_map}
-use Rattle.tally_base.specs.Settings.{coincidence_view}
-use Rattle.event_block.specs.Columns.{item}
+use Rattle.tally_base.{specs.Settings.coincidence_view, specs.Columns.item}
 use Rattle.coincidence.{specs.Pairing.pairing_of, proofs.Blockwise.{came_same, put_row, came_more}, proofs.taking.take_each.Goals.{then-first-second, else-first-second}}
 use Rattle.coincidence.proofs.taking.take_each.Goals as goal
 

@@ -1,6 +1,5 @@
 use Rattle.std.proofs.Common.{◌≡◌, ◌+◌, ◌++◌}
-use Rattle.tally_base.{specs.Settings.coincidence_view, specs.Tally.History}
-use Rattle.event_block.specs.Columns.{item, rows, gathered}
+use Rattle.tally_base.{specs.Settings.coincidence_view, specs.Tally.History, specs.Columns.{item, rows, gathered}}
 use Rattle.coincidence.{specs.Pairs.photons_of_groups, specs.Pairing.{pairing_of, Came}, specs.StandsFor.CanTake}
 use Rattle.coincidence.proofs.taking.take_each.Given as goal
 

@@ -1,7 +1,6 @@
 use Rattle.std.proofs.Common.{◌≡◌, ◌∙◌, ◌<◌, ◌≤◌, ◌%◌, [], ◌∷◌, ◌++◌, true, false, List, ap, subst, rules, arith, append_assoc, nat_lt, if◌then◌else◌}
 use Rattle.std.proofs.lemmas.Bool.Decides.{nat_tests}
-use Rattle.tally_base.{specs.declared.event.EventKind.TheVariants.{Photon, Marker}, specs.Settings.cube_view}
-use Rattle.event_block.{specs.Columns.{item, event_at, rows, code_at, dtime_at, time_at}, proofs.Rows.more_rows, proofs.Order.floor-more}
+use Rattle.tally_base.{specs.declared.event.EventKind.TheVariants.{Photon, Marker}, specs.Settings.cube_view, specs.Columns.{item, event_at, rows, code_at, dtime_at, time_at}, proofs.BlockRows.more_rows, proofs.Floors.floor-more}
 use Rattle.marker_map.{specs.Lines.{Saw, line_start}, specs.Marks.{Mark, mark}}
 use Rattle.flim_cube.{specs.Cells.counts_of, specs.Counted.Counted, proofs.Steps.marker_step}
 use Rattle.scan_image.proofs.Later.{floor-below, floor-rises}

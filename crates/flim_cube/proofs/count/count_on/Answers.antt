@@ -1,7 +1,6 @@
 use Rattle.std.proofs.Common.{◌≡◌, ◌∙◌, ◌<◌, ◌%◌, ◌/◌, ◌++◌, true, List, cond, sym, ap, subst, rules, arith, append_assoc, nat_lt, if◌then◌else◌}
 use Rattle.std.proofs.lemmas.Bool.Decides.{nat_tests}
-use Rattle.tally_base.{specs.declared.event.EventKind.TheVariants.{Photon, Marker}, specs.Divisors.divisor_of, specs.Events.is_in, specs.Settings.cube_view}
-use Rattle.event_block.{specs.Columns.{item, rows, code_at, dtime_at, groups_at, time_at}, proofs.Rows.more_rows}
+use Rattle.tally_base.{specs.declared.event.EventKind.TheVariants.{Photon, Marker}, specs.Divisors.divisor_of, specs.Events.is_in, specs.Settings.cube_view, specs.Columns.{item, rows, code_at, dtime_at, groups_at, time_at}, proofs.BlockRows.more_rows}
 use Rattle.marker_map.{specs.declared.lines.Lines.Lines, specs.Lines.{Saw, image_of}, specs.Marks.Mark, specs.Places.place_of}
 use Rattle.scan_image.{specs.Counted.IsStripOf, proofs.Steps.{only_group, few_more}}
 use Rattle.flim_cube.{specs.Cells.counts_of, specs.Counted.Counted, proofs.Steps.photon_step}

@@ -1,6 +1,5 @@
 use Rattle.std.proofs.Common.{◌≡◌, ◌≤◌, ◌+◌, ◌++◌, length, sum}
-use Rattle.tally_base.{specs.Settings.{image_view, cube_view}, specs.Tally.History}
-use Rattle.event_block.specs.Columns.{item, rows}
+use Rattle.tally_base.{specs.Settings.{image_view, cube_view}, specs.Tally.History, specs.Columns.{item, rows}}
 use Rattle.marker_map.{specs.declared.lines.Lines.Lines, specs.Lines.image_of}
 use Rattle.scan_image.specs.Counted.{IsStripOf}
 use Rattle.flim_cube.{specs.Cells.counts_of, specs.Counted.{Counted, in_rest}}

@@ -1,6 +1,5 @@
 use Rattle.std.proofs.Common.{◌≤◌, ◌+◌, ◌++◌, false, sum}
-use Rattle.tally_base.{specs.Settings.fold_view, specs.Tally.History}
-use Rattle.event_block.{specs.Columns.{item, event_at, rows}, specs.Order.floor_after}
+use Rattle.tally_base.{specs.Settings.fold_view, specs.Tally.History, specs.Columns.{item, event_at, rows}, specs.Floors.floor_after}
 use Rattle.fold_count.specs.Folded.{IsSound, Stands, waiting, photons_in}
 use Rattle.fold_count.proofs.taking.put_block.Given as goal
 

@@ -1,7 +1,6 @@
 use Rattle.std.proofs.Common.{◌≡◌, ◌≤◌, ◌+◌, ◌*◌, [], false, max, sum, slice_index}
 use Rattle.arrayvec.specs.ArrayVec.{array_vec_len}
-use Rattle.tally_base.specs.Settings.{trace_view}
-use Rattle.event_block.{specs.Columns.{item, event_at, rows}, specs.Order.floor_after}
+use Rattle.tally_base.{specs.Settings.trace_view, specs.Columns.{item, event_at, rows}, specs.Floors.floor_after}
 use Rattle.count_trace.specs.TraceCounts.{count_before}
 use Rattle.long_trace.{specs.Bins.CountsOn, specs.States.state_of}
 use Rattle.long_trace.proofs.counting.count_block.Given as goal

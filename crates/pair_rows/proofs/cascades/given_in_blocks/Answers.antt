@@ -1,6 +1,5 @@
 use Rattle.std.proofs.Common.{◌≤◌, false, length, rules, arith, length-append, ap, ◌∙◌}
-use Rattle.tally_base.specs.declared.event.Event.{Event}
-use Rattle.event_block.{specs.Columns.gathered, specs.Order.floor_after}
+use Rattle.tally_base.{specs.declared.event.Event.Event, specs.Columns.gathered, specs.Floors.floor_after}
 use Rattle.pair_rows.proofs.InBlocks.{order-more, floor-more}
 use Rattle.pair_rows.proofs.cascades.given_in_blocks.Goals as goal
 

@@ -1,5 +1,5 @@
 use Rattle.std.proofs.Common.{◌≡◌, ◌+◌, ◌≤◌, false, length}
-use Rattle.event_block.{specs.Columns.{gathered, IsSorted}, specs.Order.{floor_after, InOrder}}
+use Rattle.tally_base.{specs.Columns.{gathered, IsSorted}, specs.Floors.{floor_after, InOrder}}
 use Rattle.tau_cascade.specs.Cascade.{set_of}
 use Rattle.pair_rows.proofs.cascades.given_in_blocks.Given as goal
 

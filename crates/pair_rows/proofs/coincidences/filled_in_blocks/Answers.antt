@@ -1,6 +1,5 @@
 use Rattle.std.proofs.Common.{◌≤◌, false, length, rules, arith, length-append, ap, ◌∙◌}
-use Rattle.tally_base.specs.declared.event.Event.{Event}
-use Rattle.event_block.{specs.Columns.{event_at, gathered}, specs.Order.floor_after, proofs.Rows.length-rows}
+use Rattle.tally_base.{specs.declared.event.Event.Event, specs.Columns.{event_at, gathered}, specs.Floors.floor_after, proofs.BlockRows.length-rows}
 use Rattle.pair_rows.proofs.InBlocks.{order-more, floor-more}
 use Rattle.pair_rows.proofs.coincidences.filled_in_blocks.Goals as goal
 

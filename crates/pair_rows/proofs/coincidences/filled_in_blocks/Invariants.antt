@@ -1,5 +1,5 @@
 use Rattle.std.proofs.Common.{◌≡◌, ◌+◌, ◌≤◌, false, length}
-use Rattle.event_block.{specs.Columns.{gathered, IsSorted}, specs.Order.{floor_after, InOrder}}
+use Rattle.tally_base.{specs.Columns.{gathered, IsSorted}, specs.Floors.{floor_after, InOrder}}
 use Rattle.coincidence.specs.Coincidence.{set_of}
 use Rattle.pair_rows.proofs.coincidences.filled_in_blocks.Given as goal
 

@@ -1,5 +1,5 @@
 use Rattle.std.proofs.Common.{◌≡◌, ◌+◌, ◌<◌, ◌≤◌, ℕ, Bool, true, false, length, sym, rules, arith, if◌then◌else◌}
-use Rattle.event_block.specs.Columns.{event_at}
+use Rattle.tally_base.specs.Columns.{event_at}
 use Rattle.gate_plan.specs.Groups.{sorting_of}
 use Rattle.photon_pick.{specs.Chosen.is_chosen, proofs.Chooses.{chosen-more, inside-more}}
 use Rattle.photon_pick.proofs.choosing.choose.Goals as goal

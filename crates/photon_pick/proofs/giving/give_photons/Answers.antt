@@ -1,8 +1,7 @@
 use Rattle.std.proofs.Common.{◌≡◌, ◌<◌, ◌≤◌, ℕ, Bool, true, false, ◌∷◌, Err, ap, sym, subst, refl, rules, arith, ⊎_elim, slice_index}
 use Rattle.std.proofs.lemmas.Result.{err_from_is_err_and}
-use Rattle.tally_base.{specs.declared.event.Event.Event, specs.Events.is_photon}
+use Rattle.tally_base.{specs.declared.event.Event.Event, specs.Events.is_photon, specs.Columns.{event_at, rows}, specs.Floors.{floor_after, InOrder}, proofs.BlockRows.more_rows, proofs.Floors.order-at}
 use Rattle.ptu_definitions.specs.Fitting.{KindFits}
-use Rattle.event_block.{specs.Columns.{event_at, rows}, specs.Order.{floor_after, InOrder}, proofs.Rows.more_rows, proofs.Order.order-at}
 use Rattle.record_stream.proofs.Eaches.{all-rows}
 use Rattle.record_write.{specs.Picked.is_too_late, specs.Picker.{mode_of, last_by}}
 use Rattle.photon_pick.{specs.Giving.{pen, Gave}, proofs.Gives.{Gave-more, Stopped-late, Stopped-cut, rows-part, floor-front}}

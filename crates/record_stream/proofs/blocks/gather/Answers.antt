@@ -1,9 +1,8 @@
 use Rattle.std.proofs.Common.{◌≡◌, ◌+◌, ◌^◌, ◌<◌, ◌≤◌, ◌++◌, [], ℕ, length, take, get_or, length-take-le, refl, sym, ap, subst, ◌∙◌, arith, rules}
 use Rattle.std.{proofs.lemmas.List.take_all, specs.Int.{from_le_bytes, w32}}
 use Rattle.ptu_definitions.{proofs.FittingLemmas.meaning-fits, specs.Layouts.meaning_of, specs.Fours.numbers, specs.Times.{amount, event_of}}
-use Rattle.tally_base.specs.Limits.{wrap_limit}
+use Rattle.tally_base.{specs.Limits.wrap_limit, specs.Columns.written}
 use Rattle.abs_time.specs.Placing.{placed_by}
-use Rattle.event_block.specs.Columns.{written}
 use Rattle.record_layout.{specs.declared.row.Row.Row, specs.Rowed.raw_of}
 use Rattle.record_stream.{specs.Blocks.{chosen, Adds}, specs.Rows.{ordered_below, gathered_below, event_below, greatest_with_row}, specs.Walking.{how_of, greatest_of, clock_in, Gathers}, proofs.Adding.places-push, proofs.Fours.more_at, proofs.Gathering.{chosen-append, gathers-none, none-reserved, in_line-more, adds-more}, proofs.RowEvents.chosen-row, proofs.Wraps.amount-small}
 use Rattle.record_stream.proofs.blocks.gather.Goals as goal

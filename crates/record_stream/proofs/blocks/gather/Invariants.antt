@@ -1,6 +1,6 @@
 use Rattle.std.proofs.Common.{◌≡◌, ◌+◌, ◌*◌, ◌^◌, ◌≤◌, take}
 use Rattle.abs_time.specs.Placing.{base_of}
-use Rattle.event_block.specs.Columns.{count, sorted, written}
+use Rattle.tally_base.specs.Columns.{count, sorted, written}
 use Rattle.record_stream.specs.Walking.{clock_in, Gathers}
 use Rattle.record_stream.proofs.blocks.gather.Given as goal
 

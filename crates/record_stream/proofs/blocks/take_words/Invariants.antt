@@ -1,6 +1,6 @@
 use Rattle.std.proofs.Common.{◌≡◌, ◌+◌, ◌≤◌, ◌++◌, List, ℕ, length}
 use Rattle.ptu_definitions.specs.Fours.{numbers}
-use Rattle.event_block.specs.Columns.{count, sorted}
+use Rattle.tally_base.specs.Columns.{count, sorted}
 use Rattle.record_stream.{specs.Feeding.{Follows, GaveOn}, specs.Walking.{how_of, given_by, greatest_of, records_of, IsBehind}}
 use Rattle.record_stream.proofs.blocks.take_words.Given as goal
 

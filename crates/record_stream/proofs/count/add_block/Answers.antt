@@ -1,5 +1,5 @@
 use Rattle.std.proofs.Common.{◌≡◌, ◌-◌, ◌∙◌, ◌<◌, ap, arith, refl, Some, if◌then◌else◌}
-use Rattle.event_block.specs.Columns.{event_at, time_at, rows}
+use Rattle.tally_base.specs.Columns.{event_at, time_at, rows}
 use Rattle.record_stream.{specs.OneMore.{first_with, last_with}, specs.Summing.time_if, proofs.Summaries.{first-rows, last-rows}}
 use Rattle.record_stream.proofs.count.add_block.Goals as goal
 

@@ -1,8 +1,7 @@
 use Rattle.std.proofs.Common.{◌≡◌, ◌+◌, ◌-◌, ◌<◌, ◌++◌, [], ℕ, List, drop, length, map, min, sym, ap, ◌∙◌, arith, length-append, length-drop}
-use Rattle.tally_base.specs.declared.event.Event.{Event}
+use Rattle.tally_base.{specs.declared.event.Event.Event, specs.Columns.{event_at, gathered, rows, time_at}, specs.declared.block.Block.Block, proofs.BlockRows.length-rows}
 use Rattle.ptu_definitions.{specs.Settled.{not_marked, ordered}, specs.Streams.events_in, specs.Times.events}
 use Rattle.abs_time.specs.Placing.{placed_by}
-use Rattle.event_block.{specs.Columns.{event_at, gathered, rows, time_at}, specs.declared.block.Block.Block, proofs.Rows.length-rows}
 use Rattle.settle.{specs.Standing.{kept_back, last_place, last_time}, specs.declared.settle.Settle.Settle, specs.Passing.{place_after, time_after}}
 use Rattle.record_stream.{specs.Walking.{how_of, clock_in, IsBlank}, proofs.Passed.{block-joins, comes_behind, delivers_passed, lets_passed, place-rows, stays-low, stays-rising, time-rows}}
 use Rattle.record_stream.proofs.letting_go.pass_block.Goals as goal

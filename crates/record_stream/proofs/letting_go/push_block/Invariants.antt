@@ -1,6 +1,6 @@
 use Rattle.std.proofs.Common.{◌≡◌, List, ℕ}
 use Rattle.abs_time.specs.Placing.{placed_by}
-use Rattle.event_block.specs.Columns.{event_at, gathered, rows, sorted}
+use Rattle.tally_base.specs.Columns.{event_at, gathered, rows, sorted}
 use Rattle.record_stream.{specs.LettingGo.{LetsGo, IsDelivered}, specs.Settling.IsSettledBehind, specs.Walking.{how_of, clock_in}}
 use Rattle.record_stream.proofs.letting_go.push_block.Given as goal
 

@@ -1,6 +1,6 @@
 use Rattle.std.proofs.Common.{◌≡◌, ◌+◌, ◌≤◌, ◌++◌, ◌∷◌, [], drop, length, sym, ap, ◌∙◌, append_assoc, append-nil, arith, length-append, length-drop}
 use Rattle.std.{proofs.lemmas.List.drop-append-le, proofs.Math.ListN.drop_of_length-le}
-use Rattle.event_block.{specs.Columns.{event_at, rows}, proofs.Rows.{length-rows, more_rows}}
+use Rattle.tally_base.{specs.Columns.{event_at, rows}, proofs.BlockRows.{length-rows, more_rows}}
 use Rattle.record_stream.proofs.letting_go.stay_back.Goals as goal
 
 pub loop-at-init : goal.loop-at-init

@@ -1,6 +1,5 @@
 use Rattle.std.proofs.Common.{◌≡◌, ◌≤◌, ◌+◌, ◌-◌, ◌++◌, true, sum}
-use Rattle.tally_base.{specs.Settings.image_view, specs.Tally.History}
-use Rattle.event_block.{specs.Columns.{count, item, event_at, rows}, specs.Order.floor_after}
+use Rattle.tally_base.{specs.Settings.image_view, specs.Tally.History, specs.Columns.{count, item, event_at, rows}, specs.Floors.floor_after}
 use Rattle.marker_map.specs.Lines.{image_of, markers_given, line_start}
 use Rattle.scan_image.specs.Counted.{Counted}
 use Rattle.scan_image.proofs.count.count_block.Given as goal

@@ -1,6 +1,5 @@
 use Rattle.std.proofs.Common.{◌≡◌, ◌≤◌, ◌+◌, ◌++◌, sum}
-use Rattle.tally_base.{specs.Settings.image_view, specs.Tally.History}
-use Rattle.event_block.specs.Columns.{item, rows}
+use Rattle.tally_base.{specs.Settings.image_view, specs.Tally.History, specs.Columns.{item, rows}}
 use Rattle.marker_map.{specs.declared.lines.Lines.Lines, specs.Lines.image_of}
 use Rattle.scan_image.specs.Counted.{Counted, IsStripOf}
 use Rattle.scan_image.proofs.count.count_on.Given as goal

@@ -1,5 +1,5 @@
 use Rattle.std.proofs.Common.{◌≡◌, ◌*◌, ◌≤◌, ◌++◌, drop}
-use Rattle.event_block.specs.Columns.{event_at, rows, count, gathered}
+use Rattle.tally_base.specs.Columns.{event_at, rows, count, gathered}
 use Rattle.table_out.proofs.BlockTexts.{lines}
 use Rattle.table_out.proofs.event.write_lines.Given as goal
 

@@ -1,6 +1,6 @@
 use Rattle.std.proofs.Common.{◌≡◌, ◌∙◌, ◌+◌, ap, arith, map, length}
 use Rattle.std.proofs.lemmas.List.{length-map}
-use Rattle.event_block.{specs.Columns.{gathered, events_in}, specs.Order.floor_after}
+use Rattle.tally_base.{specs.Columns.{gathered, events_in}, specs.Floors.floor_after}
 use Rattle.gate_plan.{specs.Groups.sorting_of, specs.Shifting.shifted}
 use Rattle.record_stream.specs.Blocks.{orders_markers}
 use Rattle.tally_engine.{specs.Histories.with_groups, specs.contracts.part.PartTally.TheImpl.ghosts, proofs.Shifts.{can_take-shifted, took-shifted, floor-shifted}}

@@ -1,6 +1,5 @@
 use Rattle.std.proofs.Common.{◌∙◌, ap, arith, length, length-append, [], ◌∷◌, if◌then◌else◌}
-use Rattle.tally_base.specs.Events.{is_ordered}
-use Rattle.event_block.specs.Columns.{gathered}
+use Rattle.tally_base.{specs.Events.is_ordered, specs.Columns.gathered}
 use Rattle.tally_engine.{specs.Ahead.floor_with, proofs.Aheads.pushed_floor, specs.contracts.part.PartTally.TheImpl.ghosts, proofs.Takes.{can_front, moves_push}}
 use Rattle.gate_plan.specs.Groups.{sorting_of}
 use Rattle.tally_engine.proofs.give.gather_one.Goals as goal

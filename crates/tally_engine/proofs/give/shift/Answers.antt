@@ -1,4 +1,4 @@
-use Rattle.event_block.specs.Columns.{gathered}
+use Rattle.tally_base.specs.Columns.{gathered}
 use Rattle.gate_plan.specs.Groups.{sorting_of}
 use Rattle.tally_engine.proofs.Shifts.{same_events}
 use Rattle.tally_engine.proofs.give.shift.Goals as goal

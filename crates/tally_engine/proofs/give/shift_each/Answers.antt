@@ -1,5 +1,5 @@
 use Rattle.std.proofs.Common.{◌≡◌, ◌∙◌, rules, arith, refl, sym, ap, subst, map}
-use Rattle.event_block.{specs.Codes.kind_of, specs.Columns.{event_at, code_at, rows}}
+use Rattle.tally_base.{specs.Codes.kind_of, specs.Columns.{event_at, code_at, rows}}
 use Rattle.gate_plan.{specs.Groups.sorting_of, specs.Shifting.shifted}
 use Rattle.tally_engine.proofs.Shifts.{shifted_rows, shifted_more, left_behind}
 use Rattle.tally_engine.proofs.give.shift_each.Goals as goal

@@ -1,5 +1,5 @@
 use Rattle.std.proofs.Common.{ℕ, ◌≡◌, ◌<◌, ◌≤◌}
-use Rattle.event_block.specs.Columns.{count, sorted, event_at}
+use Rattle.tally_base.specs.Columns.{count, sorted, event_at}
 use Rattle.gate_plan.{specs.Groups.sorting_of, specs.Shifting.shifted}
 use Rattle.tally_engine.proofs.give.shift_each.Given as goal
 

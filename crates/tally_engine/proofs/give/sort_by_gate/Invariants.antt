@@ -1,6 +1,5 @@
 use Rattle.std.proofs.Common.{length, List, ℕ, ◌≡◌, ◌<◌, ◌≤◌, slice_index}
-use Rattle.event_block.specs.Columns.{event_at, code_at}
-use Rattle.tally_base.specs.Settings.{GroupView}
+use Rattle.tally_base.{specs.Columns.{event_at, code_at}, specs.Settings.GroupView}
 use Rattle.gate_plan.{specs.Parting.TellsGroups, specs.Taking.groups_by}
 use Rattle.tally_engine.proofs.give.sort_by_gate.Given as goal
 

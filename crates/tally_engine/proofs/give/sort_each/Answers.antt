@@ -1,5 +1,5 @@
 use Rattle.std.proofs.Common.{◌≡◌, ◌<◌, ◌≤◌, ℕ, length, rules, arith, refl, sym, subst}
-use Rattle.event_block.specs.Columns.{event_at, code_at, dtime_at, item, rows}
+use Rattle.tally_base.specs.Columns.{event_at, code_at, dtime_at, item, rows}
 use Rattle.gate_plan.{specs.Groups.sorting_of, specs.Taking.groups_by}
 use Rattle.tally_engine.{specs.Histories.grouped, proofs.Sorts.{sorted_rows, set_more}}
 use Rattle.tally_engine.proofs.give.sort_each.Goals as goal

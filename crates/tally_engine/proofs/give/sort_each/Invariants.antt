@@ -1,5 +1,5 @@
 use Rattle.std.proofs.Common.{length, ℕ, ◌≡◌, ◌<◌, ◌≤◌, slice_index}
-use Rattle.event_block.specs.Columns.{event_at, code_at}
+use Rattle.tally_base.specs.Columns.{event_at, code_at}
 use Rattle.gate_plan.{specs.Groups.sorting_of, specs.Taking.groups_by}
 use Rattle.tally_engine.proofs.give.sort_each.Given as goal
 

@@ -1,5 +1,5 @@
 use Rattle.std.proofs.Common.{◌≡◌, ◌∙◌, ap, arith, length, [], ◌<◌, rules}
-use Rattle.event_block.{specs.Columns.gathered, specs.Order.floor_after}
+use Rattle.tally_base.{specs.Columns.gathered, specs.Floors.floor_after}
 use Rattle.gate_plan.specs.Groups.{sorting_of}
 use Rattle.record_stream.specs.Blocks.{orders_markers}
 use Rattle.tally_engine.{specs.Ahead.floor_with, specs.contracts.part.PartTally.TheImpl.ghosts, proofs.Behind.{can_parts, can_rest, moves_two}}

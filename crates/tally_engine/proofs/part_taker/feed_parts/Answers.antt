@@ -1,10 +1,9 @@
 use Rattle.std.proofs.Common.{rules, arith, All, OnOk, ◌≡◌, ◌<◌, ◌++◌, ◌∙◌, ap, sym, List, length, subst, get_or}
-use Rattle.event_block.{specs.Columns.gathered, specs.Tables.HasTaken}
-use Rattle.tally_base.specs.Tally.{History}
+use Rattle.tally_base.{specs.Columns.gathered, specs.Tally.History}
 use Rattle.ptu_definitions.{specs.Words.words_of, specs.Streams.Reading}
 use Rattle.record_stream.specs.Standing.{how_of, given_by, greatest_of}
 use Rattle.gate_plan.{specs.Groups.sorting_of, specs.Shifting.Sorting}
-use Rattle.tally_engine.{specs.contracts.part.PartTally.TheImpl.ghosts, specs.declared.part.Part.Part, specs.Histories.{settled_history, with_groups}, specs.Pieces.TablesFollow, specs.Taker.gave_none, proofs.Feeds.{fed_whole, counts_on, at_same, both_on_ok}, proofs.Takes.{holding_none, holding_all, standing_took}}
+use Rattle.tally_engine.{specs.contracts.part.PartTally.TheImpl.ghosts, specs.declared.part.Part.Part, specs.Histories.{settled_history, with_groups}, specs.Pieces.TablesFollow, specs.Taker.gave_none, proofs.Feeds.{fed_whole, counts_on, at_same, both_on_ok}, proofs.Takes.{holding_none, holding_all, standing_took}, specs.Tables.HasTaken}
 use Rattle.tally_engine.proofs.part_taker.feed_parts.Goals as goal
 
 pub returns-clause-answers : goal.returns-clause-answers

@@ -1,9 +1,9 @@
 use Rattle.std.proofs.Common.{rules, arith, All, false, ◌≡◌, ◌<◌, ◌++◌, List, length, subst, get_or}
-use Rattle.event_block.{specs.Columns.gathered, specs.Tables.HasTaken}
+use Rattle.tally_base.specs.Columns.{gathered}
 use Rattle.ptu_definitions.specs.Words.{words_of}
 use Rattle.record_stream.specs.Standing.{how_of}
 use Rattle.gate_plan.{specs.Groups.sorting_of, specs.Shifting.Sorting}
-use Rattle.tally_engine.{specs.contracts.part.PartTally.TheImpl.ghosts, specs.declared.part.Part.Part, specs.Histories.{settled_history, with_groups}, specs.Parts.Ends, specs.Taker.gave_none, proofs.Feeds.{at_same, ends_by, history-ends, inside_of}, proofs.Takes.{holding_none, holding_all}}
+use Rattle.tally_engine.{specs.contracts.part.PartTally.TheImpl.ghosts, specs.declared.part.Part.Part, specs.Histories.{settled_history, with_groups}, specs.Parts.Ends, specs.Taker.gave_none, proofs.Feeds.{at_same, ends_by, history-ends, inside_of}, proofs.Takes.{holding_none, holding_all}, specs.Tables.HasTaken}
 use Rattle.tally_engine.proofs.part_taker.finish_parts.Goals as goal
 
 pub returns-clause-ends : goal.returns-clause-ends

@@ -1,7 +1,6 @@
 use Rattle.std.proofs.Common.{◌≡◌, ◌∙◌, ◌+◌, ◌<◌, ◌≤◌, cond, length, drop, rules, arith, slice_set}
 use Rattle.std.proofs.lemmas.List.{drop-set-add, length-drop}
-use Rattle.tally_base.specs.Settings.{correlation_view}
-use Rattle.event_block.{specs.Columns.{item, rows}, proofs.Rows.more_rows}
+use Rattle.tally_base.{specs.Settings.correlation_view, specs.Columns.{item, rows}, proofs.BlockRows.more_rows}
 use Rattle.tau_cascade.{specs.Correlation.{in_first, in_second}, proofs.Blocks.{mine, weight_row, some_weight, gather_step}, proofs.Follows.byte_small}
 use Rattle.tau_cascade.proofs.bins.gather.Goals as goal
 

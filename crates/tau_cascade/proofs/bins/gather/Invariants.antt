@@ -1,6 +1,5 @@
 use Rattle.std.proofs.Common.{◌≡◌, ◌≤◌, take, drop}
-use Rattle.tally_base.specs.Settings.{correlation_view}
-use Rattle.event_block.specs.Columns.{item, rows}
+use Rattle.tally_base.{specs.Settings.correlation_view, specs.Columns.{item, rows}}
 use Rattle.tau_cascade.specs.Bins.{photon_bins}
 use Rattle.tau_cascade.proofs.bins.gather.Given as goal
 

@@ -1,6 +1,5 @@
 use Rattle.std.proofs.Math.Logic.{∥∥₁_map}
-use Rattle.tally_base.specs.Settings.{correlation_view}
-use Rattle.event_block.specs.Columns.{events_in}
+use Rattle.tally_base.{specs.Settings.correlation_view, specs.Columns.events_in}
 use Rattle.tau_cascade.{specs.Correlation.photons_of, proofs.Blocks.{block_comes, photons-append}}
 use Rattle.tau_cascade.proofs.cascade.give_block.Goals as goal
 

@@ -1,6 +1,5 @@
 use Rattle.std.proofs.Common.{◌≡◌, ◌<◌, ◌≤◌, ◌/◌, ◌&&◌, length, refl, rules, arith, nat_lt, nat_le, ◌==◌, if◌then◌else◌}
-use Rattle.tally_base.{specs.Events.is_in, specs.Settings.hist_view}
-use Rattle.event_block.specs.Columns.{code_at, dtime_at, groups_at}
+use Rattle.tally_base.{specs.Events.is_in, specs.Settings.hist_view, specs.Columns.{code_at, dtime_at, groups_at}}
 use Rattle.tcspc_hist.proofs.Blocks.{count-row, one_at_most}
 use Rattle.tcspc_hist.proofs.hist.count_block.Goals as goal
 

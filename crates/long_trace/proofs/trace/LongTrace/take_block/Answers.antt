@@ -1,6 +1,5 @@
 use Rattle.std.proofs.Common.{◌∙◌, false, refl, sym, ap, arith}
-use Rattle.event_block.{specs.Columns.{item, gathered, events_in}, specs.Order.{floor_after, InOrder}, proofs.Greatest.greatest-rows, proofs.Rows.length-rows}
-use Rattle.tally_base.specs.Tally.{greatest_time}
+use Rattle.tally_base.{specs.Columns.{item, gathered, events_in}, specs.Floors.{floor_after, InOrder}, proofs.Greatest.greatest-rows, proofs.BlockRows.length-rows, specs.Tally.greatest_time}
 use Rattle.long_trace.proofs.Given.{GivenMore-counts}
 use Rattle.long_trace.proofs.trace.LongTrace.take_block.Goals as goal
 

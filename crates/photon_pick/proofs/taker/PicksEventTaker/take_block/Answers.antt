@@ -1,8 +1,7 @@
 use Rattle.std.proofs.Common.{◌≡◌, ◌∙◌, ◌+◌, true, All, filter, length, ap, sym, subst, refl}
 use Rattle.std.proofs.lemmas.List.Elements.{All-weaker, All-filter, filter_passes}
-use Rattle.tally_base.specs.Events.{is_photon}
+use Rattle.tally_base.{specs.Events.is_photon, specs.Columns.gathered, specs.Floors.InOrder}
 use Rattle.ptu_definitions.specs.Fitting.{KindFits}
-use Rattle.event_block.{specs.Columns.gathered, specs.Order.InOrder}
 use Rattle.gate_plan.specs.Groups.{sorting_of}
 use Rattle.record_stream.specs.Blocks.{orders_markers}
 use Rattle.record_write.specs.Picker.{mode_of, last_by}

@@ -1,6 +1,6 @@
 use Rattle.std.proofs.Common.{◌≡◌, ◌<◌, [], length, ap, arith, rules, sym, refl, append-nil}
 use Rattle.std.proofs.lemmas.Result.{err_from_is_err_and}
-use Rattle.event_block.specs.Columns.{event_at, gathered, rows}
+use Rattle.tally_base.specs.Columns.{event_at, gathered, rows}
 use Rattle.ptu_cli.proofs.ListedBlocks.{Listed-block, ListedShort-block}
 use Rattle.ptu_cli.proofs.events.EventLinesEventTaker.take_block.Goals as goal
 

@@ -1,6 +1,6 @@
 use Rattle.std.proofs.Common.{◌≡◌, ◌<◌, [], length, ap, arith, rules, sym, refl, append-nil}
 use Rattle.std.proofs.lemmas.Result.{err_from_is_err_and}
-use Rattle.event_block.specs.Columns.{event_at, gathered, rows}
+use Rattle.tally_base.specs.Columns.{event_at, gathered, rows}
 use Rattle.gate_plan.specs.Groups.{sorting_of}
 use Rattle.long_trace.specs.LongTrace.{floor_of}
 use Rattle.ptu_cli.proofs.TraceSteps.{Traced-block, TracedShort-block, block-in_order, block-below, block-length}

@@ -1,5 +1,5 @@
 use Rattle.std.proofs.Common.{◌≡◌, ◌∙◌, [], ap, length, sym}
-use Rattle.event_block.{specs.Columns.{event_at, gathered, sorted}, specs.declared.block.Block.Block, proofs.Rows.length-rows}
+use Rattle.tally_base.{specs.Columns.{event_at, gathered, sorted}, specs.declared.block.Block.Block, proofs.BlockRows.length-rows}
 use Rattle.record_stream.specs.Walking.{IsBlank}
 use Rattle.record_stream.proofs.settled_blocks.Room.new.Goals as goal
 

@@ -1,7 +1,7 @@
 use Rattle.std.proofs.Common.{◌+◌, ◌<◌, ◌≤◌, subst, ◌∙◌, arith, rules}
 use Rattle.std.proofs.lemmas.Result.{err_from_is_err_and}
 use Rattle.ptu_definitions.specs.Fitting.{KindFits}
-use Rattle.event_block.{specs.Columns.{event_at, rows}, proofs.Order.order-at, proofs.Rows.{length-rows, rows-split}}
+use Rattle.tally_base.{specs.Columns.{event_at, rows}, proofs.Floors.order-at, proofs.BlockRows.{length-rows, rows-split}}
 use Rattle.record_stream.{specs.Blocks.orders_markers, proofs.Eaches.{all-rows, on_time-rows, ordered-moves, floor-step}}
 use Rattle.record_stream.proofs.taker.EventTaker.take_block.Goals as goal
 

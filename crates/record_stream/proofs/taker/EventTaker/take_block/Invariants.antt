@@ -1,6 +1,6 @@
 use Rattle.std.proofs.Common.{◌≡◌, ◌+◌, ◌≤◌, ◌++◌}
 use Rattle.ptu_definitions.specs.Kept.{Marked}
-use Rattle.event_block.{specs.Columns.{event_at, rows}, specs.Order.floor_after}
+use Rattle.tally_base.{specs.Columns.{event_at, rows}, specs.Floors.floor_after}
 use Rattle.record_stream.specs.Blocks.{orders_markers, on_time}
 use Rattle.record_stream.proofs.taker.EventTaker.take_block.Given as goal
 

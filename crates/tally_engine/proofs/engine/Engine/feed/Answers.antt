@@ -2,7 +2,7 @@ use Rattle.std.proofs.Common.{rules, arith, ◌≤◌, ◌≡◌, ◌++◌, refl
 use Rattle.std.{proofs.Math.Logic.{∥∥₁_map, ∥∥₁_elim}, proofs.Props.props, proofs.lemmas.Result.on_ok_weaker, specs.Vec.with_items}
 use Rattle.ptu_definitions.{specs.Words.words_of, proofs.Firsts.record_refusal-inside}
 use Rattle.record_stream.{specs.Standing.{carried_by, refused_with}, proofs.Fours.refused-bytes, proofs.Lasts.streamed-shown}
-use Rattle.event_block.proofs.Slices.{whole_slice}
+use Rattle.tally_base.proofs.Slices.{whole_slice}
 use Rattle.tally_engine.{proofs.Slices.same_map, proofs.Refusals.{where_taken, of_faults, no_write}, proofs.Opens.{kept_within, engine_within}}
 use Rattle.tally_engine.proofs.engine.Engine.feed.Goals as goal
 

@@ -1,5 +1,5 @@
 use Rattle.std.proofs.Common.{rules, ◌≡◌, refl, sym, ap, ◌∙◌, length, None, Some}
-use Rattle.event_block.proofs.Slices.{whole_slice}
+use Rattle.tally_base.proofs.Slices.{whole_slice}
 use Rattle.record_stream.{specs.Standing.refused_with, proofs.Lasts.streamed-refused}
 use Rattle.tally_engine.{specs.contracts.part.PartTally.TheImpl.ghosts, proofs.Slices.same_map, proofs.Opens.part_worked, proofs.Refusals.no_write}
 use Rattle.tally_engine.proofs.engine.Engine.finish.Goals as goal

@@ -1,5 +1,5 @@
 use Rattle.std.proofs.Common.{rules, arith, ◌≡◌, ◌<◌, length}
-use Rattle.event_block.specs.Columns.{gathered}
+use Rattle.tally_base.specs.Columns.{gathered}
 use Rattle.gate_plan.specs.Groups.{sorting_of}
 use Rattle.tally_engine.{specs.Ahead.{taken_with, floor_with}, specs.contracts.part.PartTally.TheImpl.ghosts, proofs.Takes.{can_take, waits_on, gave_more}}
 use Rattle.tally_engine.proofs.part_taker.PartTakerEventTaker.take.Goals as goal

@@ -1,5 +1,5 @@
 use Rattle.std.proofs.Common.{rules, arith, ◌≡◌, ◌<◌, length}
-use Rattle.event_block.specs.Columns.{gathered}
+use Rattle.tally_base.specs.Columns.{gathered}
 use Rattle.gate_plan.specs.Groups.{sorting_of}
 use Rattle.tally_engine.{specs.Ahead.{taken_with, floor_with}, specs.contracts.part.PartTally.TheImpl.ghosts, proofs.Aheads.at_none, proofs.Behind.{can_block, waits_block, gave_block}}
 use Rattle.tally_engine.proofs.part_taker.PartTakerEventTaker.take_block.Goals as goal

@@ -1,9 +1,0 @@
-pub mod Rows
-pub mod Copied
-pub mod Order
-pub mod Props
-pub mod Greatest
-pub mod Back
-pub mod Slices
-pub mod Sorted
-pub mod Lower

@@ -1,0 +1,12 @@
+use Rattle.std.proofs.Common.{◌≡◌, ◌≤◌}
+use Rattle.tally_base.{specs.Columns.{event_at, rows, count, gathered}, specs.Floors.floor_after}
+use Rattle.tally_base.proofs.block.Block.floor_after.Given as goal
+
+abbrev pub invariant-back : goal.invariant-back
+invariant-back l = record {
+  few : l.at ≤ count l.self;
+  same : floor_after l.strict l.floor (gathered l.self) ≡ floor_after l.strict l.floor (rows (event_at l.self) l.at);
+}
+
+abbrev pub decreases-back : goal.decreases-back
+decreases-back l = l.at

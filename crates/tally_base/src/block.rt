@@ -1,0 +1,326 @@
+// Events in columns.
+ghost use Rattle.std.specs.Prelude.{◌≡◌, ◌≤◌};
+ghost use Rattle.tally_base.{specs.Size.block_size, specs.Codes.{code_of, dtime_of, kind_of, joined, code_in, dtime_in, IsByte, InNoGroup}};
+
+use crate::event::{Event, EventKind, is_in};
+
+/// The most events of a block.
+pub const BLOCK_SIZE: usize = 64;
+
+/// Up to 64 events in columns, each with its groups, so that a table reads only the columns that it needs.
+#[derive(Clone, Copy)]
+pub struct Block {
+    len: usize,
+    places: [u64; BLOCK_SIZE],
+    times: [u64; BLOCK_SIZE],
+    // The input of a photon, or 256 and the bits of a marker, and its dtime in the upper half: one column, so
+    // that an event takes a store less.
+    marks: [u32; BLOCK_SIZE],
+    groups: [u64; BLOCK_SIZE],
+    // How many have their groups.
+    sorted: usize,
+    ghost few: { len ≤ block_size },
+    ghost some: { sorted ≤ len },
+    ghost markers: { InNoGroup sorted marks groups },
+}
+
+impl Block {
+    ghost use Rattle.std.specs.Prelude.{◌≡◌, ◌≢◌, ◌+◌, ◌<◌, ◌++◌, ◌∷◌, ◌&&◌, [], length, ℕ, nat_lt, slice_index, if◌then◌else◌};
+    ghost use Rattle.tally_base.{specs.Events.{is_photon, is_in}, specs.Columns.{events_in, IsSorted, count, sorted, event_at, groups_at, code_at, dtime_at, time_at, item, gathered, event_by, written}, specs.Floors.floor_after};
+
+    /// No events.
+    pub fn new() -> Block
+        ensures empty { gathered result ≡ [] }
+        ensures unsorted { sorted result ≡ 0 }
+    {
+        Block {
+            len: 0,
+            places: [0; BLOCK_SIZE],
+            times: [0; BLOCK_SIZE],
+            marks: [0; BLOCK_SIZE],
+            groups: [0; BLOCK_SIZE],
+            sorted: 0,
+        }
+    }
+
+    /// This event alone, with its groups, or with none where it is a marker.
+    pub fn of_one(e: &Event, groups: u64) -> Block
+        ensures sorted { IsSorted result }
+        ensures event { gathered result ≡ e.now ∷ [] }
+        ensures events { events_in result ≡ (e.now, if is_photon e.now then groups else 0) ∷ [] }
+    {
+        let mut block = Block::new();
+        block.push(e);
+        block.put(0, if e.is_photon() { groups } else { 0 });
+        block
+    }
+
+    /// How many events there are.
+    #[inline(always)]
+    pub fn len(&self) -> usize
+        ensures value { result ≡ length (gathered self.now) }
+        ensures count { result ≡ count self.now }
+        ensures few { result ≤ BLOCK_SIZE }
+    {
+        self.len
+    }
+
+    /// The event at a place, from 0, with its groups.
+    #[inline(always)]
+    pub fn get(&self, at: usize) -> (Event, u64)
+        requires { at < count self.now }
+        ensures { result ≡ item self.now at }
+    {
+        (self.event(at), self.groups[at])
+    }
+
+    /// The event at a place, from 0.
+    #[inline(always)]
+    pub fn event(&self, at: usize) -> Event
+        requires { at < count self.now }
+        ensures { result ≡ event_at self.now at }
+    {
+        Event {
+            place: self.places[at],
+            kind: kind_of(code_in(self.marks[at]), dtime_in(self.marks[at])),
+            time: self.times[at],
+        }
+    }
+
+    /// The input of the photon at a place, from 0, or at least 256 for a marker.
+    #[inline(always)]
+    pub fn code(&self, at: usize) -> u16
+        requires { at < count self.now }
+        ensures { result ≡ code_at self.now at }
+    {
+        code_in(self.marks[at])
+    }
+
+    /// The dtime of the event at a place, from 0. That of a marker has no meaning.
+    #[inline(always)]
+    pub fn dtime(&self, at: usize) -> u16
+        requires { at < count self.now }
+        ensures { result ≡ dtime_at self.now at }
+    {
+        dtime_in(self.marks[at])
+    }
+
+    /// The time of the event at a place, from 0.
+    #[inline(always)]
+    pub fn time(&self, at: usize) -> u64
+        requires { at < count self.now }
+        ensures { result ≡ time_at self.now at }
+    {
+        self.times[at]
+    }
+
+    /// Whether the event at a place, from 0, is a photon of the group, 1 to 64. It takes no branch: a
+    /// marker is in no group.
+    #[inline(always)]
+    pub fn has_photon(&self, at: usize, group: u8) -> bool
+        requires inside { at < sorted self.now }
+        requires group { (0 < group) × (group ≤ 64) }
+        ensures { result ≡ (is_in (groups_at self.now at) group && nat_lt (code_at self.now at) 256) }
+    {
+        is_in(self.groups[at], group)
+    }
+
+    /// 1 where the event at a place, from 0, is a photon of the group, 1 to 64, else 0. It takes no branch.
+    #[inline(always)]
+    pub fn photons_in(&self, at: usize, group: u8) -> u64
+        requires inside { at < sorted self.now }
+        requires group { (0 < group) × (group ≤ 64) }
+        ensures { result ≡ (if is_in (groups_at self.now at) group && nat_lt (code_at self.now at) 256 then 1 else 0) }
+    {
+        u64::from(self.has_photon(at, group))
+    }
+
+    /// The time of the last event that comes in order, or this one. In a strict order markers come too.
+    pub fn floor_after(&self, strict: bool, floor: u64) -> u64
+        ensures { result ≡ floor_after strict floor (gathered self.now) }
+    {
+        let mut at = self.len().min(BLOCK_SIZE);
+        'back: while at > 0 {
+            at -= 1;
+            let moves = strict | (code_in(self.marks[at]) < 256);
+            if moves {
+                return self.times[at];
+            }
+        }
+        floor
+    }
+
+    /// Writes an event to a place, from 0, at or behind the end. Those behind the end are no events of the
+    /// block before `keep` takes them in.
+    #[inline(always)]
+    pub fn write(&mut self, at: usize, place: u64, code: u16, dtime: u16, time: u64)
+        requires behind { count self.old ≤ at }
+        requires room { at < BLOCK_SIZE }
+        ensures same { written self.new at ≡ written self.old at }
+        ensures more { written self.new (at + 1)
+            ≡ written self.old at ++ event_by place code dtime time ∷ [] }
+        ensures count { count self.new ≡ count self.old }
+        ensures unsorted { sorted self.new ≡ sorted self.old }
+    {
+        self.places[at] = place;
+        self.times[at] = time;
+        self.marks[at] = joined(code, dtime);
+    }
+
+    /// Takes in what was written up to this place.
+    #[inline(always)]
+    pub fn keep(&mut self, len: usize)
+        requires behind { count self.old ≤ len }
+        requires room { len ≤ BLOCK_SIZE }
+        ensures kept { gathered self.new ≡ written self.old len }
+        ensures unsorted { sorted self.new ≡ sorted self.old }
+    {
+        self.len = len;
+    }
+
+    /// Puts an event behind the others. There are fewer than 64. Its groups are to be put.
+    #[inline(always)]
+    pub fn push(&mut self, e: &Event)
+        requires { length (gathered self.old) < BLOCK_SIZE }
+        ensures more { gathered self.new ≡ gathered self.old ++ e.now ∷ [] }
+        ensures unsorted { sorted self.new ≡ sorted self.old }
+    {
+        let at = self.len;
+        self.places[at] = e.place;
+        self.times[at] = e.time;
+        self.marks[at] = joined(code_of(&e.kind), dtime_of(&e.kind));
+        self.len = at + 1;
+    }
+
+    /// Puts the first so many events of another block behind the others, each column at once. Their groups are
+    /// to be put.
+    #[inline(always)]
+    pub fn push_front(&mut self, other: &Block, front: usize)
+        requires inside { front ≤ count other.now }
+        requires room { length (gathered self.old) + front ≤ BLOCK_SIZE }
+        ensures more { gathered self.new ≡ gathered self.old ++ written other.now front }
+        ensures unsorted { sorted self.new ≡ sorted self.old }
+    {
+        let start = self.len();
+        let end = start + front;
+        self.places[start..end].copy_from_slice(&other.places[..front]);
+        self.times[start..end].copy_from_slice(&other.times[..front]);
+        self.marks[start..end].copy_from_slice(&other.marks[..front]);
+        self.len = end;
+    }
+
+    /// Gives the event at a place, from 0, another dtime. That of a marker has no meaning.
+    #[inline(always)]
+    pub fn set_dtime(&mut self, at: usize, dtime: u16)
+        requires inside { at < count self.old }
+        ensures there { event_at self.new at ≡ event_by (event_at self.old at).place
+            (code_at self.old at) dtime (time_at self.old at) }
+        ensures others { (i : ℕ) → i ≢ at → event_at self.new i ≡ event_at self.old i }
+        ensures count { count self.new ≡ count self.old }
+        ensures unsorted { sorted self.new ≡ sorted self.old }
+    {
+        self.marks[at] = joined(code_in(self.marks[at]), dtime);
+    }
+
+    /// Puts the groups of the event at a place, from 0, once those before it have theirs. A marker has none.
+    #[inline(always)]
+    pub fn put(&mut self, at: usize, groups: u64)
+        requires inside { at < count self.old }
+        requires next { at ≡ sorted self.old }
+        requires marker { 256 ≤ code_at self.old at → groups ≡ 0 }
+        ensures same { (i : ℕ) → event_at self.new i ≡ event_at self.old i }
+        ensures count { count self.new ≡ count self.old }
+        ensures there { groups_at self.new at ≡ groups }
+        ensures before { (i : ℕ) → i < at → groups_at self.new i ≡ groups_at self.old i }
+        ensures sorted { sorted self.new ≡ at + 1 }
+    {
+        self.groups[at] = groups;
+        self.sorted = at + 1;
+    }
+
+    /// Puts the groups of all events, each at its place. A marker has none. What stands behind the last event
+    /// has no meaning.
+    #[inline(always)]
+    pub fn put_all(&mut self, groups: &[u64; BLOCK_SIZE])
+        requires { (i : ℕ) → i < count self.old → 256 ≤ code_at self.old i
+            → slice_index groups.now i ≡ 0 }
+        ensures same { (i : ℕ) → event_at self.new i ≡ event_at self.old i }
+        ensures count { count self.new ≡ count self.old }
+        ensures there { (i : ℕ) → groups_at self.new i ≡ slice_index groups.now i }
+        ensures sorted { sorted self.new ≡ count self.old }
+    {
+        self.groups = *groups;
+        self.sorted = self.len;
+    }
+
+    /// Drops all events.
+    #[inline(always)]
+    pub fn clear(&mut self)
+        ensures empty { gathered self.new ≡ [] }
+        ensures unsorted { sorted self.new ≡ 0 }
+    {
+        self.len = 0;
+        self.sorted = 0;
+    }
+}
+
+#[inline(always)]
+fn code_of(kind: &EventKind) -> u16
+    ensures value { result ≡ code_of kind.now }
+    ensures byte { IsByte kind.now }
+{
+    match *kind {
+        EventKind::Photon { input, .. } => u16::from(input),
+        EventKind::Marker { bits } => 256 + u16::from(bits),
+    }
+}
+
+#[inline(always)]
+fn dtime_of(kind: &EventKind) -> u16
+    ensures { result ≡ dtime_of kind.now }
+{
+    match *kind {
+        EventKind::Photon { dtime, .. } => dtime,
+        EventKind::Marker { .. } => 0,
+    }
+}
+
+#[inline(always)]
+fn kind_of(code: u16, dtime: u16) -> EventKind
+    ensures { result ≡ kind_of code dtime }
+{
+    if code < 256 {
+        EventKind::Photon {
+            input: code as u8,
+            dtime,
+        }
+    } else {
+        EventKind::Marker {
+            bits: (code % 256) as u8,
+        }
+    }
+}
+
+/// A code and a dtime as one number.
+#[inline(always)]
+fn joined(code: u16, dtime: u16) -> u32
+    ensures { result ≡ joined code dtime }
+{
+    u32::from(code) + 0x1_0000 * u32::from(dtime)
+}
+
+/// The code in such a number.
+#[inline(always)]
+fn code_in(mark: u32) -> u16
+    ensures { result ≡ code_in mark }
+{
+    (mark % 0x1_0000) as u16
+}
+
+/// The dtime in such a number.
+#[inline(always)]
+fn dtime_in(mark: u32) -> u16
+    ensures { result ≡ dtime_in mark }
+{
+    (mark / 0x1_0000) as u16
+}
