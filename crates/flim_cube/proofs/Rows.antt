@@ -1,6 +1,6 @@
 -- The definitions at known events.
 use Rattle.std.proofs.Common.{◌≡◌, ℕ, refl, false, [], ◌∷◌, None, Some}
-use Rattle.tally_base.{specs.declared.event.Event.Event, specs.declared.event.EventKind.TheVariants.{Photon, Marker}, specs.Settings.{ImageView, CubeView}, specs.Tally.History}
+use Rattle.tally_base.{specs.declared.event.Event.Event, specs.declared.event.EventKind.TheVariants.{Photon, Marker}, specs.Settings.{CubeView}, specs.Tally.History}
 use Rattle.scan_image.{specs.ImageCounts.count_outside, specs.Totals.in_all_cells}
 use Rattle.flim_cube.{specs.CubeCounts.{in_cell, count_over}, specs.Totals.in_whole_cube}
 

@@ -1,38 +1,10 @@
 -- The bins of a cube and what is past them add up to the image.
-use Rattle.std.proofs.Common.{◌≡◌, ◌∙◌, ℕ, zero, suc, ◌+◌, ◌/◌, ◌<◌, ◌≤◌, Bool, true, false, ◌&&◌, cond, eqb, ltb, List, [], ◌∷◌, ◌++◌, refl, ap, sym, arith, None, Some, sum_by, nat_le}
+use Rattle.std.proofs.Common.{◌≡◌, ◌∙◌, ℕ, zero, suc, ◌+◌, ◌/◌, ◌<◌, ◌≤◌, Bool, true, false, ◌&&◌, cond, eqb, ltb, [], ◌∷◌, ◌++◌, refl, arith, None, Some, sum_by, nat_le}
 use Rattle.std.{specs.declared.option.Option.Option, specs.List.range_with_len, proofs.lemmas.Grind.common_steps, proofs.lemmas.Bool.Decides.nat_tests, proofs.lemmas.List.Sums.sum_by-cons}
-use Rattle.tally_base.{specs.declared.event.Event.Event, specs.declared.event.EventKind.EventKind, specs.declared.event.EventKind.TheVariants.{Photon, Marker}, specs.Events.{is_photon, is_photon_kind, is_in}, specs.Settings.{ImageView, CubeView}, specs.Tally.History}
+use Rattle.tally_base.{specs.declared.event.Event.Event, specs.declared.event.EventKind.EventKind, specs.declared.event.EventKind.TheVariants.{Photon, Marker}, specs.Events.{is_in}, specs.Settings.{CubeView}, specs.Tally.History}
 use Rattle.marker_map.specs.Places.{place_of}
-use Rattle.scan_image.{specs.ImageCounts.{markers, is_at, in_cell}, specs.Totals.in_all_cells, proofs.Counts.{placed-added, placed-other}, proofs.Totals.{Inside, sum-agree, sum-plus, sum-none, in-range, place-inside, by-pushes, cells-more}}
-use Rattle.flim_cube.{specs.CubeCounts.{is_in_cell, is_over, count_over}, specs.CubeCounts.in_cell as in_bin, specs.Totals.{in_pixel, in_whole_cube}, proofs.Counts.{met-photon, met-marker}}
-
--- a sum over the pixels of an image
-abbrev over_pixels : ImageView → (ℕ → ℕ → ℕ) → ℕ
-over_pixels set f = sum_by (λ y. sum_by (λ x. f x y) (range_with_len 0 set.width)) (range_with_len 0 set.height)
-
-pixels-agree : (set : ImageView) (f g : ℕ → ℕ → ℕ) → ((x y : ℕ) → f x y ≡ g x y) → over_pixels set f ≡ over_pixels set g
-pixels-agree set f g same = sum-agree (λ y. sum_by (λ x. f x y) (range_with_len 0 set.width)) (λ y. sum_by (λ x. g x y) (range_with_len 0 set.width)) (λ y. sum-agree (λ x. f x y) (λ x. g x y) (λ x. same x y) (range_with_len 0 set.width)) (range_with_len 0 set.height)
-
-pixels-plus : (set : ImageView) (f g : ℕ → ℕ → ℕ) → over_pixels set (λ x y. f x y + g x y) ≡ over_pixels set f + over_pixels set g
-pixels-plus set f g =
-    sum-agree (λ y. sum_by (λ x. f x y + g x y) (range_with_len 0 set.width)) (λ y. sum_by (λ x. f x y) (range_with_len 0 set.width) + sum_by (λ x. g x y) (range_with_len 0 set.width)) (λ y. sum-plus (λ x. f x y) (λ x. g x y) (range_with_len 0 set.width)) (range_with_len 0 set.height)
-    ∙ sum-plus (λ y. sum_by (λ x. f x y) (range_with_len 0 set.width)) (λ y. sum_by (λ x. g x y) (range_with_len 0 set.width)) (range_with_len 0 set.height)
-
-pixels-none : (set : ImageView) → over_pixels set (λ x y. 0) ≡ 0
-pixels-none set = sum-agree (λ y. sum_by (λ x. 0) (range_with_len 0 set.width)) (λ y. 0) (λ y. sum-none (range_with_len 0 set.width)) (range_with_len 0 set.height) ∙ sum-none (range_with_len 0 set.height)
-
-both : (a b : Bool) (n : ℕ) → cond (a && b) n 0 ≡ cond a (cond b n 0) 0
-both true b n = refl
-both false b n = refl
-
--- A pixel of the image is met once.
-met-count : (set : ImageView) (place : ℕ × ℕ) (n : ℕ) → Inside set (Some place) → over_pixels set (λ x y. cond (is_at x y (Some place)) n 0) ≡ n
-met-count set place n inside =
-    let row : (y : ℕ) → sum_by (λ x. cond (is_at x y (Some place)) n 0) (range_with_len 0 set.width) ≡ cond (eqb place.1 y) n 0 =
-    λ y. sum-agree (λ x. cond (is_at x y (Some place)) n 0) (λ x. cond (eqb place.0 x) (cond (eqb place.1 y) n 0) 0) (λ x. both (eqb place.0 x) (eqb place.1 y) n) (range_with_len 0 set.width)
-    ∙ in-range place.0 0 set.width (cond (eqb place.1 y) n 0) (omega arith) (omega (arith, inside.0)) in
-    sum-agree (λ y. sum_by (λ x. cond (is_at x y (Some place)) n 0) (range_with_len 0 set.width)) (λ y. cond (eqb place.1 y) n 0) row (range_with_len 0 set.height)
-    ∙ in-range place.1 0 set.height n (omega arith) (omega (arith, inside.1))
+use Rattle.scan_image.{specs.ImageCounts.{markers, is_at, in_cell}, specs.Totals.in_all_cells, proofs.Counts.{met-photon, met-marker}, proofs.Totals.{Inside, sum-agree, sum-plus, sum-none, in-range, place-inside, by-pushes, over_pixels, pixels-agree, pixels-plus, pixels-none, met-count, cells-more}}
+use Rattle.flim_cube.{specs.CubeCounts.{is_in_cell, is_over, count_over}, specs.CubeCounts.in_cell as in_bin, specs.Totals.{in_pixel, in_whole_cube}}
 
 above-range : (a start n count : ℕ) → start + n ≤ a → sum_by (λ i. cond (eqb a i) count 0) (range_with_len start n) ≡ 0
 above-range a start zero count above = refl
@@ -67,26 +39,21 @@ whole-more set h later more is =
     pixels-agree set.image (λ x y. in_pixel set x y later) (λ x y. in_pixel set x y h + sum_by (λ b. more x y b) (range_with_len 0 set.dbins)) (λ x y. sum-agree (λ b. in_bin set x y b later) (λ b. in_bin set x y b h + more x y b) (λ b. is x y b) (range_with_len 0 set.dbins) ∙ sum-plus (λ b. in_bin set x y b h) (λ b. more x y b) (range_with_len 0 set.dbins))
     ∙ pixels-plus set.image (λ x y. in_pixel set x y h) (λ x y. sum_by (λ b. more x y b) (range_with_len 0 set.dbins))
 
-not_photon : (photon of_group : Bool) → photon ≡ false → (photon && of_group) ≡ false
-not_photon photon of_group is = ap (λ b. b && of_group) is
-
 total-push : (set : CubeView) (h : History) (x : Event × ℕ) (kind : EventKind) → x.0.kind ≡ kind → Total set h → Total set (h ++ x ∷ [])
 total-push set h x (Photon input dtime) kind so_far =
     let place = place_of set.image x.0.time (markers h) in
     let bin = dtime / set.dwidth in
     let more = cond (is_in x.1 set.image.group) 1 0 in
-    let photon : is_photon x.0 ≡ true = ap is_photon_kind kind in
     let whole = whole-more set h (h ++ x ∷ []) (λ column row b. cond (is_in_cell column row b place bin) more 0) (λ column row b. met-photon set.image (λ place dtime. is_in_cell column row b place (dtime / set.dwidth)) h x place input dtime more kind refl refl) in
     let bins = pixels-agree set.image (λ column row. sum_by (λ b. cond (is_in_cell column row b place bin) more 0) (range_with_len 0 set.dbins)) (λ column row. cond (is_at column row place) (cond (ltb bin set.dbins) more 0) 0) (λ column row. met-bins set.dbins bin more (is_at column row place)) in
     let over = met-photon set.image (λ place dtime. is_over set.dbins place (dtime / set.dwidth)) h x place input dtime more kind refl refl in
-    let image = cells-more set.image h (h ++ x ∷ []) (λ column row. cond (is_at column row place) more 0) (λ column row. placed-added set.image (is_at column row) h x place more photon refl refl) in
+    let image = cells-more set.image h (h ++ x ∷ []) (λ column row. cond (is_at column row place) more 0) (λ column row. met-photon set.image (λ place dtime. is_at column row place) h x place input dtime more kind refl refl) in
     let part = parts set place bin more (place-inside set.image x.0.time (markers h)) in
     omega (arith, so_far, whole, bins, over, image, part)
 total-push set h x (Marker bits) kind so_far =
-    let other : (is_photon x.0 && is_in x.1 set.image.group) ≡ false = not_photon (is_photon x.0) (is_in x.1 set.image.group) (ap is_photon_kind kind) in
     let whole = pixels-agree set.image (λ column row. in_pixel set column row (h ++ x ∷ [])) (λ column row. in_pixel set column row h) (λ column row. sum-agree (λ b. in_bin set column row b (h ++ x ∷ [])) (λ b. in_bin set column row b h) (λ b. met-marker set.image (λ place dtime. is_in_cell column row b place (dtime / set.dwidth)) h x bits kind) (range_with_len 0 set.dbins)) in
     let over = met-marker set.image (λ place dtime. is_over set.dbins place (dtime / set.dwidth)) h x bits kind in
-    let image = pixels-agree set.image (λ column row. in_cell set.image column row (h ++ x ∷ [])) (λ column row. in_cell set.image column row h) (λ column row. placed-other set.image (is_at column row) h x other) in
+    let image = pixels-agree set.image (λ column row. in_cell set.image column row (h ++ x ∷ [])) (λ column row. in_cell set.image column row h) (λ column row. met-marker set.image (λ place dtime. is_at column row place) h x bits kind) in
     omega (arith, so_far, whole, over, image)
 
 total-none : (set : CubeView) → Total set []

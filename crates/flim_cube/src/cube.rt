@@ -4,9 +4,9 @@ ghost use Rattle.tally_base.{specs.Settings.{image_view, cube_view}, specs.Tally
 ghost use Rattle.marker_map.specs.Lines.{image_of, markers_given, line_start};
 ghost use Rattle.flim_cube.specs.Cells.{counts_of};
 
-use crate::count::{Rest, cell_of, count_block};
+use crate::count::{BinCounts, Bins, cell_of};
 use crate::spread::Cells;
-use scan_image::Lines;
+use scan_image::{Lines, Pixels, count_block};
 use std::alloc::{AllocError, Global};
 use std::sync::ledger::Ledger;
 use tally_base::{Block, CubeSet, Steps, Tally};
@@ -19,24 +19,23 @@ use tally_base::{Block, CubeSet, Steps, Tally};
 /// another, `over`. Times are sync periods, dtimes are ticks.
 #[derive(Drop)]
 pub struct FlimCube {
-    set: CubeSet,
+    bins: Bins,
     lines: Lines,
-    // Row by row, in each row by column, in each column by bin.
-    cells: Cells,
-    rest: Rest,
+    counts: BinCounts,
     taken: u64,
     floor: u64,
     closed: bool,
-    ghost sized: { length (counts_of cells) ≡ set.image.width * set.image.height * set.dbins },
-    ghost small: { sum (counts_of cells) + (rest.outside + rest.over) ≤ taken },
-    ghost of_set: { image_of lines ≡ image_view set.image },
+    ghost sized: { length (counts_of counts.cells)
+        ≡ bins.set.image.width * bins.set.image.height * bins.set.dbins },
+    ghost small: { sum (counts_of counts.cells) + (counts.outside + counts.over) ≤ taken },
+    ghost of_set: { image_of lines ≡ image_view bins.set.image },
     ghost few_markers: { markers_given lines ≤ taken },
     ghost begun: { line_start lines ≤ floor },
 }
 
 impl FlimCube {
-    ghost use Rattle.std.specs.Prelude.{length, true, IfOk, [], false};
-    ghost use Rattle.tally_base.specs.Settings.PartSettings.{CubeSettings};
+    ghost use Rattle.std.specs.Prelude.{IfOk, [], false};
+    ghost use Rattle.tally_base.{specs.Settings.PartSettings.CubeSettings};
     ghost use Rattle.scan_image.specs.ImageCounts.{count_outside};
     ghost use Rattle.flim_cube.{specs.CubeCounts.{in_cell, count_over}, specs.Cube.{Holds, set_of}};
 
@@ -50,10 +49,10 @@ impl FlimCube {
     {
         let size = set.image.width * set.image.height * set.dbins;
         Ok(FlimCube {
-            set,
+            bins: Bins::new(set),
             lines: Lines::new(&set.image),
-            cells: Cells::open(alloc, size)?,
-            rest: Rest {
+            counts: BinCounts {
+                cells: Cells::open(alloc, size)?,
                 outside: 0,
                 over: 0,
             },
@@ -67,7 +66,7 @@ impl FlimCube {
     pub fn set(&self) -> &CubeSet
         ensures { result.now ≡ set_of self.now }
     {
-        &self.set
+        &self.bins.set
     }
 
     /// How many photons of the group came in column `x` and row `y` with their dtime in bin `b`, which are
@@ -79,7 +78,7 @@ impl FlimCube {
         ensures { (h : History) → Holds self.now h
             → result ≡ in_cell (cube_view (set_of self.now)) x y b h }
     {
-        self.cells.get(cell_of(&self.set, x, y, b))
+        self.counts.cells.get(cell_of(&self.bins.set, x, y, b))
     }
 
     /// How many photons of the group came outside the image.
@@ -87,7 +86,7 @@ impl FlimCube {
         ensures { (h : History) → Holds self.now h
             → result ≡ count_outside (image_view (set_of self.now).image) h }
     {
-        self.rest.outside
+        self.counts.outside
     }
 
     /// How many photons of the group came in the image with a dtime at or past the end of the last bin.
@@ -95,7 +94,7 @@ impl FlimCube {
         ensures { (h : History) → Holds self.now h
             → result ≡ count_over (cube_view (set_of self.now)) h }
     {
-        self.rest.over
+        self.counts.over
     }
 }
 
@@ -110,7 +109,7 @@ impl Tally for FlimCube {
 
     // The time and the row of the line and the row of the next line are entries, beside those that hold the
     // bytes of the counts and the two rest counts.
-    ghost held = { λ t. entries_of t.cells + 5 };
+    ghost held = { λ t. entries_of t.counts.cells + 5 };
 
     ghost settings = { settings };
 
@@ -129,13 +128,7 @@ impl Tally for FlimCube {
     fn events<L: Ledger>(&mut self, block: &Block, _steps: &mut Steps<L>) {
         self.taken += block.len() as u64;
         self.floor = block.floor_after(true, self.floor);
-        self.rest = count_block(
-            &self.set,
-            &mut self.lines,
-            &mut self.cells,
-            self.rest,
-            block,
-        );
+        count_block(&self.bins, &mut self.lines, &mut self.counts, block);
     }
 
     fn close<L: Ledger>(&mut self, _steps: &mut Steps<L>) {

@@ -1,9 +1,9 @@
 -- Each photon of the group counts once.
 use Rattle.std.proofs.Common.{◌≡◌, ◌∙◌, ℕ, zero, suc, ◌+◌, ◌-◌, ◌/◌, ◌<◌, ◌≤◌, Bool, true, false, ◌&&◌, cond, eqb, ltb, List, [], ◌∷◌, ◌++◌, refl, ap, sym, subst, append_assoc, arith, None, Some, is_none, sum_by, option_and_then}
 use Rattle.std.{specs.declared.option.Option.Option, specs.List.range_with_len, proofs.lemmas.Grind.common_steps, proofs.lemmas.List.append-nil, proofs.lemmas.List.Sums.{sum_by-cons, sum_by_push}}
-use Rattle.tally_base.{specs.declared.event.Event.Event, specs.Events.{is_photon, is_in}, specs.Settings.ImageView, specs.Tally.History}
+use Rattle.tally_base.{specs.declared.event.Event.Event, specs.declared.event.EventKind.EventKind, specs.declared.event.EventKind.TheVariants.{Photon, Marker}, specs.Events.{is_photon, is_photon_kind, is_in}, specs.Settings.ImageView, specs.Tally.History}
 use Rattle.marker_map.{specs.Marks.Mark, specs.Places.{line_of, row_of, column_in, runs_back, within, place_of}}
-use Rattle.scan_image.{specs.ImageCounts.{markers, is_at, in_cell, count_outside}, specs.Totals.{in_all_cells, photons_of_group}, specs.Behind.one_if, proofs.Counts.{placed-photon, placed-other}}
+use Rattle.scan_image.{specs.ImageCounts.{markers, is_at, in_cell, count_outside}, specs.Totals.{in_all_cells, photons_of_group}, specs.Pushed.one_if, proofs.Counts.{met-photon, met-marker}}
 
 pub sum-agree : (f g : ℕ → ℕ) → ((i : ℕ) → f i ≡ g i) → (xs : List ℕ) → sum_by f xs ≡ sum_by g xs
 sum-agree f g same [] = refl
@@ -68,72 +68,66 @@ inside-by set time (Some row) (Some line) = tested set ((time - line.time) / set
 pub place-inside : (set : ImageView) (time : ℕ) (ms : List Mark) → Inside set (place_of set time ms)
 place-inside set time ms = inside-by set time (row_of set ms) (line_of set ms)
 
-both : (a b : Bool) → one_if (a && b) ≡ cond a (one_if b) 0
-both true b = refl
-both false b = refl
+-- a sum over the pixels of an image
+abbrev pub over_pixels : ImageView → (ℕ → ℕ → ℕ) → ℕ
+over_pixels set f = sum_by (λ y. sum_by (λ x. f x y) (range_with_len 0 set.width)) (range_with_len 0 set.height)
 
--- how often a place is met in the cells
-abbrev pub met_in_cells : ImageView → Option (ℕ × ℕ) → ℕ
-met_in_cells set place = sum_by (λ y. sum_by (λ x. one_if (is_at x y place)) (range_with_len 0 set.width)) (range_with_len 0 set.height)
+pub pixels-agree : (set : ImageView) (f g : ℕ → ℕ → ℕ) → ((x y : ℕ) → f x y ≡ g x y) → over_pixels set f ≡ over_pixels set g
+pixels-agree set f g same = sum-agree (λ y. sum_by (λ x. f x y) (range_with_len 0 set.width)) (λ y. sum_by (λ x. g x y) (range_with_len 0 set.width)) (λ y. sum-agree (λ x. f x y) (λ x. g x y) (λ x. same x y) (range_with_len 0 set.width)) (range_with_len 0 set.height)
 
--- A place is met in one cell, and no place in none.
-met-once : (set : ImageView) (place : Option (ℕ × ℕ)) → Inside set place → met_in_cells set place + one_if (is_none place) ≡ 1
-met-once set None inside =
-    let rows = sum-agree (λ y. sum_by (λ x. 0) (range_with_len 0 set.width)) (λ y. 0) (λ y. sum-none (range_with_len 0 set.width)) (range_with_len 0 set.height) in
-    let none = sum-none (range_with_len 0 set.height) in
-    omega (arith, rows, none)
-met-once set (Some place) inside =
-    let row : (y : ℕ) → sum_by (λ x. one_if (is_at x y (Some place))) (range_with_len 0 set.width) ≡ cond (eqb place.1 y) 1 0 =
-    λ y. sum-agree (λ x. one_if (is_at x y (Some place))) (λ x. cond (eqb place.0 x) (one_if (eqb place.1 y)) 0) (λ x. both (eqb place.0 x) (eqb place.1 y)) (range_with_len 0 set.width)
-    ∙ in-range place.0 0 set.width (one_if (eqb place.1 y)) (omega arith) (omega (arith, inside.0)) in
-    let rows = sum-agree (λ y. sum_by (λ x. one_if (is_at x y (Some place))) (range_with_len 0 set.width)) (λ y. cond (eqb place.1 y) 1 0) row (range_with_len 0 set.height) in
-    let one = in-range place.1 0 set.height 1 (omega arith) (omega (arith, inside.1)) in
-    omega (arith, rows, one)
+pub pixels-plus : (set : ImageView) (f g : ℕ → ℕ → ℕ) → over_pixels set (λ x y. f x y + g x y) ≡ over_pixels set f + over_pixels set g
+pixels-plus set f g =
+    sum-agree (λ y. sum_by (λ x. f x y + g x y) (range_with_len 0 set.width)) (λ y. sum_by (λ x. f x y) (range_with_len 0 set.width) + sum_by (λ x. g x y) (range_with_len 0 set.width)) (λ y. sum-plus (λ x. f x y) (λ x. g x y) (range_with_len 0 set.width)) (range_with_len 0 set.height)
+    ∙ sum-plus (λ y. sum_by (λ x. f x y) (range_with_len 0 set.width)) (λ y. sum_by (λ x. g x y) (range_with_len 0 set.width)) (range_with_len 0 set.height)
 
-pub cells-more : (set : ImageView) (h later : History) (more : ℕ → ℕ → ℕ) → ((x y : ℕ) → in_cell set x y later ≡ in_cell set x y h + more x y) → in_all_cells set later ≡ in_all_cells set h + sum_by (λ y. sum_by (λ x. more x y) (range_with_len 0 set.width)) (range_with_len 0 set.height)
-cells-more set h later more is =
-    let row : (y : ℕ) → sum_by (λ x. in_cell set x y later) (range_with_len 0 set.width) ≡ sum_by (λ x. in_cell set x y h) (range_with_len 0 set.width) + sum_by (λ x. more x y) (range_with_len 0 set.width) =
-    λ y. sum-agree (λ x. in_cell set x y later) (λ x. in_cell set x y h + more x y) (λ x. is x y) (range_with_len 0 set.width)
-    ∙ sum-plus (λ x. in_cell set x y h) (λ x. more x y) (range_with_len 0 set.width) in
-    sum-agree (λ y. sum_by (λ x. in_cell set x y later) (range_with_len 0 set.width)) _ row (range_with_len 0 set.height)
-    ∙ sum-plus (λ y. sum_by (λ x. in_cell set x y h) (range_with_len 0 set.width)) (λ y. sum_by (λ x. more x y) (range_with_len 0 set.width)) (range_with_len 0 set.height)
+pub pixels-none : (set : ImageView) → over_pixels set (λ x y. 0) ≡ 0
+pixels-none set = sum-agree (λ y. sum_by (λ x. 0) (range_with_len 0 set.width)) (λ y. 0) (λ y. sum-none (range_with_len 0 set.width)) (range_with_len 0 set.height) ∙ sum-none (range_with_len 0 set.height)
 
-parts-true : (a b : Bool) → (a && b) ≡ true → (a ≡ true) × (b ≡ true)
-parts-true true b is = (refl, is)
-parts-true false b is = cc
+both : (a b : Bool) (n : ℕ) → cond (a && b) n 0 ≡ cond a (cond b n 0) 0
+both true b n = refl
+both false b n = refl
+
+-- A pixel of the image is met once.
+pub met-count : (set : ImageView) (place : ℕ × ℕ) (n : ℕ) → Inside set (Some place) → over_pixels set (λ x y. cond (is_at x y (Some place)) n 0) ≡ n
+met-count set place n inside =
+    let row : (y : ℕ) → sum_by (λ x. cond (is_at x y (Some place)) n 0) (range_with_len 0 set.width) ≡ cond (eqb place.1 y) n 0 =
+    λ y. sum-agree (λ x. cond (is_at x y (Some place)) n 0) (λ x. cond (eqb place.0 x) (cond (eqb place.1 y) n 0) 0) (λ x. both (eqb place.0 x) (eqb place.1 y) n) (range_with_len 0 set.width)
+    ∙ in-range place.0 0 set.width (cond (eqb place.1 y) n 0) (omega arith) (omega (arith, inside.0)) in
+    sum-agree (λ y. sum_by (λ x. cond (is_at x y (Some place)) n 0) (range_with_len 0 set.width)) (λ y. cond (eqb place.1 y) n 0) row (range_with_len 0 set.height)
+    ∙ in-range place.1 0 set.height n (omega arith) (omega (arith, inside.1))
+
+pub cells-more : (set : ImageView) (h later : History) (more : ℕ → ℕ → ℕ) → ((x y : ℕ) → in_cell set x y later ≡ in_cell set x y h + more x y) → in_all_cells set later ≡ in_all_cells set h + over_pixels set more
+cells-more set h later more is = pixels-agree set (λ x y. in_cell set x y later) (λ x y. in_cell set x y h + more x y) is ∙ pixels-plus set (λ x y. in_cell set x y h) more
+
+-- A place is met in one pixel, and no place in none.
+met-once : (set : ImageView) (place : Option (ℕ × ℕ)) (n : ℕ) → Inside set place → over_pixels set (λ x y. cond (is_at x y place) n 0) + cond (is_none place) n 0 ≡ n
+met-once set None n inside = omega (arith, pixels-none set)
+met-once set (Some place) n inside = omega (arith, met-count set place n inside)
 
 -- what is to be shown of the events
 abbrev pub Total : ImageView → History → Type 0
 Total set h = in_all_cells set h + count_outside set h ≡ photons_of_group set h
 
-total-push : (set : ImageView) (h : History) (x : Event × ℕ) (of_group : Bool) → (is_photon x.0 && is_in x.1 set.group) ≡ of_group → Total set h → Total set (h ++ x ∷ [])
-total-push set h x true is so_far =
+total-push : (set : ImageView) (h : History) (x : Event × ℕ) (kind : EventKind) → x.0.kind ≡ kind → Total set h → Total set (h ++ x ∷ [])
+total-push set h x (Photon input dtime) kind so_far =
     let place = place_of set x.0.time (markers h) in
-    let parts = parts-true (is_photon x.0) (is_in x.1 set.group) is in
-    let cells = cells-more set h (h ++ x ∷ []) (λ column row. one_if (is_at column row place)) (λ column row. placed-photon set (is_at column row) h x place parts.0 parts.1 refl) in
-    let outside = placed-photon set is_none h x place parts.0 parts.1 refl in
-    let once = met-once set place (place-inside set x.0.time (markers h)) in
+    let more = cond (is_in x.1 set.group) 1 0 in
+    let cells = cells-more set h (h ++ x ∷ []) (λ column row. cond (is_at column row place) more 0) (λ column row. met-photon set (λ place dtime. is_at column row place) h x place input dtime more kind refl refl) in
+    let outside = met-photon set (λ place dtime. is_none place) h x place input dtime more kind refl refl in
+    let once = met-once set place more (place-inside set x.0.time (markers h)) in
     let photons = sum_by_push (λ x. one_if (is_photon x.0 && is_in x.1 set.group)) h x in
-    let here = ap one_if is in
+    let here : one_if (is_photon x.0 && is_in x.1 set.group) ≡ more = ap (λ kind. one_if (is_photon_kind kind && is_in x.1 set.group)) kind in
     omega (arith, so_far, cells, outside, once, photons, here)
-total-push set h x false is so_far =
-    let cells = cells-more set h (h ++ x ∷ []) (λ column row. 0) (λ column row. let same = placed-other set (is_at column row) h x is in omega (arith, same)) in
-    let rows = sum-agree (λ y. sum_by (λ x. 0) (range_with_len 0 set.width)) (λ y. 0) (λ y. sum-none (range_with_len 0 set.width)) (range_with_len 0 set.height) in
-    let none = sum-none (range_with_len 0 set.height) in
-    let outside = placed-other set is_none h x is in
+total-push set h x (Marker bits) kind so_far =
+    let cells = pixels-agree set (λ x' y. in_cell set x' y (h ++ x ∷ [])) (λ x' y. in_cell set x' y h) (λ column row. met-marker set (λ place dtime. is_at column row place) h x bits kind) in
+    let outside = met-marker set (λ place dtime. is_none place) h x bits kind in
     let photons = sum_by_push (λ x. one_if (is_photon x.0 && is_in x.1 set.group)) h x in
-    let here = ap one_if is in
-    omega (arith, so_far, cells, rows, none, outside, photons, here)
+    let here : one_if (is_photon x.0 && is_in x.1 set.group) ≡ 0 = ap (λ kind. one_if (is_photon_kind kind && is_in x.1 set.group)) kind in
+    omega (arith, so_far, cells, outside, photons, here)
 
 pub by-pushes : (P : History → Type 0) → ((h : History) (x : Event × ℕ) → P h → P (h ++ x ∷ [])) → (front rest : History) → P front → P (front ++ rest)
 by-pushes P step front [] so_far = subst P (sym (append-nil front)) so_far
 by-pushes P step front (x ∷ rest) so_far = subst P (append_assoc front (x ∷ []) rest) (by-pushes P step (front ++ x ∷ []) rest (step front x so_far))
 
-total-none : (set : ImageView) → Total set []
-total-none set =
-    let rows = sum-agree (λ y. sum_by (λ x. 0) (range_with_len 0 set.width)) (λ y. 0) (λ y. sum-none (range_with_len 0 set.width)) (range_with_len 0 set.height) in
-    let none = sum-none (range_with_len 0 set.height) in
-    omega (arith, rows, none)
-
 pub total : (set : ImageView) (h : History) → Total set h
-total set h = by-pushes (Total set) (λ h x. total-push set h x (is_photon x.0 && is_in x.1 set.group) refl) [] h (total-none set)
+total set h = by-pushes (Total set) (λ h x. total-push set h x x.0.kind refl) [] h (omega (arith, pixels-none set))

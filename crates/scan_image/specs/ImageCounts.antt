@@ -1,7 +1,8 @@
 -- The counts of an image over the events that it is given.
 use Rattle.std.specs.Prelude.{ℕ, Bool, false, ◌&&◌, ◌==◌, List, Option, None, Some, is_none, length, take, count_by, filter_map}
 use Rattle.std.{specs.List.{range_with_len, slice_get}, specs.Option.option_map_or}
-use Rattle.tally_base.{specs.declared.event.Event.Event, specs.declared.event.EventKind.EventKind, specs.declared.event.EventKind.TheVariants.{Photon, Marker}, specs.Events.{is_photon, is_in}, specs.Settings.ImageView, specs.Tally.History}
+use Rattle.tally_base.{specs.declared.event.Event.Event, specs.declared.event.EventKind.EventKind, specs.declared.event.EventKind.TheVariants.{Photon, Marker}, specs.Events.is_in, specs.Settings.ImageView, specs.Tally.History}
+use Rattle.tcspc_hist.specs.HistogramCounts.{dtime_passes}
 use Rattle.marker_map.{specs.Marks.{Mark, mark}, specs.Places.place_of}
 
 abbrev pub mark_at : ℕ → EventKind → Option Mark
@@ -16,13 +17,17 @@ markers h = filter_map (λ x. mark_at x.0.time x.0.kind) h
 abbrev pub count_behind : (History → Event × ℕ → Bool) → History → ℕ
 count_behind test h = count_by (λ i. option_map_or (test (take i h)) (slice_get h i) false) (range_with_len 0 (length h))
 
--- a photon of the group whose place behind these events, if it has one, passes the test
-abbrev pub is_placed : ImageView → (Option (ℕ × ℕ) → Bool) → History → Event × ℕ → Bool
-is_placed set test before x = is_photon x.0 && (is_in x.1 set.group && test (place_of set x.0.time (markers before)))
+-- a photon of the group whose place behind these events, if it has one, passes the test together with its dtime
+abbrev pub is_met : ImageView → (Option (ℕ × ℕ) → ℕ → Bool) → History → Event × ℕ → Bool
+is_met set test before x = is_in x.1 set.group && dtime_passes (test (place_of set x.0.time (markers before))) x.0.kind
 
--- how many photons of the group have such a place
+-- how many photons of the group have such a place and dtime
+abbrev pub count_met : ImageView → (Option (ℕ × ℕ) → ℕ → Bool) → History → ℕ
+count_met set test h = count_behind (is_met set test) h
+
+-- how many photons of the group have a place that passes the test
 abbrev pub count_placed : ImageView → (Option (ℕ × ℕ) → Bool) → History → ℕ
-count_placed set test h = count_behind (is_placed set test) h
+count_placed set test h = count_met set (λ place dtime. test place) h
 
 abbrev pub is_at : ℕ → ℕ → Option (ℕ × ℕ) → Bool
 is_at x y None = false

@@ -4,3 +4,4 @@ pub mod Image
 pub mod Laws
 pub mod Counted
 pub mod Behind
+pub mod Pushed

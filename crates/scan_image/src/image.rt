@@ -1,9 +1,10 @@
 // An image of a scan.
 ghost use Rattle.std.specs.Prelude.{◌≡◌, ◌+◌, ◌*◌, ◌<◌, ◌≤◌, vec_len, sum};
-ghost use Rattle.tally_base.{specs.Settings.image_view, specs.Tally.History};
+ghost use Rattle.tally_base.{specs.Settings.image_view, specs.Tally.History, specs.Limits.record_limit};
 ghost use Rattle.marker_map.specs.Lines.{image_of, markers_given, line_start};
 
-use crate::count::{cell_of, count_block};
+use crate::count::count_block;
+use crate::pixels::{PixelCounts, Pixels, cell_of};
 use marker_map::Lines;
 use std::alloc::{AllocError, Global};
 use std::sync::ledger::Ledger;
@@ -18,22 +19,20 @@ use tally_base::{Block, ImageSet, Steps, Tally};
 pub struct Image {
     set: ImageSet,
     lines: Lines,
-    // Row by row, in each row by column.
-    cells: Vec<u64>,
-    outside: u64,
+    counts: PixelCounts,
     taken: u64,
     floor: u64,
     closed: bool,
-    ghost sized: { vec_len cells ≡ set.width * set.height },
-    ghost small: { sum cells.items + outside ≤ taken },
+    ghost sized: { vec_len counts.cells ≡ set.width * set.height },
+    ghost small: { sum counts.cells.items + counts.outside ≤ taken },
     ghost of_set: { image_of lines ≡ image_view set },
     ghost few_markers: { markers_given lines ≤ taken },
     ghost begun: { line_start lines ≤ floor },
 }
 
 impl Image {
-    ghost use Rattle.std.specs.Prelude.{length, true, IfOk, [], false};
-    ghost use Rattle.tally_base.specs.Settings.PartSettings.{ImageSettings};
+    ghost use Rattle.std.specs.Prelude.{IfOk, [], false};
+    ghost use Rattle.tally_base.{specs.Settings.PartSettings.ImageSettings};
     ghost use Rattle.scan_image.{specs.ImageCounts.{in_cell, count_outside}, specs.Image.{Holds, set_of}};
 
     /// An image of no events, with all the memory that it ever takes, or `AllocError` where it is wanting.
@@ -47,8 +46,10 @@ impl Image {
         Ok(Image {
             set,
             lines: Lines::new(&set),
-            cells: vec![in alloc; 0; (set.width * set.height) as usize]?,
-            outside: 0,
+            counts: PixelCounts {
+                cells: vec![in alloc; 0; (set.width * set.height) as usize]?,
+                outside: 0,
+            },
             taken: 0,
             floor: 0,
             closed: false,
@@ -70,7 +71,7 @@ impl Image {
         ensures { (h : History) → Holds self.now h
             → result ≡ in_cell (image_view (set_of self.now)) x y h }
     {
-        self.cells[cell_of(&self.set, x, y)]
+        self.counts.cells[cell_of(&self.set, x, y)]
     }
 
     /// How many photons of the group came outside the image.
@@ -78,7 +79,7 @@ impl Image {
         ensures { (h : History) → Holds self.now h
             → result ≡ count_outside (image_view (set_of self.now)) h }
     {
-        self.outside
+        self.counts.outside
     }
 }
 
@@ -94,7 +95,7 @@ impl Tally for Image {
 
     // The time and the row of the line and the row of the next line are entries, beside the cells and the
     // rest count.
-    ghost held = { λ t. length t.cells.items + 4 };
+    ghost held = { λ t. length t.counts.cells.items + 4 };
 
     ghost settings = { settings };
 
@@ -113,13 +114,7 @@ impl Tally for Image {
     fn events<L: Ledger>(&mut self, block: &Block, _steps: &mut Steps<L>) {
         self.taken += block.len() as u64;
         self.floor = block.floor_after(true, self.floor);
-        self.outside = count_block(
-            &self.set,
-            &mut self.lines,
-            &mut self.cells,
-            self.outside,
-            block,
-        );
+        count_block(&self.set, &mut self.lines, &mut self.counts, block);
     }
 
     fn close<L: Ledger>(&mut self, _steps: &mut Steps<L>) {

@@ -4,6 +4,9 @@
 mod count;
 mod image;
 pub mod laws;
+mod pixels;
 
+pub use count::count_block;
 pub use image::Image;
 pub use marker_map::Lines;
+pub use pixels::Pixels;

@@ -1,24 +1,25 @@
-use Rattle.std.proofs.Common.{◌≡◌, ◌∙◌, ◌+◌, ◌<◌, ◌≤◌, ◌%◌, [], ◌∷◌, ◌++◌, true, false, List, ap, subst, rules, arith, append_assoc, nat_lt, if◌then◌else◌}
+use Rattle.std.proofs.Common.{◌≡◌, ◌∙◌, ◌<◌, ◌≤◌, ◌%◌, [], ◌∷◌, ◌++◌, true, false, List, ap, subst, rules, arith, append_assoc, nat_lt, if◌then◌else◌}
 use Rattle.std.proofs.lemmas.Bool.Decides.{nat_tests}
 use Rattle.tally_base.{specs.declared.event.EventKind.TheVariants.{Photon, Marker}, specs.Settings.image_view, specs.Columns.{item, event_at, rows, code_at, dtime_at, time_at}, proofs.BlockRows.more_rows, proofs.Floors.floor-more}
 use Rattle.marker_map.{specs.Lines.{Saw, line_start}, specs.Marks.{Mark, mark}}
-use Rattle.scan_image.{specs.Counted.Counted, proofs.Steps.marker_step, proofs.Later.{floor-below, floor-rises}}
+use Rattle.scan_image.{specs.Behind.IsBehind, proofs.Steps.marker_step, proofs.Later.{floor-below, floor-rises}}
 use Rattle.scan_image.proofs.count.count_block.Goals as goal
 
-pub count_run-run-requires-clause-in_time : goal.count_run-run-requires-clause-in_time
-count_run-run-requires-clause-in_time c = λ i from lt.
+pub count_run-at-requires-clause-in_time : goal.count_run-at-requires-clause-in_time
+count_run-at-requires-clause-in_time g c = λ i from lt.
     let b = c.args.block.now in
     let low = line_start c.args.lines.now in
     omega (arith, c.runs.invariant.before, floor-below low (event_at b) b.len c.runs.from i from lt c.requires.in_order)
 
 pub runs-preserved : goal.runs-preserved
-runs-preserved c =
+runs-preserved g c =
     let inv = c.runs.invariant in
-    let run = c.count_run-run.ensures in
+    let run = c.count_run-at.ensures in
     let b = c.args.block.now in
-    let set = image_view c.args.set.now in
+    let set = image_view (g.P.Pixels.image c.args.pixels.now) in
+    let over = g.P.Pixels.over c.args.pixels.now c.count_run-at.new.counts in
     let low = line_start c.args.lines.now in
-    let at = c.count_run-run.result.at in
+    let at = c.count_run-at.result in
     let code = code_at b at in
     let time = time_at b at in
     let within : at < b.len = search (rules, arith) in
@@ -29,7 +30,8 @@ runs-preserved c =
     let moved = floor-more true low (event_at b) at in
     let in_time : line_start c.runs.lines ≤ time = omega (arith, inv.before, floor-below low (event_at b) b.len c.runs.from at run.onward within c.requires.in_order) in
     record {
-      counted = λ h is. rw (more_rows (item b) at, ← append_assoc) (marker_step set c.runs.lines lines' c.count_run-run.new.cells c.count_run-run.result.outside (h ++ rows (item b) at) (item b at) (code % 256) kind saw (run.follows h (inv.counted h is)));
+      counted = λ h is. rw (more_rows (item b) at, ← append_assoc) (marker_step over set c.runs.lines lines' (h ++ rows (item b) at) (item b at) (code % 256) kind saw (run.follows h (inv.counted h is)));
+      fit = run.fit;
       within = omega (arith, within);
       few = omega (arith, inv.few, run.few);
       of_set = c.marker.ensures.same_image ∙ inv.of_set;
@@ -37,15 +39,16 @@ runs-preserved c =
       before = rw moved (omega (arith, c.marker.ensures.begun, c.time.ensures, in_time));
     }
 
-pub returns-then-run-len-clause-follows : goal.returns-then-run-len-clause-follows
-returns-then-run-len-clause-follows c = λ h is.
+pub returns-then-at-len-clause-follows : goal.returns-then-at-len-clause-follows
+returns-then-at-len-clause-follows g c = λ h is.
+    let p = g.P.Pixels in
     let b = c.args.block.now in
-    let run = c.count_run-run in
+    let run = c.count_run-at in
     let len : c.min-len.result ≡ b.len = search (rules, arith) in
-    let end : run.result.at ≡ b.len = omega (arith, len, run.ensures.inside, c.if-run-len.true) in
-    subst (λ n. Counted (image_view c.args.set.now) c.runs.lines run.new.cells run.result.outside (h ++ rows (item b) n)) end (run.ensures.follows h (c.runs.invariant.counted h is))
+    let end : run.result ≡ b.len = omega (arith, len, run.ensures.inside, c.if-at-len.true) in
+    subst (λ n. IsBehind (p.over c.args.pixels.now run.new.counts) (image_view (p.image c.args.pixels.now)) c.runs.lines (h ++ rows (item b) n)) end (run.ensures.follows h (c.runs.invariant.counted h is))
 
-pub returns-then-run-len-clause-begun : goal.returns-then-run-len-clause-begun
-returns-then-run-len-clause-begun c =
+pub returns-then-at-len-clause-begun : goal.returns-then-at-len-clause-begun
+returns-then-at-len-clause-begun g c =
     let b = c.args.block.now in
     omega (arith, c.runs.invariant.before, floor-rises (line_start c.args.lines.now) (event_at b) b.len c.runs.from c.runs.invariant.within c.requires.in_order)

@@ -1,11 +1,15 @@
-use Rattle.std.proofs.Common.{◌≡◌, ◌≤◌, ◌+◌, ◌++◌, sum}
-use Rattle.tally_base.{specs.Settings.image_view, specs.Tally.History, specs.Columns.{item, rows}}
+use Rattle.std.proofs.Common.{◌≡◌, ◌≤◌, ◌+◌}
+use Rattle.tally_base.specs.Settings.{image_view}
 use Rattle.marker_map.{specs.declared.lines.Lines.Lines, specs.Lines.image_of}
-use Rattle.scan_image.specs.Counted.{Counted, IsStripOf}
+use Rattle.scan_image.specs.Behind.{CountsOn, IsStripOf}
 use Rattle.scan_image.proofs.count.count_on.Given as goal
 
 abbrev pub invariant-loop-at : goal.invariant-loop-at
-invariant-loop-at l = record {
-  counted : (lines : Lines) (h : History) → IsStripOf lines l.strip → image_of lines ≡ image_view l.set → Counted (image_view l.set) lines l.fn.cells l.fn.outside (h ++ rows (item l.block) l.from) → Counted (image_view l.set) lines l.cells l.outside (h ++ rows (item l.block) l.at);
-  few : sum l.cells + l.outside + l.from ≤ sum l.fn.cells + l.fn.outside + l.at;
-}
+invariant-loop-at g l =
+    let p = g.P.Pixels in
+    let set = image_view (p.image l.pixels) in
+    record {
+      counted : (lines : Lines) → IsStripOf lines l.strip → image_of lines ≡ set → CountsOn (p.over l.pixels l.fn.counts) (p.over l.pixels l.counts) set lines l.block l.from l.at;
+      fit : p.fits l.pixels l.counts;
+      few : p.total l.counts + l.from ≤ p.total l.fn.counts + l.at;
+    }

@@ -3,16 +3,16 @@ use Rattle.tally_base.{specs.Columns.{item, gathered, events_in}, proofs.BlockRo
 use Rattle.marker_map.specs.Lines.{line_start}
 use Rattle.flim_cube.proofs.cube.FlimCubeTally.events.Goals as goal
 
-pub count_block-self-requires-clause-in_order : goal.count_block-self-requires-clause-in_order
-count_block-self-requires-clause-in_order g c = let t = c.args.self.now in order-lower true (line_start t.lines) t.floor (gathered c.args.block.now) t.begun c.requires.in_order
+pub count_block-requires-clause-in_order : goal.count_block-requires-clause-in_order
+count_block-requires-clause-in_order g c = let t = c.args.self.now in order-lower true (line_start t.lines) t.floor (gathered c.args.block.now) t.begun c.requires.in_order
 
 pub invariant_of-self : goal.invariant_of-self
 invariant_of-self g c =
     let t = c.args.self.now in
     let es = gathered c.args.block.now in
-    let e = c.count_block-self.ensures in
+    let e = c.count_block.ensures in
     record {
-      sized = e.sized ∙ t.sized;
+      sized = e.fit;
       small = omega (arith, e.few, t.small, c.len.ensures.value);
       of_set = e.of_set ∙ t.of_set;
       few_markers = omega (arith, e.few_markers, t.few_markers, c.len.ensures.value);
@@ -21,15 +21,9 @@ invariant_of-self g c =
 
 pub returns-clause-follows : goal.returns-clause-follows
 returns-clause-follows g c = λ h is.
-    let t = c.args.self.now in
     let block = c.args.block.now in
-    let e = c.count_block-self.ensures in
-    let now = e.follows h (record { each = is.cells; outside = is.outside; over = is.over; saw = is.lines }) in
     record {
-      cells = now.each;
-      outside = now.outside;
-      over = now.over;
-      lines = now.saw;
+      counts = c.count_block.ensures.follows h is.counts;
       taken = omega (arith, is.taken, c.len.ensures.count, length-append h (events_in block), length-rows (item block) block.len);
       floor = greatest_block true h block _ _ is.floor c.requires.in_order c.floor_after-self.ensures;
     }

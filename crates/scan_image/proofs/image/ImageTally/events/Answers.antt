@@ -1,21 +1,19 @@
-use Rattle.std.proofs.Common.{◌≡◌, ◌∙◌, true, length, rules, arith, length-append}
-use Rattle.tally_base.{specs.Settings.image_view, specs.Columns.{item, gathered, events_in}, proofs.BlockRows.length-rows, proofs.Greatest.greatest_block, proofs.Lower.{order-lower, floor-lower}, proofs.Slices.whole_slice}
+use Rattle.std.proofs.Common.{◌∙◌, true, arith, length-append}
+use Rattle.tally_base.{specs.Columns.{item, gathered, events_in}, proofs.BlockRows.length-rows, proofs.Greatest.greatest_block, proofs.Lower.{order-lower, floor-lower}}
 use Rattle.marker_map.specs.Lines.{line_start}
 use Rattle.scan_image.proofs.image.ImageTally.events.Goals as goal
 
-pub count_block-self-requires-clause-in_order : goal.count_block-self-requires-clause-in_order
-count_block-self-requires-clause-in_order g c = let t = c.args.self.now in order-lower true (line_start t.lines) t.floor (gathered c.args.block.now) t.begun c.requires.in_order
+pub count_block-requires-clause-in_order : goal.count_block-requires-clause-in_order
+count_block-requires-clause-in_order g c = let t = c.args.self.now in order-lower true (line_start t.lines) t.floor (gathered c.args.block.now) t.begun c.requires.in_order
 
 pub invariant_of-self : goal.invariant_of-self
 invariant_of-self g c =
     let t = c.args.self.now in
     let es = gathered c.args.block.now in
-    let e = rw c.deref_mut.ensures.value at c.count_block-self.ensures in
-    let count : length c.count_block-self.new.cells ≡ length t.cells.items = search rules in
-    let all : t.cells.len ≡ length t.cells.items = search rules in
+    let e = c.count_block.ensures in
     record {
-      sized = t.sized;
-      small = rw (whole_slice c.count_block-self.new.cells t.cells.items t.cells.len count all) (omega (arith, e.few, t.small, c.len.ensures.value));
+      sized = e.fit;
+      small = omega (arith, e.few, t.small, c.len.ensures.value);
       of_set = e.of_set ∙ t.of_set;
       few_markers = omega (arith, e.few_markers, t.few_markers, c.len.ensures.value);
       begun = rw c.floor_after-self.ensures (omega (arith, e.begun, floor-lower true (line_start t.lines) t.floor es t.begun));
@@ -23,17 +21,9 @@ invariant_of-self g c =
 
 pub returns-clause-follows : goal.returns-clause-follows
 returns-clause-follows g c = λ h is.
-    let t = c.args.self.now in
-    let set = image_view t.set in
     let block = c.args.block.now in
-    let e = rw c.deref_mut.ensures.value at c.count_block-self.ensures in
-    let count : length c.count_block-self.new.cells ≡ length t.cells.items = search rules in
-    let all : t.cells.len ≡ length t.cells.items = search rules in
-    let now = e.follows h (record { each = is.cells; rest = is.outside; saw = is.lines }) in
     record {
-      cells = λ x y in_width in_height. rw (whole_slice c.count_block-self.new.cells t.cells.items t.cells.len count all) (now.each x y in_width in_height);
-      outside = now.rest;
-      lines = now.saw;
+      counts = c.count_block.ensures.follows h is.counts;
       taken = omega (arith, is.taken, c.len.ensures.count, length-append h (events_in block), length-rows (item block) block.len);
       floor = greatest_block true h block _ _ is.floor c.requires.in_order c.floor_after-self.ensures;
     }
