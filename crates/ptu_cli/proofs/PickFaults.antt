@@ -6,7 +6,9 @@ use Rattle.ptu_definitions.{specs.Headers.header_answer, specs.Prefixes.first, s
 use Rattle.plan_text.{specs.Plan.PlanView, specs.Fits.fits, proofs.Misfits.misfit_named}
 use Rattle.tally_engine.specs.Plans.{reading_by}
 use Rattle.photon_pick.{specs.Late.too_late, specs.Texts.late_or, specs.Ends.photons_of}
-use Rattle.ptu_cli.{specs.Outcomes.status, specs.PickOutcomes.{no_group, chosen_by, picked_if_fits, picked_behind, pick_outcome}, proofs.ByteFaults.{header_answer-bytes, IsOfBytes}, proofs.RunFaults.{streamed_by-bytes, misfit-bytes}}
+use Rattle.command_work.specs.Outcomes.{status}
+use Rattle.pick_work.specs.PickOutcomes.{no_group, chosen_by, picked_if_fits, picked_behind, pick_outcome}
+use Rattle.ptu_cli.{proofs.ByteFaults.{header_answer-bytes, IsOfBytes}, proofs.RunFaults.{streamed_by-bytes, misfit-bytes}}
 
 late-bytes : (late : Option Event) (other : Option Fault) → status other ≢ 1 → status (late_or late other) ≢ 1
 late-bytes None other h = h

@@ -6,7 +6,9 @@ use Rattle.ptu_definitions.{specs.declared.records.Summary.Summary, specs.Header
 use Rattle.toml.specs.Data.{table, Members}
 use Rattle.toml_rules.{specs.Rules.{Rule, all_kept, Names, RiseFrom}, proofs.Least.names_least}
 use Rattle.plan_text.{specs.Plan.{PlanView, plan_rules, plan}, specs.Reading.{text_limit, document, if_kept, plan_of_document, plan_answer}, specs.Fits.{fits, IsMisfit}, proofs.Rise.plan_rules_rise, proofs.Misfits.{misfit_named, names_part}}
-use Rattle.ptu_cli.{specs.Outcomes.{status, report_outcome}, specs.Reports.{report_of, if_fits, report_behind, file_report}, proofs.ByteFaults.{IsOfBytes, header_answer-bytes, streamed-bytes}}
+use Rattle.command_work.specs.Outcomes.{status}
+use Rattle.report_work.specs.Reports.{report_outcome, report_of, if_fits, report_behind, file_report}
+use Rattle.ptu_cli.proofs.ByteFaults.{IsOfBytes, header_answer-bytes, streamed-bytes}
 use Rattle.tally_engine.specs.Plans.{reading_by}
 
 names-bytes : (rules : List Rule) (fault : Fault) → Names rules fault → status_of fault ≢ 1

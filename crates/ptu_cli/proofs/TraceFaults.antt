@@ -6,7 +6,9 @@ use Rattle.ptu_definitions.{specs.declared.records.Summary.Summary, specs.Header
 use Rattle.plan_text.{specs.Plan.PlanView, specs.Fits.fits}
 use Rattle.gate_plan.specs.Shifting.{sorting}
 use Rattle.tally_engine.specs.Plans.{reading_by}
-use Rattle.ptu_cli.{specs.Outcomes.{status, report_outcome}, specs.Reports.{report_of, if_fits, report_behind, file_report}, specs.TraceOutcomes.{unless_traced, trace_of, traced, traced_if_fits, traced_behind, trace_outcome}}
+use Rattle.command_work.specs.Outcomes.{status}
+use Rattle.report_work.specs.Reports.{report_outcome, report_of, if_fits, report_behind, file_report}
+use Rattle.trace_work.specs.TraceOutcomes.{unless_traced, trace_of, traced, traced_if_fits, traced_behind, trace_outcome}
 
 records-fault : (view : PlanView) (header : Header) (bytes : List ℕ) (r : Result Summary Fault) → (traced (trace_of view) (sorting view) (reading_by view header) bytes r).fault ≡ (report_outcome (report_of view header bytes r)).fault
 records-fault view header bytes (Ok summary) = refl

@@ -2,7 +2,8 @@
 use Rattle.std.specs.Prelude.{◌≤◌, List, None, Some, map, string_bytes}
 use Rattle.std.{specs.declared.string.String.String, specs.declared.alloc.Global.Global, specs.declared.option.Option.Option}
 use Rattle.ptu_made.specs.Generator.{photon_limit}
-use Rattle.ptu_cli.{specs.Commands.{Request, request_of}, specs.Commands.Count as CountOf, specs.Commands.Header as HeaderOf, specs.Commands.Events as EventsOf, specs.Commands.Run as RunOf, specs.Commands.Trace as TraceOf, specs.Commands.Pick as PickOf, specs.Commands.Demo as DemoOf, specs.Behaviours.{Behaviour, behaviour}, specs.declared.words.Command.Command, specs.declared.words.Command.TheVariants.{Count, Header, Events, Run, Trace, Pick, Demo}}
+use Rattle.ptu_cli.{specs.Commands.{Request, request_of}, specs.Commands.Count as CountOf, specs.Commands.Header as HeaderOf, specs.Commands.Events as EventsOf, specs.Commands.Run as RunOf, specs.Commands.Trace as TraceOf, specs.Commands.Pick as PickOf, specs.Commands.Demo as DemoOf, specs.Behaviours.behaviour, specs.declared.words.Command.Command, specs.declared.words.Command.TheVariants.{Count, Header, Events, Run, Trace, Pick, Demo}}
+use Rattle.command_work.specs.Behaviours.{Behaviour}
 
 abbrev pub asked_for : Option Command → Option Request
 asked_for None = None

@@ -1,20 +1,22 @@
 // The top call.
 ghost use Rattle.std.specs.Prelude.{◌≡◌, false, None, Some, Err};
 ghost use Rattle.tally_base.specs.declared.slot.Slot.{Slot};
-ghost use Rattle.ptu_cli.{specs.Endings.{IsMeant, TellsFault, Does, span}, specs.Requests.{request_in, behaviour_of}, specs.Runs.{Runs, around}};
+ghost use Rattle.command_work.specs.Endings.{IsMeant, TellsFault, Does, span};
+ghost use Rattle.ptu_cli.{specs.Requests.{request_in, behaviour_of}, specs.Runs.{Runs, around}};
 
-use crate::by_plan::by_plan;
-use crate::command::{Counting, Listing, Picking, Printing, Reporting, Tracing};
-use crate::demo::demo;
-use crate::on_file::on_file;
 use crate::words::{Command, read_words};
 use arrayvec::ArrayVec;
 use bench_io::{Inputs, Sink, write_all};
+use command_work::{by_plan, on_file};
+use file_work::{Counting, Listing, Printing};
+use pick_work::Picking;
+use report_work::{Reporting, demo};
 use std::alloc::Global;
 use tally_base::{Fault, fault_line};
+use trace_work::Tracing;
 
 /// Does what the words ask for.
-#[tactic(auto, unfolding(crate::specs::Endings::outcome, crate::specs::Endings::HasCauses))]
+#[tactic(auto, unfolding(command_work::specs::Endings::outcome, command_work::specs::Endings::HasCauses))]
 fn obey<I: Inputs, O: Sink>(
     alloc: Global,
     words: &[String],

@@ -1,5 +1,5 @@
 // The words of the command line.
-ghost use Rattle.std.specs.Prelude.{◌≡◌, ◌≤◌, ◌-◌, ◌^◌, map, string_bytes, IfSome};
+ghost use Rattle.std.specs.Prelude.{◌≡◌, ◌≤◌, ◌-◌, ◌^◌, [], ◌∷◌, map, string_bytes, IfSome};
 ghost use Rattle.std.specs.Str.{all_ascii_digits};
 ghost use Rattle.ptu_made.specs.Generator.{photon_limit};
 ghost use Rattle.ptu_cli.{specs.Commands.{demo_of, number_in, pick_of, request_of}, specs.Requests.{asked_for, AsksFew}};
@@ -92,6 +92,44 @@ fn pick_words<'a>(plan: &'a str, group: &str, file: &'a str) -> Option<Command<'
     Some(Command::Pick { plan, group, file })
 }
 
+/// The command of two words.
+fn two_words<'a>(word: &str, file: &'a str) -> Option<Command<'a>>
+    ensures request { asked_for result ≡ request_of (word.now ∷ file.now ∷ []) }
+    ensures few { IfSome result AsksFew }
+{
+    if word == "count" {
+        Some(Command::Count { file })
+    } else if word == "header" {
+        Some(Command::Header { file })
+    } else if word == "events" {
+        Some(Command::Events { file })
+    } else {
+        None
+    }
+}
+
+/// The command of three words.
+fn three_words<'a>(word: &str, first: &'a str, second: &'a str) -> Option<Command<'a>>
+    ensures request { asked_for result ≡ request_of (word.now ∷ first.now ∷ second.now ∷ []) }
+    ensures few { IfSome result AsksFew }
+{
+    if word == "run" {
+        Some(Command::Run {
+            plan: first,
+            file: second,
+        })
+    } else if word == "trace" {
+        Some(Command::Trace {
+            plan: first,
+            file: second,
+        })
+    } else if word == "demo" {
+        demo_words(first, second)
+    } else {
+        None
+    }
+}
+
 /// The command of the words behind the program's name: `count FILE`, `header FILE`, `events FILE`,
 /// `run PLAN FILE`, `trace PLAN FILE`, `pick PLAN GROUP FILE` or `demo SEED COUNT`. GROUP, SEED and COUNT are one to
 /// twenty digits, GROUP and SEED at most 2^64 - 1 and COUNT at most 10,000,000. None exactly where the words are none
@@ -101,35 +139,8 @@ pub fn read_words(words: &[String]) -> Option<Command<'_>>
     ensures few { IfSome result AsksFew }
 {
     match words {
-        [word, file] => {
-            let file = file.as_str();
-            if word.as_str() == "count" {
-                Some(Command::Count { file })
-            } else if word.as_str() == "header" {
-                Some(Command::Header { file })
-            } else if word.as_str() == "events" {
-                Some(Command::Events { file })
-            } else {
-                None
-            }
-        }
-        [word, first, second] => {
-            if word.as_str() == "run" {
-                Some(Command::Run {
-                    plan: first.as_str(),
-                    file: second.as_str(),
-                })
-            } else if word.as_str() == "trace" {
-                Some(Command::Trace {
-                    plan: first.as_str(),
-                    file: second.as_str(),
-                })
-            } else if word.as_str() == "demo" {
-                demo_words(first.as_str(), second.as_str())
-            } else {
-                None
-            }
-        }
+        [word, file] => two_words(word.as_str(), file.as_str()),
+        [word, first, second] => three_words(word.as_str(), first.as_str(), second.as_str()),
         [word, plan, group, file] => {
             if word.as_str() == "pick" {
                 pick_words(plan.as_str(), group.as_str(), file.as_str())

@@ -1,7 +1,8 @@
 use Rattle.std.proofs.Common.{◌≡◌, None, Some, refl, sym, ap, ◌∙◌, arith}
 use Rattle.tally_base.{specs.declared.fault.Fault.TheVariants.Usage, specs.Faults.status_of}
 use Rattle.bench_io.proofs.Bytes.{Appends-nil, Keeps-from_none}
-use Rattle.ptu_cli.{specs.Endings.HasCauses, specs.Requests.{request_in, behaviour_of}, proofs.Complete.{bad-words, ends-answered, ok-answered, ok-ends, inside-ends, completes_as, good-told}, proofs.Asked.tells_as, proofs.ByStatus.{opening-from_status, reading-from_status, writing-from_status, memory-from_status}}
+use Rattle.command_work.specs.Endings.{HasCauses}
+use Rattle.ptu_cli.{specs.Requests.{request_in, behaviour_of}, proofs.Complete.{bad-words, ends-answered, ok-answered, ok-ends, inside-ends, completes_as, good-told}, proofs.Asked.tells_as, proofs.ByStatus.{opening-from_status, reading-from_status, writing-from_status, memory-from_status}}
 use Rattle.ptu_cli.proofs.top.ptu_main.Goals as goal
 
 pub returns-in-Err : goal.returns-in-Err

@@ -1,0 +1,156 @@
+-- What is shown of a command for the cases of its shape, and that its outcome then is what they call for.
+use Rattle.std.proofs.Common.{◌≡◌, ℕ, List, None, Some, Ok, Err, refl, sym, ap, ◌∙◌, subst, inl, inr, ◌⊎◌, Result}
+use Rattle.std.specs.declared.option.Option.{Option}
+use Rattle.toml.specs.Data.{table}
+use Rattle.tally_base.{specs.declared.fault.Fault.Fault, specs.declared.header.Header.Header, specs.Faults.status_of, specs.RecordTypes.mode_of}
+use Rattle.bench_io.specs.Inputs.{File}
+use Rattle.ptu_definitions.specs.Headers.{header_answer}
+use Rattle.plan_text.{specs.Plan.{PlanView, plan}, specs.Reading.plan_answer, specs.Fits.fits, proofs.Called.{called, valid, answers, plans}, proofs.Misfits.{misfit_named, is_first}}
+use Rattle.command_work.{specs.Outcomes.{Outcome, refused, written}, specs.Behaviours.{Work, Behaviour, Alone, OnFile, ByPlan}, specs.Endings.{on_file, unless, by_plan, outcome}}
+use Rattle.file_work.specs.FileOutcomes.{header_outcome}
+use Rattle.command_laws.{specs.Cases.{FileCase, HeaderCase, PrintCase}, specs.CommandCases.{RecordCases, Need, CommandCases, Writes, ReadsHeader, ReadsRecords, ReadsByPlan, Has, Lacks, SuitCase, NeedCase, PlanCase, ShapeCase}, specs.Causes.{EndsCut, StatusIn}, proofs.CaseSteps.{Answer, file-holds, file-only, header-holds, header-only, not_fit}, proofs.Prints.{print-holds, print-only}}
+
+-- why records end a run with a fault
+abbrev pub RecordCause : RecordCases → Header → List ℕ → Fault → Type 0
+RecordCause records header behind fault = EndsCut records header behind fault ⊎ (records.refuses header behind fault ⊎ records.too_late_for header behind fault)
+
+-- what is shown of the cases of some records, where this is what they end with
+pub record RecordsMeet (further : ℕ → Type 0) (records : RecordCases) (end_of : Header → List ℕ → Outcome) : Type 0 where
+  pub holds : (header : Header) (behind : List ℕ) → records.ends header behind (end_of header behind)
+  pub only : (header : Header) (behind : List ℕ) (end : Outcome) → records.ends header behind end → end_of header behind ≡ end
+  pub cause : (header : Header) (behind : List ℕ) (end : Outcome) (fault : Fault) → records.ends header behind end → end.fault ≡ Some fault → RecordCause records header behind fault
+  pub ends : (header : Header) (behind : List ℕ) (fault : Fault) → RecordCause records header behind fault → (end : Outcome) × records.ends header behind end × (end.fault ≡ Some fault)
+  pub refuses_status : (header : Header) (behind : List ℕ) (fault : Fault) → records.refuses header behind fault → StatusIn 18 21 fault × further (status_of fault)
+  pub late_status : (header : Header) (behind : List ℕ) (fault : Fault) → records.too_late_for header behind fault → StatusIn 24 24 fault × further (status_of fault)
+
+-- the same of a work that begins with a header
+pub record FileMeets (further : ℕ → Type 0) (records : RecordCases) (work : Work) : Type 0 where
+  pub end_of : Answer → Outcome
+  pub is : (bytes : List ℕ) → work.outcome bytes ≡ end_of (header_answer bytes)
+  pub fails : (fault : Fault) → end_of (Err fault) ≡ refused fault
+  pub told : RecordsMeet further records (λ header behind. end_of (Ok (header, behind)))
+
+-- and of one by a plan that has what is needed
+pub record PlannedMeets (further : ℕ → Type 0) (records : RecordCases) (view : PlanView) (work : Work) : Type 0 where
+  pub end_of : Answer → Outcome
+  pub fit_of : Header → List ℕ → Result (Unit {0}) Fault → Outcome
+  pub is : (bytes : List ℕ) → work.outcome bytes ≡ end_of (header_answer bytes)
+  pub fails : (fault : Fault) → end_of (Err fault) ≡ refused fault
+  pub headed : (header : Header) (behind : List ℕ) → end_of (Ok (header, behind)) ≡ fit_of header behind (fits (mode_of header.record_type) view)
+  pub misfit : (header : Header) (behind : List ℕ) (fault : Fault) → fit_of header behind (Err fault) ≡ refused fault
+  pub told : RecordsMeet further records (λ header behind. fit_of header behind (Ok tt))
+
+-- what a plan lacks is told by what is needed
+pub record NeedMeets (further : ℕ → Type 0) (need : Need) (lacks : PlanView → Option Fault) : Type 0 where
+  pub has : (view : PlanView) → lacks view ≡ None → Has need view
+  pub none : (view : PlanView) → Has need view → lacks view ≡ None
+  pub lack : (view : PlanView) (fault : Fault) → lacks view ≡ Some fault → Lacks need view fault
+  pub some : (view : PlanView) (fault : Fault) → Lacks need view fault → lacks view ≡ Some fault
+  pub status : (view : PlanView) (fault : Fault) → Lacks need view fault → StatusIn 22 23 fault × further (status_of fault)
+
+pub record PlanMeets (further : ℕ → Type 0) (need : Need) (records : PlanView → RecordCases) (lacks : PlanView → Option Fault) (work : PlanView → Work) : Type 0 where
+  pub needs : NeedMeets further need lacks
+  pub works : (view : PlanView) → Has need view → PlannedMeets further (records view) view (work view)
+
+-- what is shown of a command
+abbrev pub MeetsCases : Behaviour → CommandCases → Type 0
+MeetsCases (Alone end) (Writes text) = end ≡ written text
+MeetsCases (OnFile file writing work) ReadsHeader = (bytes : List ℕ) → work.outcome bytes ≡ header_outcome bytes
+MeetsCases (OnFile file writing work) (ReadsRecords further records) = FileMeets further records work
+MeetsCases (ByPlan plan_name file writing memory lacks work) (ReadsByPlan further need records) = PlanMeets further need records lacks work
+MeetsCases does other = ⊥
+
+-- ## On FILE
+
+module _ (work : Work) (told : (bytes : List ℕ) → work.outcome bytes ≡ header_outcome bytes) (data_file : File) where
+  printed-holds : FileCase PrintCase data_file (on_file work data_file)
+  printed-holds = file-holds work PrintCase (λ bytes. subst (PrintCase bytes) (sym (told bytes)) (print-holds bytes)) data_file
+
+  printed-only : (end : Outcome) → FileCase PrintCase data_file end → on_file work data_file ≡ end
+  printed-only end h = file-only work PrintCase (λ bytes end h. told bytes ∙ print-only bytes end h) data_file end h
+
+module _ (further : ℕ → Type 0) (records : RecordCases) (work : Work) (told : FileMeets further records work) (data_file : File) where
+  records-hold : FileCase (HeaderCase records.ends) data_file (on_file work data_file)
+  records-hold =
+      file-holds work (HeaderCase records.ends) (λ bytes. subst (HeaderCase records.ends bytes) (sym (told.is bytes)) (header-holds told.end_of records.ends told.fails told.told.holds bytes)) data_file
+
+  records-only : (end : Outcome) → FileCase (HeaderCase records.ends) data_file end → on_file work data_file ≡ end
+  records-only end h = file-only work (HeaderCase records.ends) (λ bytes end h. told.is bytes ∙ header-only told.end_of records.ends told.fails told.told.only bytes end h) data_file end h
+
+-- ## By a plan
+
+module _ (further : ℕ → Type 0) (records : RecordCases) (view : PlanView) (work : Work) (told : PlannedMeets further records view work) where
+  suit-holds : (header : Header) (behind : List ℕ) → SuitCase view records.ends header behind (told.end_of (Ok (header, behind)))
+  suit-holds header behind = subst (SuitCase view records.ends header behind) (sym (told.headed header behind)) (by (fits (mode_of header.record_type) view) refl)
+    where
+      by : (r : Result (Unit {0}) Fault) → fits (mode_of header.record_type) view ≡ r → SuitCase view records.ends header behind (told.fit_of header behind r)
+      by (Err fault) e = inl (fault, misfit_named (mode_of header.record_type) view fault e, told.misfit header behind fault)
+      by (Ok done) e = inr (λ fault misfit. not_fit fault (sym e ∙ is_first (mode_of header.record_type) view fault misfit), told.told.holds header behind)
+
+  suit-only : (header : Header) (behind : List ℕ) (end : Outcome) → SuitCase view records.ends header behind end → told.end_of (Ok (header, behind)) ≡ end
+  suit-only header behind end (inl h) = told.headed header behind ∙ ap (told.fit_of header behind) (is_first (mode_of header.record_type) view h.0 h.1) ∙ told.misfit header behind h.0 ∙ sym h.2
+  suit-only header behind end (inr h) = told.headed header behind ∙ by (fits (mode_of header.record_type) view) refl
+    where
+      by : (r : Result (Unit {0}) Fault) → fits (mode_of header.record_type) view ≡ r → told.fit_of header behind r ≡ end
+      by (Err fault) e = absurd (h.0 fault (misfit_named (mode_of header.record_type) view fault e))
+      by (Ok done) e = told.told.only header behind end h.1
+
+  planned-holds : (data_file : File) → FileCase (HeaderCase (SuitCase view records.ends)) data_file (on_file work data_file)
+  planned-holds data_file =
+      let case = SuitCase view records.ends in
+      file-holds work (HeaderCase case) (λ bytes. subst (HeaderCase case bytes) (sym (told.is bytes)) (header-holds told.end_of case told.fails suit-holds bytes)) data_file
+
+  planned-only : (data_file : File) (end : Outcome) → FileCase (HeaderCase (SuitCase view records.ends)) data_file end → on_file work data_file ≡ end
+  planned-only data_file end h =
+      let case = SuitCase view records.ends in
+      file-only work (HeaderCase case) (λ bytes end h. told.is bytes ∙ header-only told.end_of case told.fails suit-only bytes end h) data_file end h
+
+module _ (further : ℕ → Type 0) (need : Need) (records : PlanView → RecordCases) (lacks : PlanView → Option Fault) (work : PlanView → Work) (told : PlanMeets further need records lacks work) where
+  need-holds : (view : PlanView) (data_file : File) → NeedCase need (records view) view data_file (unless (lacks view) (on_file (work view) data_file))
+  need-holds view data_file = by (lacks view) refl
+    where
+      by : (lack : Option Fault) → lacks view ≡ lack → NeedCase need (records view) view data_file (unless lack (on_file (work view) data_file))
+      by None e = let has = told.needs.has view e in inr (has, planned-holds further (records view) view (work view) (told.works view has) data_file)
+      by (Some fault) e = inl (fault, told.needs.lack view fault e, refl)
+
+  need-only : (view : PlanView) (data_file : File) (end : Outcome) → NeedCase need (records view) view data_file end → unless (lacks view) (on_file (work view) data_file) ≡ end
+  need-only view data_file end (inl h) = ap (λ lack. unless lack (on_file (work view) data_file)) (told.needs.some view h.0 h.1) ∙ sym h.2
+  need-only view data_file end (inr h) =
+      ap (λ lack. unless lack (on_file (work view) data_file)) (told.needs.none view h.0) ∙ planned-only further (records view) view (work view) (told.works view h.0) data_file end h.1
+
+  abbrev plan_end : File → Result PlanView Fault → Outcome
+  plan_end data_file answer = by_plan lacks work answer data_file
+
+  plan-holds : (text : List ℕ) (data_file : File) → PlanCase need records (Some text) data_file (plan_end data_file (plan_answer text))
+  plan-holds text data_file = by (plan_answer text) refl
+    where
+      by : (answer : Result PlanView Fault) → plan_answer text ≡ answer → PlanCase need records (Some text) data_file (plan_end data_file (plan_answer text))
+      by (Err fault) e = let calls = called text fault e in inl (fault, calls.0, calls.1, ap (plan_end data_file) e)
+      by (Ok view) e =
+          let good = valid text view e in
+          let found = plan (table good.1) in
+          inr (good.1, good, good.2, subst (λ answer. NeedCase need (records found) found data_file (plan_end data_file answer)) (sym (plans text good.1 good good.2)) (need-holds found data_file))
+
+  plan-only : (text : List ℕ) (data_file : File) (end : Outcome) → PlanCase need records (Some text) data_file end → plan_end data_file (plan_answer text) ≡ end
+  plan-only text data_file end (inl h) = ap (plan_end data_file) (answers text h.0 (h.1, h.2)) ∙ sym h.3
+  plan-only text data_file end (inr h) = ap (plan_end data_file) (plans text h.0 h.1 h.2) ∙ need-only (plan (table h.0)) data_file end h.3
+
+-- ## All shapes
+
+pub told-holds : (does : Behaviour) (shape : CommandCases) → MeetsCases does shape → (plan_file data_file : File) → ShapeCase shape plan_file data_file (outcome does plan_file data_file)
+unfolding outcome
+told-holds (Alone end) (Writes text) told plan_file data_file = told
+told-holds (OnFile file writing work) ReadsHeader told plan_file data_file = printed-holds work told data_file
+told-holds (OnFile file writing work) (ReadsRecords further records) told plan_file data_file = records-hold further records work told data_file
+told-holds (ByPlan plan_name file writing memory lacks work) (ReadsByPlan further need records) told None data_file = refl
+told-holds (ByPlan plan_name file writing memory lacks work) (ReadsByPlan further need records) told (Some text) data_file = plan-holds further need records lacks work told text data_file
+told-holds does other told plan_file data_file = absurd told
+
+pub told-only : (does : Behaviour) (shape : CommandCases) → MeetsCases does shape → (plan_file data_file : File) (end : Outcome) → ShapeCase shape plan_file data_file end → outcome does plan_file data_file ≡ end
+unfolding outcome
+told-only (Alone end) (Writes text) told plan_file data_file other h = told ∙ sym h
+told-only (OnFile file writing work) ReadsHeader told plan_file data_file end h = printed-only work told data_file end h
+told-only (OnFile file writing work) (ReadsRecords further records) told plan_file data_file end h = records-only further records work told data_file end h
+told-only (ByPlan plan_name file writing memory lacks work) (ReadsByPlan further need records) told None data_file end h = sym h
+told-only (ByPlan plan_name file writing memory lacks work) (ReadsByPlan further need records) told (Some text) data_file end h = plan-only further need records lacks work told text data_file end h
+told-only does other told plan_file data_file end h = absurd told

@@ -1,0 +1,11 @@
+-- `demo` as a run of its files.
+use Rattle.std.proofs.Common.{◌≡◌, ◌≤◌, ℕ, List, None, Some, refl}
+use Rattle.ptu_made.{specs.Generator.photon_limit, specs.MadeFile.made_file}
+use Rattle.ptu_cli.{specs.Commands.{Run, Demo}, specs.Behaviours.behaviour}
+use Rattle.report_work.{specs.Demo.demo_text, proofs.Demos.{demo-plan, made-report}}
+use Rattle.command_work.specs.Endings.{outcome}
+
+-- `demo` ends as a run of these files
+pub demo-run : (plan_name name : List ℕ) (seed count : ℕ) → count ≤ photon_limit → outcome (behaviour (Some (Run plan_name name))) (Some demo_text) (Some (made_file seed count)) ≡ outcome (behaviour (Some (Demo seed count))) None None
+unfolding outcome
+demo-run plan_name name seed count few = rw (demo-plan, made-report seed count few) refl

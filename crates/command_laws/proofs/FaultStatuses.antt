@@ -1,0 +1,140 @@
+-- What the faults of refusals are, and their statuses.
+use Rattle.std.proofs.Common.{◌≡◌, ℕ, List, [], ◌∷◌, length, Bool, true, false, None, Some, Ok, Err, refl, sym, ap, ◌∙◌, subst, inl, inr, ◌≢◌, ◌+◌, ◌≤◌, arith, ◌==◌, Result, nat_le, map, if◌then◌else◌, ◌&&◌}
+use Rattle.std.specs.declared.option.Option.{Option}
+use Rattle.tally_base.{specs.declared.fault.Fault.Fault, specs.declared.fault.Fault.TheVariants.{RecordLimit, TruncatedRecord, OutOfMemory, PlanTooLong, PlanSyntax, PlanRule, HeaderLimit, TruncatedHeader, ReservedRecord, TimeLimit, BackwardTime}, specs.declared.header.Header.Header, specs.declared.event.Event.Event, specs.declared.header.Mode.Mode, specs.declared.header.RecordType.RecordType, specs.Events.{stops_late, stops_reserved}}
+use Rattle.bench_io.specs.Inputs.{File}
+use Rattle.ptu_definitions.{specs.Headers.{head_of, answer_as, with_rest, header_limit}, specs.Words.rest_of, specs.Times.{events, event_after, passes}, specs.Streams.{Reading, late_refusal, refusal}, specs.declared.found.Found.Found, specs.Endings.{Ending, OtherFile, BadType, BadLength, Whole, Open}, specs.Fields.{found_in, header_of, version_in, with_type, with_value}, specs.Kinds.is_reserved, specs.Kept.greatest, specs.Settled.is_late_by}
+use Rattle.plan_text.{specs.Plan.PlanView, specs.Reading.IsCalledFor, specs.Fits.IsMisfit, proofs.Misfits.names_part}
+use Rattle.command_laws.{specs.Causes.{Unheaded, StatusIn}, specs.Cases.WholeCase, specs.CommandCases.RefusedIn}
+use Rattle.command_work.specs.Outcomes.{Outcome, refused, written}
+use Rattle.file_work.specs.FileOutcomes.{listing}
+
+-- ## The fault of an outcome
+
+pub some-same : (a b : Fault) → Some a ≡ Some b → a ≡ b
+some-same a b e = cc
+
+pub of-refused : (end : Outcome) (own fault : Fault) → end ≡ refused own → end.fault ≡ Some fault → fault ≡ own
+of-refused end own fault e h = some-same fault own (sym h ∙ ap (λ (o : Outcome). o.fault) e)
+
+pub of-written : (end : Outcome) (text : List ℕ) (fault : Fault) → end ≡ written text → end.fault ≡ Some fault → ⊥
+of-written end text fault e h = let none : end.fault ≡ None = ap (λ (o : Outcome). o.fault) e in cc
+
+pub of-end : (end : Outcome) (text : List ℕ) (own fault : Fault) → end ≡ record { text = text; fault = Some own } → end.fault ≡ Some fault → fault ≡ own
+of-end end text own fault e h = some-same fault own (sym h ∙ ap (λ (o : Outcome). o.fault) e)
+
+pub whole-cause : (behind text : List ℕ) (end : Outcome) (fault : Fault) → WholeCase behind text end → end.fault ≡ Some fault → (rest_of behind ≢ []) × (fault ≡ TruncatedRecord (length (rest_of behind)))
+whole-cause behind text end fault (inl h) e = (h.0, of-refused end _ fault h.1 e)
+whole-cause behind text end fault (inr h) e = absurd (of-written end text fault h.1 e)
+
+-- ## Statuses
+
+pub range-as : (low high : ℕ) (a b : Fault) → a ≡ b → StatusIn low high b → StatusIn low high a
+range-as low high a b e h = subst (StatusIn low high) (sym e) h
+
+pub wider : (a b c d : ℕ) (fault : Fault) → StatusIn a b fault → c ≤ a → b ≤ d → StatusIn c d fault
+wider a b c d fault s low high = (omega (arith, s.0, low), omega (arith, s.1, high))
+
+pub called-status : (text : List ℕ) (fault : Fault) → IsCalledFor text fault → fault ≢ OutOfMemory → StatusIn 6 8 fault
+called-status text OutOfMemory h other = absurd (other refl)
+called-status text PlanTooLong h other = (omega arith, omega arith)
+called-status text PlanSyntax h other = (omega arith, omega arith)
+called-status text (PlanRule n index) h other = (omega arith, omega arith)
+called-status text _ h other = absurd h
+
+pub misfit-status : (mode : Mode) (view : PlanView) (fault : Fault) → IsMisfit mode view fault → StatusIn 9 9 fault
+misfit-status mode view fault misfit = range-as 9 9 fault _ (names_part mode view fault misfit).2 (omega arith, omega arith)
+
+-- what an answer of a header says of its fault
+abbrev InHeader : {A : Type 0} → Result A Fault → Type 0
+InHeader (Ok value) = Unit {0}
+InHeader (Err fault) = StatusIn 10 16 fault
+
+with_rest-in : (rest : List ℕ) (r : Result Header Fault) → InHeader r → InHeader (with_rest rest r)
+with_rest-in rest (Ok header) h = tt
+with_rest-in rest (Err fault) h = h
+
+with_type-in : (version : List ℕ) (found : Found) (value : ℕ) (record_type : Option RecordType) → InHeader (with_type version found value record_type)
+with_type-in version found value None = (omega arith, omega arith)
+with_type-in version found value (Some record_type) = tt
+
+with_value-in : (version : List ℕ) (found : Found) (value : Option ℕ) → InHeader (with_value version found value)
+with_value-in version found None = (omega arith, omega arith)
+with_value-in version found (Some value) = with_type-in version found value _
+
+header_of-in : (version : List ℕ) (found : Found) → InHeader (header_of version found)
+unfolding header_of
+header_of-in version found = with_value-in version found found.record_type
+
+unfinished-in : (whole : Bool) (size : ℕ) → StatusIn 10 16 (if whole then HeaderLimit else TruncatedHeader size)
+unfinished-in true size = (omega arith, omega arith)
+unfinished-in false size = (omega arith, omega arith)
+
+answer_as-in : (file : List ℕ) (end : Ending) → InHeader (answer_as file end)
+answer_as-in file OtherFile = (omega arith, omega arith)
+answer_as-in file (BadType number code) = (omega arith, omega arith)
+answer_as-in file (BadLength number value) = (omega arith, omega arith)
+answer_as-in file (Whole items) = with_rest-in _ (header_of (version_in file) (found_in items)) (header_of-in (version_in file) (found_in items))
+answer_as-in file Open = unfinished-in (length (head_of file) == header_limit) (length (head_of file))
+
+pub unheaded-status : (data_file : File) (fault : Fault) → Unheaded data_file fault → StatusIn 10 16 fault
+unheaded-status data_file fault h = subst InHeader (sym h.is_refused.2) (answer_as-in h.bytes h.is_refused.0)
+
+pub cut_behind-status : (behind : List ℕ) (fault : Fault) → fault ≡ TruncatedRecord (length (rest_of behind)) → StatusIn 17 17 fault
+cut_behind-status behind fault e = range-as 17 17 fault _ e (omega arith, omega arith)
+
+-- what a refusal of a record says of its fault
+abbrev InRange : Option Fault → Type 0
+InRange None = Unit {0}
+InRange (Some fault) = StatusIn 18 21 fault
+
+late-in : (b : Bool) (place time before : ℕ) → InRange (if b then Some (BackwardTime place time before) else None)
+late-in true place time before = (omega arith, omega arith)
+late-in false place time before = tt
+
+late_refusal-in : (k : ℕ) (mode : Mode) (before es : List Event) → InRange (late_refusal k mode before es)
+late_refusal-in k mode before [] = tt
+late_refusal-in k mode before (e ∷ es) = late-in (is_late_by k mode before e) e.place e.time (greatest mode before)
+
+causes-in : (full reserved passing stops : Bool) (limit place word : ℕ) (late : Option Fault) → InRange late
+    → InRange (if full then Some (RecordLimit limit) else if reserved then Some (ReservedRecord place word) else if passing then Some (TimeLimit place) else if stops then late else None)
+causes-in true reserved passing stops limit place word late h = (omega arith, omega arith)
+causes-in false true passing stops limit place word late h = (omega arith, omega arith)
+causes-in false false true stops limit place word late h = (omega arith, omega arith)
+causes-in false false false true limit place word late h = h
+causes-in false false false false limit place word late h = tt
+
+refusal-in : (how : Reading) (before : List ℕ) (word : ℕ) → InRange (refusal how before word)
+unfolding refusal
+refusal-in how before word =
+    let records = map how.meaning before in
+    let raw = how.meaning word in
+    causes-in (nat_le how.policy.records (length records)) (is_reserved raw && stops_reserved how.policy.reserved) (passes records raw) (stops_late how.policy.order) how.policy.records (length records + 1) word
+    (late_refusal how.policy.settle how.mode (events records) (event_after records raw)) (late_refusal-in how.policy.settle how.mode (events records) (event_after records raw))
+
+pub least-status : (how : Reading) (behind : List ℕ) (fault : Fault) → RefusedIn how behind fault → StatusIn 18 21 fault
+least-status how behind fault h = subst InRange h.refused (refusal-in how _ h.word)
+
+-- late events and reserved records are refused by no listing
+abbrev InLimits : Option Fault → Type 0
+InLimits None = Unit {0}
+InLimits (Some fault) = StatusIn 20 21 fault
+
+limits-in : (full reserved passing : Bool) (limit place word : ℕ) (late : Option Fault)
+    → InLimits (if full then Some (RecordLimit limit) else if reserved && false then Some (ReservedRecord place word) else if passing then Some (TimeLimit place) else if false then late else None)
+limits-in true reserved passing limit place word late = (omega arith, omega arith)
+limits-in false true true limit place word late = (omega arith, omega arith)
+limits-in false true false limit place word late = tt
+limits-in false false true limit place word late = (omega arith, omega arith)
+limits-in false false false limit place word late = tt
+
+listing-in : (header : Header) (before : List ℕ) (word : ℕ) → InLimits (refusal (listing header) before word)
+unfolding refusal
+listing-in header before word =
+    let how = listing header in
+    let records = map how.meaning before in
+    let raw = how.meaning word in
+    limits-in (nat_le how.policy.records (length records)) (is_reserved raw) (passes records raw) how.policy.records (length records + 1) word (late_refusal how.policy.settle how.mode (events records) (event_after records raw))
+
+pub listed-status : (header : Header) (behind : List ℕ) (fault : Fault) → RefusedIn (listing header) behind fault → StatusIn 20 21 fault
+listed-status header behind fault h = subst InLimits h.refused (listing-in header _ h.word)

@@ -1,0 +1,15 @@
+pub mod Rows
+pub mod PickedFiles
+pub mod CaseSteps
+pub mod PickPhotons
+pub mod PickCases
+pub mod PickShown
+pub mod Prints
+pub mod CaseShapes
+pub mod FaultStatuses
+pub mod Cases
+pub mod Proved
+pub mod Causes
+pub mod Shown
+pub mod Statuses
+pub mod DemoRuns

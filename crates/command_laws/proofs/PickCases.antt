@@ -1,0 +1,205 @@
+-- What `pick` ends with is what the table of cases calls for.
+use Rattle.std.proofs.Common.{◌≡◌, ℕ, List, [], ◌∷◌, ◌++◌, length, Bool, true, false, None, Some, Err, refl, sym, ap, ◌∙◌, subst, inl, inr, ◌≢◌, ◌≤◌, append-nil, arith, append_assoc, ◌⊎◌, ◌==◌, nat_le, if◌then◌else◌, ◌&&◌}
+use Rattle.std.{specs.declared.option.Option.Option, proofs.lemmas.Bool.Decides.nat_tests}
+use Rattle.tally_base.{specs.declared.fault.Fault.Fault, specs.declared.fault.Fault.TheVariants.{TruncatedRecord, NoGroup, PickTime}, specs.declared.header.Header.Header, specs.Faults.fault_in, specs.declared.event.Event.Event}
+use Rattle.ptu_definitions.{specs.Words.{words_of, rest_of}, specs.Firsts.IsFirst, specs.Streams.{Reading, record_refusal, refusal}, proofs.Firsts.{first-refusal, refused-first, none-refused}}
+use Rattle.record_stream.proofs.Lasts.{streamed-refused}
+use Rattle.plan_text.specs.Plan.{PlanView}
+use Rattle.tally_engine.specs.Plans.{reading_by}
+use Rattle.photon_pick.{specs.Late.too_late, specs.Ends.photons_by, specs.Texts.photons_in}
+use Rattle.pick_work.specs.PickOutcomes.{no_group, chosen_by, records_picked, picked_if_fits, picked_behind, picking}
+use Rattle.command_work.specs.Outcomes.{Outcome}
+use Rattle.command_laws.{specs.Causes.StatusIn, specs.Cases.{NoneRefused, HasGroup, settled_photons, kept_photons, FirstLate, LateAtRecord, LateAtEnd, RefusedInTime, SettledInTime, AllPicked, pick_end, PickedCase}, specs.CommandCases.{pick_statuses, NamesLate, pick_cases, Lacks, Needs}, proofs.FaultStatuses.{some-same, of-written, of-end, range-as, wider, least-status}, proofs.CaseShapes.{RecordCause, NeedMeets, PlanMeets}, proofs.PickPhotons.{late-ends, none-or-late, late-more, picked_end, end-late, end-in_time, in-settled, in-before, least-late, clear-front, all-end}, proofs.CaseSteps.{empty-true, empty-false, true-empty, false-empty, whole_answer, streamed-clear}}
+
+-- ## The records
+
+module _ (view : PlanView) (group : ℕ) (header : Header) (behind : List ℕ) where
+  abbrev how : Reading
+  how = reading_by view header
+
+  abbrev words : List ℕ
+  words = words_of behind
+
+  abbrev chooses : Event → Bool
+  chooses = chosen_by view group
+
+  abbrev whole_end : Outcome
+  whole_end = records_picked view group header behind
+
+  abbrev settled : List ℕ → List Event
+  settled = settled_photons view group header
+
+  abbrev kept : List Event
+  kept = kept_photons view group header words
+
+  -- among words of which none is refused
+  pub first-settled : (front more : List ℕ) → words ≡ front ++ more → NoneRefused how front → FirstLate how.mode (settled front) → LateAtRecord view group header words
+  first-settled front more parts clear h =
+      let least = least-late chooses how front h in
+      record {
+        front = least.front;
+        word = least.word;
+        more = least.more ++ more;
+        parts = parts ∙ ap (λ l. l ++ more) least.parts ∙ append_assoc (least.front ++ least.word ∷ []) least.more more;
+        unrefused = (none-refused how (least.front ++ least.word ∷ [])).0 (clear-front chooses how (least.front ++ least.word ∷ []) least.more front least.parts ((none-refused how front).1 clear));
+        none_settled = least.none_settled;
+        first = least.late;
+      }
+
+  late-first : (late : LateAtRecord view group header words) → whole_end ≡ pick_end header late.first.before (Some (PickTime late.first.photon.place))
+  late-first late =
+      let upto = late.front ++ late.word ∷ [] in
+      let none = (none-refused how upto).1 late.unrefused in
+      late-ends chooses how upto late.more behind late.parts (late-more how.mode (settled upto) [] (photons_in chooses how upto) (in-settled chooses how upto none ∙ sym (append-nil (settled upto))) late.first)
+
+  refused-end : (fault : Fault) (refusal : RefusedInTime view group header words fault) → whole_end ≡ pick_end header (settled refusal.least.front) (Some fault)
+  refused-end fault refusal =
+      let least = refusal.least in
+      all-end chooses how behind (Err fault) (sym (streamed-refused how behind fault (refused-first how words fault least)))
+      ∙ ap (λ ps. picked_end how.mode ps (Some fault)) (in-before chooses how words fault least)
+      ∙ end-in_time how.mode (settled least.front) (Some fault) refusal.in_time
+
+  -- where none is
+  clear-end : record_refusal how words ≡ None → (whole : Bool) → (length (rest_of behind) == 0) ≡ whole → whole_end ≡ picked_end how.mode (photons_by chooses how words (whole_answer how behind whole)) (fault_in (whole_answer how behind whole))
+  clear-end none whole is = all-end chooses how behind (whole_answer how behind whole) (streamed-clear how behind none ∙ ap (whole_answer how behind) is)
+
+  cut-end : SettledInTime view group header words → rest_of behind ≢ [] → whole_end ≡ pick_end header (settled words) (Some (TruncatedRecord (length (rest_of behind))))
+  cut-end soon cut =
+      let none = (none-refused how words).1 soon.unrefused in
+      clear-end none false (false-empty (rest_of behind) cut)
+      ∙ ap (λ ps. picked_end how.mode ps (Some (TruncatedRecord (length (rest_of behind))))) (in-settled chooses how words none)
+      ∙ end-in_time how.mode (settled words) (Some (TruncatedRecord (length (rest_of behind)))) soon.in_time
+
+  late-last : (late : LateAtEnd view group header behind) → whole_end ≡ pick_end header late.first.before (Some (PickTime late.first.photon.place))
+  late-last late = clear-end ((none-refused how words).1 late.unrefused) true (true-empty (rest_of behind) late.whole) ∙ end-late how.mode kept None late.first
+
+  all-picked : (all : AllPicked view group header behind) → whole_end ≡ pick_end header kept None
+  all-picked all = clear-end ((none-refused how words).1 all.unrefused) true (true-empty (rest_of behind) all.whole) ∙ end-in_time how.mode kept None all.in_time
+
+  pub picked-holds : PickedCase view group header behind whole_end
+  picked-holds = by (record_refusal how words) refl
+    where
+      stopped : (fault : Fault) (least : IsFirst how fault [] words) → (too_late how.mode (settled least.front) ≡ []) ⊎ FirstLate how.mode (settled least.front) → PickedCase view group header behind whole_end
+      stopped fault least (inr h) = let late = first-settled least.front (least.word ∷ least.more) least.parts least.unrefused h in inl (late, late-first late)
+      stopped fault least (inl none) = let refusal : RefusedInTime view group header words fault = record { least = least; in_time = none } in inr (inl (fault, refusal, refused-end fault refusal))
+
+      left : NoneRefused how words → rest_of behind ≢ [] → (too_late how.mode (settled words) ≡ []) ⊎ FirstLate how.mode (settled words) → PickedCase view group header behind whole_end
+      left clear some (inr h) = let late = first-settled words [] (sym (append-nil words)) clear h in inl (late, late-first late)
+      left clear some (inl none) = let soon : SettledInTime view group header words = record { unrefused = clear; in_time = none } in inr (inr (inl (soon, some, cut-end soon some)))
+
+      whole : NoneRefused how words → rest_of behind ≡ [] → (too_late how.mode (settled words) ≡ []) ⊎ FirstLate how.mode (settled words) → (too_late how.mode kept ≡ []) ⊎ FirstLate how.mode kept → PickedCase view group header behind whole_end
+      whole clear all (inr s) h = let late = first-settled words [] (sym (append-nil words)) clear s in inl (late, late-first late)
+      whole clear all (inl soon) (inr h) = let late : LateAtEnd view group header behind = record { unrefused = clear; whole = all; none_settled = soon; first = h } in inr (inr (inr (inl (late, late-last late))))
+      whole clear all (inl soon) (inl none) = let all : AllPicked view group header behind = record { unrefused = clear; whole = all; in_time = none } in inr (inr (inr (inr (all, all-picked all))))
+
+      ends : NoneRefused how words → (b : Bool) → (length (rest_of behind) == 0) ≡ b → PickedCase view group header behind whole_end
+      ends clear true is = whole clear (empty-true (rest_of behind) is) (none-or-late how.mode (settled words)) (none-or-late how.mode kept)
+      ends clear false is = left clear (empty-false (rest_of behind) is) (none-or-late how.mode (settled words))
+
+      by : (o : Option Fault) → record_refusal how words ≡ o → PickedCase view group header behind whole_end
+      by (Some fault) e = let least = first-refusal how words fault e in stopped fault least (none-or-late how.mode (settled least.front))
+      by None e = ends ((none-refused how words).0 e) (length (rest_of behind) == 0) refl
+
+  picked-only : (end : Outcome) → PickedCase view group header behind end → whole_end ≡ end
+  picked-only end (inl h) = late-first h.0 ∙ sym h.1
+  picked-only end (inr (inl h)) = refused-end h.0 h.1 ∙ sym h.2
+  picked-only end (inr (inr (inl h))) = cut-end h.0 h.1 ∙ sym h.2
+  picked-only end (inr (inr (inr (inl h)))) = late-last h.0 ∙ sym h.1
+  picked-only end (inr (inr (inr (inr h)))) = all-picked h.0 ∙ sym h.1
+
+-- ## The group
+
+abbrev unless_has : ℕ → Bool → Option Fault
+unless_has group has = if has then None else Some (NoGroup group)
+
+abbrev has_group : ℕ → PlanView → Bool
+has_group group view = nat_le 1 group && nat_le group (length view.groups)
+
+pub has-true : (group count : ℕ) → (nat_le 1 group && nat_le group count) ≡ true → (1 ≤ group) × (group ≤ count)
+has-true group count h = (grind (arith, nat_tests), grind (arith, nat_tests))
+
+pub true-has : (group count : ℕ) → (1 ≤ group) × (group ≤ count) → (nat_le 1 group && nat_le group count) ≡ true
+true-has group count h = let low = h.0 in let high = h.1 in grind (arith, nat_tests)
+
+pub false-has : (group count : ℕ) → ((1 ≤ group) × (group ≤ count) → ⊥) → (nat_le 1 group && nat_le group count) ≡ false
+false-has group count never = by (nat_le 1 group && nat_le group count) refl
+  where
+    by : (b : Bool) → (nat_le 1 group && nat_le group count) ≡ b → b ≡ false
+    by true e = absurd (never (has-true group count e))
+    by false e = refl
+
+-- the fault of a plan by its groups
+pub has-none : (group : ℕ) (view : PlanView) → HasGroup group view → no_group group view ≡ None
+has-none group view h = ap (unless_has group) (true-has group (length view.groups) h)
+
+pub no-some : (group : ℕ) (view : PlanView) → (HasGroup group view → ⊥) → no_group group view ≡ Some (NoGroup group)
+no-some group view never = ap (unless_has group) (false-has group (length view.groups) never)
+
+-- ## What is told
+
+picked-cause : (group : ℕ) (view : PlanView) (header : Header) (behind : List ℕ) (end : Outcome) (fault : Fault) → PickedCase view group header behind end → end.fault ≡ Some fault → RecordCause (pick_cases group view) header behind fault
+picked-cause group view header behind end fault (inl h) e = inr (inr (inl (h.0, of-end end _ _ fault h.1 e)))
+picked-cause group view header behind end fault (inr (inl h)) e = inr (inl (subst (RefusedInTime view group header (words_of behind)) (sym (of-end end _ h.0 fault h.2 e)) h.1))
+picked-cause group view header behind end fault (inr (inr (inl h))) e = inl (h.0, h.1, of-end end _ _ fault h.2 e)
+picked-cause group view header behind end fault (inr (inr (inr (inl h)))) e = inr (inr (inr (h.0, of-end end _ _ fault h.1 e)))
+picked-cause group view header behind end fault (inr (inr (inr (inr h)))) e = absurd (of-written end _ fault h.1 e)
+
+module _ (group : ℕ) (view : PlanView) (header : Header) (behind : List ℕ) (fault : Fault) where
+  abbrev Ends : Type 0
+  Ends = (end : Outcome) × PickedCase view group header behind end × (end.fault ≡ Some fault)
+
+  abbrev with_photons : List Event → Fault → Outcome
+  with_photons photons further = pick_end header photons (Some further)
+
+  names-ends : NamesLate group view header behind fault → Ends
+  names-ends (inl late) = (with_photons late.0.first.before fault, inl (late.0, ap (with_photons late.0.first.before) late.1), refl)
+  names-ends (inr late) = (with_photons late.0.first.before fault, inr (inr (inr (inl (late.0, ap (with_photons late.0.first.before) late.1)))), refl)
+
+  picked-ends : RecordCause (pick_cases group view) header behind fault → Ends
+  picked-ends (inl cut) =
+      let photons = settled_photons view group header (words_of behind) in
+      (with_photons photons fault, inr (inr (inl (cut.0, cut.1, ap (with_photons photons) cut.2))), refl)
+  picked-ends (inr (inl refusal)) = (with_photons (settled_photons view group header refusal.least.front) fault, inr (inl (fault, refusal, refl)), refl)
+  picked-ends (inr (inr late)) = names-ends late
+
+names-status : (group : ℕ) (view : PlanView) (header : Header) (behind : List ℕ) (fault : Fault) → NamesLate group view header behind fault → StatusIn 24 24 fault
+names-status group view header behind fault (inl late) = range-as 24 24 fault (PickTime late.0.first.photon.place) late.1 (omega arith, omega arith)
+names-status group view header behind fault (inr late) = range-as 24 24 fault (PickTime late.0.first.photon.place) late.1 (omega arith, omega arith)
+
+group-needs : (group : ℕ) → NeedMeets pick_statuses (Needs (HasGroup group) (NoGroup group)) (no_group group)
+group-needs group = record {
+  has = λ view none. found view (has_group group view) refl none;
+  none = λ view has. has-none group view has;
+  lack = λ view fault e. lacking view fault (has_group group view) refl e;
+  some = λ view fault h. no-some group view h.0 ∙ ap Some (sym h.1);
+  status = λ view fault h. let s = range-as 23 23 fault (NoGroup group) h.1 (omega arith, omega arith) in (wider 23 23 22 23 fault s (omega arith) (omega arith), inr (wider 23 23 23 24 fault s (omega arith) (omega arith)));
+}
+  where
+    found : (view : PlanView) (has : Bool) → has_group group view ≡ has → unless_has group has ≡ None → HasGroup group view
+    found view true e none = has-true group (length view.groups) e
+    found view false e none = cc
+
+    lacking : (view : PlanView) (fault : Fault) (has : Bool) → has_group group view ≡ has → unless_has group has ≡ Some fault → Lacks (Needs (HasGroup group) (NoGroup group)) view fault
+    lacking view fault true e some = cc
+    lacking view fault false e some = (λ has. let is = true-has group (length view.groups) has in cc, some-same fault (NoGroup group) (sym some))
+
+pub pick-told : (group : ℕ) → PlanMeets pick_statuses (Needs (HasGroup group) (NoGroup group)) (pick_cases group) (no_group group) (picking group)
+pick-told group = record {
+  needs = group-needs group;
+  works = λ view has. record {
+    end_of = picked_behind view group;
+    fit_of = picked_if_fits view group;
+    is = λ bytes. refl;
+    fails = λ fault. refl;
+    headed = λ header behind. refl;
+    misfit = λ header behind fault. refl;
+    told = record {
+      holds = picked-holds view group;
+      only = picked-only view group;
+      cause = picked-cause group view;
+      ends = picked-ends group view;
+      refuses_status = λ header behind fault h. let s = least-status (reading_by view header) behind fault h.least in (s, inl s);
+      late_status = λ header behind fault h. let s = names-status group view header behind fault h in (s, inr (wider 24 24 23 24 fault s (omega arith) (omega arith)));
+    };
+  };
+}

@@ -1,0 +1,160 @@
+-- The photons that `pick` writes, and the first of them that is too late.
+use Rattle.std.proofs.Common.{◌≡◌, ◌∙◌, ℕ, List, [], ◌∷◌, ◌++◌, Bool, true, false, cond, None, Some, Ok, Err, map, refl, sym, ap, inl, inr, append_assoc, append-nil, ◌⊎◌, Result}
+use Rattle.std.{specs.List.filter, specs.declared.option.Option.Option, proofs.lemmas.List.Elements.filter-append}
+use Rattle.tally_base.{specs.declared.event.Event.Event, specs.declared.fault.Fault.Fault, specs.declared.fault.Fault.TheVariants.PickTime, specs.declared.header.Mode.Mode, specs.Faults.fault_in}
+use Rattle.ptu_definitions.{specs.declared.records.Summary.Summary, specs.Firsts.IsFirst, specs.Prefixes.first, specs.Settled.{not_marked, settled_by}, specs.Streams.{Reading, record_refusal, given, last_in, streamed}, specs.Times.events, specs.Words.words_of, proofs.DeliveredLaws.{delivered-settled, delivered-none}, proofs.Firsts.{given-all, given-before}, proofs.StreamLemmas.{given-front, given-stays, refused-more}}
+use Rattle.short_file.specs.ShortFiles.{short_header, short_file, bytes_in}
+use Rattle.record_write.specs.Picked.{is_too_late, picked_words, picked_file}
+use Rattle.photon_pick.{specs.Late.{too_late, writable}, specs.Texts.{photons_in, late_or}, specs.Ends.{photons_by, photons_of, end_text, end_fault}, proofs.Parts.chosen-more, proofs.Ends.kept-are, proofs.Streams.clear-from_ok}
+use Rattle.command_work.specs.Outcomes.{Outcome}
+use Rattle.command_laws.specs.Cases.{FirstLate}
+
+-- ## The first that is too late
+
+module _ (mode : Mode) where
+  late-clear : (ps qs : List Event) → too_late mode ps ≡ [] → too_late mode (ps ++ qs) ≡ too_late mode qs
+  late-clear ps qs none = filter-append (λ (e : Event). is_too_late mode e.time) ps qs ∙ ap (λ l. l ++ too_late mode qs) none
+
+  split-late : (b : Bool) (e : Event) (late : List Event) → cond b (e ∷ late) late ≡ [] → (b ≡ false) × (late ≡ [])
+  split-late true e late none = cc
+  split-late false e late none = (refl, none)
+
+  writable-clear : (ps qs : List Event) → too_late mode ps ≡ [] → writable mode (ps ++ qs) ≡ ps ++ writable mode qs
+  writable-clear [] qs none = refl
+  writable-clear (p ∷ ps) qs none =
+      let parts = split-late (is_too_late mode p.time) p (too_late mode ps) none in
+      rw (parts.0, writable-clear ps qs parts.1) refl
+
+  all-writable : (ps : List Event) → too_late mode ps ≡ [] → writable mode ps ≡ ps
+  all-writable ps none = ap (writable mode) (sym (append-nil ps)) ∙ writable-clear ps [] none ∙ append-nil ps
+
+  pub none-or-late : (ps : List Event) → (too_late mode ps ≡ []) ⊎ FirstLate mode ps
+  none-or-late [] = inl refl
+  none-or-late (p ∷ ps) = by (is_too_late mode p.time) refl (none-or-late ps)
+    where
+      by : (b : Bool) → is_too_late mode p.time ≡ b → (too_late mode ps ≡ []) ⊎ FirstLate mode ps → (cond b (p ∷ too_late mode ps) (too_late mode ps) ≡ []) ⊎ FirstLate mode (p ∷ ps)
+      by true is rest = inr (record { before = []; photon = p; behind = ps; parts = refl; none_before = refl; late = is })
+      by false is (inl none) = inl none
+      by false is (inr h) = inr (record { before = p ∷ h.before; photon = h.photon; behind = h.behind; parts = ap (λ l. p ∷ l) h.parts; none_before = rw is h.none_before; late = h.late })
+
+  -- it is the same where more come behind
+  abbrev pub late-more : (ps tail now : List Event) → now ≡ ps ++ tail → FirstLate mode ps → FirstLate mode now
+  late-more ps tail now adds h = record {
+    before = h.before;
+    photon = h.photon;
+    behind = h.behind ++ tail;
+    parts = adds ∙ ap (λ l. l ++ tail) h.parts ∙ append_assoc h.before (h.photon ∷ h.behind) tail;
+    none_before = h.none_before;
+    late = h.late;
+  }
+
+  first-late : (ps : List Event) (h : FirstLate mode ps) → first (too_late mode ps) ≡ Some h.photon
+  first-late ps h = ap (λ l. first (too_late mode l)) h.parts ∙ ap first (late-clear h.before (h.photon ∷ h.behind) h.none_before) ∙ rw (h.late) refl
+
+  late-writable : (ps : List Event) (h : FirstLate mode ps) → writable mode ps ≡ h.before
+  late-writable ps h = ap (writable mode) h.parts ∙ writable-clear h.before (h.photon ∷ h.behind) h.none_before ∙ rw (h.late) (append-nil h.before)
+
+  -- what these photons and another fault end with
+  abbrev pub picked_end : List Event → Option Fault → Outcome
+  picked_end ps fault = record {
+    text = short_header mode ++ bytes_in (picked_words mode (writable mode ps));
+    fault = late_or (first (too_late mode ps)) fault;
+  }
+
+  pub end-late : (ps : List Event) (fault : Option Fault) (h : FirstLate mode ps) → picked_end ps fault ≡ record { text = picked_file mode h.before; fault = Some (PickTime h.photon.place) }
+  unfolding short_file
+  end-late ps fault h = rw (first-late ps h, late-writable ps h) refl
+
+  pub end-in_time : (ps : List Event) (fault : Option Fault) → too_late mode ps ≡ [] → picked_end ps fault ≡ record { text = picked_file mode ps; fault = fault }
+  unfolding short_file
+  end-in_time ps fault none = rw (all-writable ps none, none) refl
+
+-- ## The photons that are chosen
+
+module _ (chooses : Event → Bool) (how : Reading) where
+  abbrev pub settled_chosen : List ℕ → List Event
+  settled_chosen words = filter chooses (settled_by how.policy.settle how.mode (events (map how.meaning words)))
+
+  -- of words of which none is refused, and of words of which this is the first
+  pub in-settled : (words : List ℕ) → record_refusal how words ≡ None → photons_in chooses how words ≡ settled_chosen words
+  in-settled words none = ap (λ l. filter chooses (not_marked l)) (given-all how words none) ∙ ap (filter chooses) (delivered-settled how.policy.settle how.mode (events (map how.meaning words)))
+
+  pub in-before : (words : List ℕ) (fault : Fault) (least : IsFirst how fault [] words) → photons_in chooses how words ≡ settled_chosen least.front
+  in-before words fault least = ap (λ l. filter chooses (not_marked l)) (given-before how words fault least) ∙ ap (filter chooses) (delivered-settled how.policy.settle how.mode (events (map how.meaning least.front)))
+
+  in-more : (words more now : List ℕ) → now ≡ words ++ more → (tail : List Event) × (photons_in chooses how now ≡ photons_in chooses how words ++ tail)
+  in-more words more now parts =
+      let front = given-front how words more in
+      (filter chooses (not_marked front.0), ap (photons_in chooses how) parts ∙ ap (λ l. filter chooses (not_marked l)) front.1 ∙ chosen-more chooses (given how words) front.0)
+
+  -- those of some words are in front of those of all bytes behind a header that begin with them
+  pub front-of : (words more bytes : List ℕ) → words_of bytes ≡ words ++ more → (tail : List Event) × (photons_of chooses how bytes ≡ photons_in chooses how words ++ tail)
+  front-of words more bytes parts = by (streamed how bytes) refl
+    where
+      given_front : (tail : List Event) × (photons_in chooses how (words_of bytes) ≡ photons_in chooses how words ++ tail)
+      given_front = in-more words more (words_of bytes) parts
+
+      by : (r : Result Summary Fault) → streamed how bytes ≡ r → (tail : List Event) × (photons_by chooses how (words_of bytes) r ≡ photons_in chooses how words ++ tail)
+      by (Err fault) is = given_front
+      by (Ok summary) is =
+          let rest = filter chooses (not_marked (last_in how (words_of bytes))) in (
+            given_front.0 ++ rest,
+            kept-are chooses how (words_of bytes) (clear-from_ok how bytes summary is) ∙ ap (λ l. l ++ rest) given_front.1 ∙ append_assoc (photons_in chooses how words) given_front.0 rest,
+          )
+
+  -- of no words
+  settled-none : settled_chosen [] ≡ []
+  unfolding events
+  settled-none = ap (filter chooses) (sym (delivered-settled how.policy.settle how.mode []) ∙ ap not_marked (delivered-none how.policy.settle how.mode))
+
+  -- Some record is the first to settle a photon that is too late, where there is one.
+  pub record Least (words : List ℕ) : Type 0 where
+    pub front : List ℕ
+    pub word : ℕ
+    pub more : List ℕ
+    pub parts : words ≡ (front ++ word ∷ []) ++ more
+    pub none_settled : too_late how.mode (settled_chosen front) ≡ []
+    pub late : FirstLate how.mode (settled_chosen (front ++ word ∷ []))
+
+  least_behind : (front rest words : List ℕ) → words ≡ front ++ rest → too_late how.mode (settled_chosen front) ≡ [] → FirstLate how.mode (settled_chosen words) → Least words
+  least_behind front [] words parts none h =
+      let whole : settled_chosen words ≡ settled_chosen front = ap settled_chosen (parts ∙ append-nil front) in
+      let late : first (too_late how.mode (settled_chosen words)) ≡ Some h.photon = first-late how.mode (settled_chosen words) h in
+      let soon : first (too_late how.mode (settled_chosen words)) ≡ None = ap (λ l. first (too_late how.mode l)) whole ∙ ap first none in
+      cc
+  least_behind front (word ∷ rest) words parts none h =
+      here front word rest words (parts ∙ sym (append_assoc front (word ∷ []) rest)) none (none-or-late how.mode (settled_chosen (front ++ word ∷ [])))
+      (λ soon. least_behind (front ++ word ∷ []) rest words (parts ∙ sym (append_assoc front (word ∷ []) rest)) soon h)
+    where
+      here : (front : List ℕ) (word : ℕ) (rest words : List ℕ) → words ≡ (front ++ word ∷ []) ++ rest → too_late how.mode (settled_chosen front) ≡ []
+          → (too_late how.mode (settled_chosen (front ++ word ∷ [])) ≡ []) ⊎ FirstLate how.mode (settled_chosen (front ++ word ∷ []))
+          → (too_late how.mode (settled_chosen (front ++ word ∷ [])) ≡ [] → Least words) → Least words
+      here front word rest words parts none (inr late) next = record { front = front; word = word; more = rest; parts = parts; none_settled = none; late = late }
+      here front word rest words parts none (inl soon) next = next soon
+
+  pub least-late : (words : List ℕ) → FirstLate how.mode (settled_chosen words) → Least words
+  least-late words h = least_behind [] words words refl (ap (too_late how.mode) settled-none) h
+
+  -- the records before one that is not refused are not refused
+  pub clear-front : (words more now : List ℕ) → now ≡ words ++ more → record_refusal how now ≡ None → record_refusal how words ≡ None
+  clear-front words more now parts clear = by (record_refusal how words) refl
+    where
+      by : (o : Option Fault) → record_refusal how words ≡ o → o ≡ None
+      by None e = refl
+      by (Some fault) e = let refused : record_refusal how now ≡ Some fault = ap (record_refusal how) parts ∙ refused-more how words more fault e in cc
+
+  -- what all bytes behind a header end with
+  abbrev pub all_end : List ℕ → Outcome
+  all_end bytes = record { text = short_header how.mode ++ end_text chooses how bytes; fault = end_fault chooses how bytes }
+
+  pub all-end : (bytes : List ℕ) (r : Result Summary Fault) → streamed how bytes ≡ r → all_end bytes ≡ picked_end how.mode (photons_by chooses how (words_of bytes) r) (fault_in r)
+  all-end bytes r is = ap (λ r. picked_end how.mode (photons_by chooses how (words_of bytes) r) (fault_in r)) is
+
+  -- a photon that is too late among those of some words ends all bytes that begin with these
+  pub late-ends : (words more bytes : List ℕ) → words_of bytes ≡ words ++ more → (h : FirstLate how.mode (photons_in chooses how words)) → all_end bytes ≡ record { text = picked_file how.mode h.before; fault = Some (PickTime h.photon.place) }
+  late-ends words more bytes parts h =
+      let front = front-of words more bytes parts in
+      end-late how.mode (photons_of chooses how bytes) (fault_in (streamed how bytes)) (late-more how.mode (photons_in chooses how words) front.0 (photons_of chooses how bytes) front.1 h)
+
+  pub in-stays : (words more : List ℕ) (fault : Fault) → record_refusal how words ≡ Some fault → photons_in chooses how (words ++ more) ≡ photons_in chooses how words
+  in-stays words more fault refused = ap (λ l. filter chooses (not_marked l)) (given-stays how words more fault refused)

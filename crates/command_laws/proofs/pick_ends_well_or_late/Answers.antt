@@ -1,0 +1,5 @@
+use Rattle.command_laws.proofs.Causes.{pick-ends}
+use Rattle.command_laws.proofs.pick_ends_well_or_late.Goals as goal
+
+pub returns : goal.returns
+returns c = pick-ends

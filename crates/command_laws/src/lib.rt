@@ -1,0 +1,123 @@
+//! Laws over all commands, each as the contract of a function that does nothing.
+#![tactic(auto)]
+
+ghost use Rattle.std.specs.Prelude.{◌≡◌, ◌≤◌, ◌↔◌, ◌⊎◌, ℕ, List, None, Some, false, length, map};
+ghost use Rattle.std.specs.declared.option.Option.{Option};
+ghost use Rattle.bench_io.specs.Inputs.{File};
+ghost use Rattle.ptu_definitions.specs.Counted.{record_limit};
+ghost use Rattle.record_write.specs.Picked.{CanBePicked, picked_words, picked_file, picked_events};
+ghost use Rattle.table_out.specs.EventText.{events_text};
+ghost use Rattle.ptu_made.{specs.MadeFile.made_file, specs.Generator.photon_limit};
+ghost use Rattle.tally_base.{specs.declared.event.Event.Event, specs.declared.header.Mode.Mode, specs.declared.fault.Fault.Fault, specs.declared.fault.Fault.TheVariants.{Usage, NoGroup}, specs.declared.header.Header.Header, specs.RecordTypes.mode_of};
+ghost use Rattle.plan_text.specs.Plan.{PlanView};
+ghost use Rattle.ptu_cli.{specs.Commands.{Request, Events, Run, Pick, Demo}, specs.Runs.{Around, Runs}, specs.Behaviours.behaviour};
+ghost use Rattle.report_work.specs.Demo.{demo_text};
+ghost use Rattle.command_work.{specs.Outcomes.{Outcome, written}, specs.Endings.outcome};
+ghost use Rattle.command_laws.{specs.CommandCases.{Needs, Suits, cases, IsOutcome}, specs.Cases.HasGroup, specs.Written.photons_written, specs.Causes.{Headed, IsPlanWith, EndsWithFault, StatusIn, Absent, NoPlan, Misfits, NoHeader, Cut, Refused, Lacking, TooLate, IsPickable, MayCallFor, MayEndWith}, specs.Stays.EndsStay};
+
+/// A `demo` ends as `run` does on the text of its plan and the made file.
+pub fn demo_is_a_run()
+    ensures { (plan_name name : List ℕ) (seed count : ℕ) → count ≤ photon_limit
+        → outcome (behaviour (Some (Run plan_name name))) (Some demo_text)
+        (Some (made_file seed count))
+        ≡ outcome (behaviour (Some (Demo seed count))) None None }
+{}
+
+/// `events` lists the file of photons that can be written as these photons, at their places in this file, and
+/// none of them as late.
+pub fn picked_photons_are_listed()
+    ensures { (name : List ℕ) (mode : Mode) (photons : List Event) → CanBePicked mode photons
+        → length (picked_words mode photons) ≤ record_limit
+        → outcome (behaviour (Some (Events name))) None (Some (picked_file mode photons))
+        ≡ written (events_text (map (λ e. (e, false)) (picked_events mode photons))) }
+{}
+
+/// What `pick` writes of a file with a header, by a plan that has the group and suits the file, and whatever its records
+/// call for, is a file of photons: `events` lists just those that were written, at their places in that file, and none of
+/// them as late, where its words are at most 2^40.
+pub fn what_is_picked_is_listed()
+    ensures { (plan_name : List ℕ) (group : ℕ) (file name : List ℕ) (plan_file data_file : File)
+        (view : PlanView) (header : Header) (behind : List ℕ)
+        → IsPlanWith (Needs (HasGroup group) (NoGroup group)) plan_file view
+        → Headed data_file header behind → Suits view header
+        → length (picked_words (mode_of header.record_type)
+        (photons_written group view header behind)) ≤ record_limit
+        → outcome (behaviour (Some (Events name))) None
+        (Some (outcome (behaviour (Some (Pick plan_name group file))) plan_file data_file).text)
+        ≡ written (events_text (map (λ e. (e, false)) (picked_events (mode_of header.record_type)
+        (photons_written group view header behind)))) }
+{}
+
+/// The outcome of a command over its files is the one that the table of cases calls for, and no other.
+pub fn one_outcome()
+    ensures { (request : Option Request) (plan_file data_file : File) (end : Outcome)
+        → IsOutcome request plan_file data_file end
+        ↔ (outcome (behaviour request) plan_file data_file ≡ end) }
+{}
+
+/// A command ends with a fault exactly where its cause stands, which its line of `cases` tells: with status 1 where the words are no command,
+/// with 2 where a file is not there, 6 to 8 where PLAN is no plan, 9 where a part of it doesn't suit, 10 to
+/// 16 where FILE is refused as a header, 17 where it ends within a record, 18 to 21 where a record is refused, 22 and 23
+/// where the plan lacks what the command needs (a trace, or the group of the number), and 24 where a photon of the
+/// group is too late to be written.
+pub fn exactly_where()
+    ensures words { (request : Option Request) (plan_file data_file : File)
+        → EndsWithFault request plan_file data_file Usage ↔ (request ≡ None) }
+    ensures absent { (request : Option Request) (plan_file data_file : File) (fault : Fault)
+        → StatusIn 2 2 fault → EndsWithFault request plan_file data_file fault
+        ↔ Absent (cases request) plan_file data_file fault }
+    ensures plan { (request : Option Request) (plan_file data_file : File) (fault : Fault)
+        → StatusIn 6 8 fault → EndsWithFault request plan_file data_file fault
+        ↔ NoPlan (cases request) plan_file fault }
+    ensures lacking { (request : Option Request) (plan_file data_file : File) (fault : Fault)
+        → StatusIn 22 23 fault → EndsWithFault request plan_file data_file fault
+        ↔ Lacking (cases request) plan_file fault }
+    ensures mode { (request : Option Request) (plan_file data_file : File) (fault : Fault)
+        → StatusIn 9 9 fault → EndsWithFault request plan_file data_file fault
+        ↔ Misfits (cases request) plan_file data_file fault }
+    ensures header { (request : Option Request) (plan_file data_file : File) (fault : Fault)
+        → StatusIn 10 16 fault → EndsWithFault request plan_file data_file fault
+        ↔ NoHeader (cases request) plan_file data_file fault }
+    ensures cut { (request : Option Request) (plan_file data_file : File) (fault : Fault)
+        → StatusIn 17 17 fault → EndsWithFault request plan_file data_file fault
+        ↔ Cut (cases request) plan_file data_file fault }
+    ensures refused { (request : Option Request) (plan_file data_file : File) (fault : Fault)
+        → StatusIn 18 21 fault → EndsWithFault request plan_file data_file fault
+        ↔ Refused (cases request) plan_file data_file fault }
+    ensures late { (request : Option Request) (plan_file data_file : File) (fault : Fault)
+        → StatusIn 24 24 fault → EndsWithFault request plan_file data_file fault
+        ↔ TooLate (cases request) plan_file data_file fault }
+{}
+
+/// `pick` ends well by a plan that has the group, over a file that suits it and whose records are whole and not refused,
+/// or with the fault that names a photon of the group that is too late to be written.
+pub fn pick_ends_well_or_late()
+    ensures { (plan_name : List ℕ) (group : ℕ) (file : List ℕ) (plan_file data_file : File)
+        → IsPickable group plan_file data_file
+        → ((outcome (behaviour (Some (Pick plan_name group file))) plan_file data_file).fault ≡ None)
+        ⊎ ((fault : Fault) × EndsWithFault (Some (Pick plan_name group file)) plan_file data_file fault
+        × TooLate (cases (Some (Pick plan_name group file))) plan_file data_file fault) }
+{}
+
+/// The faults that the words and files of each command may call for, by their statuses: usage where there is no command,
+/// none for `demo`, else those of its shape and its own (`cases`). Beside these a run may end with 0, and with 2 to 5
+/// for what fails outside.
+pub fn statuses_of_commands()
+    ensures { (request : Option Request) (plan_file data_file : File) (fault : Fault)
+        → EndsWithFault request plan_file data_file fault → MayCallFor (cases request) fault }
+{}
+
+/// Bytes of FILE call for no end by themselves, or the run ends as they say whatever comes behind them: a
+/// refusal of a header, also a whole header for `header`, a plan that doesn't suit it, a refused record, and for `pick` a
+/// photon that is settled and too late.
+pub fn an_end_that_is_shown_stays()
+    ensures { (request : Option Request) → EndsStay (behaviour request) }
+{}
+
+/// The statuses that a run of each command may end with, whatever fails: 1 for words that are no command; 0, 2 to 4, 10
+/// to 17 and 20 for `count`; 0, 2 to 4 and 10 to 16 for `header`; 0, 2 to 4, 10 to 17, 20 and 21 for `events`; 0 and 2 to
+/// 21 for `run`; 0 and 2 to 22 for `trace`; 0, 2 to 21, 23 and 24 for `pick`; 0, 4 and 5 for `demo`.
+pub fn statuses_of_runs()
+    ensures { (request : Option Request) (run : Around) (result : ℕ) → Runs request run result
+        → MayEndWith (cases request) result }
+{}

@@ -1,0 +1,73 @@
+-- No more is taken than one read behind bytes that call for no end by themselves.
+use Rattle.std.proofs.Common.{◌≡◌, ◌≤◌, ℕ, List, [], ◌++◌, Bool, true, false, Ok, Err, length, take, sym, subst, arith, append-nil, append_assoc, Result, IfErr}
+use Rattle.std.{specs.declared.option.Option.Option, specs.Io.KnownBytes.Consumes, proofs.lemmas.List.length-take}
+use Rattle.tally_base.{specs.declared.fault.Fault.Fault, specs.Faults.is_outside}
+use Rattle.bench_io.proofs.Bytes.{Consumes-trans}
+use Rattle.command_work.{specs.Behaviours.piece_limit, specs.Works.TakesFew, specs.Pieces.StopsSoon}
+
+pub few-none : (goes_on : List ℕ → Type 0) (front : List ℕ) (before after : Option (List ℕ)) → Consumes before after front → goes_on front → TakesFew goes_on before after
+few-none goes_on front before after took goes = record {
+  front = front;
+  last = [];
+  consumes = subst (λ (l : List ℕ). Consumes before after l) (sym (append-nil front)) took;
+  goes = goes;
+  few = omega arith;
+}
+
+pub few-piece : (goes_on : List ℕ → Type 0) (front : List ℕ) (len : ℕ) (into : List ℕ) (before after : Option (List ℕ)) → Consumes before after (front ++ take len into) → goes_on front → length into ≤ piece_limit → TakesFew goes_on before after
+few-piece goes_on front len into before after took goes size = record {
+  front = front;
+  last = take len into;
+  consumes = took;
+  goes = goes;
+  few = let e = length-take len into in omega (arith, e, size);
+}
+
+pub few-map : (p q : List ℕ → Type 0) (before after : Option (List ℕ)) → ((l : List ℕ) → p l → q l) → TakesFew p before after → TakesFew q before after
+few-map p q before after f h = record { front = h.front; last = h.last; consumes = h.consumes; goes = f h.front h.goes; few = h.few }
+
+pub few-behind : (p q : List ℕ → Type 0) (taken : List ℕ) (before mid after : Option (List ℕ)) → Consumes before mid taken → ((l : List ℕ) → p l → q (taken ++ l)) → TakesFew p mid after → TakesFew q before after
+few-behind p q taken before mid after took f h = record {
+  front = taken ++ h.front;
+  last = h.last;
+  consumes = subst (λ (l : List ℕ). Consumes before after l) (sym (append_assoc taken h.front h.last)) (Consumes-trans before mid after taken (h.front ++ h.last) took h.consumes);
+  goes = f h.front h.goes;
+  few = h.few;
+}
+
+-- Where an end is not from outside, no read has failed.
+none-unread : {A : Type 0} (P : Type 0) (r : Result A Fault) → IfErr r (λ fault. is_outside fault ≡ false) → IfErr r (λ fault. is_outside fault ≡ true → P)
+none-unread P (Ok value) inside = tt
+none-unread P (Err fault) inside = λ outside. absurd (not_both (is_outside fault) inside outside)
+  where
+    not_both : (b : Bool) → b ≡ false → b ≡ true → ⊥
+    not_both b p q = cc
+
+-- a read failed
+pub stops-unread : {A : Type 0} (goes_on : List ℕ → Type 0) (front : List ℕ) (before after : Option (List ℕ)) (fault : Fault) → Consumes before after front → goes_on front → StopsSoon {A = A} goes_on before after (Err fault)
+stops-unread goes_on front before after fault took goes = record { unread = λ outside. (front, took, goes); few = few-none goes_on front before after took goes }
+
+-- a piece was read behind bytes that go on so, and it ended the work
+pub stops-piece : {A : Type 0} (goes_on : List ℕ → Type 0) (front : List ℕ) (len : ℕ) (into : List ℕ) (before after : Option (List ℕ)) (r : Result A Fault) → Consumes before after (front ++ take len into) → goes_on front → length into ≤ piece_limit
+    → IfErr r (λ fault. is_outside fault ≡ false) → StopsSoon goes_on before after r
+stops-piece goes_on front len into before after r took goes size inside = record { unread = none-unread _ r inside; few = few-piece goes_on front len into before after took goes size }
+
+-- the same holds of bytes that go on in another way
+pub stops-map : {A B : Type 0} (p q : List ℕ → Type 0) (before after : Option (List ℕ)) (fault : Fault) → ((l : List ℕ) → p l → q l) → StopsSoon {A = A} p before after (Err fault) → StopsSoon {A = B} q before after (Err fault)
+stops-map p q before after fault f h = record {
+  unread = λ outside. let taken = h.unread outside in (taken.0, taken.1, f taken.0 taken.2);
+  few = few-map p q before after f h.few;
+}
+
+-- the bytes before went on so, and some behind them ended the work
+pub stops-inside : {A : Type 0} (p q : List ℕ → Type 0) (before after : Option (List ℕ)) (r : Result A Fault) → ((l : List ℕ) → p l → q l) → TakesFew p before after → IfErr r (λ fault. is_outside fault ≡ false) → StopsSoon q before after r
+stops-inside p q before after r f few inside = record { unread = none-unread _ r inside; few = few-map p q before after f few }
+
+-- bytes were taken before
+pub stops-behind : {A B : Type 0} (p q : List ℕ → Type 0) (taken : List ℕ) (before mid after : Option (List ℕ)) (fault : Fault) → Consumes before mid taken → ((l : List ℕ) → p l → q (taken ++ l)) → StopsSoon {A = A} p mid after (Err fault) → StopsSoon {A = B} q before after (Err fault)
+stops-behind p q taken before mid after fault took f h = record {
+  unread = λ outside.
+      let next = h.unread outside in
+      (taken ++ next.0, Consumes-trans before mid after taken next.0 took next.1, f next.0 next.2);
+  few = few-behind p q taken before mid after took f h.few;
+}

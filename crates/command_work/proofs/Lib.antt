@@ -1,0 +1,12 @@
+pub mod Told
+pub mod Once
+pub mod Few
+pub mod Pieces
+pub mod Streams
+pub mod WorkTold
+pub mod PlanTold
+pub mod Plans
+pub mod Texts
+pub mod TextEnds
+pub mod TextComposed
+pub mod Answers

@@ -1,0 +1,21 @@
+use Rattle.std.proofs.Common.{◌≡◌, List, ℕ, ◌-◌, ◌^◌, true, None}
+use Rattle.std.specs.Io.KnownBytes.{Consumes}
+use Rattle.tally_base.specs.declared.slot.Slot.TheVariants.{Data}
+use Rattle.bench_io.specs.Inputs.{OnlyReads}
+use Rattle.ptu_header.specs.Reading.{HasRead, bytes_taken, is_open}
+use Rattle.command_work.{specs.Outcomes.IsCut, specs.Once.InputsOnce}
+use Rattle.command_work.proofs.data.read_header.Given as goal
+
+-- the reader was given the bytes that were taken
+abbrev pub invariant-pieces : goal.invariant-pieces
+invariant-pieces g l =
+    let state = g.I.Inputs.state in
+    record {
+      reads : OnlyReads Data (state l.initial.inputs) (state l.inputs);
+      once : InputsOnce (state l.initial.inputs) (state l.inputs) None;
+      taken : (taken : List ℕ) × Consumes ((state l.initial.inputs).rest Data) ((state l.inputs).rest Data) taken × HasRead l.reader taken × IsCut taken;
+      is_open : is_open l.reader ≡ true;
+    }
+
+abbrev pub decreases-pieces : goal.decreases-pieces
+decreases-pieces g l = 2 ^ 24 - bytes_taken l.reader

@@ -1,0 +1,21 @@
+use Rattle.std.proofs.Common.{◌≡◌, ◌-◌, ◌≤◌, length, take, None}
+use Rattle.std.specs.Io.KnownBytes.{Consumes}
+use Rattle.tally_base.specs.declared.slot.Slot.TheVariants.{Plan as PlanSlot}
+use Rattle.bench_io.specs.Inputs.{OnlyReads}
+use Rattle.command_work.specs.Once.{InputsOnce}
+use Rattle.command_work.proofs.plan.read_text.Given as goal
+
+-- the first bytes of the text are those that were taken
+abbrev pub invariant-pieces : goal.invariant-pieces
+invariant-pieces g l =
+    let state = g.I.Inputs.state in
+    record {
+      reads : OnlyReads PlanSlot (state l.initial.inputs) (state l.inputs);
+      once : InputsOnce (state l.initial.inputs) (state l.inputs) None;
+      fits : l.len ≤ length l.text;
+      size : length l.text ≡ length l.initial.text;
+      taken : Consumes ((state l.initial.inputs).rest PlanSlot) ((state l.inputs).rest PlanSlot) (take l.len l.text);
+    }
+
+abbrev pub decreases-pieces : goal.decreases-pieces
+decreases-pieces g l = length l.text - l.len

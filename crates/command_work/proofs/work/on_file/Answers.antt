@@ -1,0 +1,49 @@
+use Rattle.std.proofs.Common.{None, refl, sym, ap, ◌∙◌, inl}
+use Rattle.std.proofs.lemmas.Result.{IfErr-weaker}
+use Rattle.tally_base.specs.declared.slot.Slot.TheVariants.{Plan, Data}
+use Rattle.bench_io.proofs.Bytes.{Appends-nil, Keeps-from_none}
+use Rattle.command_work.{specs.Endings.{Span, HasCauses}, proofs.WorkTold.{file-answers, file-causes, few-told}, proofs.Once.{once-refl, once-behind, once-opened, once-unopened}}
+use Rattle.command_work.proofs.work.on_file.Goals as goal
+
+pub returns-in-Err : goal.returns-in-Err
+unfolding HasCauses
+returns-in-Err g c = record {
+  answer = inl refl;
+  causes = (tt, c.in-Err.ensures.cause.failed, Keeps-from_none _ _ (Appends-nil _));
+  asks = (
+    c.open.ensures.keeps_other.asked ∙ c.requires.first Plan,
+    λ opened.
+        let asked = g.met.I.Inputs.asked_first c.args.inputs.now Data (sym c.in-Err.ensures.unopened ∙ opened) in
+        let first = c.requires.first Data in
+        cc,
+  );
+  once = record { inputs = once-unopened Data _ _ _ (once-refl _ None) c.open.ensures.keeps_other c.open.ensures.reads; out = refl };
+}
+
+pub returns-in-Ok : goal.returns-in-Ok
+returns-in-Ok g c =
+    let before = g.I.Inputs.state c.args.inputs.now in
+    let opened = g.I.Inputs.state c.open.new.self in
+    let after = g.I.Inputs.state c.read.new.inputs in
+    let writing = g.W.FileWork.writing in
+    let work = g.W.FileWork.work in
+    let span : Span = record {
+      before = opened;
+      after = after;
+      old = g.O.Sink.written c.args.out.now;
+      new = g.O.Sink.written c.read.new.out;
+      faults_before = g.O.Sink.faults c.args.out.now;
+      faults_after = g.O.Sink.faults c.read.new.out;
+    } in
+    record {
+      answer = file-answers c.args.file.now writing work before after _ _ _ _ c.in-Ok.ensures.file c.read.ensures.answer;
+      causes = IfErr-weaker c.read.result _ _ (λ fault h. file-causes c.args.file.now writing work before span fault c.in-Ok.ensures.file c.in-Ok.ensures.keeps.read_faults h) c.read.ensures.reason;
+      asks = (
+        ap (λ f. f Plan) c.read.ensures.reads.opens_none.asked ∙ c.open.ensures.keeps_other.asked ∙ c.requires.first Plan,
+        λ was. few-told work (before.contents c.args.file.now) before opened after c.args.file.now refl c.in-Ok.ensures.file c.read.ensures.few,
+      );
+      once = record {
+        inputs = once-behind before opened after _ (once-opened Data before before opened (once-refl before None) c.open.ensures.keeps_other c.open.ensures.reads c.in-Ok.ensures.cause.kept) c.read.ensures.once.inputs;
+        out = c.read.ensures.once.out;
+      };
+    }

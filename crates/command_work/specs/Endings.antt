@@ -1,0 +1,298 @@
+-- What a run of the program leaves, by what its command does.
+use Rattle.std.specs.Prelude.{ℕ, ◌≡◌, ◌⊎◌, ◌+◌, ◌≤◌, ◌<◌, List, ◌++◌, length, true, false, None, Some, Result, Ok, Err, IsErrAnd, IfErr}
+use Rattle.std.{specs.declared.option.Option.Option, specs.Io.KnownBytes.{Keeps, Appends, Consumes}}
+use Rattle.tally_base.{specs.declared.slot.Slot.Slot, specs.declared.slot.Slot.TheVariants.{Plan, Data}, specs.declared.fault.Fault.Fault, specs.declared.fault.Fault.TheVariants.{Usage, OpenFault}, specs.Faults.{line_of, is_outside, fault_in, HasReason}, specs.FaultCounts.Rose, specs.declared.header.Header.Header, specs.RecordTypes.mode_of}
+use Rattle.bench_io.{specs.Sinks.AppendsShort, specs.Inputs.{File, InputState}, specs.declared.inputs.Inputs.Ghosts as InputGhosts, specs.declared.sink.Sink.Ghosts as SinkGhosts}
+use Rattle.ptu_definitions.specs.Headers.{header_answer}
+use Rattle.plan_text.{specs.Plan.PlanView, specs.Reading.{text_limit, plan_answer}, specs.Fits.fits}
+use Rattle.command_work.{specs.Told.MayBe, specs.Once.{InputsOnce, OutOnce}, specs.Outcomes.{Outcome, refused, status}, specs.Behaviours.{piece_limit, Work, Writing, AtEnd, AsItReads, so_far, under, Memory, ForPlan, ForTables, Behaviour, NoCommand, Alone, OnFile, ByPlan}}
+
+-- ## What the files call for
+
+abbrev pub on_file : Work → File → Outcome
+on_file work None = refused (OpenFault Data)
+on_file work (Some bytes) = work.outcome bytes
+
+abbrev pub unless : Option Fault → Outcome → Outcome
+unless None end = end
+unless (Some fault) end = refused fault
+
+-- the data are not looked at before the plan is good and lacks nothing
+abbrev pub by_plan : (PlanView → Option Fault) → (PlanView → Work) → Result PlanView Fault → File → Outcome
+by_plan lacks work (Err fault) data_file = refused fault
+by_plan lacks work (Ok plan) data_file = unless (lacks plan) (on_file (work plan) data_file)
+
+-- what a command ends with over the files of its words PLAN and FILE, where nothing outside fails
+unfoldable pub outcome : Behaviour → File → File → Outcome
+outcome NoCommand plan_file data_file = refused Usage
+outcome (Alone end) plan_file data_file = end
+outcome (OnFile file writing work) plan_file data_file = on_file work data_file
+outcome (ByPlan plan file writing memory lacks work) None data_file = refused (OpenFault Plan)
+outcome (ByPlan plan file writing memory lacks work) (Some text) data_file = by_plan lacks work (plan_answer text) data_file
+
+-- each word FILE or PLAN is meant for its slot
+abbrev pub IsMeant : InputState → Behaviour → Type 0
+IsMeant state NoCommand = Unit {0}
+IsMeant state (Alone end) = Unit {0}
+IsMeant state (OnFile file writing work) = state.meant Data file ≡ true
+IsMeant state (ByPlan plan file writing memory lacks work) = (state.meant Plan plan ≡ true) × (state.meant Data file ≡ true)
+
+-- The file is there and is this plan.
+pub record IsPlan (plan_file : File) (plan : PlanView) : Type 0 where
+  pub text : List ℕ
+  pub present : plan_file ≡ Some text
+  pub answer : plan_answer text ≡ Ok plan
+
+-- A file that may be that of a name is this plan, and it lacks nothing.
+pub record HasPlan (state : InputState) (name : List ℕ) (lacks : PlanView → Option Fault) (plan : PlanView) : Type 0 where
+  pub plan_file : File
+  pub may_be : MayBe (state.contents name) plan_file
+  pub is_plan : IsPlan plan_file plan
+  pub whole : lacks plan ≡ None
+
+-- These bytes were taken from a file: it is there, and they are its first, with those that are left behind them. Nothing is taken from a file that isn't there.
+abbrev pub TakenOf : File → Option (List ℕ) → List ℕ → Type 0
+TakenOf None left taken = ⊥
+TakenOf (Some bytes) left taken = Consumes (Some bytes) left taken
+
+-- These are the bytes that were taken from the file of a name, where the inputs tell it.
+abbrev pub IsTakenFrom : Slot → InputState → InputState → List ℕ → List ℕ → Type 0
+IsTakenFrom slot before after name taken = (file : File) → before.contents name ≡ Some file → TakenOf file (after.rest slot) taken
+
+abbrev pub IsTaken : InputState → InputState → List ℕ → List ℕ → Type 0
+IsTaken = IsTakenFrom Data
+
+-- This may be the file of the word FILE, which was opened: it is the one that the inputs tell, where they tell one. It is the bytes that were taken from it and some behind them, which are those that are left, where the inputs tell these.
+pub record MayBeRead (before after : InputState) (name : List ℕ) (file : File) : Type 0 where
+  pub may_be : MayBe (before.contents name) file
+  pub taken : List ℕ
+  pub is_taken : IsTaken before after name taken
+  pub more : List ℕ
+  pub is_left : MayBe (after.rest Data) more
+  pub parts : file ≡ Some (taken ++ more)
+
+-- These may be the files of the words PLAN and FILE. Behind a plan that is refused or lacks something FILE is not looked at.
+abbrev pub MayBeFiles : Behaviour → InputState → InputState → File → File → Type 0
+MayBeFiles NoCommand before after plan_file data_file = Unit {0}
+MayBeFiles (Alone end) before after plan_file data_file = Unit {0}
+MayBeFiles (OnFile file writing work) before after plan_file data_file = MayBeRead before after file data_file
+MayBeFiles (ByPlan plan file writing memory lacks work) before after plan_file data_file =
+    MayBe (before.contents plan) plan_file × ((view : PlanView) → IsPlan plan_file view → lacks view ≡ None → MayBeRead before after file data_file)
+
+-- This holds of the outcome over some files that may be those of the words. Where the inputs tell the files, it is the outcome over these.
+pub record ForSomeFiles (does : Behaviour) (before after : InputState) (holds_of : Outcome → Type 0) : Type 0 where
+  pub plan_file : File
+  pub data_file : File
+  pub may_be : MayBeFiles does before after plan_file data_file
+  pub holds : holds_of (outcome does plan_file data_file)
+
+-- The inputs tell this file for the word FILE, if the command comes to it by such a file of PLAN: that of a plan that is refused or lacks something never does.
+abbrev pub TellsData : InputState → Behaviour → File → File → Type 0
+TellsData state NoCommand plan_file data_file = Unit {0}
+TellsData state (Alone end) plan_file data_file = Unit {0}
+TellsData state (OnFile file writing work) plan_file data_file = state.contents file ≡ Some data_file
+TellsData state (ByPlan plan file writing memory lacks work) plan_file data_file = (view : PlanView) → IsPlan plan_file view → lacks view ≡ None → state.contents file ≡ Some data_file
+
+-- The inputs tell this file for the word PLAN.
+abbrev pub TellsPlan : InputState → Behaviour → File → Type 0
+TellsPlan state NoCommand plan_file = Unit {0}
+TellsPlan state (Alone end) plan_file = Unit {0}
+TellsPlan state (OnFile file writing work) plan_file = Unit {0}
+TellsPlan state (ByPlan plan file writing memory lacks work) plan_file = state.contents plan ≡ Some plan_file
+
+-- the inputs tell these files for the words PLAN and FILE
+abbrev pub Tells : InputState → Behaviour → File → File → Type 0
+Tells state does plan_file data_file = TellsPlan state does plan_file × TellsData state does plan_file data_file
+
+-- ## What a run leaves
+
+-- the run ended so, and its text was written
+pub record EndsWith (outcome : Outcome) (fault : Option Fault) (old new : Option (List ℕ)) : Type 0 where
+  pub same : fault ≡ outcome.fault
+  pub text : Appends old new outcome.text
+
+-- what a command leaves where the fault is not from outside: it ends as its files call for
+abbrev pub Answers : Behaviour → InputState → InputState → Result (Unit {0}) Fault → Option (List ℕ) → Option (List ℕ) → Type 0
+Answers does before after result old new =
+    IsErrAnd result (λ fault. is_outside fault ≡ true)
+    ⊎ ForSomeFiles does before after (λ end. EndsWith end (fault_in result) old new)
+
+-- The command asks for this slot, and no earlier case ends the run.
+abbrev pub Reaches : Behaviour → InputState → Slot → Type 0
+Reaches NoCommand state slot = ⊥
+Reaches (Alone end) state slot = ⊥
+Reaches (OnFile file writing work) state Plan = ⊥
+Reaches (OnFile file writing work) state Data = Unit {0}
+Reaches (ByPlan plan file writing memory lacks work) state Plan = Unit {0}
+Reaches (ByPlan plan file writing memory lacks work) state Data = (view : PlanView) × HasPlan state plan lacks view
+
+-- The bytes taken from FILE call for no end by themselves, and what the command writes of them meanwhile was written.
+pub record StopsIn (writing : Writing (List ℕ → List ℕ)) (work : Work) (before after : InputState) (file : List ℕ) (old new : Option (List ℕ)) : Type 0 where
+  pub taken : List ℕ
+  pub is_taken : IsTaken before after file taken
+  pub goes_on : work.goes_on taken
+  pub text : Appends old new (so_far writing taken)
+
+-- What a run leaves on standard output where a read failed.
+abbrev pub LeavesUnread : Behaviour → Slot → InputState → InputState → Option (List ℕ) → Option (List ℕ) → Type 0
+LeavesUnread NoCommand slot before after old new = ⊥
+LeavesUnread (Alone end) slot before after old new = ⊥
+LeavesUnread (OnFile file writing work) slot before after old new = StopsIn writing work before after file old new
+LeavesUnread (ByPlan plan file writing memory lacks work) Plan before after old new = Keeps old new × ((taken : List ℕ) × IsTakenFrom Plan before after plan taken × (length taken ≤ text_limit))
+LeavesUnread (ByPlan plan file writing memory lacks work) Data before after old new = (view : PlanView) × HasPlan before plan lacks view × StopsIn (under view writing) (work view) before after file old new
+
+-- A text was cut short. One that is written at the end is cut only where the run would have ended well.
+abbrev pub Cuts : {A : Type 0} → Writing A → Outcome → Option (List ℕ) → Option (List ℕ) → Type 0
+Cuts AtEnd end old new = (end.fault ≡ None) × AppendsShort old new end.text
+Cuts (AsItReads text) end old new = AppendsShort old new end.text
+
+abbrev pub CutsShort : Behaviour → Outcome → Option (List ℕ) → Option (List ℕ) → Type 0
+CutsShort NoCommand end old new = ⊥
+CutsShort (Alone written) end old new = (end.fault ≡ None) × AppendsShort old new end.text
+CutsShort (OnFile file writing work) end old new = Cuts writing end old new
+CutsShort (ByPlan plan file writing memory lacks work) end old new = Cuts writing end old new
+
+-- The bytes that were taken from the file are a header that the plan's parts suit, and less than one piece behind it.
+pub record StopsAtHeader (plan : PlanView) (taken : List ℕ) : Type 0 where
+  pub header : Header
+  pub behind : List ℕ
+  pub answer : header_answer taken ≡ Ok (header, behind)
+  pub suits : fits (mode_of header.record_type) plan ≡ Ok (tt {0})
+  pub few : length behind < piece_limit
+
+-- Memory may be wanting behind these bytes of FILE: for tables, behind the data's header.
+abbrev pub WantsBehind : Memory → PlanView → List ℕ → Type 0
+WantsBehind ForPlan plan taken = ⊥
+WantsBehind ForTables plan taken = StopsAtHeader plan taken
+
+-- No more was taken of FILE than the read gave behind which memory may be wanting.
+pub record StopsAtTables (memory : Memory) (plan : PlanView) (before after : InputState) (file : List ℕ) : Type 0 where
+  pub taken : List ℕ
+  pub is_taken : IsTaken before after file taken
+  pub wants : WantsBehind memory plan taken
+
+-- What a run leaves where memory was refused: nothing is written, and the data were not opened, or the tables take memory and the plan suits their header.
+abbrev pub RunsOut : Behaviour → InputState → InputState → Option (List ℕ) → Option (List ℕ) → Type 0
+RunsOut NoCommand before after old new = ⊥
+RunsOut (Alone end) before after old new = Keeps old new
+RunsOut (OnFile file writing work) before after old new = ⊥
+RunsOut (ByPlan plan file writing memory lacks work) before after old new =
+    Keeps old new × ((after.asked Data ≡ false) ⊎ ((view : PlanView) × HasPlan before plan lacks view × StopsAtTables memory view before after file))
+
+-- No more of a plan is taken than one byte more than a plan may have.
+abbrev pub TakesPlan : InputState → InputState → List ℕ → Type 0
+TakesPlan before after plan = after.opened Plan ≡ true → (taken : List ℕ) × IsTakenFrom Plan before after plan taken × (length taken ≤ text_limit + 1)
+
+-- The bytes taken from FILE are some that call for no end by themselves, and no more behind them than one read gives.
+pub record TakesData (work : Work) (before after : InputState) (file : List ℕ) : Type 0 where
+  pub front : List ℕ
+  pub last : List ℕ
+  pub is_taken : IsTaken before after file (front ++ last)
+  pub goes_on : work.goes_on front
+  pub few : length last ≤ piece_limit
+
+-- What a command asks for and takes, however it ends. Without a word PLAN it never asks for a plan, and without a word FILE it leaves the inputs as they were.
+-- The data are asked for only behind a plan that lacks nothing.
+abbrev pub Asks : Behaviour → InputState → InputState → Type 0
+Asks NoCommand before after = after ≡ before
+Asks (Alone end) before after = after ≡ before
+Asks (OnFile file writing work) before after = (after.asked Plan ≡ false) × (after.opened Data ≡ true → TakesData work before after file)
+Asks (ByPlan plan file writing memory lacks work) before after =
+    TakesPlan before after plan × (after.asked Data ≡ true → (view : PlanView) × HasPlan before plan lacks view × (after.opened Data ≡ true → TakesData (work view) before after file))
+
+-- A fault has its line on standard error, or a prefix of it where a write there failed.
+abbrev pub TellsFault : Option (List ℕ) → Option (List ℕ) → ℕ → ℕ → Option Fault → Type 0
+TellsFault old new before now None = Keeps old new
+TellsFault old new before now (Some fault) = Appends old new (line_of fault) ⊎ (Rose before now × AppendsShort old new (line_of fault))
+
+-- The top call ended so: by the status of the fault, with the whole text on standard output, and the fault's line on standard error.
+abbrev pub EndsBy : Outcome → ℕ → Option (List ℕ) → Option (List ℕ) → Option (List ℕ) → Option (List ℕ) → ℕ → ℕ → Type 0
+EndsBy end result old new err_old err_new before now = (result ≡ status end.fault) × Appends old new end.text × TellsFault err_old err_new before now end.fault
+
+-- the states of the inputs and of standard output before a command and behind it
+pub record Span : Type 0 where
+  pub before : InputState
+  pub after : InputState
+  pub old : Option (List ℕ)
+  pub new : Option (List ℕ)
+  pub faults_before : ℕ
+  pub faults_after : ℕ
+
+-- those of these inputs and of this output
+abbrev pub span : {I O : Type 0} → InputGhosts I → SinkGhosts O → I → I → O → O → Span
+span i o before after old new = record {
+  before = i.state before;
+  after = i.state after;
+  old = o.written old;
+  new = o.written new;
+  faults_before = o.faults old;
+  faults_after = o.faults new;
+}
+
+-- those of this output, where the inputs stay as they are
+abbrev pub alone_span : {O : Type 0} → SinkGhosts O → InputState → O → O → Span
+alone_span o state old new = record {
+  before = state;
+  after = state;
+  old = o.written old;
+  new = o.written new;
+  faults_before = o.faults old;
+  faults_after = o.faults new;
+}
+
+-- No count moved but the one that the fault tells of: nothing else failed.
+pub record Once (span : Span) (fault : Option Fault) : Type 0 where
+  pub inputs : InputsOnce span.before span.after fault
+  pub out : OutOnce fault span.faults_before span.faults_after
+
+-- An opening failed: the command came to the slot, the count of its openings that failed rose, and nothing was written.
+abbrev pub FailsOpening : Behaviour → Slot → InputState → InputState → Option (List ℕ) → Option (List ℕ) → Type 0
+FailsOpening does slot before after old new = Reaches does before slot × Rose (before.open_faults slot) (after.open_faults slot) × Keeps old new
+
+-- A read failed: the command came to the slot, the count of its reads that failed rose, and standard output holds what was called for so far.
+abbrev pub FailsReading : Behaviour → Slot → InputState → InputState → Option (List ℕ) → Option (List ℕ) → Type 0
+FailsReading does slot before after old new = Reaches does before slot × Rose (before.read_faults slot) (after.read_faults slot) × LeavesUnread does slot before after old new
+
+-- The text that the files call for was cut short.
+abbrev pub CutsOutcome : Behaviour → InputState → InputState → Option (List ℕ) → Option (List ℕ) → Type 0
+CutsOutcome does before after old new = ForSomeFiles does before after (λ end. CutsShort does end old new)
+
+-- what a command's fault from outside says: which count rose, and what was written
+unfoldable pub HasCauses : Behaviour → Span → Fault → Type 0
+HasCauses does span = HasReason
+    (λ slot. FailsOpening does slot span.before span.after span.old span.new)
+    (λ slot. FailsReading does slot span.before span.after span.old span.new)
+    (Rose span.faults_before span.faults_after × CutsOutcome does span.before span.after span.old span.new)
+    (RunsOut does span.before span.after span.old span.new)
+
+-- all that a command does
+pub record Does (behaves : Behaviour) (span : Span) (result : Result (Unit {0}) Fault) : Type 0 where
+  pub answer : Answers behaves span.before span.after result span.old span.new
+  pub causes : IfErr result (HasCauses behaves span)
+  pub asks : Asks behaves span.before span.after
+  pub once : Once span (fault_in result)
+
+-- ## Good words and files
+
+-- The status is that of want of memory, and the command takes memory.
+abbrev pub LacksMemory : Behaviour → ℕ → Type 0
+LacksMemory NoCommand result = ⊥
+LacksMemory (Alone end) result = result ≡ 5
+LacksMemory (OnFile file writing work) result = ⊥
+LacksMemory (ByPlan plan file writing memory lacks work) result = result ≡ 5
+
+-- No opening and no read has failed in a run.
+abbrev pub NoneRose : InputState → InputState → Type 0
+NoneRose before after = (slot : Slot) → ¬ (Rose (before.open_faults slot) (after.open_faults slot)) × ¬ (Rose (before.read_faults slot) (after.read_faults slot))
+
+-- The file is there and good for this work.
+abbrev pub IsGoodFor : Work → File → Type 0
+IsGoodFor work None = ⊥
+IsGoodFor work (Some bytes) = work.good bytes
+
+-- The words are a command, and its files are good ones.
+abbrev pub IsGood : Behaviour → File → File → Type 0
+IsGood NoCommand plan_file data_file = ⊥
+IsGood (Alone end) plan_file data_file = end.fault ≡ None
+IsGood (OnFile file writing work) plan_file data_file = IsGoodFor work data_file
+IsGood (ByPlan plan file writing memory lacks work) plan_file data_file = (view : PlanView) × IsPlan plan_file view × (lacks view ≡ None) × IsGoodFor (work view) data_file

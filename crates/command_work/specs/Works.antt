@@ -1,0 +1,64 @@
+-- What a command's work on the bytes of FILE leaves.
+use Rattle.std.specs.Prelude.{ℕ, ◌≡◌, ◌⊎◌, ◌≤◌, List, ◌++◌, length, true, Result, IsErrAnd}
+use Rattle.std.{specs.declared.option.Option.Option, specs.Io.KnownBytes.{Keeps, Appends, Consumes}}
+use Rattle.tally_base.{specs.declared.slot.Slot.TheVariants.Data, specs.declared.fault.Fault.Fault, specs.FaultCounts.Rose, specs.Faults.{is_outside, fault_in, HasReason}}
+use Rattle.plan_text.specs.Plan.{PlanView}
+use Rattle.command_work.{specs.Told.{MayBe, Says}, specs.Behaviours.{piece_limit, Work, Writing, so_far, under, Memory}, specs.Endings.{Cuts, Span, WantsBehind}}
+
+-- The bytes taken and those left end so, and this text was written.
+pub record EndsWork (work : Work) (rest_before rest_after old new : Option (List ℕ)) (fault : Option Fault) : Type 0 where
+  pub taken : List ℕ
+  pub consumes : Consumes rest_before rest_after taken
+  pub text : List ℕ
+  pub written : Appends old new text
+  pub says : Says work.outcome taken rest_after (record { text = text; fault = fault })
+
+-- A fault from outside, or the end that the bytes call for.
+abbrev pub AnswersWork : Work → Option (List ℕ) → Option (List ℕ) → Option (List ℕ) → Option (List ℕ) → Result (Unit {0}) Fault → Type 0
+AnswersWork work rest_before rest_after old new result = IsErrAnd result (λ fault. is_outside fault ≡ true) ⊎ EndsWork work rest_before rest_after old new (fault_in result)
+
+-- What is written of the bytes taken was written, and more of them may change the end.
+pub record ReadsWork (writing : Writing (List ℕ → List ℕ)) (work : Work) (rest_before rest_after old new : Option (List ℕ)) : Type 0 where
+  pub taken : List ℕ
+  pub consumes : Consumes rest_before rest_after taken
+  pub written : Appends old new (so_far writing taken)
+  pub goes_on : work.goes_on taken
+
+-- The text was cut short of the bytes taken with some behind them, which may be those that are left.
+pub record CutsWork (writing : Writing (List ℕ → List ℕ)) (work : Work) (rest_before rest_after old new : Option (List ℕ)) : Type 0 where
+  pub taken : List ℕ
+  pub consumes : Consumes rest_before rest_after taken
+  pub more : List ℕ
+  pub may_be : MayBe rest_after more
+  pub cut : Cuts writing (work.outcome (taken ++ more)) old new
+
+-- Nothing was written, and the bytes taken are some behind which memory may be wanting.
+pub record WantsWork (wanting : List ℕ → Type 0) (rest_before rest_after old new : Option (List ℕ)) : Type 0 where
+  pub keeps : Keeps old new
+  pub taken : List ℕ
+  pub consumes : Consumes rest_before rest_after taken
+  pub wants : wanting taken
+
+-- memory is never wanting
+abbrev pub WantsNone : List ℕ → Type 0
+WantsNone taken = ⊥
+
+-- Why the work ended by a fault from outside.
+abbrev pub WorkReason : Writing (List ℕ → List ℕ) → (List ℕ → Type 0) → Work → Span → Fault → Type 0
+WorkReason writing wanting work span = HasReason
+    (λ slot. ⊥)
+    (λ slot. (slot ≡ Data) × Rose (span.before.read_faults slot) (span.after.read_faults slot) × ReadsWork writing work (span.before.rest Data) (span.after.rest Data) span.old span.new)
+    (Rose span.faults_before span.faults_after × CutsWork writing work (span.before.rest Data) (span.after.rest Data) span.old span.new)
+    (WantsWork wanting (span.before.rest Data) (span.after.rest Data) span.old span.new)
+
+-- Why the work by a plan ended by a fault from outside.
+abbrev pub PlanReason : Memory → Writing (PlanView → List ℕ → List ℕ) → (PlanView → Work) → PlanView → Span → Fault → Type 0
+PlanReason memory writing work plan span = WorkReason (under plan writing) (WantsBehind memory plan) (work plan) span
+
+-- The bytes taken are some that call for no end by themselves, and no more behind them than one read gives.
+pub record TakesFew (goes_on : List ℕ → Type 0) (rest_before rest_after : Option (List ℕ)) : Type 0 where
+  pub front : List ℕ
+  pub last : List ℕ
+  pub consumes : Consumes rest_before rest_after (front ++ last)
+  pub goes : goes_on front
+  pub few : length last ≤ piece_limit

@@ -1,0 +1,10 @@
+//! What all commands share: what a command's work on the bytes of FILE is, FILE read up to the end of its header, and the work done on FILE alone or by a plan.
+#![tactic(auto)]
+
+mod data;
+mod header;
+mod plan;
+mod work;
+
+pub use data::{FoundHeader, PIECE, READ_FAULT, read_header};
+pub use work::{FileWork, PlanWork, by_plan, on_file};

@@ -1,0 +1,12 @@
+pub mod CountPieces
+pub mod Composed
+pub mod CountEnds
+pub mod Bodies
+pub mod Printers
+pub mod PrintSteps
+pub mod HeaderEnds
+pub mod EventSteps
+pub mod ListedBlocks
+pub mod EventEnds
+pub mod EventComposed
+pub mod EventReasons

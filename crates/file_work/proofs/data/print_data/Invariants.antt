@@ -1,0 +1,25 @@
+use Rattle.std.proofs.Common.{◌≡◌, List, ℕ, ◌-◌, ◌^◌, true, None}
+use Rattle.std.specs.Io.KnownBytes.{Appends, Consumes}
+use Rattle.tally_base.specs.declared.slot.Slot.TheVariants.{Data}
+use Rattle.bench_io.specs.Inputs.{OnlyReads}
+use Rattle.ptu_header.specs.Reading.{bytes_taken, is_open}
+use Rattle.table_out.specs.HeaderText.{header_text}
+use Rattle.command_work.{specs.Outcomes.IsCut, specs.Once.InputsOnce}
+use Rattle.file_work.specs.HeaderPrints.{Prints}
+use Rattle.file_work.proofs.data.print_data.Given as goal
+
+-- the text of the bytes that were taken is written
+abbrev pub invariant-pieces : goal.invariant-pieces
+invariant-pieces g l =
+    let state = g.I.Inputs.state in
+    let written = g.O.Sink.written in
+    record {
+      reads : OnlyReads Data (state l.initial.inputs) (state l.inputs);
+      once : InputsOnce (state l.initial.inputs) (state l.inputs) None;
+      taken : (taken : List ℕ) × Consumes ((state l.initial.inputs).rest Data) ((state l.inputs).rest Data) taken × Prints l.printer taken × Appends (written l.initial.out) (written l.out) (header_text taken) × IsCut taken;
+      is_open : is_open l.printer.reader ≡ true;
+      kept : g.O.Sink.faults l.out ≡ g.O.Sink.faults l.initial.out;
+    }
+
+abbrev pub decreases-pieces : goal.decreases-pieces
+decreases-pieces g l = 2 ^ 24 - bytes_taken l.printer.reader

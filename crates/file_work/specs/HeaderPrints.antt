@@ -1,0 +1,37 @@
+-- What printing a header in pieces leaves.
+use Rattle.std.specs.Prelude.{ℕ, ◌≡◌, ◌+◌, List, [], ◌∷◌, ◌++◌, length, true, false, Ok, Err}
+use Rattle.std.specs.declared.option.Option.{Option}
+use Rattle.tally_base.{specs.declared.header.Header.Header, specs.Faults.is_outside}
+use Rattle.ptu_definitions.{specs.TagFields.code_in, specs.TagList.Item, specs.Headers.header_answer, specs.Seen.seen, specs.Shown.Shows}
+use Rattle.ptu_header.specs.Reading.{HasRead, bytes_taken, is_open}
+use Rattle.table_out.{specs.HeaderText.{kind_with, header_text}, specs.Body.HasPut}
+use Rattle.command_work.specs.Outcomes.{IsCut}
+use Rattle.file_work.{specs.Grown.{PutsMore, AppendsMore, CutsMore}, specs.declared.print.HeaderPrinter.HeaderPrinter, specs.declared.print.Printed.Printed, specs.declared.print.Printed.TheVariants.{More, Done, Refused}}
+
+-- The printer was given these bytes, and knows how the body goes on that they end in.
+pub record Prints (printer : HeaderPrinter) (bytes : List ℕ) : Type 0 where
+  pub read : HasRead printer.reader bytes
+  pub taken : bytes_taken printer.reader ≡ length bytes
+  pub body : (items : List Item) (tag part : List ℕ) → seen bytes ≡ items ++ record { tag = tag; body = part } ∷ [] → HasPut printer.body (kind_with (code_in tag)) part
+
+-- what the bytes before and a piece say, however the reader leaves the piece
+abbrev pub Leaves : List ℕ → List ℕ → HeaderPrinter → Printed → Type 0
+Leaves bytes piece printer More = Prints printer (bytes ++ piece) × (is_open printer.reader ≡ true) × IsCut (bytes ++ piece)
+Leaves bytes piece printer Done = (header : Header) × (behind : List ℕ) × ((more : List ℕ) → header_answer (bytes ++ piece ++ more) ≡ Ok (header, behind ++ more))
+Leaves bytes piece printer (Refused fault) = Shows header_answer (bytes ++ piece) (Err fault)
+
+-- What a piece behind some bytes adds to the text of the header was put behind what a block holds; was written; was cut short.
+abbrev pub PutsHeader : List ℕ → List ℕ → Option (List ℕ) → Option (List ℕ) → List ℕ → List ℕ → Type 0
+PutsHeader bytes piece = PutsMore (header_text bytes) (header_text (bytes ++ piece))
+
+abbrev pub AppendsHeader : List ℕ → List ℕ → Option (List ℕ) → Option (List ℕ) → Type 0
+AppendsHeader bytes piece = AppendsMore (header_text bytes) (header_text (bytes ++ piece))
+
+abbrev pub CutsHeader : List ℕ → List ℕ → Option (List ℕ) → Option (List ℕ) → List ℕ → Type 0
+CutsHeader bytes piece = CutsMore (header_text bytes) (header_text (bytes ++ piece))
+
+-- A printer that goes on has taken the whole piece. A refusal is one that the bytes call for.
+abbrev pub EndsPiece : HeaderPrinter → HeaderPrinter → List ℕ → Printed → Type 0
+EndsPiece old new piece More = bytes_taken new.reader ≡ bytes_taken old.reader + length piece
+EndsPiece old new piece Done = Unit {0}
+EndsPiece old new piece (Refused fault) = is_outside fault ≡ false

@@ -1,0 +1,9 @@
+pub mod CountText
+pub mod FileOutcomes
+pub mod CountPieces
+pub mod Grown
+pub mod BodyPieces
+pub mod HeaderPrints
+pub mod EventLines
+pub mod EventPieces
+pub mod EventRuns

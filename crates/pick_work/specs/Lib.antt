@@ -1,0 +1,2 @@
+pub mod PickOutcomes
+pub mod PickRuns

@@ -1,6 +1,0 @@
-use Rattle.std.proofs.Common.{sym, ◌∙◌}
-use Rattle.ptu_cli.proofs.Printers.{no_items, seen-nil}
-use Rattle.ptu_cli.proofs.print.HeaderPrinter.new.Goals as goal
-
-pub returns-clause-start : goal.returns-clause-start
-returns-clause-start c = record { read = c.new.ensures.start; taken = c.new.ensures.taken; body = λ items tag part shows. no_items items _ (sym shows ∙ seen-nil) }

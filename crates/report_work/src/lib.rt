@@ -1,0 +1,9 @@
+//! The commands that print a report: `run`, and `demo`, which runs a fixed plan over a made file.
+#![tactic(auto)]
+
+mod command;
+mod made;
+mod run;
+
+pub use command::Reporting;
+pub use made::{DEMO_PLAN, demo};

@@ -1,0 +1,140 @@
+-- One event more for a trace, and a block of them.
+use Rattle.std.proofs.Common.{◌≡◌, ◌∙◌, ◌+◌, ◌≤◌, ℕ, List, [], ◌∷◌, ◌++◌, Bool, true, false, refl, ap, map, append_assoc, append-nil, arith, length, length-append, ◌&&◌, not, IsTrue, if◌then◌else◌}
+use Rattle.std.{proofs.lemmas.List.length-map, specs.declared.option.Option.Option}
+use Rattle.tally_base.{specs.declared.event.Event.Event, specs.declared.event.EventKind.EventKind, specs.declared.event.EventKind.TheVariants.{Photon, Marker}, specs.declared.header.Mode.Mode, specs.declared.header.Mode.TheVariants.{T2, T3}, specs.Events.{is_photon, is_photon_kind, is_ordered}, specs.Tally.History, specs.Floors.{floor_after, InOrder}, proofs.Lower.order-looser}
+use Rattle.bench_io.{specs.Sinks.{AppendsShort, PassesOn}, proofs.Bytes.{PassesOn-trans, AppendsShort-passed}}
+use Rattle.ptu_definitions.{specs.Kept.Marked, specs.Settled.not_marked, proofs.DeliveredLaws.{not_marked-append, not_marked-false}}
+use Rattle.record_stream.{specs.Blocks.{orders_markers, on_time}, proofs.Floors.moved_floor-push}
+use Rattle.gate_plan.{specs.Shifting.{Sorting, shifted, shifted_kind}, specs.Taking.groups_in}
+use Rattle.tally_engine.{specs.Histories.with_groups, proofs.Takes.with_groups-more, proofs.Behind.{length-on_time, floor_of-block}, proofs.Shifts.{order-shifted, floor-shifted}}
+use Rattle.long_trace.{specs.declared.trace.LongTrace.LongTrace, specs.LongTrace.GivenMore, proofs.Given.GivenMore-trans}
+use Rattle.trace_work.specs.TraceLines.{Traced, TracedShort}
+
+photon_kind : (by : Sorting) (kind : EventKind) → is_photon_kind (shifted_kind by kind) ≡ is_photon_kind kind
+photon_kind by (Photon input dtime) = refl
+photon_kind by (Marker bits) = refl
+
+-- a shifted photon is a photon
+pub photon-shifted : (by : Sorting) (e : Event) → is_photon (shifted by e) ≡ is_photon e
+photon-shifted by e = photon_kind by e.kind
+
+-- what a stream says of the order of its events is enough for a trace
+pub photon-in_order : (mode : Mode) (e : Event) (floor low : ℕ) → low ≤ floor → (IsTrue (is_ordered mode e && not false) → floor ≤ e.time) → IsTrue (is_photon e) → low ≤ e.time
+photon-in_order mode e floor low below order is = let later : floor ≤ e.time = order (by mode) in omega (arith, below, later)
+  where
+    by : (mode : Mode) → IsTrue (is_ordered mode e && not false)
+    by T2 = rw is refl
+    by T3 = refl
+
+-- the floor of the trace stays below that of the stream
+pub floor-below : (mode : Mode) (e : Event) (floor low : ℕ) → low ≤ floor → (IsTrue (is_ordered mode e && not false) → floor ≤ e.time) → (if is_photon e then e.time else low) ≤ (if is_ordered mode e && not false then e.time else floor)
+floor-below T2 e floor low below order = by (is_photon e)
+  where
+    by : (b : Bool) → (if b then e.time else low) ≤ (if b && not false then e.time else floor)
+    by true = omega arith
+    by false = below
+floor-below T3 e floor low below order = let later : floor ≤ e.time = order refl in by (is_photon e)
+  where
+    by : (b : Bool) → (if b then e.time else low) ≤ e.time
+    by true = omega arith
+    by false = let later : floor ≤ e.time = order refl in omega (arith, below, later)
+
+pub floor-late : (mode : Mode) (e : Event) (floor : ℕ) → (if is_ordered mode e && not true then e.time else floor) ≡ floor
+floor-late mode e floor = by (is_ordered mode e)
+  where
+    by : (b : Bool) → (if b && not true then e.time else floor) ≡ floor
+    by true = refl
+    by false = refl
+
+-- the same of a block of them that are shifted
+pub block-in_order : (mode : Mode) (by : Sorting) (low floor : ℕ) (es es' : List Event) → low ≤ floor → InOrder (orders_markers mode) floor es → es' ≡ map (shifted by) es → InOrder false low es'
+block-in_order mode by low floor es es' below order is =
+    rw is (order-shifted false by low es (order-looser (orders_markers mode) false low floor es (λ (q : false ≡ true). cc) below order).0)
+
+pub block-below : (mode : Mode) (by : Sorting) (low floor : ℕ) (es es' : List Event) → low ≤ floor → InOrder (orders_markers mode) floor es → es' ≡ map (shifted by) es
+    → floor_after false low es' ≤ floor_after (orders_markers mode) floor es
+block-below mode by low floor es es' below order is =
+    rw (is, floor-shifted false by low es) (order-looser (orders_markers mode) false low floor es (λ (q : false ≡ true). cc) below order).1
+
+pub block-length : (by : Sorting) (es es' : List Event) → es' ≡ map (shifted by) es → length es' ≡ length es
+block-length by es es' is = ap length is ∙ length-shifted
+  where
+    length-shifted : length (map (shifted by) es) ≡ length es
+    length-shifted = simp length-map
+
+with-late : (by : Sorting) (l : Marked) (e : Event) → with_groups by (not_marked (l ++ (e, true) ∷ [])) ≡ with_groups by (not_marked l)
+with-late by l e = ap (with_groups by) (not_marked-append l ((e, true) ∷ []) ∙ append-nil (not_marked l))
+
+with-one : (by : Sorting) (l : Marked) (e : Event) → with_groups by (not_marked (l ++ (e, false) ∷ [])) ≡ with_groups by (not_marked l) ++ (shifted by e, groups_in by e) ∷ []
+with-one by l e = ap (with_groups by) (not_marked-append l ((e, false) ∷ [])) ∙ with_groups-more by (not_marked l) (e ∷ [])
+
+with-block : (by : Sorting) (l : Marked) (es : List Event) → with_groups by (not_marked (l ++ on_time es)) ≡ with_groups by (not_marked l) ++ with_groups by es
+with-block by l es = ap (with_groups by) (not_marked-append l (on_time es) ∙ ap (λ m. not_marked l ++ m) (not_marked-false es)) ∙ with_groups-more by (not_marked l) es
+
+module _ (start old : LongTrace) (by by' : Sorting) (mode mode' : Mode) (taken taken' floor floor' faults faults' : ℕ) (a b : Option (List ℕ)) (held held' : List ℕ) (l : Marked) where
+  abbrev So_far : Type 0
+  So_far = Traced start old by by' mode mode' taken taken' floor floor' faults faults' a b held held' l
+
+  -- a late event is passed over
+  pub Traced-late : (e : Event) → So_far → Traced start old by by' mode mode' taken (taken' + 1) floor (if is_ordered mode' e && not true then e.time else floor') faults faults' a b held held' (l ++ (e, true) ∷ [])
+  Traced-late e h = record {
+    same_sorting = h.same_sorting;
+    same_mode = h.same_mode;
+    counted = omega (arith, h.counted, length-append l ((e, true) ∷ []));
+    moved = rw h.same_mode (moved_floor-push mode floor floor' l e true h.moved (λ (late : IsTrue (is_ordered mode e && not true)). absurd (never (is_ordered mode e) late)));
+    kept = h.kept;
+    lines = h.lines;
+    given = rw (with-late by l e) h.given;
+    text = h.text;
+  }
+    where
+      never : (b : Bool) → IsTrue (b && not true) → ⊥
+      never true is = cc
+      never false is = cc
+
+  module _ (now : LongTrace) (c : Option (List ℕ)) (held'' : List ℕ) where
+    -- a sink that fails
+    short : (m : Marked) (more : History) (lines : List ℕ) → with_groups by (not_marked m) ≡ with_groups by (not_marked l) ++ more → So_far → GivenMore old now more lines → AppendsShort b c (held' ++ lines) → held'' ≡ [] → TracedShort start by a c held held'' m
+    short m more lines is h given cut none = record {
+      lines = h.lines ++ lines;
+      closed = rw is (GivenMore-trans start old now (with_groups by (not_marked l)) more h.lines lines h.given given).closed;
+      text = rw (← append_assoc held h.lines lines) (AppendsShort-passed a b c (held ++ h.lines) held' lines h.text cut);
+      empty = none;
+    }
+
+    pub TracedShort-one : (e : Event) (lines : List ℕ) → So_far → GivenMore old now ((shifted by' e, groups_in by' e) ∷ []) lines → AppendsShort b c (held' ++ lines) → held'' ≡ [] → TracedShort start by a c held held'' (l ++ (e, false) ∷ [])
+    TracedShort-one e lines h given cut none = short (l ++ (e, false) ∷ []) ((shifted by e, groups_in by e) ∷ []) lines (with-one by l e) h (rw h.same_sorting at given) cut none
+
+    pub TracedShort-block : (es : List Event) (lines : List ℕ) → So_far → GivenMore old now (with_groups by' es) lines → AppendsShort b c (held' ++ lines) → held'' ≡ [] → TracedShort start by a c held held'' (l ++ on_time es)
+    TracedShort-block es lines h given cut none = short (l ++ on_time es) (with_groups by es) lines (with-block by l es) h (rw h.same_sorting at given) cut none
+
+    module _ (faults'' : ℕ) where
+      -- one event more
+      pub Traced-one : (e : Event) (lines : List ℕ) → So_far → GivenMore old now ((shifted by' e, groups_in by' e) ∷ []) lines → PassesOn b c (held' ++ lines) held'' → faults'' ≡ faults'
+          → (IsTrue (is_ordered mode' e && not false) → floor' ≤ e.time)
+          → Traced start now by by' mode mode' taken (taken' + 1) floor (if is_ordered mode' e && not false then e.time else floor') faults faults'' a c held held'' (l ++ (e, false) ∷ [])
+      Traced-one e lines h given put still order = record {
+        same_sorting = h.same_sorting;
+        same_mode = h.same_mode;
+        counted = omega (arith, h.counted, length-append l ((e, false) ∷ []));
+        moved = rw h.same_mode (moved_floor-push mode floor floor' l e false h.moved (rw h.same_mode at order));
+        kept = still ∙ h.kept;
+        lines = h.lines ++ lines;
+        given = rw (with-one by l e) (GivenMore-trans start old now (with_groups by (not_marked l)) ((shifted by e, groups_in by e) ∷ []) h.lines lines h.given (rw h.same_sorting at given));
+        text = rw (← append_assoc held h.lines lines) (PassesOn-trans a b c (held ++ h.lines) held' lines held'' h.text put);
+      }
+
+      -- a block of them
+      pub Traced-block : (es : List Event) (lines : List ℕ) (next last : ℕ) → So_far → GivenMore old now (with_groups by' es) lines → PassesOn b c (held' ++ lines) held'' → faults'' ≡ faults'
+          → InOrder (orders_markers mode') floor' es → next ≡ taken' + length es → last ≡ floor_after (orders_markers mode') floor' es
+          → Traced start now by by' mode mode' taken next floor last faults faults'' a c held held'' (l ++ on_time es)
+      Traced-block es lines next last h given put still in_order counted moves = record {
+        same_sorting = h.same_sorting;
+        same_mode = h.same_mode;
+        counted = omega (arith, counted, h.counted, length-append l (on_time es), length-on_time es);
+        moved = moves ∙ floor_of-block mode' l es floor floor' (rw h.same_mode h.moved) in_order ∙ rw h.same_mode refl;
+        kept = still ∙ h.kept;
+        lines = h.lines ++ lines;
+        given = rw (with-block by l es) (GivenMore-trans start old now (with_groups by (not_marked l)) (with_groups by es) h.lines lines h.given (rw h.same_sorting at given));
+        text = rw (← append_assoc held h.lines lines) (PassesOn-trans a b c (held ++ h.lines) held' lines held'' h.text put);
+      }

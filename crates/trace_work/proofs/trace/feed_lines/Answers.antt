@@ -1,0 +1,47 @@
+use Rattle.std.proofs.Common.{arith}
+use Rattle.std.proofs.lemmas.Result.{on_ok_weaker}
+use Rattle.gate_plan.specs.Groups.{sorting_of}
+use Rattle.trace_work.{specs.TraceLines.traced_none, proofs.TraceFeeds.{feeds-on, feeds-cut}}
+use Rattle.command_work.{proofs.Streams.stays-open, proofs.Once.{stays-ahead, fed-once}}
+use Rattle.trace_work.proofs.trace.feed_lines.Goals as goal
+
+pub returns-in-Ok-clause-writes : goal.returns-in-Ok-clause-writes
+returns-in-Ok-clause-writes g c = λ going bytes h holds.
+    let it = feeds-on _ (λ t. t.trace.now) (λ t. g.O.Sink.written t.out.now) (λ t. t.block) (sorting_of c.args.lines.now.gates.now) _ _ _ _ _ (traced_none _ _ _ _ _ _ _ _)
+    (λ l is. record { lines = is.lines; given = is.given; text = rw c.requires.empty at is.text })
+    (λ l is. record { lines = is.lines; closed = is.closed; text = rw c.requires.empty at is.text; empty = is.empty })
+    c.args.lines.now.trace.now.set.some_width.0 _ _ holds c.in-Ok.ensures.all c.in-Ok.ensures.cause.kept (λ l is. is.kept) c.feed-fed.result (c.feed-fed.ensures.fed going bytes h) in
+    record { writes = it.0; stands = it.1 }
+
+pub returns-in-Err-clause-writes : goal.returns-in-Err-clause-writes
+returns-in-Err-clause-writes g c = λ going bytes h holds.
+    let later = c.feed-fed.ensures.later in
+    let rose = c.in-Err.ensures.cause.failed in
+    record {
+      writes = feeds-cut _ (λ t. t.trace.now) (λ t. g.O.Sink.written t.out.now) (λ t. t.block) (sorting_of c.args.lines.now.gates.now) _ _ _ _ _ (traced_none _ _ _ _ _ _ _ _)
+          (λ l is. record { lines = is.lines; given = is.given; text = rw c.requires.empty at is.text })
+          (λ l is. record { lines = is.lines; closed = is.closed; text = rw c.requires.empty at is.text; empty = is.empty })
+          c.args.lines.now.trace.now.set.some_width.0 _ _ holds c.feed-fed.result c.in-Err.ensures.short (omega (arith, later, rose)) (c.feed-fed.ensures.fed going bytes h);
+      stands = tt;
+    }
+
+pub returns-in-Ok-clause-going : goal.returns-in-Ok-clause-going
+returns-in-Ok-clause-going g c = stays-open _ _ _ c.feed-fed.result c.feed-fed.ensures.refused c.feed-fed.ensures.counted
+
+pub returns-in-Ok-clause-fed : goal.returns-in-Ok-clause-fed
+returns-in-Ok-clause-fed g c = record { same_how = c.feed-fed.ensures.same_how; taken = c.feed-fed.ensures.taken; limit = c.feed-fed.ensures.limit }
+
+pub returns-in-Err-clause-fed : goal.returns-in-Err-clause-fed
+returns-in-Err-clause-fed g c = record { same_how = c.feed-fed.ensures.same_how; taken = c.feed-fed.ensures.taken; limit = c.feed-fed.ensures.limit }
+
+pub returns-in-Ok-clause-once : goal.returns-in-Ok-clause-once
+returns-in-Ok-clause-once g c = λ going bytes h.
+    stays-ahead _ _ _ _ (fed-once _ _ _ _ _ _ c.feed-fed.result (traced_none _ _ _ _ _ _ _ _) (λ l is. is.kept) (c.feed-fed.ensures.fed going bytes h)) c.in-Ok.ensures.cause.kept
+
+pub returns-in-Err-clause-once : goal.returns-in-Err-clause-once
+returns-in-Err-clause-once g c = λ going bytes h. tt
+
+pub returns-in-Ok-clause-behind : goal.returns-in-Ok-clause-behind
+returns-in-Ok-clause-behind g c =
+    let taker = c.feed-fed.new.taker in
+    on_ok_weaker c.feed-fed.result (λ f. record { few = omega (arith, f.few, taker.few); before = omega (arith, f.before, taker.before) }) c.feed-fed.ensures.follows

@@ -1,0 +1,3 @@
+pub mod TraceOutcomes
+pub mod TraceLines
+pub mod TracePieces

@@ -1,0 +1,87 @@
+-- What `trace` ends with over the bytes of a file.
+use Rattle.std.specs.Prelude.{ℕ, ◌≡◌, List, [], ◌∷◌, None, Some, Result, Ok, Err}
+use Rattle.std.specs.declared.option.Option.{Option}
+use Rattle.tally_base.{specs.declared.fault.Fault.Fault, specs.declared.fault.Fault.TheVariants.NoTrace, specs.declared.header.Header.Header, specs.RecordTypes.mode_of, specs.Settings.{PartSettings, TraceView}, specs.Settings.PartSettings.TraceSettings, specs.Tally.History}
+use Rattle.ptu_definitions.{specs.declared.records.Summary.Summary, specs.Headers.header_answer, specs.Words.words_of, specs.Streams.{Reading, unrefused_after, streamed}}
+use Rattle.plan_text.{specs.Plan.{PlanView, parts_of}, specs.Fits.fits}
+use Rattle.gate_plan.specs.Shifting.{Sorting, sorting}
+use Rattle.tally_engine.{specs.Histories.{history, settled_history}, specs.Plans.reading_by}
+use Rattle.long_trace.specs.Texts.{open_text, whole_text}
+use Rattle.command_work.{specs.Outcomes.{Outcome, refused, written, MayChange}, specs.Behaviours.{Work, AreRead, IsHeaded}}
+
+-- the first trace of some tables
+abbrev pub first_trace : List PartSettings → Option TraceView
+first_trace [] = None
+first_trace (TraceSettings set ∷ parts) = Some set
+first_trace (part ∷ parts) = first_trace parts
+
+-- the trace of a plan that the command prints
+abbrev pub trace_of : PlanView → Option TraceView
+trace_of plan = first_trace (parts_of plan)
+
+-- what such a plan lacks
+abbrev pub unless_traced : Option TraceView → Option Fault
+unless_traced None = Some NoTrace
+unless_traced (Some set) = None
+
+-- the fault of a plan without a trace
+abbrev pub no_trace : PlanView → Option Fault
+no_trace plan = unless_traced (trace_of plan)
+
+-- the text of a trace before its end, and the whole text
+abbrev pub open_by : Option TraceView → History → List ℕ
+open_by None h = []
+open_by (Some set) h = open_text set h
+
+abbrev pub whole_by : Option TraceView → History → List ℕ
+whole_by None h = []
+whole_by (Some set) h = whole_text set h
+
+-- the events that are settled by the words before the first that is refused
+abbrev pub settled_before : Sorting → Reading → List ℕ → History
+settled_before by how words = settled_history by how (unrefused_after how [] words)
+
+-- what has been printed of these words, where the next read fails
+abbrev pub words_traced : Option TraceView → Sorting → Reading → List ℕ → List ℕ
+words_traced set by how words = open_by set (settled_before by how words)
+
+-- by the answer of the records
+abbrev pub traced : Option TraceView → Sorting → Reading → List ℕ → Result Summary Fault → Outcome
+traced set by how bytes (Ok summary) = written (whole_by set (history by how (words_of bytes)))
+traced set by how bytes (Err fault) = record { text = words_traced set by how (words_of bytes); fault = Some fault }
+
+-- what the bytes behind a header end with
+abbrev pub records_traced : Option TraceView → Sorting → Reading → List ℕ → Outcome
+records_traced set by how bytes = traced set by how bytes (streamed how bytes)
+
+-- by whether the plan's parts suit the file
+abbrev pub traced_if_fits : PlanView → Header → List ℕ → Result (Unit {0}) Fault → Outcome
+traced_if_fits plan header bytes (Ok done) = records_traced (trace_of plan) (sorting plan) (reading_by plan header) bytes
+traced_if_fits plan header bytes (Err fault) = refused fault
+
+abbrev pub traced_behind : PlanView → Result (Header × List ℕ) Fault → Outcome
+traced_behind plan (Ok found) = traced_if_fits plan found.0 found.1 (fits (mode_of found.0.record_type) plan)
+traced_behind plan (Err fault) = refused fault
+
+-- what printing the trace of a plan over a whole file ends with
+abbrev pub trace_outcome : PlanView → List ℕ → Outcome
+trace_outcome plan file = traced_behind plan (header_answer file)
+
+-- What has been printed of the bytes of a file, where the next read fails: nothing before the header is whole and suits the plan.
+abbrev pub open_if_fits : PlanView → Header → List ℕ → Result (Unit {0}) Fault → List ℕ
+open_if_fits plan header bytes (Ok done) = words_traced (trace_of plan) (sorting plan) (reading_by plan header) (words_of bytes)
+open_if_fits plan header bytes (Err fault) = []
+
+abbrev pub open_behind : PlanView → Result (Header × List ℕ) Fault → List ℕ
+open_behind plan (Ok found) = open_if_fits plan found.0 found.1 (fits (mode_of found.0.record_type) plan)
+open_behind plan (Err fault) = []
+
+abbrev pub trace_so_far : PlanView → List ℕ → List ℕ
+trace_so_far plan bytes = open_behind plan (header_answer bytes)
+
+abbrev pub tracing : PlanView → Work
+tracing plan = record {
+  outcome = trace_outcome plan;
+  goes_on = λ bytes. MayChange (trace_outcome plan bytes).fault;
+  good = IsHeaded (λ header behind. (fits (mode_of header.record_type) plan ≡ Ok (tt {0})) × AreRead (reading_by plan header) behind);
+}

@@ -1,0 +1,65 @@
+-- What the trace of words writes that come behind others.
+use Rattle.std.specs.Prelude.{ℕ, ◌≡◌, ◌⊎◌, ◌≤◌, List, ◌++◌, OnOk, false, None, Some, Result, Ok, Err}
+use Rattle.std.specs.Io.KnownBytes.{Appends, Keeps}
+use Rattle.tally_base.{specs.declared.fault.Fault.Fault, specs.declared.fault.Fault.TheVariants.WriteFault, specs.FaultCounts.Rose, specs.Faults.{is_outside, fault_in}, specs.Settings.trace_view}
+use Rattle.bench_io.{specs.Sinks.AppendsShort, specs.declared.sink.Sink.Ghosts}
+use Rattle.told_text.specs.Texts.{WritesText}
+use Rattle.ptu_definitions.{specs.Words.words_of, specs.Streams.{Reading, record_refusal, streamed}}
+use Rattle.gate_plan.specs.Shifting.{Sorting}
+use Rattle.record_stream.{specs.declared.stream.RecordStream.RecordStream, specs.Standing.{how_of, given_by, greatest_of, refused_with, HasStreamed}}
+use Rattle.long_trace.{specs.declared.trace.LongTrace.LongTrace, specs.LongTrace.{Holds, set_of, taken_of, floor_of}, specs.Texts.open_text}
+use Rattle.tally_engine.specs.Histories.{history}
+use Rattle.command_work.specs.Once.{OutOnce}
+use Rattle.trace_work.specs.TraceOutcomes.{settled_before, words_traced}
+
+-- The trace is no further on than the stream.
+pub record IsBehindStream (stream : RecordStream) (trace : LongTrace) : Type 0 where
+  pub few : taken_of trace ≤ given_by stream
+  pub before : floor_of trace ≤ greatest_of stream
+
+-- The trace stands for what the words of these bytes give.
+abbrev pub TracesBytes : Sorting → Reading → LongTrace → List ℕ → Type 0
+TracesBytes by how trace bytes = Holds trace (settled_before by how (words_of bytes))
+
+-- What feeding a piece behind these bytes wrote on an output, and that the trace then stands for them with the piece.
+pub record TracedPiece {O X : Type 0} (o : Ghosts O) (by : Sorting) (stream : RecordStream) (trace now : LongTrace) (bytes piece : List ℕ) (old new : O) (result : Result X Fault) : Type 0 where
+  pub writes : WritesText (words_traced (Some (trace_view (set_of trace))) by (how_of stream) (words_of bytes)) (words_traced (Some (trace_view (set_of trace))) by (how_of stream) (words_of (bytes ++ piece))) (record_refusal (how_of stream) (words_of (bytes ++ piece)))
+      (o.written old) (o.written new) (o.faults old) (o.faults new) result
+  pub stands : OnOk result (TracesBytes by (how_of stream) now (bytes ++ piece))
+
+-- the same of a stream that has refused nothing, with a trace that stands for what came before
+abbrev pub TracesPiece : {O X : Type 0} → Ghosts O → Sorting → RecordStream → LongTrace → LongTrace → List ℕ → O → O → Result X Fault → Type 0
+TracesPiece o by stream trace now piece old new result =
+    refused_with stream ≡ None → (bytes : List ℕ) → HasStreamed stream bytes → TracesBytes by (how_of stream) trace bytes → TracedPiece o by stream trace now bytes piece old new result
+
+-- feeding it tried no write again that failed
+abbrev pub TracesOnce : {O X : Type 0} → Ghosts O → RecordStream → O → O → Result X Fault → Type 0
+TracesOnce o stream old new result = refused_with stream ≡ None → (bytes : List ℕ) → HasStreamed stream bytes → OutOnce (fault_in result) (o.faults old) (o.faults new)
+
+-- The trace was given what the stream kept back, and the lines of the bins that this closed were written. Then it stands for the whole kept list.
+pub record WroteLast {O : Type 0} (o : Ghosts O) (by : Sorting) (how : Reading) (trace now : LongTrace) (old new : O) (bytes : List ℕ) : Type 0 where
+  pub clear : fault_in (streamed how bytes) ≡ None
+  pub stands : Holds now (history by how (words_of bytes))
+  pub more : List ℕ
+  pub adds : open_text (trace_view (set_of trace)) (history by how (words_of bytes)) ≡ words_traced (Some (trace_view (set_of trace))) by how (words_of bytes) ++ more
+  pub written : Appends (o.written old) (o.written new) more
+
+-- The lines were cut short.
+pub record CutLast {O : Type 0} (o : Ghosts O) (by : Sorting) (how : Reading) (trace : LongTrace) (old new : O) (bytes : List ℕ) : Type 0 where
+  pub clear : fault_in (streamed how bytes) ≡ None
+  pub more : List ℕ
+  pub adds : open_text (trace_view (set_of trace)) (history by how (words_of bytes)) ≡ words_traced (Some (trace_view (set_of trace))) by how (words_of bytes) ++ more
+  pub cut : AppendsShort (o.written old) (o.written new) more
+  pub rose : Rose (o.faults old) (o.faults new)
+
+-- what giving it what a stream keeps back wrote, by the answer
+abbrev pub WritesLast : {O : Type 0} → Ghosts O → Sorting → Reading → LongTrace → LongTrace → O → O → List ℕ → Result (Unit {0}) Fault → Type 0
+WritesLast o by how trace now old new bytes (Ok done) = WroteLast o by how trace now old new bytes
+WritesLast o by how trace now old new bytes (Err fault) =
+    ((is_outside fault ≡ false) × (fault_in (streamed how bytes) ≡ Some fault) × Keeps (o.written old) (o.written new)) ⊎ ((fault ≡ WriteFault) × CutLast o by how trace old new bytes)
+
+-- what ends a stream whose last lines are flushed
+abbrev pub both_ended : {X Y : Type 0} → Result X Fault → Result (Unit {0}) Y → Result (Unit {0}) Fault
+both_ended finished (Err failed) = Err WriteFault
+both_ended (Err fault) (Ok done) = Err fault
+both_ended (Ok summary) (Ok done) = Ok tt
