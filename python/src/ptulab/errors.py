@@ -12,6 +12,10 @@ class BadReport(PtulabError, ValueError):
     """A text that is no whole report of ``ptu run``, or no lines of ``ptu trace``."""
 
 
+class BadPlan(PtulabError, ValueError):
+    """A plan that is no TOML document, or longer than a plan may be."""
+
+
 class NoTable(PtulabError, LookupError):
     """A report has no table of this kind and number."""
 

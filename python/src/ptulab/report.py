@@ -7,7 +7,6 @@ import io
 import os
 import re
 import struct
-import tomllib
 from collections.abc import Iterable, Iterator
 from dataclasses import dataclass, replace
 from typing import IO, Any
@@ -15,6 +14,7 @@ from typing import IO, Any
 import numpy as np
 from numpy.typing import NDArray
 
+from .documents import read_plan
 from .errors import BadReport, NoTable, Unlike
 from .headers import RECORD_TYPES
 from .tables import BY_DTIME, KINDS, Measurement, Table, empty_table, names_of_groups, photons_of
@@ -114,11 +114,7 @@ def sum_reports(reports: Iterable[Report | Source], plan: str | os.PathLike[str]
 
 def tell_groups(report: Report, plan: str | os.PathLike[str]) -> None:
     """Gives each table of a report its groups, by the plan at this path, and the photons of these where they're known."""
-    with open(plan, "rb") as file:
-        try:
-            document = tomllib.load(file)
-        except (tomllib.TOMLDecodeError, UnicodeDecodeError) as error:
-            raise Unlike(f"{os.fspath(plan)}: the plan is no TOML: {error}") from error
+    document = read_plan(plan)
     photons: dict[int, int] = {}
     for table in report.tables:
         try:
