@@ -32,4 +32,4 @@ def test_trace(ptu):
     print(said.stderr)
     said = ptu("trace", EXAMPLES / "scan.toml", EXAMPLES / "scan.ptu")
     trace = ptulab.read_trace(said.stdout)
-    assert trace.counts.sum() + trace.before == 97492 and trace.above == 0
+    assert trace.counts.sum() + trace.before == 97492 and trace.above == 29

@@ -132,7 +132,7 @@ class Kind(NamedTuple):
     columns: int  # words of a line of a cell
     shape: Callable[[Settings], tuple[int, ...]]
     ticks: Callable[[Settings], NDArray[Any]]
-    place: Callable[[Settings, NDArray[np.int64]], NDArray[np.int64]]  # of lines (n, columns) the places in a flat array, -1 for none
+    place: Callable[[Settings, NDArray[np.int64]], NDArray[np.int64]]  # of lines (n, columns - 1) the places in a flat array, -1 for none
 
 
 def even(start: int, step: int, cells: int) -> NDArray[Any]:
@@ -166,25 +166,30 @@ def _first(settings: Settings, lines: NDArray[np.int64]) -> NDArray[np.int64]:
 
 
 def _pixel(settings: Settings, lines: NDArray[np.int64]) -> NDArray[np.int64]:
-    inside = lines[:, 0] < settings["width"]
-    return np.where(inside, lines[:, 1] * settings["width"] + lines[:, 0], -1)
+    column, row = lines.T
+    return _inside(row * settings["width"] + column, (column, settings["width"]), (row, settings["height"]))
 
 
 def _voxel(settings: Settings, lines: NDArray[np.int64]) -> NDArray[np.int64]:
-    place = lines[:, 1] * settings["width"]
-    place += lines[:, 0]
-    place *= settings["dbins"]
-    place += lines[:, 2]
-    place[(lines[:, 0] >= settings["width"]) | (lines[:, 2] >= settings["dbins"])] = -1
+    column, row, cell = lines.T
+    place = (row * settings["width"] + column) * settings["dbins"] + cell
+    return _inside(place, (column, settings["width"]), (row, settings["height"]), (cell, settings["dbins"]))
+
+
+def _inside(place: NDArray[np.int64], *limits: tuple[NDArray[np.int64], int]) -> NDArray[np.int64]:
+    """The places, -1 where a number is not less than its limit."""
+    for numbers, limit in limits:
+        if int(numbers.max(initial=0)) >= limit:
+            place[numbers >= limit] = -1
     return place
 
 
 def _lag(settings: Settings, lines: NDArray[np.int64]) -> NDArray[np.int64]:
-    level, lag = lines[:, 0], lines[:, 1]
+    level, lag = lines.T
     half = settings["lags"] // 2
-    least = np.where(level == 0, 1, half + 1)
-    place = np.where(level == 0, lag - 1, settings["lags"] + (level - 1) * half + lag - half - 1)
-    return np.where((lag >= least) & (lag <= settings["lags"]), place, -1)
+    place = level * half + lag - 1
+    place[(level > 0) & (lag <= half)] = -1
+    return _inside(place, (level, settings["levels"]), (lag, settings["lags"] + 1))
 
 
 def _bins(settings: Settings) -> tuple[int, ...]:
@@ -240,11 +245,6 @@ def empty_table(kind: str, number: int, settings: dict[str, int], seconds: float
     axis = None if seconds is None or kind == "fold" else np.asarray(ticks * seconds, dtype=np.float64)
     levels = lags_of(settings)[0] if kind == "correlation" else None
     return Table(kind, number, settings, np.zeros(shape, dtype=np.uint64), ticks, axis, levels=levels)
-
-
-def photons_of(table: Table) -> int:
-    """The photons of the group of a histogram, a trace, an image or a cube: all cells and what is in none."""
-    return int(table.counts.sum()) + sum(table.rest.values())
 
 
 def names_of_groups(kind: str, settings: Mapping[str, Any]) -> tuple[int, ...]:
