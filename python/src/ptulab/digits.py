@@ -31,7 +31,7 @@ def whole_numbers(text: bytes, columns: int) -> NDArray[np.int64] | None:
     for place in range(4, int(lengths.max())):
         longer = np.flatnonzero(lengths > place)
         numbers[longer] += digits[ends[longer] - 1 - place].astype(np.int64) * 10**place
-    return numbers.reshape(-1, columns)
+    return np.asarray(numbers.reshape(-1, columns))
 
 
 def _well_formed(

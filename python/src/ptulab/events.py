@@ -6,6 +6,7 @@ headers and words of all twelve record types. Layouts, wraps and late events are
 PicoQuant's documentation of the TTTR format and its demo readers.
 """
 
+import mmap
 import os
 from collections.abc import Callable, Iterator
 from dataclasses import dataclass
@@ -15,15 +16,15 @@ from numpy.typing import NDArray
 
 from .errors import BadFile
 from .headers import Header, read_header
+from .layouts import RESERVED, WRAP, Words, layout_of
+from .scratch import keep_scratch
 
 EVENT = np.dtype(
     [("record", "<i8"), ("time", "<i8"), ("dtime", "<i4"), ("number", "u1"), ("marker", "?"), ("late", "?")]
 )
 GREATEST = 1 << 62  # that all wraps of a file may add up to
 PIECE = 1 << 16  # records that are decoded together, so that their arrays stay in the processor's cache
-
-Words = NDArray[np.uint32]
-Decoded = tuple[NDArray[np.bool_], Words, Words, NDArray[np.bool_], NDArray[np.int64], NDArray[np.int64]]
+GIVEN_BACK = 1 << 24  # bytes of the file that stay mapped behind the records that are read
 
 
 @dataclass(frozen=True)
@@ -46,12 +47,12 @@ class Events:
     @property
     def photons(self) -> NDArray[np.void]:
         """The photons that aren't late, as elements of ``array``."""
-        return self.array[~(self.array["marker"] | self.array["late"])]
+        return np.asarray(self.array[~(self.array["marker"] | self.array["late"])])
 
     @property
     def markers(self) -> NDArray[np.void]:
         """The markers that aren't late, as elements of ``array``."""
-        return self.array[self.array["marker"] & ~self.array["late"]]
+        return np.asarray(self.array[self.array["marker"] & ~self.array["late"]])
 
 
 def read_events(path: str | os.PathLike[str], *, start: int = 0, stop: int | None = None) -> Events:
@@ -123,98 +124,75 @@ class _Walk:
     """Goes through the records of a file, with the sum of the wraps and the greatest time so far."""
 
     def __init__(self, path: str | os.PathLike[str], header: Header) -> None:
-        self.path, self.header = os.fspath(path), header
-        self.words: NDArray[np.uint8] = np.zeros(0, np.uint8)
-        if header.records:
-            self.words = np.memmap(path, dtype=np.uint8, mode="r", offset=header.length, shape=(4 * header.records,))
-        self.meaning = _MEANINGS[_layout(header.record_type)]
+        self.path, self.header, self.layout = os.fspath(path), header, layout_of(header.record_type)
         self.at, self.base, self.greatest = 0, 0, -1
+        self.seen = 0  # bytes of the map that were given back
+        self.map: mmap.mmap | None = None
+        keep_scratch()
+        if header.records:
+            with open(path, "rb") as file:
+                self.map = mmap.mmap(file.fileno(), header.length + 4 * header.records, access=mmap.ACCESS_READ)
+
+    def words(self, many: int) -> Words:
+        """The next words. What lies far behind them is given back to the system."""
+        assert self.map is not None
+        begin = self.header.length + 4 * self.at
+        if begin - self.seen > GIVEN_BACK and hasattr(self.map, "madvise"):
+            end = begin // mmap.PAGESIZE * mmap.PAGESIZE
+            self.map.madvise(mmap.MADV_DONTNEED, self.seen, end - self.seen)
+            self.seen = end
+        return np.frombuffer(self.map[begin : begin + 4 * many], dtype="<u4")
 
     def decode(self, many: int, into: NDArray[np.void]) -> NDArray[np.void]:
         """Puts the events of the next ``many`` records into the beginning of ``into``, and gives that beginning."""
-        words = np.frombuffer(self.words[4 * self.at : 4 * (self.at + many)].tobytes(), dtype="<u4")
-        is_event, times, numbers, markers, wraps, amounts = self.meaning(words)
-        bases = self._bases(wraps, amounts)
-        which = np.flatnonzero(is_event)
+        words = self.words(many)
+        meanings = self.layout.read(words)
+        times = self._times(words, np.flatnonzero(meanings == WRAP))
+        which = np.flatnonzero(meanings & 0x7F < RESERVED)
         events = into[: len(which)]
-        absolute = times[which].astype(np.int64)
-        absolute += np.repeat(bases, np.diff(wraps, prepend=0, append=many))[which]
-        events["record"] = which + (self.at + 1)
-        events["time"] = absolute
-        events["number"] = numbers[which]
-        events["marker"] = markers[which]
-        events["dtime"] = 0 if self.header.mode == "T2" else np.where(events["marker"], 0, self._dtimes(words[which]))
-        events["late"] = self._late(absolute, events["marker"])
+        meanings, times = meanings[which], times[which]
+        events["time"] = times
+        events["number"] = meanings & 0x7F
+        events["marker"] = markers = (meanings >> 7).view(np.bool_)
+        events["dtime"] = self._dtimes(words, which, markers)
+        events["late"] = self._late(times, markers)
+        which += self.at + 1
+        events["record"] = which
         self.at += many
         return events
 
-    def _bases(self, wraps: NDArray[np.int64], amounts: NDArray[np.int64]) -> NDArray[np.int64]:
-        """The sum of all wraps before each of the stretches that the wraps of a piece part it into."""
-        sums = np.concatenate(([self.base], amounts)).cumsum()
-        beyond = np.flatnonzero((sums > GREATEST) | (sums < 0))
-        if len(beyond):
-            place = self.at + int(wraps[beyond[0] - 1]) + 1
+    def _times(self, words: Words, wraps: NDArray[np.int64]) -> NDArray[np.int64]:
+        """The time of each word, if it is an event: its field, and all wraps before it."""
+        added = np.zeros(len(words), dtype=np.int64)
+        added[:1] = self.base
+        added[wraps] += self.layout.amounts(words[wraps])
+        np.cumsum(added, out=added)  # a wrap is less than 2^51, so the first sum beyond 2^62 is no more than that
+        if len(wraps) and int(added.max()) > GREATEST or int(added.min()) < 0:
+            place = self.at + 1 + int(np.argmax((added > GREATEST) | (added < 0)))
             raise BadFile(21, f"record {place} passes the greatest time", self.path)
-        self.base = int(sums[-1])
-        return sums
+        self.base = int(added[-1])
+        added += words & self.layout.field
+        return added
 
-    def _late(self, times: NDArray[np.int64], markers: NDArray[np.bool_]) -> NDArray[np.bool_]:
+    def _dtimes(self, words: Words, which: NDArray[np.int64], markers: NDArray[np.bool_]) -> NDArray[np.int32] | int:
+        shift, bits = self.layout.dtime
+        if not bits:
+            return 0
+        dtimes = words[which].view(np.int32)
+        dtimes >>= shift
+        dtimes &= bits
+        dtimes[markers] = 0
+        return dtimes
+
+    def _late(self, times: NDArray[np.int64], markers: NDArray[np.bool_]) -> NDArray[np.bool_] | bool:
         """Which events have a time less than that of an earlier one; markers of T2 have no order."""
-        if not len(times):
-            return np.zeros(0, np.bool_)
-        ordered = np.where(markers, -1, times) if self.header.mode == "T2" else times
-        greatest = np.maximum(np.maximum.accumulate(ordered), self.greatest)
+        if self.header.mode == "T2" and markers.any():
+            late = np.zeros(len(times), dtype=np.bool_)
+            late[~markers] = self._late(times[~markers], np.zeros(0, np.bool_))
+            return late
+        if not len(times) or (times[0] >= self.greatest and np.all(times[1:] >= times[:-1])):
+            self.greatest = int(times[-1]) if len(times) else self.greatest
+            return False
+        greatest = np.maximum(np.maximum.accumulate(times), self.greatest)
         self.greatest = int(greatest[-1])
-        late: NDArray[np.bool_] = times < greatest
-        return late & ~markers if self.header.mode == "T2" else late
-
-    def _dtimes(self, words: Words) -> Words:
-        return words >> 16 & 0xFFF if self.header.record_type == "PicoHarpT3" else words >> 10 & 0x7FFF
-
-
-def _layout(record_type: str) -> str:
-    """The layout of the records of a type, as docs/formats.md has them."""
-    if record_type.startswith("PicoHarp") or record_type in ("HydraHarpT2", "HydraHarpT3"):
-        return record_type
-    return "HydraHarp2" + record_type[-2:]
-
-
-def _pico_t2(words: Words) -> Decoded:
-    channel, low = words >> 28, words & 15
-    wrap = (channel == 15) & (low == 0)
-    marker = (channel == 15) & (low != 0)
-    wraps = np.flatnonzero(wrap)
-    event = (channel <= 4) | marker
-    return event, words & 0xFFFFFFF, np.where(marker, low, channel), marker, wraps, np.full(len(wraps), 210698240)
-
-
-def _pico_t3(words: Words) -> Decoded:
-    channel, low = words >> 28, words >> 16 & 15
-    wrap = (channel == 15) & (low == 0)
-    marker = (channel == 15) & (low != 0)
-    wraps = np.flatnonzero(wrap)
-    event = (channel <= 4) | marker
-    return event, words & 0xFFFF, np.where(marker, low, channel), marker, wraps, np.full(len(wraps), 65536)
-
-
-def _hydra(words: Words, field: int, unit: int, old: int | None) -> Decoded:
-    """``old`` is what every wrap adds, where its field says nothing."""
-    top = words >> 25
-    is_t2 = field > 1023
-    wraps = np.flatnonzero(top == 127)
-    marker = (top > 64) & (top < 80)
-    event = (top < 80) if is_t2 else (top < 80) & (top != 64)
-    numbers = np.where(top < 64, top + is_t2, top - 64)
-    fields = np.maximum(words[wraps] & field, 1).astype(np.int64)
-    amounts = fields * unit if old is None else np.full(len(wraps), old)
-    return event, words & field, numbers.astype(np.uint32), marker, wraps, amounts
-
-
-_MEANINGS: dict[str, Callable[[Words], Decoded]] = {
-    "PicoHarpT2": _pico_t2,
-    "PicoHarpT3": _pico_t3,
-    "HydraHarpT2": lambda words: _hydra(words, 0x1FFFFFF, 1 << 25, 33552000),
-    "HydraHarpT3": lambda words: _hydra(words, 1023, 1024, 1024),
-    "HydraHarp2T2": lambda words: _hydra(words, 0x1FFFFFF, 1 << 25, None),
-    "HydraHarp2T3": lambda words: _hydra(words, 1023, 1024, None),
-}
+        return np.asarray(times < greatest)

@@ -18,6 +18,7 @@ from .digits import whole_numbers
 from .documents import read_plan
 from .errors import BadReport, NoTable, Unlike
 from .headers import RECORD_TYPES
+from .scratch import keep_scratch
 from .tables import BY_DTIME, KINDS, Measurement, Table, empty_table, names_of_groups
 
 Source = str | os.PathLike[str] | bytes
@@ -90,7 +91,7 @@ def read_report(source: Source, plan: str | os.PathLike[str] | None = None) -> R
     histogram, a trace, an image or a cube of each. The text is read in pieces, so the memory is that of the tables.
     Raises ``BadReport`` for a text that is no whole report, and ``Unlike`` for a plan of other tables.
     """
-    return read_stream(source, plan)
+    return read_stream(source, None if plan is None else read_plan(plan))
 
 
 def sum_reports(reports: Iterable[Report | Source], plan: str | os.PathLike[str] | None = None) -> Report:
@@ -103,27 +104,28 @@ def sum_reports(reports: Iterable[Report | Source], plan: str | os.PathLike[str]
     of a tick or other tables, and ``BadReport``; there is no sum then.
     """
     whole: Report | None = None
+    document = None if plan is None else read_plan(plan)
     for one in reports:
         if isinstance(one, Report):
             whole = _copy(one) if whole is None else _added(whole, one)
         else:
-            whole = read_stream(one, plan, whole)
+            whole = read_stream(one, document, whole)
     if whole is None:
         raise ValueError("no report to add up")
     return whole
 
 
-def read_stream(source: Source | IO[bytes], plan: str | os.PathLike[str] | None = None, whole: Report | None = None) -> Report:
-    """A report from a path, a text or a stream, added into the arrays of ``whole`` where that is given."""
-    document = None if plan is None else read_plan(plan)
+def read_stream(source: Source | IO[bytes], plan: dict[str, Any] | None = None, whole: Report | None = None) -> Report:
+    """A report from a path, a text or a stream, with the document of its plan, added into the arrays of ``whole`` where
+    that is given."""
     if isinstance(source, str) and "\n" in source:
         source = source.encode("utf-8")
     if isinstance(source, bytes):
-        return _Reader(io.BytesIO(source), "", document, whole).report()
+        return _Reader(io.BytesIO(source), "", plan, whole).report()
     if isinstance(source, str | os.PathLike):
         with open(source, "rb") as file:
-            return _Reader(file, os.fspath(source), document, whole).report()
-    return _Reader(source, "", document, whole).report()
+            return _Reader(file, os.fspath(source), plan, whole).report()
+    return _Reader(source, "", plan, whole).report()
 
 
 def _groups(plan: dict[str, Any], tables: list[Table]) -> list[tuple[int, ...]]:
@@ -162,7 +164,7 @@ def _first_lines(report: Report) -> list[tuple[str, int, dict[str, int]]]:
 
 def _sum(counts: NDArray[Any], more: NDArray[Any]) -> NDArray[Any]:
     if counts.dtype == object or more.dtype == object or int(counts.max(initial=0)) + int(more.max(initial=0)) > GREATEST:
-        return counts.astype(object) + more.astype(object)
+        return np.asarray(counts.astype(object) + more.astype(object))
     counts += more
     return counts
 
@@ -192,6 +194,7 @@ class _Reader:
         self.totals: list[int] = []  # of this report: all cells of each table and what is in none
         self.rest: dict[str, int] = {}  # of the last table
         self.beyond = -1  # the place of its last cell
+        keep_scratch()
 
     def bad(self, why: str) -> BadReport:
         return BadReport(f"{self.name}line {self.line}: {why}" if self.line else self.name + why)

@@ -158,11 +158,11 @@ def _delays(settings: Settings) -> NDArray[Any]:
 def _differences(settings: Settings) -> NDArray[np.float64]:
     reach, width = settings["reach"], settings["width"]
     least = width * np.arange(2 * reach // width + 1) - reach
-    return (least + np.minimum(least + width - 1, reach)) / 2
+    return np.asarray((least + np.minimum(least + width - 1, reach)) / 2)
 
 
 def _first(settings: Settings, lines: NDArray[np.int64]) -> NDArray[np.int64]:
-    return lines[:, 0]
+    return np.asarray(lines[:, 0])
 
 
 def _pixel(settings: Settings, lines: NDArray[np.int64]) -> NDArray[np.int64]:
