@@ -312,7 +312,7 @@ def fit_fcs(
     def model(now: Mapping[str, float]) -> Numbers:
         return fcs_model(times, structure=fixed, **now)
 
-    fit = _fit(times, curve, model, lambda now: (curve - now) / scale, begin)
+    fit = _fit(times, curve, model, lambda now: np.asarray((curve - now) / scale), begin)
     return fit if errors is not None else _scaled(fit)
 
 
