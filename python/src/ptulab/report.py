@@ -27,7 +27,7 @@ ADDED = ("announced", "records", "photons", "markers", "wraps", "reserved", "lat
 OR_NONE = ("announced", "global", "resolution", "first", "last")  # may be -
 HEAD_LINE = re.compile(rb"([a-z]+) ([!-~]+)\n")
 NUMBER = re.compile(r"[0-9]{1,39}")  # a count of pairs can have 128 bits
-MOST_OF_LINE = 80  # bytes of a line of the head
+LONGEST_LINE = 1 << 10  # bytes, more than any line of a report has
 PIECE = 1 << 16  # bytes of text that are read together, so that their arrays stay in the processor's cache
 GREATEST = (1 << 63) - 1
 OF_ONE_GROUP = ("histogram", "trace", "image", "cube")
@@ -203,7 +203,7 @@ class _Reader:
         """Reads all of it."""
         head = self.head()
         while piece := self.file.read(PIECE):
-            self.piece(head, piece + self.file.readline(PIECE))
+            self.piece(head, piece + self.file.readline(LONGEST_LINE))
         self.ended()
         if self.whole is not None and len(self.tables) != len(self.whole.tables):
             raise Unlike(f"{self.name}other tables")
@@ -232,7 +232,7 @@ class _Reader:
         """The twelve lines."""
         values = []
         for word in HEAD:
-            found = HEAD_LINE.fullmatch(self.file.readline(MOST_OF_LINE))
+            found = HEAD_LINE.fullmatch(self.file.readline(LONGEST_LINE))
             if not found or found[1].decode() != word:
                 self.line = 0
                 raise self.bad("this is no report of ptu run")

@@ -8,6 +8,7 @@ from pathlib import Path
 import numpy as np
 from numpy.typing import NDArray
 
+from .digits import MOST_DIGITS, whole_numbers
 from .errors import BadReport
 
 COUNTS = 1024  # of which the text tells how often each came
@@ -31,7 +32,7 @@ class LongTrace:
     @property
     def ticks(self) -> NDArray[np.int64]:
         """Where each of the bins begins, (n,), in ticks of T2, in sync periods of T3."""
-        return self.origin + self.bins * self.width
+        return np.asarray(self.origin + self.bins * self.width)
 
 
 def read_trace(source: str | os.PathLike[str] | bytes) -> LongTrace:
@@ -46,11 +47,16 @@ def read_trace(source: str | os.PathLike[str] | bytes) -> LongTrace:
     found = WHOLE.fullmatch(text)
     if not found:
         raise BadReport("this is nothing that ptu trace printed")
-    bins = np.array(found[3].split(), dtype=np.int64).reshape(-1, 2)
+    lines = found[3].count(b"\n")
+    bins = whole_numbers(found[3], 2) if lines else np.zeros((0, 2), dtype=np.int64)
+    if bins is None:
+        raise BadReport("a bin or a count of this trace is none of a trace")
     trace = LongTrace(int(found[1]), int(found[2]), bins[:, 0], bins[:, 1])
     if found[6] is None:
         return trace
     frequencies = np.zeros(COUNTS, dtype=np.int64)
     for _, count, many in (line.split() for line in found[5].splitlines()):
+        if len(count) > 4 or int(count) >= COUNTS or len(many) > MOST_DIGITS:
+            raise BadReport("a frequency of this trace is none of a trace")
         frequencies[int(count)] = int(many)
     return LongTrace(trace.origin, trace.width, trace.bins, trace.counts, int(found[4]), frequencies, int(found[6]))
