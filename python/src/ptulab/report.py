@@ -261,9 +261,9 @@ class _Reader:
     def piece(self, head: Head, text: bytes) -> None:
         """Whole lines: of cells, and between them those that begin with a letter."""
         letters = np.frombuffer(text, dtype=np.uint8)
-        worded = np.flatnonzero(letters > 57)
         at = 0
-        if len(worded):
+        if int(letters.max()) > 57:
+            worded = np.flatnonzero(letters > 57)
             newlines = np.flatnonzero(letters == 10)
             for number in np.unique(np.searchsorted(newlines, worded)):
                 begins = int(newlines[number - 1]) + 1 if number else 0
