@@ -188,7 +188,7 @@ def _document(plan: Plan) -> Iterator[Finding]:
         if key not in ("version", "order", "reserved", "limits", *SECOND, *KINDS):
             yield Finding(1, 0, "the plan", key, f"{key} is no key of a plan")
         elif key in SECOND and plan.version != 2:
-            yield Finding(1, 0, "the plan", key, f"{key} is a key of a plan with version = 2 only")
+            yield Finding(1, 0, "the plan", key, f"{key} is a key of a plan in version 2 only")
     tests = ((2, "version", one_of(1, 2)), (3, "order", one_of("drop", "stop")), (4, "reserved", one_of("skip", "stop")))
     for rule, key, test in (*tests, (23, "period", whole(1, 32768)), (26, "settle", whole(0, 64))):
         if key in document and (text := test(document[key], plan)):
@@ -226,7 +226,7 @@ def _keys(plan: Plan, kind: str, number: int, table: Mapping[str, Any]) -> Itera
         if key not in shape.keys:
             yield Finding(shape.rule, number, part, key, f"{key} is no key of a {kind}")
         elif shape.keys[key].version not in (0, plan.version):
-            yield Finding(shape.rule, number, part, key, f"{key} is a key of a {kind} with version = {shape.keys[key].version} only")
+            yield Finding(shape.rule, number, part, key, f"{key} is a key of a {kind} in version {shape.keys[key].version} only")
     for key, known in shape.keys.items():
         if known.needed and key not in table:
             yield Finding(shape.rule, number, part, key, f"{key} is wanting")
