@@ -10,7 +10,7 @@ from numpy.typing import NDArray
 from .events import EVENT, Events, iter_events
 
 Source = Events | NDArray[np.void] | str | os.PathLike[str]  # events, or the path of the file that has them
-PIECE = 1 << 20  # events that are looked at together
+PIECE = 1 << 18  # events that are looked at together
 
 
 @dataclass(frozen=True)

@@ -120,8 +120,9 @@ def _occupied(
     for piece in pieces_of(source):
         one, two = (group.mask(piece) for group in groups)
         either = one | two
-        parts.append((in_ticks(piece[either], period), one[either], two[either]))
-        inside = in_ticks(piece[~piece["late"]], period)
+        times = in_ticks(piece, period)
+        parts.append((times[either], one[either], two[either]))
+        inside = times[~piece["late"]]
         ends += [int(inside.min()), int(inside.max())] if len(inside) else []
     if not ends:
         return occupied(np.zeros(0, np.int64), np.zeros(0, np.bool_), np.zeros(0, np.bool_)), None
@@ -193,7 +194,7 @@ def start_stops(
     for piece in pieces_of(source):
         starts, stops = (group.mask(piece) for group in groups)
         either = starts | stops
-        parts.append((in_ticks(piece[either], period), starts[either], stops[either]))
+        parts.append((in_ticks(piece, period)[either], starts[either], stops[either]))
     if not parts:
         return StartStops(np.zeros(bins, np.uint64), width, 0, _unit(source, period))
     times, starts, stops = (np.concatenate(column) for column in zip(*parts, strict=True))

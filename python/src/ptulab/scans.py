@@ -153,13 +153,14 @@ def image(source: Source, scan: Scan, group: GroupLike = None) -> Image:
     Raises ``ValueError`` where a line lasts so long that its columns can't be computed so.
     """
     lines = lines_of(source, scan)
-    shape = _shape(lines, scan)
+    shape, places = _shape(lines, scan), _Places(lines, scan)
     counts = np.zeros(math.prod(shape), np.int64)
     outside, chosen = 0, group_of(group)
     for piece in pieces_of(source):
-        cells = _cells(piece[chosen.mask(piece)], lines, scan)
-        outside += int(np.count_nonzero(cells < 0))
-        _add(counts, cells[cells >= 0])
+        photons = chosen.mask(piece)
+        cells, placed = places.of(piece["record"][photons], piece["time"][photons])
+        outside += len(placed) - int(np.count_nonzero(placed))
+        _add(counts, cells[placed])
     seconds = source.header.global_seconds if isinstance(source, Events) else None
     return Image(scan, counts.astype(np.uint64).reshape(shape), outside, seconds)
 
@@ -172,17 +173,16 @@ def cube(source: Source, scan: Scan, dwidth: int, dbins: int, group: GroupLike =
     if dwidth < 1 or dbins < 1:
         raise ValueError(f"{dbins} bins of {dwidth} ticks")
     lines = lines_of(source, scan)
-    shape = (*_shape(lines, scan), dbins)
+    shape, places = (*_shape(lines, scan), dbins), _Places(lines, scan)
     counts = np.zeros(math.prod(shape), np.int64)
     outside, over, chosen = 0, 0, group_of(group)
     for piece in pieces_of(source):
-        photons = piece[chosen.mask(piece)]
-        cells = _cells(photons, lines, scan)
-        bins = photons["dtime"] // dwidth
-        placed = cells >= 0
-        outside += int(np.count_nonzero(~placed))
-        over += int(np.count_nonzero(placed & (bins >= dbins)))
+        photons = chosen.mask(piece)
+        cells, placed = places.of(piece["record"][photons], piece["time"][photons])
+        bins = piece["dtime"][photons] // dwidth
         kept = placed & (bins < dbins)
+        outside += len(placed) - int(np.count_nonzero(placed))
+        over += int(np.count_nonzero(placed)) - int(np.count_nonzero(kept))
         _add(counts, cells[kept] * dbins + bins[kept])
     seconds = source.header.resolution_seconds if isinstance(source, Events) else None
     return Cube(scan, counts.astype(np.uint64).reshape(shape), dwidth, outside, over, seconds)
@@ -213,6 +213,43 @@ def _shape(lines: NDArray[np.void], scan: Scan) -> tuple[int, ...]:
     return int(lines["frame"].max(initial=-1)) + 1, scan.height, scan.width
 
 
+class _Places:
+    """Where photons are in a scan of these lines. Before the first line stands one that holds no photon."""
+
+    def __init__(self, lines: NDArray[np.void], scan: Scan) -> None:
+        time, phase = _fractions(lines, scan)
+        length = lines["length"] if time is None else np.full(len(lines), time.numerator)
+        good = (length > 0) & (lines["frame"] >= 0) & (lines["row"] < scan.height)
+        number = np.arange(len(lines)) if scan.serpentine == "lines" else lines["row"]
+        back = number % 2 == 1 if scan.serpentine else np.zeros(len(lines), np.bool_)
+        frames = lines["frame"] if scan.frames else np.zeros(len(lines), np.int64)
+        first = (frames * scan.height + lines["row"]) * scan.width
+        self.width, self.parts = scan.width, scan.width * (1 if time is None else time.denominator)
+        self.phase, self.scale = np.append(0, np.where(back, phase.numerator, 0)), phase.denominator
+        self.record, self.start = np.append(-1, lines["record"]), np.append(0, lines["start"])
+        self.until = np.append(-1, np.where(good, lines["until"], -1))
+        self.length = np.append(1, np.where(good, length, 1))
+        self.first, self.step = np.append(0, np.where(back, first + scan.width - 1, first)), np.append(1, np.where(back, -1, 1))
+        self.most = self.length // (self.parts // scan.width) + math.ceil(abs(phase)) + 1  # beyond it all are outside
+
+    def of(self, records: NDArray[np.int64], times: NDArray[np.int64]) -> tuple[NDArray[np.int64], NDArray[np.bool_]]:
+        """Of photons, by the numbers of their records, which rise, and their times: the numbers of their pixels, frame by
+        frame and row by row, and whether they have one."""
+        if not len(records):
+            return np.zeros(0, np.int64), np.zeros(0, np.bool_)
+        low, high = np.searchsorted(self.record, records[[0, -1]]) - np.array([1, 0])
+        many = np.diff(np.searchsorted(records, self.record[low + 1 : high], side="left"), prepend=0, append=len(records))
+
+        def each(values: NDArray[np.int64]) -> NDArray[np.int64]:
+            return np.repeat(values[low:high], many)
+
+        since = np.minimum(times - each(self.start), each(self.most)) * self.scale - each(self.phase)
+        placed = (records < each(self.until)) & (since >= 0)
+        columns = since * self.parts // each(self.length * self.scale)
+        placed &= columns < self.width
+        return each(self.first) + each(self.step) * columns, placed
+
+
 def _fractions(lines: NDArray[np.void], scan: Scan) -> tuple[Fraction | None, Fraction]:
     """How long each line lasts, None for its own length, and the phase, in numbers with which columns fit 64 bits."""
     phase = Fraction(scan.phase).limit_denominator(1000)
@@ -225,38 +262,13 @@ def _fractions(lines: NDArray[np.void], scan: Scan) -> tuple[Fraction | None, Fr
     return Fraction(scan.time).limit_denominator(min(FINEST, most)), phase
 
 
-def _cells(photons: NDArray[np.void], lines: NDArray[np.void], scan: Scan) -> NDArray[np.int64]:
-    """Of each photon the number of its pixel, frame by frame and row by row, or -1 where it has none."""
-    if not len(lines):
-        return np.full(len(photons), -1)
-    time, phase = _fractions(lines, scan)
-    records = photons["record"]
-    number = np.searchsorted(lines["record"], records) - 1
-    its = lines[number]
-    length = its["length"] if time is None else np.full(len(photons), time.numerator)
-    parts = 1 if time is None else time.denominator
-    back = _backwards(number, its["row"], scan)
-    cap = length // parts + math.ceil(abs(phase)) + 1
-    since = np.minimum(photons["time"] - its["start"], cap) * phase.denominator - np.where(back, phase.numerator, 0)
-    columns = since * (scan.width * parts) // np.maximum(length * phase.denominator, 1)
-    good = (number >= 0) & (records < its["until"]) & (length > 0)
-    good &= (its["frame"] >= 0) & (its["row"] < scan.height) & (columns >= 0) & (columns < scan.width)
-    columns = np.where(back, scan.width - 1 - columns, columns)
-    frames = its["frame"] if scan.frames else 0
-    return np.where(good, (frames * scan.height + its["row"]) * scan.width + columns, -1)
-
-
-def _backwards(number: NDArray[np.int64], row: NDArray[np.int64], scan: Scan) -> NDArray[np.bool_]:
-    if not scan.serpentine:
-        return np.zeros(len(row), np.bool_)
-    odd: NDArray[np.bool_] = (number if scan.serpentine == "lines" else row) % 2 == 1
-    return odd
-
-
 def _add(counts: NDArray[np.int64], cells: NDArray[np.int64]) -> None:
     """Adds 1 to each of these cells as often as it stands there."""
-    if counts.size <= 4 * cells.size:
-        counts += np.bincount(cells, minlength=counts.size)
+    if not len(cells):
+        return
+    low, high = int(cells.min()), int(cells.max()) + 1
+    if high - low <= 8 * len(cells):
+        counts[low:high] += np.bincount(cells - low, minlength=high - low)
     else:
         places, times = np.unique(cells, return_counts=True)
         counts[places] += times
