@@ -4,7 +4,7 @@
 Every line of a table is a count, so the counts of several files are the sums. The reports must have the same type,
 the same seconds of a tick, and the same tables with the same settings; otherwise it ends with 1 and says which one
 has not. In the sum 'announced' is a number where each report has one, and 'first' and 'last' are '-', since they are
-of one file: to normalise a correlation over several files, add up what each of them expects (docs/python.md).
+of one file: a correlation of several files is normalised by what each of them expects (docs/python.md).
 It can't see the groups of the plan, which stand in no report: take care that the plan was the same.
 
 'python3 -m ptulab sum REPORT ..' does the same, but lists what can't be added and adds the rest. It needs NumPy.
