@@ -8,6 +8,7 @@ from hypothesis import given, settings
 from hypothesis import strategies as st
 
 import ptulab
+from ptulab import pulsed
 from ptulab.groups import Group
 from ptulab.pulsed import coincidences, start_stops
 
@@ -81,6 +82,23 @@ def test_differences_in_ticks_join_sync_and_dtime(folder, events, first, second,
     steps = Counter(t - s for (s, m), (t, n) in zip(ordered, ordered[1:]) if m in first and n in second)
     stops = start_stops(path, first, second, 1, 100, period=period)
     assert stops.counts.tolist() == [steps[lag] for lag in range(100)] and stops.over == sum(n for lag, n in steps.items() if lag >= 100)
+
+
+@settings(max_examples=100, deadline=None)
+@given(st.lists(st.tuples(st.integers(1, 5), st.integers(0, 3), st.integers(0, 3)), min_size=1, max_size=60), st.integers(1, 30))
+def test_pairs_of_dense_and_of_sparse_times_are_the_same(steps, reach):
+    times = np.cumsum([step for step, _, _ in steps])
+    firsts, seconds = (np.array([step[which] for step in steps]) for which in (1, 2))
+    counts = [0] * (reach + 1)
+    for i, first in zip(times, firsts):
+        for j, second in zip(times, seconds):
+            if 0 <= j - i <= reach:
+                counts[j - i] += first * second
+    with pytest.MonkeyPatch.context() as patch:
+        patch.setattr(pulsed, "BLOCK", 7)
+        for dense in (0, 100):
+            patch.setattr(pulsed, "DENSE", dense)
+            assert pulsed.pair_counts(times, firsts, seconds, reach).tolist() == counts
 
 
 def pulses(seed, brightness, both):

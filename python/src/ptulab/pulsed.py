@@ -12,6 +12,9 @@ from .errors import NotKnown
 from .events import Events
 from .groups import GroupLike, Source, group_of, pieces_of
 
+DENSE = 8  # where so few units of time come to each time that has photons, all of them are gone through
+BLOCK = 1 << 15  # units of time that are taken together then
+
 Weights = tuple[NDArray[np.int64], NDArray[np.int64], NDArray[np.int64], NDArray[np.int64]]
 
 
@@ -148,9 +151,17 @@ def pair_counts(
 ) -> NDArray[np.int64]:
     """How many pairs there are whose second is so much later: shape (reach + 1,), by the difference 0, 1, .. reach.
 
-    ``times`` rise, and have so many photons of the first and of the second group each. The k-th neighbours behind all
-    times are taken together, for k = 1, 2, .. until none is in reach.
+    ``times`` rise, and have so many photons of the first and of the second group each.
     """
+    if len(times) and times[-1] - times[0] < DENSE * len(times):
+        return _pairs_of_dense(times - times[0], firsts, seconds, reach)
+    return _pairs_of_sparse(times, firsts, seconds, reach)
+
+
+def _pairs_of_sparse(
+    times: NDArray[np.int64], firsts: NDArray[np.int64], seconds: NDArray[np.int64], reach: int
+) -> NDArray[np.int64]:
+    """The k-th neighbours behind all times are taken together, for k = 1, 2, .. until none is in reach."""
     counts = np.zeros(reach + 1, np.int64)
     counts[0] = int((firsts * seconds).sum())
     near = np.arange(len(times))
@@ -163,6 +174,20 @@ def pair_counts(
             break
         products = firsts[near] * seconds[near + step]
         counts += np.rint(np.bincount(difference, products, reach + 1)).astype(np.int64)
+    return counts
+
+
+def _pairs_of_dense(
+    times: NDArray[np.int64], firsts: NDArray[np.int64], seconds: NDArray[np.int64], reach: int
+) -> NDArray[np.int64]:
+    """All times have a place, also those without photons: a block of the first group with what is in its reach."""
+    counts, block = np.zeros(reach + 1, np.int64), max(BLOCK, reach)
+    for begin in range(0, int(times[-1]) + 1, block):
+        low, high, last = np.searchsorted(times, (begin, begin + block, begin + block + reach))
+        one, two = np.zeros(block), np.zeros(block + reach)
+        one[times[low:high] - begin] = firsts[low:high]
+        two[times[low:last] - begin] = seconds[low:last]
+        counts += np.rint(np.correlate(two, one, "valid")).astype(np.int64)
     return counts
 
 
