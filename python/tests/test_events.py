@@ -1,6 +1,7 @@
 """Events beside what `ptu events` prints: random headers and words, the rows of the documents, and bad files."""
 
 import math
+import os
 import re
 import struct
 import subprocess
@@ -244,9 +245,11 @@ def test_paths_that_are_no_file(tmp_path: Path) -> None:
         ptulab.read_events(tmp_path / "nothing.ptu")
     with pytest.raises(IsADirectoryError):
         ptulab.read_events(tmp_path)
-    with pytest.raises(BadFile) as fault:
-        ptulab.read_events("/dev/null")
-    assert fault.value.status == 11
+    os.mkfifo(tmp_path / "pipe")
+    for path, status in (("/dev/null", 11), (tmp_path / "pipe", 3)):
+        with pytest.raises(BadFile) as fault:
+            ptulab.read_events(path)
+        assert fault.value.status == status
 
 
 def test_left_over_bytes_are_told_at_the_end(make_file: Callable[..., Path]) -> None:

@@ -6,6 +6,7 @@ here and by the program, and how a header is refused. What is refused here is wh
 
 import mmap
 import os
+import stat
 import struct
 from collections.abc import Mapping
 from dataclasses import dataclass, field
@@ -31,6 +32,7 @@ RECORD_TYPES = {
     0x00010307: "MultiHarpT3",
 }
 LONGEST = 1 << 24  # bytes of a header
+SHORT = 1 << 16  # bytes that nearly every header has room in, and that are looked at first
 PREAMBLE, TAG = 16, struct.Struct("<32siIq")
 EMPTY, TRUTH, INTEGER, BITS, COLOUR = 0xFFFF0008, 0x00000008, 0x10000008, 0x11000008, 0x12000008
 FLOAT, DATE, FLOATS, TEXT, WIDE, BLOB = 0x20000008, 0x21000008, 0x2001FFFF, 0x4001FFFF, 0x4002FFFF, 0xFFFFFFFF
@@ -75,16 +77,19 @@ class Header:
 
 
 def read_header(path: str | os.PathLike[str]) -> Header:
-    """The header of the PTU file at ``path``, which must be a regular file.
+    """The header of the PTU file at ``path``, which must be a file and no pipe.
 
-    Raises ``BadFile`` with the status and the line of the program (10 to 16) where the program would refuse it.
+    Raises ``BadFile`` with the status and the line of the program (10 to 16) where the program would refuse it, and with
+    3 for a pipe; ``OSError`` where it can't be opened.
     """
+    if stat.S_ISFIFO(os.stat(path).st_mode):
+        raise BadFile(3, "cannot read the data: a pipe can't be mapped", os.fspath(path))
     with open(path, "rb") as file:
         whole = os.fstat(file.fileno()).st_size
         if not whole:
             return parse_header(b"", 0, os.fspath(path))
         with mmap.mmap(file.fileno(), whole, access=mmap.ACCESS_READ) as data:
-            return parse_header(data[:LONGEST] if whole <= LONGEST else data[:65536], whole, os.fspath(path), data)
+            return parse_header(data[:SHORT], whole, os.fspath(path), data)
 
 
 def parse_header(start: bytes, whole: int, path: str = "", data: mmap.mmap | None = None) -> Header:
