@@ -8,6 +8,7 @@ import numpy as np
 from numpy.typing import NDArray
 
 from .events import EVENT, Events, iter_events
+from .scratch import keep_scratch
 
 Source = Events | NDArray[np.void] | str | os.PathLike[str]  # events, or the path of the file that has them
 PIECE = 1 << 18  # events that are looked at together
@@ -51,6 +52,7 @@ def group_of(group: GroupLike) -> Group:
 
 def pieces_of(source: Source) -> Iterator[NDArray[np.void]]:
     """The events of a source in pieces, so that only one piece's arrays are in memory beside them."""
+    keep_scratch()
     if isinstance(source, Events | np.ndarray):
         array = source.array if isinstance(source, Events) else source
         for at in range(0, len(array), PIECE):
