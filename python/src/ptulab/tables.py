@@ -242,7 +242,8 @@ def empty_table(kind: str, number: int, settings: dict[str, int], seconds: float
     if cells > MOST_CELLS:
         raise BadReport(f"a {kind} of {cells} cells, which no plan has")
     ticks = KINDS[kind].ticks(settings)
-    axis = None if seconds is None or kind == "fold" else np.asarray(ticks * seconds, dtype=np.float64)
+    with np.errstate(all="ignore"):  # a header may tell any floating-point number
+        axis = None if seconds is None or kind == "fold" else np.asarray(ticks * seconds, dtype=np.float64)
     levels = lags_of(settings)[0] if kind == "correlation" else None
     return Table(kind, number, settings, np.zeros(shape, dtype=np.uint64), ticks, axis, levels=levels)
 
