@@ -6,18 +6,24 @@ from pathlib import Path
 import made
 import numpy as np
 import pytest
-from conftest import EXAMPLES
+from hypothesis import given, settings
+from hypothesis import strategies as st
 
 import ptulab
 from ptulab import exports, picked
 from ptulab.fits import mean_arrival
-from ptulab.scans import Scan, cube, image
+from ptulab.scans import Cube, Scan, cube, image
 from ptulab.segments import correlation_by_segments
 from ptulab.whole import whole_path, written_whole
 
 h5py = pytest.importorskip("h5py")
 tifffile = pytest.importorskip("tifffile")
 READER = Path("/usr/lib/pycorrfit/pycorrfit/readfiles/read_CSV_PyCorrFit.py")
+
+
+@pytest.fixture(scope="session")
+def folder(tmp_path_factory):
+    return tmp_path_factory.mktemp("exports")
 
 
 @pytest.fixture
@@ -149,7 +155,18 @@ def test_ome_tiff_of_images_cubes_and_lifetimes(program, make_file, tmp_path):
             assert 'PhysicalSizeX="0.2"' in file.ome_metadata and 'PhysicalSizeYUnit="µm"' in file.ome_metadata
             found = file.series[0]
             assert found.dtype == dtype and np.array_equal(found.asarray().reshape(expected.shape), expected, equal_nan=dtype == np.float32)
-            assert found.axes.replace("S", "") == axes or axes.startswith(("TH", "H"))
+            assert found.axes == axes
+            lifetimes = 'ModuloAlongT Type="lifetime" Unit="ps" Start="0" Step="8000" End="55999.99944"'
+            assert (lifetimes in file.ome_metadata) == ("H" in axes)
+
+
+@settings(max_examples=60, deadline=None)
+@given(st.integers(1, 300), st.floats(1e-12, 1e-9), st.integers(1, 500))
+def test_bins_of_any_time_are_axes_that_are_read_back(folder, bins, resolution, dwidth):
+    counts = np.arange(6 * bins, dtype=np.uint64).reshape(2, 3, bins)
+    exports.write_ome_tiff(Cube(SCAN, counts, dwidth, 0, 0, resolution), folder / "bins.tif")
+    found = tifffile.imread(folder / "bins.tif")
+    assert (found.reshape(bins, 2, 3) == np.moveaxis(counts, -1, 0)).all()
 
 
 def test_what_is_no_image(curves, tmp_path):

@@ -125,6 +125,25 @@ def write_ome_tiff(
             metadata |= {f"PhysicalSize{side}": pixel_micrometres, f"PhysicalSize{side}Unit": "µm"}
     with whole_path(path) as part:
         tifffile.imwrite(part, array, ome=True, photometric="minisblack", metadata=metadata)
+        step = _bin_seconds(pixels)
+        if step is not None:
+            whole = f'Start="0" End="{array.shape[-3] - 1}"'  # as tifffile tells an axis of lifetimes
+            tifffile.tiffcomment(part, tifffile.tiffcomment(part).replace(whole, _lifetimes(array.shape[-3], step)).encode())
+
+
+def _lifetimes(bins: int, seconds: float) -> str:
+    """An axis of lifetimes in picoseconds. Its end is told a little early, since readers count the steps up to it."""
+    step = seconds * 1e12
+    return f'Unit="ps" Start="0" Step="{step:.12g}" End="{step * (bins - 1) * (1 - 1e-8):.12g}"'
+
+
+def _bin_seconds(pixels: Image | Cube | Table | NDArray[Any]) -> float | None:
+    """How many seconds a bin of a cube has, None where it isn't known or nothing has bins."""
+    if isinstance(pixels, Cube):
+        return None if pixels.resolution_seconds is None else pixels.dwidth * pixels.resolution_seconds
+    if not isinstance(pixels, Table) or pixels.kind != "cube" or pixels.seconds is None or len(pixels.seconds) < 2:
+        return None
+    return float(pixels.seconds[1])
 
 
 def _with_axes(pixels: Image | Cube | Table | NDArray[Any]) -> tuple[NDArray[Any], str]:

@@ -45,8 +45,8 @@ def group_of(group: GroupLike) -> Group:
     """A group of what names one: an input, some inputs, or None for all photons."""
     if isinstance(group, Group):
         return group
-    if isinstance(group, int):
-        return Group((group,))
+    if isinstance(group, int | np.integer):
+        return Group((int(group),))
     return Group(None if group is None else tuple(group))
 
 
