@@ -4,9 +4,12 @@ Reports and their sums (``read_report``, ``sum_reports``), runs of the program (
 (``read_events``, ``iter_events``). It is tested, not proved; docs/python.md tells all of it.
 """
 
-from .errors import BadFile, BadReport, Missing, NoProgram, NotKnown, NoTable, PtulabError, Refusal, Unlike
+from .errors import BadFile, BadPlan, BadReport, Missing, NoProgram, NotKnown, NoTable, PtulabError, Refusal, Unlike
 from .events import EVENT, Events, iter_events, read_events
 from .headers import Header, read_header
+from .many import count_files
+from .page import write_page
+from .plans import check_plan, plan_for
 from .program import find_program, run
 from .report import Head, Report, read_report, sum_reports
 from .tables import Table
@@ -15,6 +18,7 @@ from .traces import LongTrace, read_trace
 __all__ = [
     "EVENT",
     "BadFile",
+    "BadPlan",
     "BadReport",
     "Events",
     "Head",
@@ -29,12 +33,16 @@ __all__ = [
     "Report",
     "Table",
     "Unlike",
+    "check_plan",
+    "count_files",
     "find_program",
     "iter_events",
+    "plan_for",
     "read_events",
     "read_header",
     "read_report",
     "read_trace",
     "run",
     "sum_reports",
+    "write_page",
 ]
