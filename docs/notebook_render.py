@@ -5,6 +5,7 @@ It needs nbconvert and ipykernel (Debian: python3-nbconvert, python3-ipykernel),
 which is out/ptu of this tree or the one that the environment variable PTU names. The notebook itself is kept without its outputs.
 """
 
+import re
 import shutil
 import sys
 from pathlib import Path
@@ -14,7 +15,7 @@ from nbconvert import MarkdownExporter
 from nbconvert.preprocessors import ExecutePreprocessor
 
 DOCS = Path(__file__).resolve().parent
-SECONDS = 300  # for a cell, at most
+SECONDS = 600  # for a cell, at most
 
 
 def rendered():
@@ -22,7 +23,16 @@ def rendered():
     notebook = nbformat.read(DOCS / "notebook.ipynb", as_version=4)
     ExecutePreprocessor(timeout=SECONDS, kernel_name="python3").preprocess(notebook, {"metadata": {"path": str(DOCS)}})
     text, more = MarkdownExporter().from_notebook_node(notebook, {"unique_key": "notebook", "output_files_dir": "notebook_files"})
-    return text.rstrip() + "\n", more["outputs"]
+    return readable(text), more["outputs"]
+
+
+def readable(text):
+    """Pictures are called by the title above them, and code is py, which docs/check_examples.py doesn't try cell by cell."""
+    lines, title = [], ""
+    for line in text.splitlines():
+        title = line.removeprefix("## ") if line.startswith("## ") else title
+        lines.append(line.rstrip().replace("![png]", f"![{title}]").replace("```python", "```py"))
+    return re.sub(r"\n{3,}", "\n\n", "\n".join(lines)).strip() + "\n"
 
 
 def main():
