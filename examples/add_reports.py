@@ -14,7 +14,7 @@ import os
 import sys
 from dataclasses import replace
 
-sys.path.insert(0, os.path.join(os.path.dirname(os.path.dirname(os.path.abspath(__file__))), "python", "src"))
+sys.path.insert(0, os.path.join(os.path.dirname(os.path.dirname(os.path.realpath(__file__))), "python", "src"))
 
 from ptulab import PtulabError, sum_reports  # noqa: E402
 from ptulab.texts import report_lines, summed_head  # noqa: E402

@@ -18,7 +18,7 @@ script asked it, is let be.
 import os
 import sys
 
-sys.path.insert(0, os.path.join(os.path.dirname(os.path.dirname(os.path.abspath(__file__))), "python", "src"))
+sys.path.insert(0, os.path.join(os.path.dirname(os.path.dirname(os.path.realpath(__file__))), "python", "src"))
 
 from ptulab.errors import BadFile  # noqa: E402
 from ptulab.plans import plan_for  # noqa: E402
