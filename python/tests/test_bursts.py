@@ -1,15 +1,13 @@
 import made
 import numpy as np
 import pytest
+import random_events
 from hypothesis import given, settings
 from hypothesis import strategies as st
 
 import ptulab
 from ptulab.bursts import find_bursts, fret, fused, photons_in
 from ptulab.groups import Group, photons_of
-
-TIMES = st.lists(st.one_of(st.integers(0, 3), st.integers(0, 40)), max_size=150).map(lambda steps: np.cumsum(steps, dtype=np.int64))
-
 
 def searched(times, minimum, m, longest):
     """The search photon by photon, as FRETBursts tells it."""
@@ -26,14 +24,14 @@ def searched(times, minimum, m, longest):
 
 
 @settings(max_examples=300, deadline=None)
-@given(TIMES, st.integers(1, 30), st.integers(2, 8), st.floats(0.05, 3), st.sampled_from([-1, 0]))
+@given(random_events.times, st.integers(1, 30), st.integers(2, 8), st.floats(0.05, 3), st.sampled_from([-1, 0]))
 def test_bursts_are_those_of_the_plain_search(times, minimum, m, rate, c):
     ours = find_bursts(times, rate, minimum=minimum, m=m, c=c)
     assert ours.tolist() == searched(times.tolist(), minimum, m, (m - 1 - c) / rate)
 
 
 @settings(max_examples=100, deadline=None)
-@given(TIMES, st.integers(0, 30))
+@given(random_events.times, st.integers(0, 30))
 def test_fused_bursts_are_apart(times, gap):
     bursts = find_bursts(times, 0.5, minimum=3, m=3)
     result = fused(bursts, gap)

@@ -75,6 +75,14 @@ def test_a_decay_runs_over_into_the_next_period_and_without_one_over_the_end():
     assert open_end.values["lifetime_1"] == pytest.approx(2.0, rel=0.03)
 
 
+def test_a_long_decay_without_a_period_is_cut_by_the_end():
+    draws, edges = np.random.default_rng(11), np.arange(BINS + 1) * WIDTH
+    pulse = draws.normal(2.0, 0.12, 400_000)
+    counts = np.histogram(draws.normal(2.0, 0.12, 400_000) + draws.exponential(12.0, 400_000), edges)[0]
+    fit = fits.fit_reconvolution(counts, np.histogram(pulse, edges)[0], WIDTH)
+    assert within(fit, "lifetime_1", 12.0) and within(fit, "amplitude_1", 400_000) and fit.errors["lifetime_1"] < 0.3
+
+
 def test_two_terms_of_a_reconvolution():
     counts, pulse = decayed(5, [0.5, 3.5], [0.4, 0.6], 1_000_000, background=1.0)
     fit = fits.fit_reconvolution(counts, pulse, WIDTH, period=PERIOD, terms=2)
@@ -140,13 +148,17 @@ def test_a_correlation_of_diffusion_is_fitted(dimensions, triplet):
     assert 0.7 < fit.reduced < 1.4 and len(fit.axis) < 119
     alike = fits.fit_fcs(DELAYS, noisy, dimensions=dimensions, triplet=triplet)
     assert alike.values["number"] == pytest.approx(2.5, rel=0.05) and alike.errors["number"] < 0.2
+    doubled = fits.fit_fcs(DELAYS, noisy, 2 * errors, dimensions=dimensions, triplet=triplet, span=(0, 0.5))
+    assert doubled.errors["number"] == pytest.approx(2 * fit.errors["number"], rel=0.02)
 
 
 def test_models_are_those_of_the_formulas():
     assert fits.fcs_model(np.array([0.0]), 4, 1.0)[0] == 1.25
     assert fits.fcs_model(np.array([2.0]), 1, 2.0)[0] == pytest.approx(1.5)
     assert fits.fcs_model(np.array([2.0]), 1, 2.0, structure=1.0)[0] == pytest.approx(1 + 0.5 / np.sqrt(2))
+    assert fits.fcs_model(np.array([2.0]), 1, 2.0, structure=3.0)[0] == pytest.approx(1 + 0.5 / np.sqrt(1 + 1 / 9))
     assert fits.fcs_model(np.array([0.0]), 1, 2.0, triplet=0.5)[0] == pytest.approx(3)
+    assert fits.fcs_model(np.array([3.0]), 1, 1e9, triplet=0.5, triplet_time=3.0)[0] == pytest.approx(2 + np.exp(-1))
 
 
 def report_of_pairs(program, tmp_path, make_file):

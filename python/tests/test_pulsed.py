@@ -10,7 +10,7 @@ from hypothesis import strategies as st
 import ptulab
 from ptulab import pulsed
 from ptulab.groups import Group
-from ptulab.pulsed import coincidences, start_stops
+from ptulab.pulsed import Coincidences, coincidences, start_stops
 
 GROUPS = st.sampled_from([(0,), (1,), (0, 1), (1, 2), (0, 1, 2)])
 
@@ -124,6 +124,13 @@ def test_an_emitter_of_single_photons_is_told_by_lag_0(make_file):
     assert ours.seconds[0] == pytest.approx(-2e-6)
     peaks = coincidences(ptulab.read_events(antibunched), 0, 1, 14999, width=10000, period=1e4)
     assert peaks.pairs.tolist() == coincidences(antibunched, 0, 1, 1).pairs.tolist() and peaks.unit_seconds == 1e-11
+
+
+def test_the_error_of_a_ratio_is_that_of_its_counts():
+    few = Coincidences(np.array([4, 1, 6], np.uint64), 1, 1, 9, 9, 100)
+    assert few.central_ratio() == pytest.approx((1 / 5, np.sqrt(1 / 5**2 + (1 / 5) ** 2 / 10)))
+    none = Coincidences(np.array([4, 0, 6], np.uint64), 1, 1, 9, 9, 100)
+    assert none.central_ratio() == pytest.approx((0, 1 / 5))
 
 
 def test_gates_choose_photons(make_file):
