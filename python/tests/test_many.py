@@ -105,6 +105,14 @@ def test_a_plan_that_is_refused_ends_it(folder, program):
         count_files(folder / "plan.toml", files_of(folder), program=program)
 
 
+def test_a_report_is_added_into_the_arrays_of_another(folder, program):
+    one, other = (ptulab.run(folder / "plan.toml", folder / f"{number}.ptu", program=program) for number in (0, 1))
+    wanted, array = one + other, one.table("correlation").counts
+    one += other
+    assert same(one, wanted) and one.table("correlation").counts is array
+    assert same(ptulab.run(folder / "plan.toml", folder / "2.ptu", program=program, whole=one), wanted + ptulab.run(folder / "plan.toml", folder / "2.ptu", program=program))
+
+
 def test_no_file_can_be_added(folder, program):
     bad = folder / "3.ptu"
     whole = count_files(folder / "plan.toml", [bad, folder / "none.ptu"], program=program, progress=True)

@@ -7,23 +7,25 @@ the sum is the same, to the last photon, however the files are shared out. Jobs 
 
 from __future__ import annotations
 
+import multiprocessing
 import os
 import re
 from collections.abc import Callable, Iterable, Iterator, Sequence
-from concurrent.futures import Future, ProcessPoolExecutor, as_completed
+from concurrent.futures import FIRST_COMPLETED, ProcessPoolExecutor, wait
 from dataclasses import dataclass, replace
 from typing import Any
 
 from .documents import read_plan
-from .errors import BadReport, Refusal
+from .errors import BadReport, Refusal, Unlike
 from .optional import want
 from .program import find_program, run
-from .report import Report, read_report, sum_reports
+from .report import Report, read_report
 
 PathLike = str | os.PathLike[str]
 OF_FILE = (*range(9, 22), 24)  # statuses by which the program refuses a file, and not the plan or the machine
 REFUSED = re.compile(rb"refused (\d+) ([^\n]*)\n")  # what stands in the place of a report of a file that was refused
-SHARES = 4  # for each process, so that none waits long for the last
+UNREAD = ("ptu: cannot open the data", "ptu: cannot read the data")
+LOOKS = 0.2  # seconds between two looks at how many files are done
 Key = tuple[str, str, str]
 
 
@@ -63,26 +65,21 @@ def count_files(
 
     ``processes`` is how many run side by side, by default one for each processor that this process may use. With a
     ``client`` of dask.distributed its workers count: plan, files and program must be seen by all of them under the same
-    paths. ``progress`` shows a bar of the files (tqdm). Memory is that of some reports for each process, and for each
-    process of a run (docs/run.md).
+    paths. ``progress`` shows a bar of the files (tqdm). A process has the memory of one report and of a run (docs/run.md),
+    and the one that asks has that of two or three reports.
 
     Raises ``Refusal`` where the plan is refused, or the machine fails (statuses 2 to 8), ``NoProgram``, and ``Missing``.
     """
-    paths, found = [os.path.abspath(file) for file in files], find_program(program)
-    at_once = max(1, min(processes or len(os.sched_getaffinity(0)), len(paths)))
-    if client is not None:
-        at_once = max(1, sum(client.nthreads().values()))
-    shares = [list(enumerate(paths))[first :: at_once * SHARES] for first in range(min(at_once * SHARES, len(paths)))]
-    words = [(os.path.abspath(plan), share, found) for share in shares]
-    done = _by_processes(words, at_once) if client is None else _by_dask(words, client)
-    bar = want("tqdm", "the progress of many files").tqdm(total=len(paths), unit="file") if progress else None
+    paths, words = [os.path.abspath(file) for file in files], (os.path.abspath(plan), find_program(program))
     whole = _Share({}, {})
-    for share in done:
-        _take(whole, share)
+    bar = want("tqdm", "the progress of many files").tqdm(total=len(paths), unit="file") if progress else None
+    try:
+        at_once = max(1, min(processes or len(os.sched_getaffinity(0)), len(paths)))
+        for share in _by_processes(words, paths, at_once, bar) if client is None else _by_dask(words, paths, client, bar):
+            _take(whole, share)
+    finally:
         if bar is not None:
-            bar.update(sum(len(places) for _, places in share.sums.values()) + len(share.left))
-    if bar is not None:
-        bar.close()
+            bar.close()
     return _sum_of(whole, paths)
 
 
@@ -127,38 +124,92 @@ BYTES: dict[str, Callable[[dict[str, int]], int]] = {
 # ## Shares of the files
 
 
-def _by_processes(words: Sequence[tuple[str, list[tuple[int, str]], str]], at_once: int) -> Iterator[_Share]:
-    with ProcessPoolExecutor(at_once) as pool:
-        yield from _as_they_come([pool.submit(_share, *some) for some in words])
+@dataclass
+class _Turns:
+    """Which file comes next, and how many are done, for all processes."""
+
+    next: Any
+    done: Any
+
+    def take(self, end: int) -> int:
+        """The place of the next file, or the end."""
+        with self.next.get_lock():
+            place = min(int(self.next.value), end)
+            self.next.value = place + 1
+        return place
 
 
-def _as_they_come(jobs: Sequence[Future[_Share]]) -> Iterator[_Share]:
-    waiting = set(jobs)
+_turns: list[_Turns] = []  # of this process
+
+
+def _begin(turns: _Turns) -> None:
+    _turns[:] = [turns]
+
+
+def _by_processes(words: tuple[str, str], paths: Sequence[str], at_once: int, bar: Any) -> Iterator[_Share]:
+    """Each process takes the next file when it has counted one, and gives its sum at the end."""
+    turns = _Turns(multiprocessing.Value("q", 0), multiprocessing.Value("q", 0))
+    with ProcessPoolExecutor(at_once, initializer=_begin, initargs=(turns,)) as pool:
+        waiting = {pool.submit(_in_turns, *words, paths) for _ in range(at_once if paths else 0)}
+        while waiting:
+            done, waiting = wait(waiting, timeout=LOOKS, return_when=FIRST_COMPLETED)
+            if bar is not None:
+                bar.update(int(turns.done.value) - bar.n)
+            while done:
+                yield done.pop().result()
+
+
+def _in_turns(plan: str, program: str, paths: Sequence[str]) -> _Share:
+    whole, (turns,) = _Share({}, {}), _turns
     try:
-        for job in as_completed(jobs):
-            waiting.discard(job)
-            yield job.result()
-    finally:
-        for job in waiting:
-            job.cancel()
+        while (place := turns.take(len(paths))) < len(paths):
+            _count(whole, place, paths[place], plan, program)
+            with turns.done.get_lock():
+                turns.done.value += 1
+    except BaseException:
+        with turns.next.get_lock():
+            turns.next.value = len(paths)  # the others stop too
+        raise
+    return whole
 
 
-def _by_dask(words: Sequence[tuple[str, list[tuple[int, str]], str]], client: Any) -> Iterator[_Share]:
+def _by_dask(words: tuple[str, str], paths: Sequence[str], client: Any, bar: Any) -> Iterator[_Share]:
+    """Each thread of a worker has its share of the files, and gives the sum of it."""
     distributed = want("distributed", "many machines")
-    jobs = client.map(_share, *zip(*words), pure=False)
+    number = max(1, min(sum(client.nthreads().values()), len(paths)))
+    shares = [list(enumerate(paths))[first::number] for first in range(number if paths else 0)]
+    jobs = client.map(_of_share, [words] * len(shares), shares, pure=False)
     try:
-        for _, share in distributed.as_completed(jobs, with_results=True):
+        for job, share in distributed.as_completed(jobs, with_results=True):
+            jobs.remove(job)
+            if bar is not None:
+                bar.update(len(share.left) + sum(len(places) for _, places in share.sums.values()))
             yield share
     finally:
         client.cancel(jobs)
 
 
-def _share(plan: str, files: Sequence[tuple[int, str]], program: str) -> _Share:
-    """Counts some files, each with its place in the list of all."""
+def _of_share(words: tuple[str, str], share: Sequence[tuple[int, str]]) -> _Share:
     whole = _Share({}, {})
-    for place, path in files:
-        _take(whole, _counted(place, path, lambda: run(plan, path, program=program)))
+    for place, path in share:
+        _count(whole, place, path, *words)
     return whole
+
+
+def _count(whole: _Share, place: int, path: str, plan: str, program: str) -> None:
+    """Counts a file into the arrays of a sum that it is like, else into a sum of its own."""
+    key = next(iter(whole.sums), None)
+    if key is not None:
+        report, places = whole.sums[key]
+        try:
+            whole.sums[key] = run(plan, path, program=program, whole=report), [*places, place]
+            return
+        except Refusal as refusal:
+            whole.left[place] = _left_by(refusal, path)
+            return
+        except Unlike:
+            pass
+    _take(whole, _counted(place, path, lambda: run(plan, path, program=program)))
 
 
 def _counted(place: int, path: str, report_of: Callable[[], Report]) -> _Share:
@@ -166,13 +217,18 @@ def _counted(place: int, path: str, report_of: Callable[[], Report]) -> _Share:
     try:
         report = report_of()
     except Refusal as refusal:
-        if refusal.status not in OF_FILE and refusal.line != "ptu: cannot open the data" and refusal.line != "ptu: cannot read the data":
-            raise
-        return _Share({}, {place: Left(path, refusal.status, refusal.line.removeprefix("ptu: "))})
+        return _Share({}, {place: _left_by(refusal, path)})
     except BadReport as error:
         return _Share({}, {place: Left(path, None, str(error))})
     head = report.head
     return _Share({(head.type, repr(head.global_seconds), repr(head.resolution_seconds)): (report, [place])}, {})
+
+
+def _left_by(refusal: Refusal, path: str) -> Left:
+    """Why a file is left. What is no fault of the file is raised again."""
+    if refusal.status not in OF_FILE and refusal.line not in UNREAD:
+        raise refusal
+    return Left(path, refusal.status, refusal.line.removeprefix("ptu: "))
 
 
 def _take(whole: _Share, share: _Share) -> None:
@@ -181,7 +237,8 @@ def _take(whole: _Share, share: _Share) -> None:
     for key, (report, places) in share.sums.items():
         if key in whole.sums:
             together, before = whole.sums[key]
-            whole.sums[key] = sum_reports([together, report]), before + places
+            together += report
+            whole.sums[key] = together, before + places
         else:
             whole.sums[key] = report, places
 

@@ -37,11 +37,13 @@ def run(
     *,
     program: str | os.PathLike[str] | None = None,
     progress: bool = False,
+    whole: Report | None = None,
 ) -> Report:
     """The report of ``ptu run PLAN FILE``, whose tables know their groups by the plan.
 
     With ``progress`` tqdm shows a bar of the bytes of the file that the program has read. The report is read while it
-    is printed, so the memory is that of its tables. Raises ``Refusal`` where the program ends with another status
+    is printed, so the memory is that of its tables. With ``whole``, a report of the same plan, it is added into the
+    arrays of that one, and the sum is given; what is ``Unlike`` it or refused leaves it as it is. Raises ``Refusal`` where the program ends with another status
     than 0, with its line and its meaning; ``NoProgram``; and ``Missing`` where a bar is wanted and tqdm isn't there.
     """
     words = [find_program(program), "run", os.fspath(plan), os.fspath(file)]
@@ -50,7 +52,7 @@ def run(
     with tempfile.TemporaryFile() as told:
         with subprocess.Popen(words, stdout=subprocess.PIPE, stderr=told) as child, _shown(bar, child, words[-1]):
             try:
-                report = _read(child.stdout, document)
+                report = _read(child.stdout, document, whole)
             except BaseException:
                 child.kill()
                 raise
@@ -88,11 +90,11 @@ def _document(plan: str | os.PathLike[str]) -> dict[str, Any] | None:
         return None
 
 
-def _read(stream: IO[bytes] | None, document: dict[str, Any] | None) -> Report | BadReport:
+def _read(stream: IO[bytes] | None, document: dict[str, Any] | None, whole: Report | None) -> Report | BadReport:
     """The report, or what is wrong with it: of a run that was refused there is none."""
     assert stream is not None
     try:
-        return read_stream(stream, document)
+        return read_stream(stream, document, whole)
     except BadReport as error:
         while stream.read(1 << 16):
             pass

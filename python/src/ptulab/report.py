@@ -83,6 +83,10 @@ class Report:
         """The sum of two reports, as ``sum_reports`` makes it."""
         return sum_reports([self, other])
 
+    def __iadd__(self, other: "Report") -> "Report":
+        """The same in the arrays of the first, without memory for a third."""
+        return _added(self, other)
+
 
 def read_report(source: Source, plan: str | os.PathLike[str] | None = None) -> Report:
     """The report in the file at a path, or in the text of a report itself (bytes, or a text of more than one line).

@@ -133,7 +133,8 @@ def peak(xs: Floats, ys: Floats, unit: str, what: str) -> str:
     if not len(ys) or not ys.max(initial=0) > 0:
         return f"There are no {what}."
     at = int(np.nanargmax(ys))
-    return f"The most, {ys[at]:,.6g} {what}, are at {xs[at]:.6g} {unit}."
+    most = count(ys[at]) if ys[at] == int(ys[at]) else f"{ys[at]:,.4g}"
+    return f"The most, {most} {what}, are at {xs[at]:.6g} {unit}."
 
 
 def _of_groups(table: Table) -> str:
