@@ -31,13 +31,16 @@ def test_bursts_are_those_of_the_plain_search(times, minimum, m, rate, c):
 
 
 @settings(max_examples=100, deadline=None)
-@given(random_events.times, st.integers(0, 30))
-def test_fused_bursts_are_apart(times, gap):
-    bursts = find_bursts(times, 0.5, minimum=3, m=3)
-    result = fused(bursts, gap)
-    assert (result["start"][1:] - result["stop"][:-1] > gap).all()
-    covered = lambda some: {n for one in some for n in range(one["start"], one["stop"] + 1)}
-    assert covered(bursts) <= covered(result) and len(covered(result)) <= len(covered(bursts)) + gap * max(len(bursts) - len(result), 0)
+@given(random_events.times, st.integers(0, 30), st.floats(0.2, 2))
+def test_fused_bursts_are_apart(times, gap, rate):
+    bursts = find_bursts(times, rate, minimum=3, m=3)
+    expected = []
+    for one in bursts.tolist():
+        if expected and one[2] - expected[-1][3] <= gap:
+            expected[-1] = (expected[-1][0], one[1], expected[-1][2], one[3])
+        else:
+            expected.append(one)
+    assert fused(bursts, gap).tolist() == expected
 
 
 def molecules(seed=3):

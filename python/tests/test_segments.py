@@ -69,6 +69,14 @@ def test_errors_are_those_of_the_mean(folder):
     assert curves[0].rates[0] == pytest.approx(0.1, rel=0.1)
 
 
+def test_each_segment_is_correlated_from_its_beginning(make_file):
+    """The same photons twice, 1001 ticks apart: both segments have the same curve, also on levels of wide bins."""
+    one = [(0, 1), *sorted((int(t), 1 + int(t) % 2) for t in np.random.default_rng(3).integers(1, 1000, 400)), (1000, 2)]
+    path = make_file("HydraHarp2T2", one + [(time + 1001, number) for time, number in one])
+    curve = correlation_by_segments(path, 1, 2, segments=2, lags=8, levels=7)
+    assert np.array_equal(curve.segments[0], curve.segments[1]) and (curve.errors == 0).all()
+
+
 def test_windows_and_segments(make_file):
     events = [(0, 1), (5, 2), (9, 3), (12, 1), (20, 2), (22, 1)]
     path = make_file("HydraHarp2T2", events)
