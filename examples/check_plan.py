@@ -1,118 +1,74 @@
 #!/usr/bin/env python3
-"""Says in words what is wrong with a plan: check_plan.py PLAN [PROGRAM]
+"""Says in words what is wrong with a plan: check_plan.py PLAN [PROGRAM] [--file FILE]
 
-For a document that is no TOML it says the line and the column, in the words of Python's own reader of TOML. For a
-plan that breaks a rule it says the rule, in the words of docs/plan.md, the part of the plan that breaks it, and each
-key that is not known where it stands. PROGRAM is the ptu that judges, by default ./ptu of this folder's tree. It ends
-with 0 where the plan is good, and else with 1. It needs Python 3.11.
+For a document that is no TOML it says the line and the column. For a plan that breaks a rule it says the rule, in the words
+of docs/plan.md, the part of the plan that breaks it, the key whose value is out of its range where the rule speaks of
+several, and each key that is not known where it stands. With a FILE it also warns of what doesn't go with it: inputs and
+markers that don't occur, a wrong mode, photons that are in no cell. PROGRAM is the ptu that judges, by default ./ptu of
+this folder's tree. It ends with 0 where the plan is good, and else with 1. It needs Python 3.11 and NumPy. The same without
+a program's word is 'python3 -m ptulab check PLAN [FILE]', and ptulab.check_plan in Python (docs/python.md).
 """
 
+import argparse
 import os
 import re
 import subprocess
 import sys
-import tomllib
 
 ROOT = os.path.dirname(os.path.dirname(os.path.abspath(__file__)))
-KINDS = ["group", "histogram", "trace", "startstop", "coincidence", "image", "correlation", "shift", "cube", "fold"]
+sys.path.insert(0, os.path.join(os.path.dirname(os.path.dirname(os.path.realpath(__file__))), "python", "src"))
 
+from ptulab.documents import read_plan  # noqa: E402
+from ptulab.errors import BadFile, BadPlan  # noqa: E402
+from ptulab.plans import check_plan  # noqa: E402
+from ptulab.program import refusal  # noqa: E402
 
-def sections():
-    """The text of docs/plan.md by its titles."""
-    with open(os.path.join(ROOT, "docs", "plan.md"), encoding="utf-8") as file:
-        parts = re.split(r"^#+ (.*)$", file.read(), flags=re.M)
-    return dict(zip(parts[1::2], parts[2::2]))
-
-
-def rules(text):
-    """The words of each rule, and what its index counts."""
-    found = re.findall(r"^\| (\d+) \| (.*?) \| (.*?) \|$", text, flags=re.M)
-    return {int(number): (words, index) for number, words, index in found}
-
-
-def keys(text):
-    """The keys of a table, each with the only version that has it, or none where both have it."""
-    return dict(re.findall(r"^\| `(\w+)` \| (?:in version (\d): )?", text, flags=re.M))
-
-
-def known_keys(pages):
-    """The keys of the document and of each kind of table."""
-    titles = {title.split(" ")[-1].replace("-", ""): text for title, text in pages.items() if title.startswith("Keys of")}
-    known = {kind: keys(titles[kind]) for kind in KINDS}
-    known["document"] = keys(titles["document"])
-    del known["document"]["records"]
-    return known
-
-
-def unknown(plan, known):
-    """Each key that is not known where it stands."""
-    version = "2" if plan.get("version") == 2 else "1"
-    for key in plan:
-        yield from said(key, "plan", known["document"], version)
-    for kind in KINDS:
-        tables = plan.get(kind, [])
-        for number, table in enumerate(tables if isinstance(tables, list) else [], 1):
-            for key in table if isinstance(table, dict) else []:
-                yield from (f"{words} ({kind} {number})" for words in said(key, kind, known[kind], version))
-
-
-def said(key, of, known, version):
-    """What is said of a key that is not known in a plan of the version."""
-    if key not in known:
-        yield f"{key} is no key of a {of}"
-    elif known[key] not in ("", version):
-        yield f"{key} is a key of a {of} in version {known[key]} only"
-
-
-def part(plan, rule, index, kinds_of_rules):
-    """The part of the plan that a rule and its index name."""
-    if index == 0:
-        return "the document"
-    if rule in (6, 7):
-        return KINDS[index - 1]
-    kind = kinds_of_rules[rule]
-    tables = plan.get(kind, [])
-    shown = tables[index - 1] if index <= len(tables) else ""
-    return f"{kind} {index}: {shown}"
+OF_SEVERAL = (5, 12, 14, 16, 18, 20, 22, 25, 28, 29, 31)  # rules that speak of the values of several keys
 
 
 def main():
-    if len(sys.argv) < 2:
-        sys.exit(__doc__)
-    path = sys.argv[1]
-    program = sys.argv[2] if len(sys.argv) > 2 else os.path.join(ROOT, "ptu")
-    run = subprocess.run([program, "run", path, os.devnull], capture_output=True, text=True)
-    if run.returncode == 11:  # the plan was read, and the empty file refused
-        print(f"{path}: good")
-        return
-    print(f"{path}: {run.stderr.strip()}")
-    if run.returncode in (7, 8):
-        explain(path, run)
-    sys.exit(1)
+    parser = argparse.ArgumentParser(description="Says in words what is wrong with a plan.")
+    parser.add_argument("plan")
+    parser.add_argument("program", nargs="?", default=os.path.join(ROOT, "ptu"))
+    parser.add_argument("--file", help="a file that the plan is for")
+    given = parser.parse_args()
+    run = subprocess.run([given.program, "run", given.plan, os.devnull], capture_output=True, text=True)
+    if run.returncode != 11:  # else the plan was read, and the empty file refused
+        print(f"{given.plan}: {run.stderr.strip()}")
+        if run.returncode in (7, 8):
+            explain(given.plan, run)
+        sys.exit(1)
+    try:
+        found = check_plan(given.plan, given.file, program=given.program) if given.file else []
+    except (BadFile, OSError) as error:
+        sys.exit(f"{given.file}: {error}")
+    for one in found:
+        print(f"{given.plan}: {one}")
+    if not any(one.refused for one in found):
+        print(f"{given.plan}: good")
+    sys.exit(any(one.refused for one in found))
 
 
 def explain(path, run):
     """Says more of a plan that is no TOML or breaks a rule."""
     try:
-        with open(path, "rb") as file:
-            plan = tomllib.load(file)
-    except (tomllib.TOMLDecodeError, UnicodeDecodeError) as error:
+        plan = read_plan(path)
+    except BadPlan as error:
         print(f"line and column: {error}")
         return
-    if run.returncode == 8:
-        explain_rule(plan, *map(int, re.findall(r"\d+", run.stderr)))
-    else:
-        print("Python reads it as TOML: look for an integer of more than 64 bits, or for tables nested too deeply")
-
-
-def explain_rule(plan, rule, index):
-    pages = sections()
-    words, counted = rules(pages["The rules"])[rule]
-    kinds = {n: next((k for k in KINDS if k in i.replace("-", "")), None) for n, (_, i) in rules(pages["The rules"]).items()}
-    print(f"rule {rule}: {words}")
-    print(f"broken by {part(plan, rule, index, kinds)}")
-    for line in unknown(plan, known_keys(pages)):
-        print(line)
+    rule, index = map(int, re.findall(r"\d+", run.stderr))
+    print(f"rule {rule}: {refusal(8, run.stderr.strip()).meaning}")
+    found = check_plan(path)
+    parts = [one.part for one in found if (one.rule, one.index) == (rule, index)]
+    part = parts[0] if parts else ""
+    kind, _, number = part.partition(" ")
+    shown = f"{part}: {plan[kind][int(number) - 1]}" if number.isdigit() else {6: found[0].key, 7: found[0].key}.get(rule, "the document")
+    print(f"broken by {shown}")
+    for one in found:
+        if "is no key of" in one.text or "is a key of" in one.text:
+            print(one.text if one.part == "the plan" else f"{one.text} ({one.part})")
+        elif (one.rule, one.index) == (rule, index) and rule in OF_SEVERAL:
+            print(one.text)
 
 
 if __name__ == "__main__":

@@ -22,7 +22,8 @@ import make_bursts  # noqa: E402
 from make_pairs import photons  # noqa: E402
 from make_pairs import TICK  # noqa: E402
 from made_file import t2_words, write  # noqa: E402
-from ptu_report import load_trace, read_report  # noqa: E402
+from ptu_report import read_report  # noqa: E402
+from ptulab import read_trace  # noqa: E402
 
 HERE = os.path.dirname(os.path.abspath(__file__))
 
@@ -74,7 +75,7 @@ def bursts(folder, program):
     with tempfile.NamedTemporaryFile(suffix=".ptu") as data, tempfile.NamedTemporaryFile() as lines:
         write(data.name, "HydraHarp2T2", t2_words(make_bursts.photons()), make_bursts.TICK)
         subprocess.run([program, "trace", os.path.join(HERE, "bursts.toml"), data.name], check=True, stdout=lines)
-        table = load_trace(lines.name)
+        table = read_trace(lines.name)
     figure, (left, right) = plt.subplots(1, 2, figsize=(10, 3.2), layout="constrained")
     counts = np.zeros(2000)
     seen = table.bins < len(counts)

@@ -1,0 +1,121 @@
+"""Plans as documents: what the program reads as TOML, read in Python.
+
+The program reads TOML 1.1 in UTF-8, with or without a byte order mark, of at most 65,536 bytes. Python's own reader
+knows TOML 1.0, so what 1.1 has more is written in the words of 1.0 before it reads: newlines, comments and a last comma
+within an inline table, the escapes ``\\e`` and ``\\xHH``, and times without seconds. Source: the TOML specification,
+version 1.1.0 (toml.io). Tested against the program, not proved.
+"""
+
+from __future__ import annotations
+
+import os
+import re
+import tomllib
+from collections.abc import Iterator
+from typing import Any
+
+from .errors import BadPlan
+
+LONGEST = 65_536  # bytes of a plan
+DEEPEST = 80  # arrays and inline tables in one another
+
+_TOKEN = re.compile(
+    r'"""(?:[^\\]|\\.)*?"{3,5}|\'\'\'.*?\'{3,5}'  # texts of several lines
+    r"|\"(?:[^\"\\\n]|\\.)*\"|'[^'\n]*'"
+    r"|\#[^\n]*|[{}\[\],]|\r?\n|[ \t]+|[^\s{}\[\],\"'#]+|.",
+    re.DOTALL,
+)
+_ESCAPE = re.compile(r"\\(?:x([0-9A-Fa-f]{2})|(e)|(.))", re.DOTALL)
+_CLOCK = re.compile(r"(?<![\d:+-])(\d\d:\d\d)(?![\d:])")
+
+
+def read_plan(source: str | os.PathLike[str] | bytes) -> dict[str, Any]:
+    """The document of a plan: its keys with whole numbers, texts, truth values, lists and tables.
+
+    ``source`` is a path, or the plan's bytes. Raises BadPlan where it is longer than 65,536 bytes or no TOML, with
+    the line and the column; whether it keeps the rules is for ``check_plan``.
+    """
+    if not isinstance(source, bytes):
+        with open(source, "rb") as file:
+            source = file.read(LONGEST + 1)
+    if len(source) > LONGEST:
+        raise BadPlan(f"the plan is longer than {LONGEST} bytes")
+    try:
+        text = source.decode("utf-8").removeprefix("\ufeff")
+        if _deepest(text) > DEEPEST:
+            raise BadPlan(f"the plan is not TOML for the program: it is more than {DEEPEST} deep")
+        document = _parsed(text)
+    except UnicodeDecodeError as error:
+        raise BadPlan(f"the plan is not TOML: byte {error.start} is no UTF-8") from error
+    except (tomllib.TOMLDecodeError, RecursionError) as error:
+        raise BadPlan(f"the plan is not TOML: {error}") from error
+    _within_limits(document)
+    return document
+
+
+def _parsed(text: str) -> dict[str, Any]:
+    try:
+        return tomllib.loads(text)
+    except tomllib.TOMLDecodeError:
+        return tomllib.loads(older(text))
+
+
+def older(text: str) -> str:
+    """A text of TOML 1.1 in the words of TOML 1.0; what stands behind an inline table keeps its line."""
+    return "".join(_older_tokens(text))
+
+
+def _older_tokens(text: str) -> Iterator[str]:
+    open_brackets: list[str] = []
+    before, blanks, comma = "", "", False  # the last token that isn't blank, and what is kept back behind it
+    lines = 0  # that ended within an inline table
+    for token in _TOKEN.findall(text):
+        inline = bool(open_brackets) and open_brackets[-1] == "{"
+        if inline and (token.isspace() or token.startswith("#")):
+            blanks += token
+            continue
+        lines += blanks.count("\n")
+        free = before in ("{", ",") or token in (",", "}")  # a line may end here within an inline table
+        yield "," if comma and token != "}" else ""
+        yield " " if inline and free else blanks
+        blanks, comma = "", inline and token == "," and before != "{"
+        if token in ("{", "["):
+            open_brackets.append(token)
+        elif token in ("}", "]") and open_brackets:
+            open_brackets.pop()
+        before = token
+        if not comma:
+            yield _older_value(token)
+        if lines and "{" not in open_brackets:
+            yield "\n" * lines
+            lines = 0
+
+
+def _older_value(token: str) -> str:
+    if token.startswith('"'):
+        return _ESCAPE.sub(_older_escape, token)
+    return token if token.startswith(("'", "#")) else _CLOCK.sub(r"\1:00", token)
+
+
+def _older_escape(found: re.Match[str]) -> str:
+    if found[1]:
+        return "\\u00" + found[1]
+    return "\\u001B" if found[2] else found[0]
+
+
+def _within_limits(value: Any) -> None:
+    """The program reads whole numbers of 64 bits, with their signs."""
+    if isinstance(value, int) and not -(1 << 63) <= value < 1 << 63:
+        raise BadPlan(f"the plan is not TOML for the program: {value} has more than 64 bits")
+    if isinstance(value, dict | list):
+        for part in value.values() if isinstance(value, dict) else value:
+            _within_limits(part)
+
+
+def _deepest(text: str) -> int:
+    """How many brackets stand in one another."""
+    depth = most = 0
+    for token in _TOKEN.findall(text):
+        depth += (token in ("{", "[")) - (token in ("}", "]"))
+        most = max(most, depth)
+    return most

@@ -1,0 +1,59 @@
+"""What goes wrong, one kind of exception for each kind of trouble.
+
+A path that can't be opened or read is Python's own ``OSError``; all else is a ``PtulabError``.
+"""
+
+
+class PtulabError(Exception):
+    """The root of all exceptions of this package."""
+
+
+class BadReport(PtulabError, ValueError):
+    """A text that is no whole report of ``ptu run``, or no lines of ``ptu trace``."""
+
+
+class BadPlan(PtulabError, ValueError):
+    """A plan that is no TOML document, or longer than a plan may be."""
+
+
+class NoTable(PtulabError, LookupError):
+    """A report has no table of this kind and number."""
+
+
+class Unlike(PtulabError, ValueError):
+    """Reports or files that don't go together, as those of other record types or of other plans."""
+
+
+class NotKnown(PtulabError, ValueError):
+    """A number that is needed is told by nothing, as the seconds of a tick, or the photons of a group."""
+
+
+class BadFile(PtulabError, ValueError):
+    """A PTU file that the program would refuse: ``status`` is its exit status, ``line`` what it would say."""
+
+    def __init__(self, status: int, line: str, path: str = "") -> None:
+        super().__init__(f"{path}: {line}" if path else line)
+        self.status, self.line, self.path = status, line, path
+
+    def __reduce__(self) -> tuple[type["BadFile"], tuple[int, str, str]]:
+        return type(self), (self.status, self.line, self.path)
+
+
+class Refusal(PtulabError):
+    """The program refused a plan or a file: ``status`` is its exit status, ``line`` what it said, and ``meaning`` when
+    it says so, or the words of the plan's rule that is broken."""
+
+    def __init__(self, status: int, line: str, meaning: str) -> None:
+        super().__init__(f"{line} (status {status}): {meaning}" if meaning else f"{line} (status {status})")
+        self.status, self.line, self.meaning = status, line, meaning
+
+    def __reduce__(self) -> tuple[type["Refusal"], tuple[int, str, str]]:
+        return type(self), (self.status, self.line, self.meaning)
+
+
+class NoProgram(PtulabError, FileNotFoundError):
+    """The program ``ptu`` was not found."""
+
+
+class Missing(PtulabError, ImportError):
+    """A library that a feature needs is not installed."""

@@ -1,0 +1,160 @@
+"""Files for other programs: arrays of NumPy, curves for PyCorrFit, images as OME-TIFF, and photons as Photon-HDF5.
+
+Every file appears when it is whole.
+"""
+
+import json
+import os
+from collections.abc import Sequence
+from typing import Any, Literal
+
+import numpy as np
+from numpy.typing import NDArray
+
+from .errors import NotKnown
+from .optional import want
+from .photon_hdf5 import write_photon_hdf5
+from .report import Report
+from .scans import Cube, Image
+from .segments import Curve
+from .tables import Table
+from .whole import whole_path, written_whole
+
+__all__ = ["write_npz", "write_ome_tiff", "write_photon_hdf5", "write_pycorrfit"]
+
+Target = str | os.PathLike[str]
+
+
+def write_npz(report: Report, path: Target) -> None:
+    """All arrays of a report as one ``.npz`` file, which ``numpy.load`` reads without pickles.
+
+    A table has the arrays ``KIND_NUMBER`` (its counts), ``KIND_NUMBER_ticks``, where they are known
+    ``KIND_NUMBER_seconds`` and ``KIND_NUMBER_levels``, and ``head`` is a text in JSON: the lines of the head, and the
+    settings and rest of each table. Counts that pass 2^64 are decimal texts. Raises ``OSError``.
+    """
+    arrays: dict[str, NDArray[Any]] = {}
+    told: dict[str, Any] = {"head": dict(report.head.items())}
+    for table in report.tables:
+        name = f"{table.kind}_{table.number}"
+        axes = {"": _plain(table.counts), "_ticks": _plain(table.ticks), "_seconds": table.seconds, "_levels": table.levels}
+        arrays |= {name + end: array for end, array in axes.items() if array is not None}
+        told[name] = {**table.settings, **table.rest}
+    arrays["head"] = np.array(json.dumps(told))
+    with written_whole(path) as file:
+        np.savez_compressed(file, **arrays)
+
+
+def _plain(array: NDArray[Any]) -> NDArray[Any]:
+    """An array without Python's objects: whole numbers of 64 bits, or decimal texts."""
+    if array.dtype != object:
+        return array
+    if int(max(array.flat, default=0)) < 1 << 64 and int(min(array.flat, default=0)) >= 0:
+        return array.astype(np.uint64)
+    return array.astype(str)
+
+
+def write_pycorrfit(
+    curve: Curve | Table, path: Target, *, kind: Literal["auto", "cross"] | None = None, traces: Sequence[Table] = ()
+) -> None:
+    """A correlation as CSV that PyCorrFit opens: delays in seconds, G - 1, and, where they are known, errors as weights.
+
+    ``curve``: a correlation of a report that was read with its plan, or what ``correlation_by_segments`` gives; points
+    that are nan, or without an error where others have one, are left out. ``kind``: as the groups say, where a plan
+    told them, else a cross-correlation. ``traces``: one of an autocorrelation, one of each group of a
+    cross-correlation, in kHz over seconds. Raises ``NotKnown`` where the file didn't tell how long a tick is, or nothing
+    told the photons of the groups.
+    """
+    seconds, values, errors = _points(curve)
+    if kind is None:
+        groups = curve.groups if isinstance(curve, Table) else None
+        kind = "auto" if groups and len(set(groups)) == 1 else "cross"
+    lines = ["# written by ptulab", f"# Type AC/CC: {'Autocorrelation' if kind == 'auto' else 'Cross-correlation'}"]
+    weights = "" if errors is None else "\tFitted correlation (none)\tResiduals (none)\tWeights [standard errors]"
+    lines.append(f"# Lag time [s]\tExperimental correlation{weights}")
+    for at, (time, value) in enumerate(zip(seconds, values, strict=True)):
+        lines.append(f"{time:.10e},{value:.10e}" + ("" if errors is None else f",nan,nan,{errors[at]:.10e}"))
+    for title, trace in zip(("# BEGIN TRACE", "# BEGIN SECOND TRACE"), traces, strict=False):
+        lines += ["#", title, "# Time [s]\tIntensity trace [kHz]", *_trace_lines(trace)]
+    with written_whole(path) as file:
+        file.write("".join(line + "\r\n" for line in lines).encode())
+
+
+def _points(curve: Curve | Table) -> tuple[NDArray[np.float64], NDArray[np.float64], NDArray[np.float64] | None]:
+    """Delays in seconds, values that are 0 without correlation, and errors, without the points that aren't known."""
+    if curve.seconds is None:
+        raise NotKnown("the file doesn't tell how many seconds a tick has")
+    values = curve.normalised() if isinstance(curve, Table) else curve.values
+    errors = None if isinstance(curve, Table) or np.isnan(curve.errors).all() else curve.errors
+    kept = np.isfinite(values) & (True if errors is None else np.isfinite(errors))
+    return curve.seconds[kept], values[kept] - 1, None if errors is None else errors[kept]
+
+
+def _trace_lines(trace: Table) -> list[str]:
+    if trace.kind != "trace" or trace.seconds is None or len(trace.seconds) < 2:
+        raise NotKnown("a trace of some bins, in seconds, is needed")
+    rates = trace.counts.astype(np.float64) / float(trace.seconds[1] - trace.seconds[0]) / 1000
+    return [f"{time:.10e},{rate:.10e}" for time, rate in zip(trace.seconds, rates, strict=True)]
+
+
+def write_ome_tiff(
+    pixels: Image | Cube | Table | NDArray[Any], path: Target, *, pixel_micrometres: float | None = None, name: str = ""
+) -> None:
+    """An image as OME-TIFF: frames as the axis T, the bins of a cube as the axis H (lifetime).
+
+    ``pixels``: an image or a cube, of a report or of ``ptulab.scans``, or an array of shape (rows, columns) or (frames,
+    rows, columns), as of mean lifetimes. Whole numbers are stored with 16 bits, or 32 where one needs them, others as
+    floating-point numbers of 32 bits. ``pixel_micrometres``: how long and wide a pixel is. Raises ``ValueError`` for
+    other tables and shapes, no pixels, and counts that pass 32 bits, and ``Missing`` without tifffile.
+    """
+    tifffile = want("tifffile", "OME-TIFF")
+    array, axes = _with_axes(pixels)
+    if array.size == 0:
+        raise ValueError("an image without pixels")
+    if np.issubdtype(array.dtype, np.floating):
+        array = array.astype(np.float32)
+    else:
+        most = int(array.max())
+        if most >= 1 << 32 or int(array.min()) < 0:
+            raise ValueError(f"a count of {most} needs more than 32 bits")
+        array = array.astype(np.uint16 if most < 1 << 16 else np.uint32)
+    metadata: dict[str, Any] = {"axes": axes}
+    if name:
+        metadata["Name"] = name
+    if pixel_micrometres is not None:
+        for side in ("X", "Y"):
+            metadata |= {f"PhysicalSize{side}": pixel_micrometres, f"PhysicalSize{side}Unit": "µm"}
+    with whole_path(path) as part:
+        tifffile.imwrite(part, array, ome=True, photometric="minisblack", metadata=metadata)
+        step = _bin_seconds(pixels)
+        if step is not None:
+            whole = f'Start="0" End="{array.shape[-3] - 1}"'  # as tifffile tells an axis of lifetimes
+            tifffile.tiffcomment(part, tifffile.tiffcomment(part).replace(whole, _lifetimes(array.shape[-3], step)).encode())
+
+
+def _lifetimes(bins: int, seconds: float) -> str:
+    """An axis of lifetimes in picoseconds. Its end is told a little early, since readers count the steps up to it."""
+    step = seconds * 1e12
+    return f'Unit="ps" Start="0" Step="{step:.12g}" End="{step * (bins - 1) * (1 - 1e-8):.12g}"'
+
+
+def _bin_seconds(pixels: Image | Cube | Table | NDArray[Any]) -> float | None:
+    """How many seconds a bin of a cube has, None where it isn't known or nothing has bins."""
+    if isinstance(pixels, Cube):
+        return None if pixels.resolution_seconds is None else pixels.dwidth * pixels.resolution_seconds
+    if not isinstance(pixels, Table) or pixels.kind != "cube" or pixels.seconds is None or len(pixels.seconds) < 2:
+        return None
+    return float(pixels.seconds[1])
+
+
+def _with_axes(pixels: Image | Cube | Table | NDArray[Any]) -> tuple[NDArray[Any], str]:
+    """The pixels, with the axes of OME: bins stand before rows and columns."""
+    array = pixels if isinstance(pixels, np.ndarray) else pixels.counts
+    is_cube = isinstance(pixels, Cube) or (isinstance(pixels, Table) and pixels.kind == "cube")
+    if isinstance(pixels, Table) and pixels.kind not in ("image", "cube"):
+        raise ValueError(f"a {pixels.kind} is no image")
+    if is_cube:
+        array = np.moveaxis(array, -1, -3)
+    axes = {2: "YX", 3: "HYX" if is_cube else "TYX", 4: "THYX" if is_cube else ""}.get(array.ndim, "")
+    if not axes:
+        raise ValueError(f"no image: an array of {array.ndim} axes")
+    return np.ascontiguousarray(array), axes

@@ -1,0 +1,83 @@
+"""Photons by their groups, as a plan has them: by inputs and gates, with shifted dtimes, in pieces of a file."""
+
+import os
+from collections.abc import Collection, Iterable, Iterator, Mapping
+from dataclasses import dataclass
+
+import numpy as np
+from numpy.typing import NDArray
+
+from .events import EVENT, Events, iter_events
+from .scratch import keep_scratch
+
+Source = Events | NDArray[np.void] | str | os.PathLike[str]  # events, or the path of the file that has them
+PIECE = 1 << 18  # events that are looked at together
+
+
+@dataclass(frozen=True)
+class Group:
+    """Which photons are meant: of these inputs, and with a dtime in one of the gates.
+
+    ``inputs``: channels of the device, None for all. ``gates``: pairs (from, to) of ticks of the dtime, without the
+    second, None for every dtime. A late photon is in no group, and neither is a marker (``docs/plan.md``).
+    """
+
+    inputs: Collection[int] | None = None
+    gates: Collection[tuple[int, int]] | None = None
+
+    def mask(self, array: NDArray[np.void]) -> NDArray[np.bool_]:
+        """Which of these events are photons of the group: shape (events,)."""
+        found: NDArray[np.bool_] = ~(array["marker"] | array["late"])
+        if self.inputs is not None:
+            known = np.zeros(256, np.bool_)
+            known[list(self.inputs)] = True
+            found &= known[array["number"]]
+        if self.gates is not None:
+            dtimes = array["dtime"]
+            found &= np.logical_or.reduce([(dtimes >= start) & (dtimes < stop) for start, stop in self.gates])
+        return found
+
+
+GroupLike = Group | int | Iterable[int] | None  # a group, an input, some inputs, or None for all photons
+
+
+def group_of(group: GroupLike) -> Group:
+    """A group of what names one: an input, some inputs, or None for all photons."""
+    if isinstance(group, Group):
+        return group
+    if isinstance(group, int | np.integer):
+        return Group((int(group),))
+    return Group(None if group is None else tuple(group))
+
+
+def pieces_of(source: Source) -> Iterator[NDArray[np.void]]:
+    """The events of a source in pieces, so that only one piece's arrays are in memory beside them."""
+    keep_scratch()
+    if isinstance(source, Events | np.ndarray):
+        array = source.array if isinstance(source, Events) else source
+        for at in range(0, len(array), PIECE):
+            yield array[at : at + PIECE]
+    else:
+        yield from iter_events(source, records=PIECE)
+
+
+def photons_of(source: Source, group: GroupLike = None) -> NDArray[np.void]:
+    """The photons of a group that aren't late, in the order of the file: events with the fields of ``read_events``."""
+    chosen = group_of(group)
+    found = [piece[chosen.mask(piece)] for piece in pieces_of(source)]
+    return np.concatenate(found) if found else np.zeros(0, EVENT)
+
+
+def shifted(array: NDArray[np.void], shifts: Mapping[int, int], period: int) -> NDArray[np.void]:
+    """A copy of the events with shifted dtimes, as a plan's ``shift`` has them.
+
+    ``shifts`` has for each input the ticks that are added to its dtimes; the sum is taken modulo ``period``, in ticks.
+    The dtimes of the other inputs stay. Raises ``ValueError`` where the period isn't positive.
+    """
+    if period < 1:
+        raise ValueError("a period has one tick at least")
+    result = array.copy()
+    for number, ticks in shifts.items():
+        moved = (result["number"] == number) & ~result["marker"]
+        result["dtime"][moved] = (result["dtime"][moved] + ticks) % period
+    return result

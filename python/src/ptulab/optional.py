@@ -1,0 +1,24 @@
+"""Libraries that only some features need."""
+
+import importlib
+from typing import Any
+
+from .errors import Missing
+
+PACKAGES = {"distributed": "many", "dask": "many", "tqdm": "many", "matplotlib": "plot", "lmfit": "fit", "scipy": "fit",
+            "h5py": "export", "tifffile": "export", "xarray": "export", "plotly": "page"}  # the extra that has each
+
+
+def want(name: str, feature: str) -> Any:
+    """The module ``name``, which ``feature`` needs.
+
+    Raises ``Missing``, with the Debian package and the extra of this package that have it, where it isn't installed.
+    """
+    root = name.partition(".")[0]
+    try:
+        return importlib.import_module(name)
+    except ModuleNotFoundError as error:
+        if error.name is None or error.name.partition(".")[0] != root:
+            raise
+        extra = f", or the extra ptulab[{PACKAGES[root]}]" if root in PACKAGES else ""
+        raise Missing(f"{feature} needs {root}: install python3-{root} (Debian){extra}") from error

@@ -1,0 +1,203 @@
+"use strict";
+// Draws the figures of the page from the numbers in <script type="application/json" id="numbers">. Every text in them
+// goes to Plotly escaped (it reads some HTML in its labels) and into the document as text alone.
+(function () {
+  const figures = JSON.parse(document.getElementById("numbers").textContent).filter((figure) => figure !== null);
+  const dark = window.matchMedia("(prefers-color-scheme: dark)");
+  const narrow = window.matchMedia("(max-width: 30rem)");
+  const colour = (name) => getComputedStyle(document.documentElement).getPropertyValue("--" + name).trim();
+  const plain = (text) => String(text).replace(/&/g, "&amp;").replace(/</g, "&lt;").replace(/>/g, "&gt;");
+  const number = (value) => Number(value).toLocaleString("en", { maximumSignificantDigits: 6 });
+  const times = [[1, "s"], [1e-3, "ms"], [1e-6, "\u00b5s"], [1e-9, "ns"], [1e-12, "ps"]];
+  const element = (figure, part) => document.getElementById(figure.name + "-" + part);
+  const checked = (figure, part) => { const box = element(figure, part); return Boolean(box && box.checked); };
+
+  function unpacked(packed) {
+    const bytes = Uint8Array.from(atob(packed.base64), (letter) => letter.charCodeAt(0));
+    const kinds = { u1: Uint8Array, u2: Uint16Array, u4: Uint32Array, f4: Float32Array, f8: Float64Array };
+    return new kinds[packed.kind](bytes.buffer);
+  }
+
+  function axis(label, logarithmic) {
+    return {
+      title: { text: plain(label), standoff: 8 }, type: logarithmic ? "log" : "linear", color: colour("ink"),
+      gridcolor: colour("line"), zerolinecolor: colour("line"), linecolor: colour("line"), automargin: true,
+      exponentformat: "power",
+    };
+  }
+
+  function layout() {
+    const small = narrow.matches;
+    return {
+      paper_bgcolor: colour("paper"), plot_bgcolor: colour("paper"), showlegend: false, hovermode: "closest",
+      font: { color: colour("ink"), size: small ? 12 : 14, family: '"DejaVu Sans", system-ui, sans-serif' },
+      margin: { l: small ? 48 : 64, r: 14, t: 14, b: small ? 48 : 56 }, dragmode: small ? false : "zoom",
+      hoverlabel: { font: { size: 14 } },
+    };
+  }
+
+  // ## Curves and bars
+
+  function curve(figure) {
+    const box = element(figure, "log"), logarithmic = Boolean(box && box.checked);
+    const least = figure.kind === "bars" ? null : 0.5; // where a count of 0 is drawn on a logarithmic axis
+    const drawn = logarithmic ? figure.y.map((y) => (y > 0 ? y : least)) : figure.y;
+    const trace = {
+      x: figure.names ? figure.names.map(plain) : figure.x, y: drawn, hovertemplate: "%{text}<extra></extra>",
+      text: figure.y.map((_, at) => plain(told(figure, at))), marker: { color: colour("curve"), size: 5 },
+    };
+    if (figure.kind === "bars") {
+      Object.assign(trace, { type: "bar", textposition: "none" });
+    } else {
+      Object.assign(trace, { type: "scatter", mode: figure.errors ? "lines+markers" : "lines",
+        line: { color: colour("curve"), width: 1.6, shape: figure.shape } });
+    }
+    if (figure.errors) {
+      trace.error_y = { type: "data", array: figure.errors, color: colour("faint"), thickness: 1, width: 0 };
+    }
+    const look = layout();
+    look.xaxis = axis(figure.xlabel, figure.xlog);
+    if (figure.xlog && decades(figure.x) > 1.5) look.xaxis.dtick = 1;
+    look.yaxis = axis(figure.ylabel, logarithmic);
+    if (logarithmic && decades(drawn) > 1.5) look.yaxis.dtick = 1;
+    if (figure.kind === "bars") look.xaxis.type = "category";
+    if (figure.kind === "bars" && logarithmic) look.yaxis.range = [Math.log10(0.5), Math.log10(2 * Math.max(1, ...figure.y))];
+    if (figure.start !== null && !checked(figure, "all")) {
+      const ends = [figure.start, figure.x[figure.x.length - 1]];
+      look.xaxis.range = figure.xlog ? [Math.log10(ends[0]) - 0.05, Math.log10(ends[1]) + 0.05] : ends;
+      look.yaxis.range = reach(figure);
+    } else if (!logarithmic) {
+      look.yaxis.rangemode = "tozero";
+    }
+    if (figure.level !== null) {
+      look.shapes = [{ type: "line", xref: "paper", x0: 0, x1: 1, y0: figure.level, y1: figure.level,
+        line: { color: colour("faint"), width: 1, dash: "dot" } }];
+    }
+    return [[trace], look];
+  }
+
+  function decades(values) {
+    const some = values.filter((value) => value > 0);
+    return some.length ? Math.log10(Math.max(...some) / Math.min(...some)) : 0;
+  }
+
+  // A number with its unit; seconds with the one that makes it short.
+  function measured(value, unit) {
+    if (unit !== "s" || value === 0) return number(value) + (unit ? " " + unit : "");
+    const [factor, short] = times.find(([least]) => Math.abs(value) >= least) || times[times.length - 1];
+    return number(value / factor) + " " + short;
+  }
+
+  function told(figure, at) {
+    if (figure.kind === "picture") return cell(figure, at % figure.columns, Math.floor(at / figure.columns));
+    const place = figure.names ? figure.xlabel + " " + figure.names[at] : measured(figure.x[at], figure.xunit);
+    const value = figure.y[at] === null ? "nothing" : measured(figure.y[at], figure.yunit);
+    return place + ": " + value + (figure.errors && figure.errors[at] !== null ? " \u00b1 " + Number(figure.errors[at].toPrecision(2)) : "");
+  }
+
+  function reach(figure) {
+    const seen = figure.y.filter((y, place) => y !== null && figure.x[place] >= figure.start);
+    const least = Math.min(0, ...seen), most = Math.max(figure.level || 0, ...seen);
+    return [least, most + 0.08 * (most - least)];
+  }
+
+  // ## Pictures: an image, or of a cube the mean delays of the pixels that have photons enough
+
+  function picture(figure) {
+    const { rows, columns } = figure;
+    const photons = figure.photons, values = figure.values, bound = Number(element(figure, "threshold").value);
+    const cells = [];
+    for (let y = 0; y < rows; y++) {
+      const line = [];
+      for (let x = 0; x < columns; x++) {
+        const at = y * columns + x, value = values[at];
+        line.push(photons[at] < bound || Number.isNaN(value) ? null : value);
+      }
+      cells.push(line);
+    }
+    figure.words = figure.words || Array.from({ length: rows }, (_, y) =>
+      Array.from({ length: columns }, (_, x) => plain(cell(figure, x, y))));
+    const trace = {
+      type: "heatmap", z: cells, text: figure.words, hovertemplate: "%{text}<extra></extra>", hoverongaps: true,
+      x0: (figure.block - 1) / 2, dx: figure.block, y0: (figure.block - 1) / 2, dy: figure.block,
+      colorscale: figure.colours, zmin: figure.zmin, zmax: figure.zmax,
+      colorbar: { title: { text: plain(figure.label), side: "right" }, color: colour("ink"), thickness: narrow.matches ? 8 : 14, len: 0.9, xpad: 4,
+        outlinecolor: colour("line"), tickfont: { color: colour("ink") } },
+    };
+    const look = layout();
+    look.xaxis = Object.assign(axis("column (pixels)", false), { constrain: "domain", showgrid: false, zeroline: false });
+    look.yaxis = Object.assign(axis("row (pixels)", false), {
+      autorange: "reversed", scaleanchor: "x", constrain: "domain", showgrid: false, zeroline: false });
+    return [[trace], look];
+  }
+
+  function cell(figure, x, y) {
+    const at = y * figure.columns + x, block = figure.block;
+    const place = block === 1 ? `column ${x}, row ${y}` : `columns ${x * block} to ${x * block + block - 1}, rows ${y * block} to ${y * block + block - 1}`;
+    const photons = `${number(figure.photons[at])} photons`, value = figure.values[at];
+    if (figure.photons === figure.values) return `${place}: ${photons}`;
+    return `${place}: ${Number.isNaN(value) ? "no mean" : `${Number(value.toPrecision(4))} ${figure.unit}`} of ${photons}`;
+  }
+
+  // ## Drawing, controls and keys
+
+  function draw(figure) {
+    const [traces, look] = figure.kind === "picture" ? picture(figure) : curve(figure);
+    const place = element(figure, "plot");
+    const settings = { responsive: true, displaylogo: false, displayModeBar: narrow.matches ? false : "hover", scrollZoom: false,
+      modeBarButtonsToRemove: ["select2d", "lasso2d", "autoScale2d"] };
+    return Plotly.react(place, traces, look, settings);
+  }
+
+  // The keys walk over the points; each is shown as the pointer would show it and said in the line below the plot.
+  function walk(figure, event) {
+    const count = figure.kind === "picture" ? figure.values.length : figure.x.length;
+    const step = figure.kind === "picture" ? figure.columns : Math.max(1, Math.round(count / 20));
+    const steps = { ArrowRight: 1, ArrowLeft: -1, ArrowDown: step, ArrowUp: -step, PageDown: step, PageUp: -step };
+    let at = figure.at === undefined ? -1 : figure.at;
+    if (event.key === "Home") at = 0;
+    else if (event.key === "End") at = count - 1;
+    else if (event.key in steps) at = at < 0 ? 0 : Math.min(count - 1, Math.max(0, at + steps[event.key]));
+    else return;
+    event.preventDefault();
+    figure.at = at;
+    element(figure, "said").textContent = told(figure, at);
+    const point = figure.kind === "picture" ? [Math.floor(at / figure.columns), at % figure.columns] : at;
+    try {
+      Plotly.Fx.hover(element(figure, "plot"), [{ curveNumber: 0, pointNumber: point }]);
+    } catch (error) { /* a point that isn't drawn has no label, and is said all the same */ }
+  }
+
+  function furnish(figure) {
+    for (const part of ["log", "all"]) {
+      const box = element(figure, part);
+      if (box) box.addEventListener("change", () => draw(figure));
+    }
+    const slider = element(figure, "threshold");
+    if (slider) slider.addEventListener("input", () => {
+      element(figure, "bound").textContent = number(slider.value);
+      slider.setAttribute("aria-valuetext", number(slider.value) + " photons");
+      cancelAnimationFrame(figure.frame);
+      figure.frame = requestAnimationFrame(() => draw(figure));
+    });
+    const place = element(figure, "plot");
+    place.addEventListener("keydown", (event) => walk(figure, event));
+    place.on("plotly_hover", (event) => {
+      const point = event.points[0];
+      const at = Array.isArray(point.pointNumber) ? point.pointNumber[0] * figure.columns + point.pointNumber[1] : point.pointNumber;
+      figure.at = at;
+      element(figure, "said").textContent = told(figure, at);
+    });
+  }
+
+  const drawn = figures.map((figure) => {
+    if (figure.kind === "picture") {
+      figure.photons = unpacked(figure.photons);
+      figure.values = figure.values === null ? figure.photons : unpacked(figure.values);
+    }
+    element(figure, "figure").hidden = false;
+    return Promise.resolve(draw(figure)).then(() => furnish(figure));
+  });
+  for (const media of [dark, narrow]) media.addEventListener("change", () => figures.forEach(draw));
+  Promise.all(drawn).then(() => { document.documentElement.dataset.drawn = "yes"; });
+})();

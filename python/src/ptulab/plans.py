@@ -1,0 +1,197 @@
+"""Plans for files: one that is proposed, and what is wrong with one.
+
+``plan_for`` looks at a whole file and proposes a plan for it; ``check_plan`` says which key of a plan is out of its range,
+and what of it doesn't go with a file. Keys, ranges and rules are those of ``docs/plan.md``. Both are tested against the
+program, not proved.
+"""
+
+from __future__ import annotations
+
+import math
+import os
+from collections.abc import Iterator
+
+from .looks import Look, look
+from .plan_checks import check_plan
+from .plan_rules import Finding
+
+__all__ = ["Finding", "check_plan", "plan_for"]
+BINS = 512  # of a trace over the whole file, at most
+DEPTH = 128  # bins of a pixel of a cube, at most
+BINS_OF_CUBE = 1 << 26
+WHOLE = 1 << 62  # the width of a bin that has all photons
+LAGS = 16
+CELL, REACH = 0.5e-9, 200e-9  # seconds of a cell of coincidences, and how far they reach
+SIDE = 2048  # columns or rows of an image, at most
+Settings = dict[str, int | str | list[int]]
+
+
+def plan_for(path: str | os.PathLike[str]) -> str:
+    """A plan for the file at ``path``, as the text of a TOML document with remarks.
+
+    It has a group for each input that occurs and one of all of them, which is the last; a trace over the whole file; of
+    a T3 file a histogram of each input over the sync period, and where the header tells of a scan an image and a cube,
+    else a correlation in sync periods; of a T2 file the photons of each group, a correlation, and of two inputs a
+    start-stop and a coincidence whose reach suits the tick. What is a guess is marked so. Read it before you use it.
+
+    Raises ``BadFile`` for a file that the program would refuse. The whole file is looked at, in the memory of a piece.
+    """
+    seen = look(path)
+    if not seen.inputs:
+        return "# no photons\n"
+    scanned = seen.header.mode == "T3" and bool(seen.header.tags.get("ImgHdr_PixX"))
+    parts = [*_remarks(seen), *_groups(seen), *_trace(seen)]
+    if seen.header.mode == "T3":
+        parts += [*_histograms(seen), *(_scan(seen) if scanned else _correlation(seen))]
+    else:
+        parts += [*_totals(seen), *_pairs(seen), *_correlation(seen)]
+    version = "version = 2\n" if any("[[cube]]" in part or "serpentine" in part for part in parts) else ""
+    return "\n".join(part for part in (parts[0], version, *parts[1:]) if part)
+
+
+def _table(kind: str, **settings: int | str | list[int]) -> str:
+    return "\n".join([f"[[{kind}]]", *(f"{key} = {value}" for key, value in settings.items())]) + "\n"
+
+
+def _remarks(seen: Look) -> Iterator[str]:
+    inputs = ", ".join(f"{number} ({count} photons)" for number, count in seen.inputs.items())
+    said = f"# inputs: {inputs}\n"
+    if seen.header.mode == "T3" and seen.bits and not seen.header.tags.get("ImgHdr_PixX"):
+        said += "# the header tells of no scan (ImgHdr_PixX), so there is no image of the markers\n"
+    if seen.bits:
+        said += f"# marker bits: {', '.join(f'{bit} ({count} times)' for bit, count in seen.bits.items())}\n"
+    if 0 in seen.inputs and _sync_is_input_0(seen):
+        said += "# input 0 is the sync\n"
+    if seen.late:
+        said += f"# {seen.late} events are late: with version = 2, try settle = 1, 2, 4 .. 64 until the report has none\n"
+    yield said
+
+
+def _sync_is_input_0(seen: Look) -> bool:
+    return seen.header.mode == "T2" and not seen.header.record_type.startswith("PicoHarp")
+
+
+def _groups(seen: Look) -> Iterator[str]:
+    for number in seen.inputs:
+        yield _table("group", inputs=[number])
+    if len(seen.inputs) > 1:
+        yield _table("group", inputs=list(seen.inputs))
+
+
+def _of_all(seen: Look) -> int:
+    """The number of the group of all inputs."""
+    return len(seen.inputs) + (len(seen.inputs) > 1)
+
+
+def _trace(seen: Look) -> Iterator[str]:
+    last = seen.last or 0
+    width = last // BINS + 1
+    yield "# over the whole file\n" + _table("trace", group=_of_all(seen), width=width, bins=last // width + 1)
+
+
+def _histograms(seen: Look) -> Iterator[str]:
+    for group in range(1, len(seen.inputs) + 1):
+        yield _table("histogram", group=group, width=1, bins=_depth(seen))
+
+
+def _depth(seen: Look) -> int:
+    """Ticks of a sync period, or up to the greatest dtime where that is later."""
+    sync, tick = seen.header.global_seconds, seen.header.resolution_seconds
+    told = sync / tick if sync and tick and sync > 0 and tick > 0 else 0.0
+    return max(seen.deepest + 1, min(32768, math.ceil(told)))
+
+
+# ## Scans
+
+
+def _scan(seen: Look) -> Iterator[str]:
+    """The image and the cube of a scan, by the header's numbers of pixels, marker bits and time of a pixel."""
+    tags = seen.header.tags
+    width, height = (tags.get(f"ImgHdr_Pix{axis}") for axis in "XY")
+    start, stop, frame = (_bit(seen, name) for name in ("LineStart", "LineStop", "Frame"))
+    if not (isinstance(width, int) and isinstance(height, int) and start):
+        yield "# the header tells of a scan, but not its rows, or not which marker begins a line: no image\n"
+    elif not (1 <= width <= SIDE and 1 <= height <= SIDE):
+        yield f"# the header tells of {width} times {height} pixels, and an image has up to {SIDE} times {SIDE}: no image\n"
+    else:
+        dwell, source = _periods_of_pixel(seen, start, stop or start, width)
+        if dwell is None:
+            yield "# the header tells of a scan, but not how long a pixel lasts: no image\n"
+            return
+        settings: Settings = {"group": _of_all(seen), "width": width, "height": height, "dwell": max(1, round(dwell)), "line": start}
+        settings |= {key: bit for key, bit in (("frame", frame), ("stop", stop)) if bit}
+        settings |= {"serpentine": "true"} if tags.get("ImgHdr_BiDirect") else {}
+        yield _said_of_pixels(seen, dwell, source, width) + _table("image", **settings)
+        yield "# the same with the dtimes of each pixel\n" + _table("cube", **settings, **_bins_of_pixel(seen, width * height))
+
+
+def _bit(seen: Look, name: str) -> int | None:
+    """The number of a marker bit, or None: some programs write 0 or -1 where there is none."""
+    bit = seen.header.tags.get(f"ImgHdr_{name}")
+    return bit if isinstance(bit, int) and bit in (1, 2, 3, 4) else None
+
+
+def _periods_of_pixel(seen: Look, start: int, stop: int, width: int) -> tuple[float | None, str]:
+    """Sync periods of a pixel, by the header's milliseconds, or by the lines that the markers begin and end."""
+    milliseconds, sync = seen.header.tags.get("ImgHdr_TimePerPixel"), seen.header.global_seconds
+    if isinstance(milliseconds, int | float) and milliseconds > 0 and sync and sync > 0:
+        return milliseconds * 1e-3 / sync, "the header's time of a pixel"
+    line = seen.periods_of_line(start, stop)
+    return (line / width, "measured by the line markers") if line else (None, "")
+
+
+def _said_of_pixels(seen: Look, dwell: float, source: str, width: int) -> str:
+    said = f"# a pixel lasts {dwell:g} sync periods ({source})"
+    if abs(dwell - round(dwell)) > 1 / width:
+        said += ": no whole number, so the columns are shifted\n# within a line; the scans of ptulab have pixels of any length"
+    if seen.header.tags.get("ImgHdr_BiDirect"):
+        said += "\n# lines go both ways, so every second row runs backwards"
+    if seen.header.tags.get("ImgHdr_SinCorrection"):
+        said += "\n# the header speaks of a mirror that swings like a sine: columns aren't straightened"
+    return said + "\n"
+
+
+def _bins_of_pixel(seen: Look, pixels: int) -> dict[str, int]:
+    """Bins of the dtime, as fine as a cube has room for."""
+    depth = _depth(seen)
+    width = math.ceil(depth / min(DEPTH, BINS_OF_CUBE // pixels))
+    return {"dwidth": width, "dbins": math.ceil(depth / width)}
+
+
+# ## Pairs of photons
+
+
+def _two(seen: Look) -> tuple[int, int]:
+    """The groups of the first two inputs that are detectors, or twice the one that there is."""
+    groups = [group for group, number in enumerate(seen.inputs, 1) if number != 0 or not _sync_is_input_0(seen)]
+    return (groups[0], groups[1]) if len(groups) > 1 else ((groups or [1])[0],) * 2
+
+
+def _totals(seen: Look) -> Iterator[str]:
+    remark = "# the photons of the groups, for normalised curves\n"
+    for group in sorted(set(_two(seen))):
+        yield remark + _table("trace", group=group, width=WHOLE, bins=1)
+        remark = ""
+
+
+def _pairs(seen: Look) -> Iterator[str]:
+    """A start-stop and a coincidence of two inputs, whose cells are centred on 0 and have one width each."""
+    first, second = _two(seen)
+    if first == second:
+        return
+    tick = seen.header.global_seconds
+    known = tick is not None and 0 < tick < 1
+    unit = tick if tick is not None and known else 1e-12
+    width = 2 * round((CELL / unit - 1) / 2) + 1 if CELL > unit else 1
+    sides = max(1, min(round(REACH / unit / width), ((1 << 20) - width // 2) // width, 4096))
+    said = f"# {REACH * 1e9:g} ns on both sides of 0, by the header's tick of {unit:g} s\n" if known else "# a guess: the header tells no tick\n"
+    yield said + _table("coincidence", first=first, second=second, reach=sides * width + width // 2, width=width)
+    yield _table("startstop", start=first, stop=second, width=width, bins=min(32768, 2 * sides))
+
+
+def _correlation(seen: Look) -> Iterator[str]:
+    """A correlation up to an eighth of the measurement."""
+    levels = max(1, min(40, (seen.length // (8 * LAGS)).bit_length()))
+    first, second = _two(seen)
+    unit = "sync periods" if seen.header.mode == "T3" else "ticks"
+    yield f"# by {unit}, up to an eighth of the file\n" + _table("correlation", first=first, second=second, lags=LAGS, levels=levels)

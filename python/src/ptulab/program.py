@@ -1,0 +1,140 @@
+"""Runs of the program ``ptu``, whose counts are proved. What it refuses is an exception here."""
+
+import json
+import os
+import shutil
+import subprocess
+import tempfile
+import threading
+from collections.abc import Callable, Iterator
+from contextlib import contextmanager
+from importlib import resources
+from pathlib import Path
+from typing import IO, Any
+
+from .documents import read_plan
+from .errors import BadPlan, BadReport, NoProgram, Refusal
+from .optional import want
+from .report import Report, read_stream
+
+LOOKS = 0.1  # seconds between two looks at how far the program is
+
+
+def find_program(program: str | os.PathLike[str] | None = None) -> str:
+    """The path of ``ptu``: the one that is given, that of the environment variable PTU, that of the checkout in which
+    this package stands (``out/ptu``), or the one on the PATH. Raises ``NoProgram`` where there is none."""
+    checkout = Path(__file__).resolve().parents[3] / "out" / "ptu"
+    named = os.fspath(program or os.environ.get("PTU") or (checkout if checkout.is_file() else "ptu"))
+    found = shutil.which(os.path.abspath(named) if os.path.dirname(named) or os.path.isfile(named) else named)
+    if found is None:
+        raise NoProgram(f"no program {named}: name it by program= or by the environment variable PTU")
+    return found
+
+
+def run(
+    plan: str | os.PathLike[str],
+    file: str | os.PathLike[str],
+    *,
+    program: str | os.PathLike[str] | None = None,
+    progress: bool = False,
+    whole: Report | None = None,
+) -> Report:
+    """The report of ``ptu run PLAN FILE``, whose tables know their groups by the plan.
+
+    With ``progress`` tqdm shows a bar of the bytes of the file that the program has read. The report is read while it
+    is printed, so the memory is that of its tables. With ``whole``, a report of the same plan, it is added into the
+    arrays of that one, and the sum is given; what is ``Unlike`` it or refused leaves it as it is. Raises ``Refusal`` where the program ends with another status
+    than 0, with its line and its meaning; ``NoProgram``; and ``Missing`` where a bar is wanted and tqdm isn't there.
+    """
+    words = [find_program(program), "run", os.fspath(plan), os.fspath(file)]
+    bar = want("tqdm", "the progress of a run").tqdm if progress else None
+    document = _document(plan)
+    with tempfile.TemporaryFile() as told:
+        with subprocess.Popen(words, stdout=subprocess.PIPE, stderr=told) as child, _shown(bar, child, words[-1]):
+            try:
+                report = _read(child.stdout, document, whole)
+            except BaseException:
+                child.kill()
+                raise
+        told.seek(0)
+        if child.returncode != 0:
+            raise refusal(child.returncode, told.read().decode(errors="replace").strip())
+    if isinstance(report, BadReport):
+        raise report
+    return report
+
+
+def refusal(status: int, line: str) -> Refusal:
+    """What the program says by a status and a line: the words of the rule of a plan that is broken (status 8), and
+    else when it ends so, as docs/plan.md and docs/formats.md have them."""
+    if status < 0:
+        return Refusal(status, line, f"signal {-status} ended the program")
+    words = line.split()
+    if status == 8 and "rule" in words[:-1]:
+        return Refusal(status, line, _words()["rules"].get(words[words.index("rule") + 1], ""))
+    meanings: dict[str, str] = _words()["statuses"].get(str(status), {})
+    return Refusal(status, line, meanings.get(line, next(iter(meanings.values()), "")))
+
+
+def _words() -> dict[str, Any]:
+    """The words of the rules of a plan by their numbers, and of the statuses by status and line."""
+    words: dict[str, Any] = json.loads(resources.files(__package__).joinpath("refusals.json").read_text("utf-8"))
+    return words
+
+
+def _document(plan: str | os.PathLike[str]) -> dict[str, Any] | None:
+    """The plan, where it can be read twice; what is wrong with it is for the program to say."""
+    try:
+        return read_plan(plan) if os.path.isfile(plan) else None
+    except (OSError, BadPlan):
+        return None
+
+
+def _read(stream: IO[bytes] | None, document: dict[str, Any] | None, whole: Report | None) -> Report | BadReport:
+    """The report, or what is wrong with it: of a run that was refused there is none."""
+    assert stream is not None
+    try:
+        return read_stream(stream, document, whole)
+    except BadReport as error:
+        while stream.read(1 << 16):
+            pass
+        return error
+
+
+@contextmanager
+def _shown(bar: Callable[..., Any] | None, child: subprocess.Popen[bytes], path: str) -> Iterator[None]:
+    """A bar of the bytes that were read, by the position of the file in the child, as long as it runs."""
+    if bar is None:
+        yield
+        return
+    whole = os.path.getsize(path) if os.path.isfile(path) else None
+    ended = threading.Event()
+    with bar(total=whole, unit="B", unit_scale=True, desc=os.path.basename(path)) as shown:
+
+        def look() -> None:
+            while not ended.wait(LOOKS):
+                shown.update(max(0, _position(child.pid, path) - shown.n))
+
+        looking = threading.Thread(target=look, daemon=True)
+        looking.start()
+        try:
+            yield
+            if child.wait() == 0 and whole is not None:
+                ended.set()
+                looking.join()
+                shown.update(whole - shown.n)
+        finally:
+            ended.set()
+            looking.join()
+
+
+def _position(process: int, path: str) -> int:
+    """How far a process has read the file at a path, or 0 where the system doesn't tell (Linux does)."""
+    try:
+        for number in os.listdir(f"/proc/{process}/fd"):
+            if os.path.samefile(f"/proc/{process}/fd/{number}", path):
+                with open(f"/proc/{process}/fdinfo/{number}", encoding="ascii") as lines:
+                    return int(lines.readline().split()[1])
+    except (OSError, ValueError, IndexError):
+        pass
+    return 0

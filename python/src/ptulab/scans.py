@@ -1,0 +1,274 @@
+"""Images and cubes of a scan whose pixels last any time, also no whole number of sync periods.
+
+A plan's image has a whole number of sync periods a pixel (``docs/plan.md``); where that suits, ``ptulab.run`` counts
+it, and its counts are proved. What stands here is tested to give the same counts there.
+"""
+
+import math
+from dataclasses import dataclass, replace
+from fractions import Fraction
+from typing import Literal
+
+import numpy as np
+from numpy.typing import NDArray
+
+from .events import Events
+from .groups import GroupLike, Source, group_of, pieces_of
+
+LINE = np.dtype([("record", "<i8"), ("until", "<i8"), ("start", "<i8"), ("length", "<i8"), ("row", "<i8"), ("frame", "<i8")])
+FOREVER = np.iinfo(np.int64).max
+FINEST = 1_000_000  # the greatest denominator of a line's time
+
+
+@dataclass(frozen=True)
+class Scan:
+    """How a scanner writes: the settings of an image.
+
+    - ``width``, ``height``: columns and rows.
+    - ``line``, ``frame``, ``stop``: marker bits, 1 to 4, that begin a line, begin a frame, and end a line. Without
+      ``frame`` a frame has ``height`` lines, counted from the start of the file.
+    - ``time``: how many sync periods a line lasts, any positive number. It is taken as the nearest fraction with a
+      denominator of at most a million. None: each line lasts from its own marker to its stop marker.
+    - ``serpentine``: True where the odd rows of a frame, counted from 0, run backwards, and ``"lines"`` where the odd
+      lines of the file do, so that the direction goes on from frame to frame.
+    - ``phase``: how many sync periods the lines that run backwards are late; it is taken off the times in them.
+    - ``frames``: whether frames are an axis of the counts; else they are laid one on the other.
+
+    Raises ``ValueError`` for settings that no scan has.
+    """
+
+    width: int
+    height: int
+    line: int
+    stop: int | None = None
+    frame: int | None = None
+    time: float | Fraction | None = None
+    serpentine: bool | Literal["lines"] = False
+    phase: float | Fraction = 0
+    frames: bool = False
+
+    def __post_init__(self) -> None:
+        if self.width < 1 or self.height < 1:
+            raise ValueError(f"an image of {self.width} by {self.height} pixels")
+        for name, bit in (("line", self.line), ("stop", self.stop), ("frame", self.frame)):
+            if bit is not None and not 1 <= bit <= 4:
+                raise ValueError(f"{name} = {bit}: a marker bit is 1 to 4")
+        if self.time is None and self.stop is None:
+            raise ValueError("the time of a line isn't known: give its stop marker, or its time in sync periods")
+        if self.time is not None and not (math.isfinite(self.time) and self.time > 0):
+            raise ValueError(f"a line of {self.time} sync periods")
+
+
+@dataclass(frozen=True)
+class Image:
+    """Photons by their place. ``counts``: shape (rows, columns), or (frames, rows, columns) where frames are an axis.
+
+    ``outside``: photons of the group without a place. ``global_seconds``: of a sync period, None where the file doesn't
+    tell. All counts and ``outside`` add up to the photons of the group that aren't late.
+    """
+
+    scan: Scan
+    counts: NDArray[np.uint64]
+    outside: int
+    global_seconds: float | None = None
+
+
+@dataclass(frozen=True)
+class Cube:
+    """Photons by place and dtime. ``counts``: shape (rows, columns, bins), or (frames, rows, columns, bins).
+
+    ``ticks``: where each bin begins, in ticks of the dtime, of which ``dwidth`` are a bin; ``outside``: photons without
+    a place; ``over``: photons with a place whose dtime is past the last bin; ``resolution_seconds``: of a tick, None
+    where the file doesn't tell.
+    """
+
+    scan: Scan
+    counts: NDArray[np.uint64]
+    dwidth: int
+    outside: int
+    over: int
+    resolution_seconds: float | None = None
+
+    @property
+    def ticks(self) -> NDArray[np.int64]:
+        """Where each bin begins, in ticks of the dtime: shape (bins,)."""
+        return self.dwidth * np.arange(self.counts.shape[-1], dtype=np.int64)
+
+    @property
+    def image(self) -> NDArray[np.uint64]:
+        """All photons of each pixel within the bins: the shape of ``counts`` without its last axis."""
+        return np.asarray(self.counts.sum(axis=-1, dtype=np.uint64))
+
+
+def lines_of(source: Source, scan: Scan) -> NDArray[np.void]:
+    """The lines of a scan, one element each, with the fields
+
+    - ``record`` and ``until``: the numbers of the records between which its photons stand (without both);
+    - ``start``: the time of its marker; ``length``: sync periods up to its stop marker, 0 where it has none;
+    - ``row`` and ``frame``: counted from 0; ``frame`` is -1 before the first frame.
+
+    In one marker the stop counts first, then the frame, then the line, as in ``docs/report.md``.
+    """
+    found = [piece[piece["marker"] & ~piece["late"]] for piece in pieces_of(source)]
+    if not found:
+        return np.zeros(0, LINE)
+    markers = np.concatenate(found)
+    line, frame, stop = (_with_bit(markers, bit) for bit in (scan.line, scan.frame, scan.stop))
+    at = np.flatnonzero(line)
+    records = np.append(markers["record"], FOREVER)
+    times = np.append(markers["time"], FOREVER)
+    stops = np.append(np.flatnonzero(stop), len(markers))
+    end = stops[np.searchsorted(stops, at, side="right")]
+    following = np.append(at[1:], len(markers))[: len(at)]
+    lines = np.zeros(len(at), LINE)
+    lines["record"], lines["until"] = records[at], records[np.minimum(end, following)]
+    lines["start"] = times[at]
+    whole = (end <= following) & (end < len(markers))
+    lines["length"][whole] = times[end[whole]] - times[at[whole]]
+    lines["row"], lines["frame"] = _rows(frame.astype(np.int64).cumsum()[at], scan)
+    return lines
+
+
+def _with_bit(markers: NDArray[np.void], bit: int | None) -> NDArray[np.bool_]:
+    if bit is None:
+        return np.zeros(len(markers), np.bool_)
+    return (markers["number"] >> (bit - 1) & 1).astype(np.bool_)
+
+
+def _rows(frames_so_far: NDArray[np.int64], scan: Scan) -> tuple[NDArray[np.int64], NDArray[np.int64]]:
+    """Row and frame of each line, of which so many frames were begun up to it."""
+    number = np.arange(len(frames_so_far))
+    if scan.frame is None:
+        return number % scan.height, number // scan.height
+    return number - np.searchsorted(frames_so_far, frames_so_far), frames_so_far - 1
+
+
+def image(source: Source, scan: Scan, group: GroupLike = None) -> Image:
+    """The photons of a group by their place in a scan of a T3 file.
+
+    The column is floor(t * width / T), where t is the time since the line's marker and T how long the line lasts,
+    computed with whole numbers, so that no rounding moves a photon; in lines that run backwards it is
+    width - 1 - floor((t - phase) * width / T). With ``T = width * dwell`` this is the image of a plan.
+
+    Raises ``ValueError`` where a line lasts so long that its columns can't be computed so.
+    """
+    lines = lines_of(source, scan)
+    shape, places = _shape(lines, scan), _Places(lines, scan)
+    counts = np.zeros(math.prod(shape), np.int64)
+    outside, chosen = 0, group_of(group)
+    for piece in pieces_of(source):
+        photons = chosen.mask(piece)
+        cells, placed = places.of(piece["record"][photons], piece["time"][photons])
+        outside += len(placed) - int(np.count_nonzero(placed))
+        _add(counts, cells[placed])
+    seconds = source.header.global_seconds if isinstance(source, Events) else None
+    return Image(scan, counts.astype(np.uint64).reshape(shape), outside, seconds)
+
+
+def cube(source: Source, scan: Scan, dwidth: int, dbins: int, group: GroupLike = None) -> Cube:
+    """The photons of a group by their place, as of ``image``, and by their dtime in ``dbins`` bins of ``dwidth`` ticks.
+
+    Raises ``ValueError`` as ``image`` does, and where there is no bin.
+    """
+    if dwidth < 1 or dbins < 1:
+        raise ValueError(f"{dbins} bins of {dwidth} ticks")
+    lines = lines_of(source, scan)
+    shape, places = (*_shape(lines, scan), dbins), _Places(lines, scan)
+    counts = np.zeros(math.prod(shape), np.int64)
+    outside, over, chosen = 0, 0, group_of(group)
+    for piece in pieces_of(source):
+        photons = chosen.mask(piece)
+        cells, placed = places.of(piece["record"][photons], piece["time"][photons])
+        bins = piece["dtime"][photons] // dwidth
+        kept = placed & (bins < dbins)
+        outside += len(placed) - int(np.count_nonzero(placed))
+        over += int(np.count_nonzero(placed)) - int(np.count_nonzero(kept))
+        _add(counts, cells[kept] * dbins + bins[kept])
+    seconds = source.header.resolution_seconds if isinstance(source, Events) else None
+    return Cube(scan, counts.astype(np.uint64).reshape(shape), dwidth, outside, over, seconds)
+
+
+def best_phase(source: Source, scan: Scan, phases: NDArray[np.float64], group: GroupLike = None) -> float:
+    """Of these phases, in sync periods, the one with which neighbouring rows are most alike.
+
+    Alike is the sum of products of the pixels of each two rows that follow one another, over the root of the sums of
+    their squares. Raises ``ValueError`` where there is no phase, or the scan runs in one direction.
+    """
+    if not scan.serpentine or not len(phases):
+        raise ValueError("a phase is of scans in both directions, and one of some phases")
+    one = replace(scan, frames=False)
+    return float(max(phases, key=lambda phase: _likeness(image(source, replace(one, phase=float(phase)), group).counts)))
+
+
+def _likeness(counts: NDArray[np.uint64]) -> float:
+    rows = counts.astype(np.float64)
+    first, second = rows[:-1], rows[1:]
+    scale = math.sqrt(float((first**2).sum()) * float((second**2).sum()))
+    return float((first * second).sum()) / scale if scale else 0.0
+
+
+def _shape(lines: NDArray[np.void], scan: Scan) -> tuple[int, ...]:
+    if not scan.frames:
+        return scan.height, scan.width
+    return int(lines["frame"].max(initial=-1)) + 1, scan.height, scan.width
+
+
+class _Places:
+    """Where photons are in a scan of these lines. Before the first line stands one that holds no photon."""
+
+    def __init__(self, lines: NDArray[np.void], scan: Scan) -> None:
+        time, phase = _fractions(lines, scan)
+        length = lines["length"] if time is None else np.full(len(lines), time.numerator)
+        good = (length > 0) & (lines["frame"] >= 0) & (lines["row"] < scan.height)
+        number = np.arange(len(lines)) if scan.serpentine == "lines" else lines["row"]
+        back = number % 2 == 1 if scan.serpentine else np.zeros(len(lines), np.bool_)
+        frames = lines["frame"] if scan.frames else np.zeros(len(lines), np.int64)
+        first = (frames * scan.height + lines["row"]) * scan.width
+        self.width, self.parts = scan.width, scan.width * (1 if time is None else time.denominator)
+        self.phase, self.scale = np.append(0, np.where(back, phase.numerator, 0)), phase.denominator
+        self.record, self.start = np.append(-1, lines["record"]), np.append(0, lines["start"])
+        self.until = np.append(-1, np.where(good, lines["until"], -1))
+        self.length = np.append(1, np.where(good, length, 1))
+        self.first, self.step = np.append(0, np.where(back, first + scan.width - 1, first)), np.append(1, np.where(back, -1, 1))
+        self.most = self.length // (self.parts // scan.width) + math.ceil(abs(phase)) + 1  # beyond it all are outside
+
+    def of(self, records: NDArray[np.int64], times: NDArray[np.int64]) -> tuple[NDArray[np.int64], NDArray[np.bool_]]:
+        """Of photons, by the numbers of their records, which rise, and their times: the numbers of their pixels, frame by
+        frame and row by row, and whether they have one."""
+        if not len(records):
+            return np.zeros(0, np.int64), np.zeros(0, np.bool_)
+        low, high = np.searchsorted(self.record, records[[0, -1]]) - np.array([1, 0])
+        many = np.diff(np.searchsorted(records, self.record[low + 1 : high], side="left"), prepend=0, append=len(records))
+
+        def each(values: NDArray[np.int64]) -> NDArray[np.int64]:
+            return np.repeat(values[low:high], many)
+
+        since = np.minimum(times - each(self.start), each(self.most)) * self.scale - each(self.phase)
+        placed = (records < each(self.until)) & (since >= 0)
+        columns = since * self.parts // each(self.length * self.scale)
+        placed &= columns < self.width
+        return each(self.first) + each(self.step) * columns, placed
+
+
+def _fractions(lines: NDArray[np.void], scan: Scan) -> tuple[Fraction | None, Fraction]:
+    """How long each line lasts, None for its own length, and the phase, in numbers with which columns fit 64 bits."""
+    phase = Fraction(scan.phase).limit_denominator(1000)
+    longest = int(lines["length"].max(initial=1)) if scan.time is None else math.ceil(scan.time)
+    most = 2**62 // ((longest + 2 * math.ceil(abs(phase)) + 2) * phase.denominator * scan.width)
+    if most < 1:
+        raise ValueError(f"a line of {longest} sync periods is too long for columns without rounding")
+    if scan.time is None:
+        return None, phase
+    return Fraction(scan.time).limit_denominator(min(FINEST, most)), phase
+
+
+def _add(counts: NDArray[np.int64], cells: NDArray[np.int64]) -> None:
+    """Adds 1 to each of these cells as often as it stands there."""
+    if not len(cells):
+        return
+    low, high = int(cells.min()), int(cells.max()) + 1
+    if high - low <= 8 * len(cells):
+        counts[low:high] += np.bincount(cells - low, minlength=high - low)
+    else:
+        places, times = np.unique(cells, return_counts=True)
+        counts[places] += times

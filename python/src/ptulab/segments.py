@@ -1,0 +1,176 @@
+"""Windows of time, segments of a measurement, and correlations with error bars from them.
+
+The cells are those of a plan's correlation (``docs/correlation.md``), after Wahl, Gregor, Patting and Enderlein, Optics
+Express 11, 3583 (2003).
+"""
+
+from collections.abc import Iterator
+from dataclasses import dataclass
+
+import numpy as np
+from numpy.typing import NDArray
+
+from .events import EVENT, Events
+from .groups import GroupLike, Source, group_of, pieces_of
+from .pulsed import occupied, pair_counts
+
+
+@dataclass(frozen=True)
+class Curve:
+    """A normalised correlation with its errors; all of shape (cells,) but ``segments``.
+
+    - ``ticks``: the delay of each cell, in ticks of T2 or sync periods of T3; ``levels``: the level of each.
+    - ``values``: 1 without correlation, the mean of the segments, and nan where none has a pair to expect.
+    - ``errors``: the standard error of that mean; nan with fewer than two segments.
+    - ``segments``: shape (segments, cells), the curve of each segment.
+    - ``unit_seconds``: of a tick or sync period, None where the file doesn't tell.
+    - ``rates``: shape (2,), the photons of the two groups in a unit of time.
+    """
+
+    ticks: NDArray[np.int64]
+    levels: NDArray[np.int64]
+    values: NDArray[np.float64]
+    errors: NDArray[np.float64]
+    segments: NDArray[np.float64]
+    unit_seconds: float | None = None
+    rates: tuple[float, float] = (0.0, 0.0)
+
+    @property
+    def seconds(self) -> NDArray[np.float64] | None:
+        """The delays in seconds, None where the file doesn't tell."""
+        return None if self.unit_seconds is None else self.ticks * self.unit_seconds
+
+
+def window(source: Source, start: int, stop: int) -> NDArray[np.void]:
+    """The events from the time ``start`` on and before ``stop``, in ticks of T2 or sync periods of T3, late ones too."""
+    found = [piece[(piece["time"] >= start) & (piece["time"] < stop)] for piece in pieces_of(source)]
+    return np.concatenate(found) if found else np.zeros(0, EVENT)
+
+
+def edges(first: int, last: int, number: int) -> NDArray[np.int64]:
+    """Where ``number`` segments of equal length begin, and where the last one ends: shape (number + 1,).
+
+    The length is (last + 1 - first) // number; what is left over at the end is in no segment. Raises ``ValueError``
+    where a segment would have no time.
+    """
+    length = (last + 1 - first) // number if number > 0 else 0
+    if length < 1:
+        raise ValueError(f"{number} segments from {first} to {last}")
+    return first + length * np.arange(number + 1, dtype=np.int64)
+
+
+def split(source: Events | NDArray[np.void], number: int) -> Iterator[NDArray[np.void]]:
+    """The events that aren't late in ``number`` segments of equal time, from the first to the last of them.
+
+    Raises ``ValueError`` where there are no events, or a segment would have no time.
+    """
+    array = source.array if isinstance(source, Events) else source
+    array = array[~array["late"]]
+    if not len(array):
+        raise ValueError("no events to split")
+    times = array["time"]
+    for start, stop in zip(*_sides(edges(int(times.min()), int(times.max()), number)), strict=True):
+        yield array[(times >= start) & (times < stop)]
+
+
+def _sides(at: NDArray[np.int64]) -> tuple[NDArray[np.int64], NDArray[np.int64]]:
+    return at[:-1], at[1:]
+
+
+def delays(lags: int, levels: int) -> tuple[NDArray[np.int64], NDArray[np.int64]]:
+    """Delay and level of each cell of a correlation, in the order of a report: shape (lags + (levels - 1) * lags / 2,).
+
+    Raises ``ValueError`` for an odd number of lags, or none, and fewer than 1 or more than 40 levels.
+    """
+    if lags < 2 or lags % 2 or not 1 <= levels <= 40:
+        raise ValueError(f"a correlation of {lags} lags and {levels} levels")
+    level = np.repeat(np.arange(levels), [lags] + [lags // 2] * (levels - 1))
+    lag = np.concatenate([np.arange(1, lags + 1)] + [np.arange(lags // 2 + 1, lags + 1)] * (levels - 1))
+    return lag << level, level
+
+
+def correlation(
+    times: NDArray[np.int64], first: NDArray[np.bool_], second: NDArray[np.bool_], *, lags: int = 16, levels: int = 20
+) -> NDArray[np.int64]:
+    """The pairs of each cell of a correlation, in the order of ``delays``: what ``ptu run`` counts.
+
+    ``times``: shape (photons,), 0 or more, in ticks or sync periods; ``first`` and ``second``: which photons are of
+    either group. On level L a bin has 2^L units of time and begins at a multiple of that.
+    """
+    delays(lags, levels)
+    bins, firsts, seconds, _ = occupied(times, first, second)
+    cells = []
+    for level in range(levels):
+        if level:
+            bins, firsts, seconds = _coarser(bins, firsts, seconds)
+        least = 1 if level == 0 else lags // 2 + 1
+        cells.append(pair_counts(bins, firsts, seconds, lags)[least:])
+    return np.concatenate(cells)
+
+
+def _coarser(
+    bins: NDArray[np.int64], firsts: NDArray[np.int64], seconds: NDArray[np.int64]
+) -> tuple[NDArray[np.int64], NDArray[np.int64], NDArray[np.int64]]:
+    """Bins of twice the width, with the sums of their photons."""
+    bins = bins >> 1
+    if not len(bins):
+        return bins, firsts, seconds
+    begin = np.flatnonzero(np.concatenate(([True], bins[1:] != bins[:-1])))
+    return bins[begin], np.add.reduceat(firsts, begin), np.add.reduceat(seconds, begin)
+
+
+def correlation_by_segments(
+    source: Source, first: GroupLike, second: GroupLike, *, segments: int = 10, lags: int = 16, levels: int = 20
+) -> Curve:
+    """A correlation with error bars: the mean over segments of equal time, and its standard error.
+
+    Each segment is correlated by itself, with times from its beginning, and normalised by its own photons and length:
+    G = PAIRS * T^2 / (FIRST * SECOND * 2^L * (T - t)), as in ``docs/correlation.md``, with the segment's length T. The
+    error is the standard deviation between segments over the root of their number (Wohland, Rigler and Vogel,
+    Biophysical Journal 80, 2987, 2001). A delay t must be short beside T: choose few segments for long delays.
+
+    Raises ``ValueError`` where there is no event, for segments without time, and as ``delays`` does.
+    """
+    ticks, level = delays(lags, levels)
+    times, one, two, ends = _photons(source, first, second)
+    at = edges(*ends, segments)
+    length = int(at[1] - at[0])
+    curves: list[NDArray[np.float64]] = []
+    for begin, end in zip(np.searchsorted(times, at[:-1]), np.searchsorted(times, at[1:]), strict=True):
+        part = slice(begin, end)
+        pairs = correlation(times[part] - at[len(curves)], one[part], two[part], lags=lags, levels=levels)
+        expected = float(one[part].sum()) * float(two[part].sum()) * 2.0**level * np.maximum(length - ticks, 0) / length**2
+        curves.append(np.divide(pairs, expected, out=np.full(len(pairs), np.nan), where=expected > 0))
+    values, errors = _mean(np.array(curves))
+    unit = source.header.global_seconds if isinstance(source, Events) else None
+    rates = (float(one.sum()) / (segments * length), float(two.sum()) / (segments * length))
+    return Curve(ticks, level, values, errors, np.array(curves), unit, rates)
+
+
+def _mean(curves: NDArray[np.float64]) -> tuple[NDArray[np.float64], NDArray[np.float64]]:
+    """The mean of some curves and its standard error, over those that have a value."""
+    known = ~np.isnan(curves)
+    number = known.sum(axis=0)
+    filled = np.where(known, curves, 0.0)
+    mean = np.divide(filled.sum(axis=0), number, out=np.full(curves.shape[1], np.nan), where=number > 0)
+    square = (np.where(known, curves - mean, 0.0) ** 2).sum(axis=0)
+    below = number * (number - 1.0)
+    return mean, np.sqrt(np.divide(square, below, out=np.full(curves.shape[1], np.nan), where=below > 0))
+
+
+def _photons(
+    source: Source, first: GroupLike, second: GroupLike
+) -> tuple[NDArray[np.int64], NDArray[np.bool_], NDArray[np.bool_], tuple[int, int]]:
+    """Times of the photons of either group in order, whether they are of the first and of the second, and the first and
+    last time of all events that aren't late."""
+    groups, parts, ends = (group_of(first), group_of(second)), [], []
+    for piece in pieces_of(source):
+        one, two = (group.mask(piece) for group in groups)
+        either = one | two
+        parts.append((piece["time"][either], one[either], two[either]))
+        inside = piece["time"][~piece["late"]]
+        ends += [int(inside.min()), int(inside.max())] if len(inside) else []
+    if not ends:
+        raise ValueError("no events to correlate")
+    times, one, two = (np.concatenate(column) for column in zip(*parts, strict=True))
+    return times, one, two, (min(ends), max(ends))

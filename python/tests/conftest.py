@@ -1,0 +1,58 @@
+"""Fixtures of all tests: the program, and small files."""
+
+import os
+import shutil
+import subprocess
+from collections.abc import Callable, Iterable
+from pathlib import Path
+from typing import Any
+
+import made
+import pytest
+
+ROOT = Path(__file__).resolve().parents[2]  # the checkout
+EXAMPLES = ROOT / "examples"
+
+
+@pytest.fixture(scope="session")
+def program() -> str:
+    """The path of ptu: that of PTU, out/ptu of the checkout, or the one on the PATH."""
+    built = ROOT / "out" / "ptu"
+    found = os.environ.get("PTU") or (str(built) if built.is_file() else shutil.which("ptu"))
+    if not found:
+        pytest.skip("there is no program ptu: name it by the environment variable PTU")
+    return found
+
+
+@pytest.fixture
+def ptu(program: str) -> Callable[..., subprocess.CompletedProcess[str]]:
+    """Calls the program with these words, whatever its end."""
+    return lambda *words: subprocess.run([program, *map(str, words)], capture_output=True, text=True)
+
+
+@pytest.fixture
+def make_file(tmp_path: Path) -> Callable[..., Path]:
+    """``make_file(record_type, events, name="data.ptu", **tags)`` writes a small file, as ``made.write`` does."""
+
+    def make(record_type: str, events: Iterable[tuple[int, ...]], name: str = "data.ptu", **tags: Any) -> Path:
+        return made.write(tmp_path / name, record_type, events, **tags)
+
+    return make
+
+
+@pytest.fixture
+def make_plan(tmp_path: Path) -> Callable[..., Path]:
+    """``make_plan(text, name="plan.toml")`` writes a plan."""
+
+    def make(text: str, name: str = "plan.toml") -> Path:
+        path = tmp_path / name
+        path.write_text(text)
+        return path
+
+    return make
+
+
+@pytest.fixture(params=made.ALL_TYPES)
+def record_type(request: pytest.FixtureRequest) -> str:
+    """Each of the twelve record types."""
+    return str(request.param)

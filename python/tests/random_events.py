@@ -1,0 +1,53 @@
+"""Random events for hypothesis: a few inputs and markers that are near in time, some of them late, some of one time.
+
+Hypothesis chooses how many there are and a seed, since lists that it draws one by one are short for the most part.
+"""
+
+import random
+
+import made
+import numpy as np
+from hypothesis import strategies as st
+
+UNIT = 1024  # what a wrap of HydraHarp2T3 adds
+
+
+def in_order_but_few(steps):
+    """Absolute times of steps of which some go back, never over a wrap."""
+    time, events = 0, []
+    for step, *rest in steps:
+        if step < 0 and (time + step) // UNIT == time // UNIT and time + step >= 0:
+            events.append((time + step, *rest))
+        else:
+            time += abs(step)
+            events.append((time, *rest))
+    return events
+
+
+def some(many, seed, markers, back):
+    """So many events, of which this part are markers, and this part go back in time."""
+    draws = random.Random(seed)
+    near = draws.choice((2, 6, 30))
+    steps = []
+    for _ in range(many):
+        step = draws.randint(-3, -1) if draws.random() < back else 700 if draws.random() < 0.02 else draws.randint(0, near)
+        event = (made.Bits(draws.randint(1, 15)),) if draws.random() < markers else (draws.randint(0, 2), draws.randint(0, 40))
+        steps.append((step, *event))
+    return in_order_but_few(steps)
+
+
+def events(markers, back):
+    return st.builds(some, st.integers(0, 250), st.integers(0, 2**32), st.just(markers), st.just(back))
+
+
+scans = st.one_of(events(0.15, 0.03), events(0.4, 0.03))
+streams = events(0.0, 0.03)
+rising = events(0.0, 0.0).map(lambda these: [(0, 1)] + [(time, number + 1) for time, number, _ in these])
+
+
+def _times(many, seed):
+    draws = np.random.default_rng(seed)
+    return np.cumsum(draws.integers(0, np.where(draws.random(many) < 0.9, 4, 41)), dtype=np.int64)
+
+
+times = st.builds(_times, st.integers(0, 300), st.integers(0, 2**32))

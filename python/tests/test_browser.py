@@ -1,0 +1,188 @@
+"""The page in Chromium: it draws, the pointer and the keys read its values, and it goes on without scripts."""
+
+import re
+import shutil
+import time
+
+import numpy as np
+import pytest
+
+import ptulab
+from conftest import EXAMPLES
+from ptulab.page import write_page
+
+selenium = pytest.importorskip("selenium", reason="python3-selenium isn't on this machine")
+BROWSER, DRIVER = shutil.which("chromium"), shutil.which("chromedriver")
+pytestmark = pytest.mark.skipif(not (BROWSER and DRIVER), reason="chromium and its driver aren't on this machine")
+HOSTILE = "<img src=x onerror=document.title='bad'></script><script>document.title='bad'</script>\"'.ptu"
+SECONDS = 60
+
+
+@pytest.fixture(scope="module")
+def browser():
+    from selenium import webdriver
+    from selenium.webdriver.chrome.options import Options
+    from selenium.webdriver.chrome.service import Service
+
+    options = Options()
+    options.binary_location = BROWSER
+    for word in ("--headless", "--no-sandbox", "--disable-gpu", "--disable-dev-shm-usage", "--hide-scrollbars", "--window-size=1000,1400"):
+        options.add_argument(word)
+    driver = webdriver.Chrome(service=Service(DRIVER), options=options)
+    driver.set_page_load_timeout(SECONDS)
+    yield driver
+    driver.quit()
+
+
+@pytest.fixture(scope="module")
+def pages(program, tmp_path_factory):
+    """The pages of a scan's report and of its lifetimes, with the reports."""
+    folder, made = tmp_path_factory.mktemp("pages"), {}
+    for name in ("scan", "lifetimes"):
+        plan = EXAMPLES / f"{name}.toml"
+        report = ptulab.run(plan, EXAMPLES / "scan.ptu", program=program)
+        write_page(report, folder / f"{name}.html", file=HOSTILE, plan=plan, program=program)
+        made[name] = (folder / f"{name}.html", report)
+    return made
+
+
+def emulate(browser, dark, width):
+    browser.execute_cdp_cmd("Emulation.setEmulatedMedia", {"features": [{"name": "prefers-color-scheme", "value": "dark" if dark else "light"}]})
+    browser.execute_cdp_cmd("Emulation.setDeviceMetricsOverride", {"width": width, "height": 1400, "deviceScaleFactor": 1, "mobile": width < 500})
+
+
+def opened(browser, path):
+    emulate(browser, False, 1000)
+    browser.get(path.as_uri())
+    until(lambda: browser.execute_script("return document.documentElement.dataset.drawn") == "yes")
+    return browser
+
+
+def until(true):
+    end = time.monotonic() + SECONDS
+    while not true():
+        assert time.monotonic() < end, "nothing came"
+        time.sleep(0.05)
+
+
+def place_of_point(browser, name, at):
+    """Where a point of a curve is drawn in the window, by the axes of its plot."""
+    return browser.execute_script(
+        "const plot = document.getElementById(arguments[0] + '-plot'); plot.scrollIntoView({block: 'center'});"
+        "const look = plot._fullLayout, box = plot.getBoundingClientRect(), data = plot.data[0];"
+        "return [box.x + look.xaxis._offset + look.xaxis.d2p(data.x[arguments[1]]), box.y + look.yaxis._offset + look.yaxis.d2p(data.y[arguments[1]])]",
+        name,
+        at,
+    )
+
+
+def move_to(browser, place):
+    for x in (place[0] - 3, place[0]):
+        browser.execute_cdp_cmd("Input.dispatchMouseEvent", {"type": "mouseMoved", "x": x, "y": place[1]})
+        time.sleep(0.12)
+
+
+def test_the_pointer_reads_a_value_off_a_curve(browser, pages):
+    path, report = pages["scan"]
+    decay = report.table("histogram")
+    opened(browser, path)
+    for at in (int(decay.counts.argmax()), 30):
+        move_to(browser, place_of_point(browser, "histogram-1", at))
+        wanted = f"{float(f'{decay.seconds[at] * 1e9:.6g}')!r} ns: {int(decay.counts[at]):,} photons"
+        until(lambda: wanted in browser.execute_script("return [...document.querySelectorAll('#histogram-1 .hovertext')].map(e => e.textContent)"))
+        assert browser.find_element("id", "histogram-1-said").text == wanted
+
+
+def test_the_pointer_reads_a_pixel(browser, pages):
+    path, report = pages["scan"]
+    opened(browser, path)
+    place = browser.execute_script(
+        "const plot = document.getElementById('image-1-plot'); plot.scrollIntoView({block: 'center'});"
+        "const look = plot._fullLayout, box = plot.getBoundingClientRect();"
+        "return [box.x + look.xaxis._offset + look.xaxis.d2p(24), box.y + look.yaxis._offset + look.yaxis.d2p(25)]"
+    )
+    move_to(browser, place)
+    until(lambda: browser.find_element("id", "image-1-said").text == "column 24, row 25: 296 photons")
+
+
+def test_a_hostile_name_runs_nothing(browser, pages):
+    opened(browser, pages["scan"][0])
+    assert browser.title == f"Report of {HOSTILE.rpartition('/')[2]}"
+    assert HOSTILE in browser.find_element("tag name", "header").text
+    assert browser.execute_script("return document.querySelectorAll('img').length") == 0
+    assert [line["message"] for line in browser.get_log("browser") if line["level"] == "SEVERE"] == []
+
+
+def test_the_keys_walk_over_a_curve_and_a_picture(browser, pages):
+    from selenium.webdriver.common.keys import Keys
+
+    path, report = pages["lifetimes"]
+    opened(browser, path)
+    plot = browser.find_element("id", "cube-1-decay-plot")
+    said = browser.find_element("id", "cube-1-decay-said")
+    decay = report.table("cube").counts.sum(axis=(0, 1))
+    for keys, at in ((Keys.HOME, 0), (Keys.ARROW_RIGHT, 1), (Keys.END, 39), (Keys.ARROW_LEFT, 38), (Keys.PAGE_UP, 36)):
+        plot.send_keys(keys)
+        assert said.text.endswith(f" ns: {int(decay[at]):,} photons")
+    picture = browser.find_element("id", "cube-1-image-plot")
+    picture.send_keys(Keys.HOME, Keys.ARROW_DOWN, Keys.ARROW_RIGHT)
+    count = int(report.table("cube").counts[1, 1].sum())
+    assert browser.find_element("id", "cube-1-image-said").text == f"column 1, row 1: {count} photons"
+
+
+def test_the_threshold_hides_pixels_and_the_scale_changes(browser, pages):
+    path, report = pages["lifetimes"]
+    opened(browser, path)
+    shown = "return document.getElementById('cube-1-delays-plot').data[0].z.flat().filter(z => z !== null).length"
+    begin = 4
+    photons = report.table("cube").counts[:, :, begin:].sum(axis=2)
+    for bound in (100, 1):
+        browser.execute_script(
+            "const slider = document.getElementById('cube-1-delays-threshold'); slider.value = arguments[0]; slider.dispatchEvent(new Event('input'))", bound
+        )
+        until(lambda: browser.execute_script(shown) == np.count_nonzero(photons >= bound))
+    assert browser.find_element("id", "cube-1-delays-bound").text == "1"
+    scale = "return document.getElementById('cube-1-decay-plot')._fullLayout.yaxis.type"
+    assert browser.execute_script(scale) == "log"
+    browser.find_element("id", "cube-1-decay-log").click()
+    until(lambda: browser.execute_script(scale) == "linear")
+
+
+def test_both_themes_and_widths(browser, pages):
+    """The theme and the width change while the page is open."""
+    opened(browser, pages["lifetimes"][0])
+    for dark in (False, True):
+        for width in (390, 1000):
+            emulate(browser, dark, width)
+            until(lambda: fits(browser, width) and is_dark(browser) == dark)
+
+
+def fits(browser, width):
+    """The page isn't wider than the window, and no plot reaches out of it."""
+    plots = "[...document.querySelectorAll('.plot, .plot svg')].map(e => e.getBoundingClientRect())"
+    ends = browser.execute_script(f"return {plots}.flatMap(box => [box.left, box.right])")
+    return browser.execute_script("return document.documentElement.scrollWidth") <= width and 0 <= min(ends) and width / 2 < max(ends) <= width
+
+
+def is_dark(browser):
+    """Whether the plot and the page around it have light letters on a dark ground, or None where they differ."""
+    plot = "const look = document.getElementById('cube-1-decay-plot')._fullLayout; return [look.paper_bgcolor, look.font.color]"
+    paper, ink = map(luminance, browser.execute_script(plot))
+    around = browser.execute_script("return getComputedStyle(document.body).backgroundColor")
+    both = {paper < 0.2 < 0.8 < ink, sum(map(int, re.findall(r"\d+", around))) < 150}
+    return both.pop() if len(both) == 1 and abs(paper - ink) > 0.6 else None
+
+
+def luminance(colour):
+    return sum(int(colour[at : at + 2], 16) for at in (1, 3, 5)) / 765
+
+
+def test_without_scripts_there_are_plain_pictures(browser, pages):
+    browser.execute_cdp_cmd("Emulation.setScriptExecutionDisabled", {"value": True})
+    try:
+        browser.get(pages["scan"][0].as_uri())
+        pictures = browser.find_elements("css selector", "img.plain")
+        assert len(pictures) == 3 and all(picture.is_displayed() and picture.size["width"] > 300 for picture in pictures)
+        assert not any(plot.is_displayed() for plot in browser.find_elements("css selector", ".plot"))
+    finally:
+        browser.execute_cdp_cmd("Emulation.setScriptExecutionDisabled", {"value": False})

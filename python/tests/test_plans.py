@@ -1,0 +1,191 @@
+"""Plans that are proposed for files, and what is wrong with plans for files."""
+
+import numpy as np
+import pytest
+
+import made
+from conftest import EXAMPLES
+from made import Bits
+from ptulab.documents import read_plan
+from ptulab.errors import BadFile
+from ptulab.looks import look
+from ptulab.plans import check_plan, plan_for
+from ptulab.program import run
+
+T3 = "HydraHarp2T3"
+SCAN = {"ImgHdr_PixX": 4, "ImgHdr_PixY": 2, "ImgHdr_LineStart": 1, "ImgHdr_LineStop": 2, "ImgHdr_Frame": 3}
+SYNC = 50e-9
+
+
+def scan(dwell):
+    """Two lines of four pixels, with a photon in each pixel of the first line, and one in the last of the second."""
+    ends = 200 + 4 * dwell
+    events = [(200, Bits(5)), *((200 + pixel * dwell, 0, 7) for pixel in range(4)), (ends, Bits(2))]
+    return [*events, (ends + 50, Bits(1)), (ends + 50 + 3 * dwell, 0, 7), (ends + 50 + 4 * dwell, Bits(2))]
+
+
+@pytest.fixture
+def proposed(make_plan, program):
+    """The plan for a file and its report; the plan must be good for it."""
+
+    def propose(path):
+        text = plan_for(path)
+        plan = make_plan(text)
+        assert check_plan(plan, path, program=program) == []
+        return text, run(plan, path, program=program)
+
+    return propose
+
+
+@pytest.mark.parametrize("tags", [{"ImgHdr_TimePerPixel": 32 * SYNC * 1e3}, {}])
+def test_the_plan_of_a_scan(make_file, proposed, tags):
+    text, report = proposed(make_file(T3, scan(32), tick=SYNC, resolution=25e-12, **SCAN, **tags))
+    assert f"lasts 32 sync periods ({'the header' if tags else 'measured'}" in text
+    assert report.table("image").counts.tolist() == [[1, 1, 1, 1], [0, 0, 0, 1]]
+    assert report.table("cube").counts.sum() == report.table("histogram").counts.sum() == 5
+    assert report.table("cube").counts.shape == (2, 4, 125)
+    assert report.table("histogram").counts.shape == (2000,)
+
+
+def test_the_plan_of_a_scan_in_both_directions_with_broken_pixels(make_file, proposed):
+    tags = SCAN | {"ImgHdr_BiDirect": True, "ImgHdr_Frame": -1, "ImgHdr_TimePerPixel": 32.4 * SYNC * 1e3, "ImgHdr_SinCorrection": 70}
+    text, report = proposed(make_file(T3, scan(32), tick=SYNC, **tags))
+    assert "no whole number, so the columns are shifted" in text and "like a sine" in text
+    assert "version = 2\n" in text and "serpentine = true\n" in text and "frame" not in text
+
+
+@pytest.mark.parametrize(
+    ("tags", "said"),
+    [
+        ({"ImgHdr_PixX": 2049}, "2049 times 2 pixels, and an image has up to 2048 times 2048: no image"),
+        ({"ImgHdr_LineStart": 0}, "not which marker begins a line: no image"),
+        ({"ImgHdr_LineStart": 4, "ImgHdr_LineStop": 4}, "not how long a pixel lasts: no image"),
+    ],
+)
+def test_scans_that_no_image_suits(make_file, proposed, tags, said):
+    assert said in proposed(make_file(T3, scan(32), tick=SYNC, **(SCAN | tags)))[0]
+
+
+def test_a_deep_file_of_great_pictures_has_few_bins_a_pixel(make_file, proposed):
+    text, report = proposed(make_file(T3, scan(1), tick=SYNC, resolution=2e-12, **(SCAN | {"ImgHdr_PixX": 2048, "ImgHdr_PixY": 2048})))
+    cube = report.table("cube").settings
+    assert cube["dbins"] == 16 and cube["dbins"] * cube["dwidth"] >= 25000
+
+
+def test_the_plan_of_a_file_of_lifetimes_correlates_it(make_file, proposed):
+    text, report = proposed(make_file("PicoHarpT3", [(time, 1 + time % 2, 9) for time in range(5000)], tick=SYNC, resolution=4e-12))
+    assert {table.kind for table in report.tables} == {"trace", "histogram", "correlation"}
+    assert report.table("correlation").photons == (2500, 2500)
+    assert report.table("correlation").settings == {"lags": 16, "levels": 6}
+    assert report.table("trace").counts.sum() == 5000 and report.table("trace").counts.min() > 0
+
+
+@pytest.mark.parametrize(("tick", "width"), [(1e-12, 501), (4e-12, 125), (25e-12, 21), (250e-12, 1), (1e-9, 1), (None, 501)])
+def test_the_reach_of_two_inputs_suits_the_tick(make_file, proposed, tick, width):
+    text, report = proposed(make_file("HydraHarp2T2", [(0, 0), (1, 1), (500, 2), (600, 3), (10**6, 1)], **({} if tick is None else {"tick": tick})))
+    table = report.table("coincidence").settings
+    assert table["width"] == width and table["reach"] % width == width // 2
+    assert tick is None or table["reach"] * tick == pytest.approx(200e-9, rel=0.05)
+    assert ("a guess" in text) == (tick is None) and "# input 0 is the sync\n" in text
+    assert report.table("correlation").photons == (2, 1)  # of the inputs 1 and 2, not of the sync
+    assert report.table("trace").counts.sum() == 5
+
+
+def test_the_plan_of_one_input_correlates_it_with_itself(make_file, proposed):
+    text, report = proposed(make_file("MultiHarpT2", [(n * 1000, 4) for n in range(100)], tick=5e-12))
+    assert {table.kind for table in report.tables} == {"trace", "correlation"}
+    assert report.table("correlation").photons == (100, 100)
+
+
+def test_late_events_and_no_photons(make_file, proposed):
+    assert plan_for(make_file(T3, [(3, Bits(1))])) == "# no photons\n"
+    assert "# 1 events are late: with version = 2, try settle" in plan_for(make_file(T3, [(9, 0, 1), (5, 0, 1), (9, 0, 1)]))
+
+
+def test_no_plan_for_a_file_that_is_refused(tmp_path):
+    (tmp_path / "bad.ptu").write_text("no such file")
+    with pytest.raises(BadFile, match="not a PTU file"):
+        plan_for(tmp_path / "bad.ptu")
+
+
+def test_a_look_at_a_file(make_file, monkeypatch):
+    monkeypatch.setattr("ptulab.looks.iter_events", lambda path: __import__("ptulab").iter_events(path, records=3))
+    seen = look(make_file(T3, [*scan(10), (5, 3, 99), (900, 3, 98)]))
+    assert seen.inputs == {0: 5, 3: 2} and seen.bits == {1: 2, 2: 2, 3: 1}
+    assert (seen.first, seen.last, seen.length, seen.late, seen.deepest) == (200, 900, 700, 1, 98)
+    assert seen.marks[0].tolist() == [200, 240, 290, 330] and seen.marks[1].tolist() == [5, 2, 1, 2]
+    assert seen.periods_of_line(1, 2) == 40 and seen.periods_of_line(1, 1) == 90 and seen.periods_of_line(1, 4) is None
+
+
+def test_lines_without_an_end_are_left_out():
+    seen = look(EXAMPLES / "scan.ptu")
+    assert seen.periods_of_line(1, 3) == 300 * 64
+    seen.marks = (np.array([0, 100, 140]), np.array([1, 1, 2], dtype=np.uint8))
+    assert seen.periods_of_line(1, 2) == 40
+
+
+GROUP = "group = [{ inputs = [0] }]\n"
+
+
+@pytest.mark.parametrize(
+    ("plan", "part", "key", "said"),
+    [
+        ("group = [{ inputs = [0, 7] }]", "group 1", "inputs", "input 7 doesn't occur in the file; these do: 0"),
+        (GROUP + "image = [{ group = 1, width = 4, height = 2, dwell = 32, line = 4 }]", "image 1", "line", "marker bit doesn't occur"),
+        (GROUP + "image = [{ group = 1, width = 2, height = 2, dwell = 32, line = 1 }]", "image 1", "dwell", "3 of 5 photons have no place"),
+        (GROUP + "startstop = [{ start = 1, stop = 1, width = 1, bins = 1 }]", "startstop 1", "startstop", "doesn't suit T3"),
+        (GROUP + "histogram = [{ group = 1, width = 1, bins = 7 }]", "histogram 1", "bins", "5 of 5 photons are past the last bin"),
+        (GROUP + "trace = [{ group = 1, width = 1, bins = 9, origin = 205 }]", "trace 1", "bins", "4 of 5 photons come behind"),
+        (GROUP + "trace = [{ group = 1, width = 900, bins = 9, origin = 205 }]", "trace 1", "origin", "1 of 5 photons come before"),
+        (GROUP + "trace = [{ group = 1, width = 1, bins = 1, origin = 9999 }]", "trace 1", "origin", "behind the last event, at 506"),
+        (GROUP + "correlation = [{ first = 1, second = 1, lags = 16, levels = 9 }]", "correlation 1", "levels", "up to 4,096, and the file is only 306"),
+        ("version = 2\nperiod = 9\nshift = [{ input = 5, shift = 1 }]\n" + GROUP, "shift 1", "input", "input 5 doesn't occur"),
+    ],
+)
+def test_what_does_not_go_with_a_file(make_file, make_plan, program, plan, part, key, said):
+    found = check_plan(make_plan(plan), make_file(T3, scan(32), tick=SYNC), program=program)
+    assert (part, key) in [(one.part, one.key) for one in found]
+    assert any(said in str(one) for one in found if one.key == key), list(map(str, found))
+    assert [one.refused for one in found if one.key == "startstop"] == ([True] if part == "startstop 1" else [])
+
+
+def test_gates_want_dtimes(make_file, make_plan, ptu):
+    path = make_file("HydraHarp2T2", [(1, 1)])
+    plan = make_plan("group = [{ inputs = [1], gate = [0, 5] }]")
+    assert ptu("run", plan, path).returncode == 9
+    assert [(str(one), one.refused) for one in check_plan(plan, path)] == [
+        ("group 1: a gate doesn't suit T2, where photons have no dtime", True)
+    ]
+
+
+@pytest.mark.parametrize(("reach", "width", "keys"), [(10, 3, []), (10, 4, ["reach", "width"]), (11, 3, ["reach"]), (4, 9, [])])
+def test_cells_of_coincidences(make_plan, reach, width, keys):
+    plan = make_plan(f"group = [{{ inputs = [1] }}]\ncoincidence = [{{ first = 1, second = 1, reach = {reach}, width = {width} }}]")
+    found = check_plan(plan)
+    assert [one.key for one in found] == keys and not any(one.refused for one in found)
+    for one in found:
+        better = dict(part.split(" = ") for part in str(one).rpartition("take ")[2].split(" and "))
+        again = make_plan(plan.read_text().replace(f"reach = {reach}, width = {width}", ", ".join(f"{k} = {v}" for k, v in better.items())))
+        assert check_plan(again) == []
+        make_plan(plan.read_text())
+
+
+def test_a_plan_with_a_mark_in_front_and_late_events(make_file, make_plan, program):
+    path = make_file(T3, [(9, 0, 1), (5, 0, 1), (9, 0, 1)])
+    plan = make_plan("")
+    plan.write_bytes(b"\xef\xbb\xbf" + GROUP.encode())
+    assert [str(one) for one in check_plan(plan, path, program=program)] == ["the file: 1 events are late, and in no table: try settle in version 2"]
+    assert check_plan(plan.read_bytes()) == []
+    plan.write_text(GROUP + 'order = "stop"\n')
+    (refused,) = check_plan(plan, path, program=program)
+    assert refused.refused and "goes back from 9 to 5" in str(refused)
+
+
+def test_a_check_without_a_program_says_so(make_file, make_plan, tmp_path):
+    (warning,) = check_plan(make_plan(GROUP), make_file(T3, [(9, 0, 1)]), program=tmp_path / "none")
+    assert "weren't counted" in str(warning) and not warning.refused
+
+
+def test_the_proposed_plan_is_a_document():
+    assert read_plan(plan_for(EXAMPLES / "scan.ptu").encode())["group"] == [{"inputs": [0]}]
+    assert made.CODES["HydraHarp2T3"] == 0x01010304

@@ -1,0 +1,170 @@
+"""Runs of the program: reports, refusals with their words, and the bar of the bytes that were read."""
+
+import io
+import os
+import pickle
+import sys
+import time
+from collections.abc import Callable
+from pathlib import Path
+from typing import Any
+
+import made
+import pytest
+import words_of_documents
+from conftest import EXAMPLES
+
+import ptulab
+from ptulab import BadReport, Missing, NoProgram, Refusal, program as module
+from ptulab.optional import want
+
+SCAN = EXAMPLES / "scan.toml", EXAMPLES / "scan.ptu"
+
+
+def script(folder: Path, text: str) -> Path:
+    """A program in the place of ptu."""
+    path = folder / "other"
+    path.write_text(f"#!{sys.executable}\n{text}")
+    path.chmod(0o755)
+    return path
+
+
+def test_the_report_is_that_of_the_program(program: str, ptu: Callable[..., Any]) -> None:
+    report = ptulab.run(*SCAN, program=program)
+    read = ptulab.read_report(ptu("run", *SCAN).stdout, SCAN[0])
+    assert report.head == read.head and len(report.tables) == len(read.tables) == 3
+    assert all((a.counts == b.counts).all() and a.groups == b.groups == (1,) for a, b in zip(report.tables, read.tables))
+
+
+def test_refusals_say_what_the_documents_say(program: str, make_plan: Callable[..., Path], make_file: Callable[..., Path]) -> None:
+    plan, data = make_plan("order = 'stop'\n"), make_file("HydraHarp2T3", [(20, 1), (15, 1)])
+    with pytest.raises(Refusal) as fault:
+        ptulab.run(EXAMPLES / "broken.toml", data, program=program)
+    assert (fault.value.status, fault.value.line) == (8, "ptu: plan breaks rule 10 at 2")
+    assert fault.value.meaning.startswith("A group's `gate`, if it is there, is a list of two whole numbers from 0 to 32768")
+    with pytest.raises(Refusal, match=r"status 19") as fault:
+        ptulab.run(plan, data, program=program)
+    assert fault.value.line == "ptu: record 2 goes back from 20 to 15" and fault.value.meaning.startswith("a late event")
+    with pytest.raises(Refusal, match="PLAN can't be opened"):
+        ptulab.run("nothing.toml", data, program=program)
+    with pytest.raises(Refusal, match="FILE can't be opened"):
+        ptulab.run(plan, "nothing.ptu", program=program)
+    with pytest.raises(Refusal, match="a read of FILE failed"):
+        ptulab.run(plan, plan.parent, program=program)
+    with pytest.raises(Refusal, match="no TOML document"):
+        ptulab.run(make_plan("= 5"), data, program=program)
+
+
+def test_words_are_those_of_the_documents() -> None:
+    words = words_of_documents.words()
+    assert words == module._words()
+    assert sorted(map(int, words["rules"])) == list(range(1, 32)) and sorted(map(int, words["statuses"])) == list(range(1, 25))
+    assert module.refusal(8, "ptu: plan breaks rule 31 at 1").meaning == words["rules"]["31"]
+    assert module.refusal(127, "no status of the program").meaning == ""
+    assert module.refusal(-9, "").meaning == "signal 9 ended the program"
+
+
+def test_exceptions_go_through_processes() -> None:
+    for fault in (Refusal(8, "a", "b"), ptulab.BadFile(10, "a", "b")):
+        copy = pickle.loads(pickle.dumps(fault))
+        assert type(copy) is type(fault) and str(copy) == str(fault) and vars(copy) == vars(fault)
+
+
+def test_a_bar_of_the_bytes(monkeypatch: pytest.MonkeyPatch, program: str, capsys: pytest.CaptureFixture[str]) -> None:
+    pytest.importorskip("tqdm")
+    ptulab.run(*SCAN, program=program, progress=True)
+    said = capsys.readouterr().err
+    assert "scan.ptu" in said and "100%" in said and "403k/403k" in said
+
+
+def test_the_position_of_a_file_that_is_read(tmp_path: Path) -> None:
+    """A bar goes on while the program reads, and no further where it is refused."""
+    tqdm = pytest.importorskip("tqdm")
+    (tmp_path / "data").write_bytes(b"\0" * 1000)
+    slow = "import sys, time\nwith open(sys.argv[3], 'rb', buffering=0) as file:\n    file.read(300)\n    time.sleep(1.5)\nsys.exit(10)\n"
+    seen: list[int] = []
+
+    class Bar(tqdm.tqdm):  # type: ignore[misc]
+        def update(self, n: float = 1) -> bool | None:
+            seen.append(int(self.n + n))
+            return bool(super().update(n))
+
+    monkeypatch = pytest.MonkeyPatch()
+    with monkeypatch.context() as patch, pytest.raises(Refusal):
+        patch.setattr(tqdm, "tqdm", lambda **words: Bar(file=io.StringIO(), **words))
+        ptulab.run("plan", tmp_path / "data", program=script(tmp_path, slow), progress=True)
+    assert max(seen) == 300
+
+
+def test_a_bar_without_tqdm(monkeypatch: pytest.MonkeyPatch, program: str) -> None:
+    monkeypatch.setitem(sys.modules, "tqdm", None)
+    assert ptulab.run(*SCAN, program=program).head.photons == 97492
+    with pytest.raises(Missing, match=r"the progress of a run needs tqdm: install python3-tqdm \(Debian\), or the extra ptulab\[many\]"):
+        ptulab.run(*SCAN, program=program, progress=True)
+
+
+def test_libraries_that_are_there_and_not() -> None:
+    assert want("json", "a test") is sys.modules["json"]
+    with pytest.raises(Missing, match="a test needs nosuchlibrary"):
+        want("nosuchlibrary.part", "a test")
+    assert issubclass(Missing, ImportError)
+
+
+def test_a_library_that_is_broken_says_so_itself(tmp_path: Path, monkeypatch: pytest.MonkeyPatch) -> None:
+    (tmp_path / "brokenlibrary.py").write_text("import nosuchlibrary\n")
+    monkeypatch.syspath_prepend(tmp_path)
+    with pytest.raises(ModuleNotFoundError, match="nosuchlibrary") as fault:
+        want("brokenlibrary", "a test")
+    assert not isinstance(fault.value, Missing)
+
+
+def test_where_the_program_is(tmp_path: Path, monkeypatch: pytest.MonkeyPatch) -> None:
+    path = script(tmp_path, "")
+    assert module.find_program(path) == str(path)
+    monkeypatch.setenv("PTU", str(path))
+    assert module.find_program() == str(path)
+    monkeypatch.chdir(tmp_path)
+    assert module.find_program("other") == str(path)
+    for named in ("nothing", tmp_path / "nothing", tmp_path):
+        with pytest.raises(NoProgram):
+            module.find_program(named)
+    monkeypatch.setenv("PATH", str(tmp_path))
+    monkeypatch.chdir("/")
+    assert module.find_program("other") == str(path)
+
+
+def test_a_program_that_answers_otherwise(tmp_path: Path) -> None:
+    with pytest.raises(BadReport):
+        ptulab.run("plan", "data", program=script(tmp_path, "print('something else' * 100_000)"))
+    with pytest.raises(Refusal, match="signal 9"):
+        ptulab.run("plan", "data", program=script(tmp_path, "import os\nos.kill(os.getpid(), 9)"))
+
+
+def test_an_interrupted_run_leaves_no_process(tmp_path: Path, monkeypatch: pytest.MonkeyPatch) -> None:
+    sleeper = script(tmp_path, "import os, time\nopen('pid', 'w').write(str(os.getpid()))\ntime.sleep(60)")
+    monkeypatch.chdir(tmp_path)
+
+    def interrupted(*words: Any) -> None:
+        while not (tmp_path / "pid").exists() or not (tmp_path / "pid").read_text():
+            time.sleep(0.01)
+        raise KeyboardInterrupt
+
+    monkeypatch.setattr(module, "read_stream", interrupted)
+    with pytest.raises(KeyboardInterrupt):
+        ptulab.run("plan", "data", program=sleeper)
+    with pytest.raises(ProcessLookupError):
+        os.kill(int((tmp_path / "pid").read_text()), 0)
+
+
+def test_a_file_from_a_pipe(tmp_path: Path, program: str, make_plan: Callable[..., Path]) -> None:
+    """Where a file's length isn't known the run is the same."""
+    pytest.importorskip("tqdm")
+    made.write(tmp_path / "data.ptu", "HydraHarp2T3", [(20, 1)])
+    os.mkfifo(tmp_path / "pipe")
+    child = os.fork()
+    if child == 0:
+        (tmp_path / "pipe").write_bytes((tmp_path / "data.ptu").read_bytes())
+        os._exit(0)
+    report = ptulab.run(make_plan(""), tmp_path / "pipe", program=program, progress=True)
+    os.waitpid(child, 0)
+    assert report.head.photons == 1

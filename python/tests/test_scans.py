@@ -1,0 +1,184 @@
+from fractions import Fraction
+
+import made
+import numpy as np
+import pytest
+import random_events
+from conftest import EXAMPLES
+from hypothesis import given, settings
+from hypothesis import strategies as st
+
+import ptulab
+from ptulab.groups import Group, photons_of, shifted
+from ptulab.scans import Scan, best_phase, cube, image, lines_of
+
+BITS = st.one_of(st.none(), st.integers(1, 4))
+
+
+@pytest.fixture(scope="session")
+def folder(tmp_path_factory):
+    return tmp_path_factory.mktemp("scans")
+
+
+def counted(program, folder, plan, events):
+    """What ptu counts by a plan, and the events, of a file of these events."""
+    (folder / "plan.toml").write_text("version = 2\n" + plan)
+    path = made.write(folder / "data.ptu", "HydraHarp2T3", events, tick=1e-8, resolution=1e-11)
+    return ptulab.run(folder / "plan.toml", path, program=program), ptulab.read_events(path)
+
+
+def keys(width, height, dwell, line, frame, stop, serpentine):
+    """The keys of an image of a plan."""
+    said = {"group": 1, "width": width, "height": height, "dwell": dwell, "line": line, "frame": frame, "stop": stop}
+    told = [f"{key} = {value}" for key, value in said.items() if value is not None]
+    return ", ".join([*told, f"serpentine = {str(serpentine).lower()}"])
+
+
+@settings(max_examples=80, deadline=None)
+@given(
+    random_events.scans, st.integers(1, 6), st.integers(1, 4), st.integers(1, 9), st.integers(1, 4), BITS, BITS, st.booleans()
+)
+def test_whole_pixel_times_are_counted_as_ptu_does(program, folder, events, width, height, dwell, line, frame, stop, serpentine):
+    said = keys(width, height, dwell, line, frame, stop, serpentine)
+    plan = f"group = [{{ inputs = [0, 2], gates = [[0, 9], [12, 40]] }}]\nimage = [{{ {said} }}]\n"
+    plan += f"cube = [{{ {said}, dwidth = 7, dbins = 4 }}]\n"
+    report, events = counted(program, folder, plan, events)
+    scan = Scan(width, height, line, stop, frame, width * dwell, serpentine)
+    group = Group((0, 2), ((0, 9), (12, 40)))
+    ours, table = image(events, scan, group), report.table("image")
+    assert (ours.counts == table.counts).all() and ours.outside == table.rest["outside"]
+    ours, table = cube(events, scan, 7, 4, group), report.table("cube")
+    assert (ours.counts == table.counts).all() and (ours.ticks == table.ticks).all()
+    assert {"outside": ours.outside, "over": ours.over} == table.rest
+    framed = image(events, Scan(width, height, line, stop, frame, width * dwell, serpentine, frames=True), group)
+    assert (framed.counts.sum(axis=0) == report.table("image").counts).all() and framed.outside == table.rest["outside"]
+
+
+def has(event, bit):
+    return bit is not None and isinstance(event[1], made.Bits) and event[1] >> bit - 1 & 1
+
+
+def place(events, at, scan):
+    """The frame, row and column of a photon, by looking at all markers before it, or None."""
+    line = max((i for i in range(at) if has(events[i], scan.line)), default=None)
+    if line is None or any(has(event, scan.stop) for event in events[line + 1 : at]):
+        return None
+    number = sum(bool(has(event, scan.line)) for event in events[:line])
+    frame, row = number // scan.height, number % scan.height
+    if scan.frame:
+        begin = max((i for i in range(line + 1) if has(events[i], scan.frame)), default=None)
+        if begin is None:
+            return None
+        frame = sum(bool(has(event, scan.frame)) for event in events[: line + 1]) - 1
+        row = sum(bool(has(event, scan.line)) for event in events[begin:line])
+    start, time = events[line][0], scan.time
+    if time is None:
+        end = next((event for event in events[line + 1 :] if has(event, scan.stop) or has(event, scan.line)), None)
+        if end is None or not has(end, scan.stop) or end[0] == start:
+            return None
+        time = end[0] - start
+    back = scan.serpentine and (number if scan.serpentine == "lines" else row) % 2 == 1
+    since = Fraction(events[at][0] - start) - (Fraction(scan.phase) if back else 0)
+    column = since * scan.width // Fraction(str(time))
+    if not 0 <= column < scan.width or row >= scan.height:
+        return None
+    return frame, row, scan.width - 1 - column if back else column
+
+
+@settings(max_examples=120, deadline=None)
+@given(
+    random_events.scans.map(lambda events: sorted(events, key=lambda event: event[0])),
+    st.integers(1, 4),
+    BITS,
+    st.integers(1, 4),
+    st.one_of(st.none(), st.sampled_from([4.2, 8.4, 33.75, 0.5, 60])),
+    st.sampled_from([False, True, "lines"]),
+    st.sampled_from([0, 1.5, -2.25, 3]),
+)
+def test_every_photon_is_in_its_place(folder, events, line, frame, stop, time, serpentine, phase):
+    scan = Scan(5, 3, line, stop, frame, time, serpentine, phase, frames=True)
+    path = made.write(folder / "fractions.ptu", "HydraHarp2T3", events)
+    photons = [at for at, event in enumerate(events) if not isinstance(event[1], made.Bits)]
+    places = [place(events, at, scan) for at in photons]
+    ours = image(path, scan)
+    expected = np.zeros(ours.counts.shape, np.uint64)
+    for one in places:
+        if one is not None:
+            expected[one] += 1
+    assert (ours.counts == expected).all() and ours.outside == places.count(None)
+
+
+def test_pixels_of_no_whole_time_are_not_displaced(make_file):
+    """512 pixels of 8.4 periods, a photon in the middle of each: one in each column, and displaced by a whole time of 8."""
+    photons = [(100 + int(8.4 * (column + 0.5)), 0) for column in range(512)]
+    path = make_file("HydraHarp2T3", [(100, made.Bits(1)), *photons, (100 + 4301, made.Bits(2))])
+    assert (image(path, Scan(512, 1, 1, stop=2)).counts == 1).all()
+    assert (image(path, Scan(512, 1, 1, time=4300.8)).counts == 1).all()
+    displaced = image(path, Scan(512, 1, 1, time=8 * 512))
+    assert displaced.outside == 24 and displaced.counts.min() == 0
+
+
+def test_columns_of_the_scan_stay_in_place(program):
+    """The example's scan, by its markers' own time of a line: the sum of each row is that of ptu's image."""
+    report = ptulab.run(EXAMPLES / "scan.toml", EXAMPLES / "scan.ptu", program=program)
+    events = ptulab.read_events(EXAMPLES / "scan.ptu")
+    ours = image(events, Scan(64, 64, 1, stop=3, frame=2, frames=True))
+    assert ours.counts.shape == (2, 64, 64) and ours.global_seconds == events.header.global_seconds
+    assert (ours.counts.sum(axis=0) == report.table("image").counts).all()
+
+
+def two_ways(late):
+    """Three frames of five lines to and fro of 40 periods, with two bright places; those backwards are late."""
+    events, pixels = [], 10
+    for number in range(15):
+        start = 100 * number
+        shift = late if number % 2 else 0
+        bright = [column if number % 2 == 0 else pixels - 1 - column for column in (2, 3, 7)]
+        events += [(start, made.Bits(1)), *((start + 4 * column + 1 + shift, 0, 5) for column in sorted(bright)), (start + 40 + late, made.Bits(2))]
+    return events
+
+
+def test_a_phase_of_both_directions_is_found(make_file):
+    path = make_file("HydraHarp2T3", two_ways(6))
+    scan = Scan(10, 5, 1, stop=2, time=40, serpentine="lines")
+    phase = best_phase(path, scan, np.arange(0, 12.0))
+    assert 3 < phase <= 7
+    counts = image(path, Scan(10, 5, 1, stop=2, time=40, serpentine="lines", phase=phase)).counts
+    assert (counts == np.array([0, 0, 3, 3, 0, 0, 0, 3, 0, 0])).all()
+    with pytest.raises(ValueError, match="both directions"):
+        best_phase(path, Scan(10, 5, 1, time=40), np.arange(3.0))
+
+
+def test_lines_tell_their_markers(make_file):
+    path = make_file("HydraHarp2T3", [(5, made.Bits(1)), (10, made.Bits(3)), (30, made.Bits(2)), (40, made.Bits(1)), (41, 0)])
+    lines = lines_of(ptulab.read_events(path), Scan(4, 2, 1, stop=2))
+    assert lines["start"].tolist() == [5, 10, 40] and lines["length"].tolist() == [5, 20, 0]
+    assert lines["row"].tolist() == [0, 1, 0] and lines["frame"].tolist() == [0, 0, 1]
+
+
+def test_empty_files_give_empty_images(make_file):
+    path = make_file("HydraHarp2T3", [])
+    assert image(path, Scan(3, 2, 1, time=9)).counts.sum() == 0
+    assert cube(path, Scan(3, 2, 1, time=9, frames=True), 5, 4).counts.shape == (0, 2, 3, 4)
+    assert len(photons_of(path)) == 0 and len(photons_of(ptulab.read_events(path), 1)) == 0
+
+
+def test_settings_that_no_scan_has_are_refused(make_file):
+    for bad in ({"width": 0}, {"line": 5}, {"stop": 0}, {"time": None}, {"time": -1.0}, {"time": float("nan")}):
+        with pytest.raises(ValueError):
+            Scan(**({"width": 4, "height": 4, "line": 1, "time": 9} | bad))
+    path = make_file("HydraHarp2T3", [(5, made.Bits(1)), (7, 0)])
+    with pytest.raises(ValueError, match="too long"):
+        image(path, Scan(4, 4, 1, time=2.0**62))
+    with pytest.raises(ValueError, match="bins"):
+        cube(path, Scan(4, 4, 1, time=9), 0, 4)
+
+
+def test_shifts_are_those_of_a_plan(program, folder):
+    events = [(1, 0, 3), (2, 1, 90), (3, 1, 4), (3, made.Bits(1)), (4, 2, 99)]
+    plan = "period = 100\nshift = [{ input = 1, shift = 85 }]\ngroup = [{ inputs = [0, 1, 2] }]\n"
+    report, events = counted(program, folder, plan + "histogram = [{ group = 1, width = 1, bins = 100 }]\n", events)
+    dtimes = photons_of(shifted(events.array, {1: 85}, 100))["dtime"]
+    assert (np.bincount(dtimes, minlength=100) == report.table("histogram").counts).all()
+    with pytest.raises(ValueError):
+        shifted(events.array, {}, 0)

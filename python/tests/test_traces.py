@@ -1,0 +1,52 @@
+"""What `ptu trace` prints, as arrays."""
+
+from collections.abc import Callable
+from pathlib import Path
+from typing import Any
+
+import numpy as np
+import pytest
+from conftest import EXAMPLES
+
+import ptulab
+from ptulab import BadReport
+
+LINES = ["trace 1 origin 10 width 5", "0 2", "1 1", "198 1", "before 1", "frequency 0 196", "frequency 1 2", "frequency 2 1", "above 0", ""]
+
+
+def test_a_trace(tmp_path: Path) -> None:
+    (tmp_path / "trace.txt").write_text("\n".join(LINES))
+    for source in (tmp_path / "trace.txt", "\n".join(LINES), "\n".join(LINES).encode()):
+        trace = ptulab.read_trace(source)
+        assert (trace.origin, trace.width, trace.before, trace.above) == (10, 5, 1, 0)
+        assert trace.ticks.tolist() == [10, 15, 1000] and trace.counts.tolist() == [2, 1, 1]
+        assert trace.frequencies is not None and trace.frequencies[:4].tolist() == [196, 2, 1, 0]
+        assert trace.frequencies.sum() + trace.above == trace.bins[-1] + 1
+
+
+@pytest.mark.parametrize("many", [1, 3, 5, 7])
+def test_a_trace_that_was_cut(many: int) -> None:
+    trace = ptulab.read_trace("\n".join([*LINES[:many], ""]))
+    assert trace.bins.tolist() == [0, 1, 198][: many - 1] and trace.frequencies is None and trace.above is None
+
+
+@pytest.mark.parametrize("text", ["", "trace 1 origin 10\n", "\n".join(LINES[:3]), "\n".join([LINES[0], "x 1", ""]), "\n".join([*LINES, "1 1", ""])])
+def test_texts_that_are_no_trace(text: str) -> None:
+    with pytest.raises(BadReport):
+        ptulab.read_trace(text.encode())
+
+
+@pytest.mark.parametrize("number", ["1024", "9" * 30])
+def test_numbers_that_no_trace_has(number: str) -> None:
+    for line in (5, 1):
+        text = [*LINES]
+        text[line] = text[line].replace(" 0 " if line == 5 else "0 ", f" {number} " if line == 5 else f"{'9' * 30} ")
+        with pytest.raises(BadReport):
+            ptulab.read_trace("\n".join(text))
+
+
+def test_a_trace_of_the_scan(ptu: Callable[..., Any]) -> None:
+    trace = ptulab.read_trace(ptu("trace", EXAMPLES / "scan.toml", EXAMPLES / "scan.ptu").stdout)
+    report = ptulab.read_report(ptu("run", EXAMPLES / "scan.toml", EXAMPLES / "scan.ptu").stdout).table("trace")
+    assert np.array_equal(report.counts[trace.bins], trace.counts) and trace.counts.sum() + (trace.before or 0) == 97492
+    assert np.array_equal(report.ticks[trace.bins], trace.ticks)
