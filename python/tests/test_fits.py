@@ -1,3 +1,5 @@
+import sys
+
 import made
 import numpy as np
 import pytest
@@ -197,6 +199,12 @@ def test_g2_of_what_has_none(program, tmp_path, make_file):
             call()
     empty = fits.g2(coincidences(path, 3, 4, 2))
     assert np.isnan(empty[0]).all()
+
+
+def test_lmfit_is_named_where_it_is_missing(monkeypatch):
+    monkeypatch.setitem(sys.modules, "lmfit", None)
+    with pytest.raises(ptulab.Missing, match="python3-lmfit"):
+        fits.fit_tail(np.arange(10, 0, -1), np.arange(10.0), 0)
 
 
 def test_fits_that_cannot_be():

@@ -1,3 +1,5 @@
+import sys
+
 import made
 import matplotlib
 import numpy as np
@@ -135,6 +137,12 @@ def test_phasors_and_bursts():
     both = plots.plot_fret(fret(*counts))
     assert labels(both) == ("E", "S") and bar(both) == ["bursts a bin"]
     assert labels(plots.plot_fret(fret(*counts[:2]))) == ("E", "bursts a bin")
+
+
+def test_matplotlib_is_named_where_it_is_missing(monkeypatch):
+    monkeypatch.setitem(sys.modules, "matplotlib.pyplot", None)
+    with pytest.raises(ptulab.Missing, match="python3-matplotlib"):
+        plots.plot_decay(np.ones(3))
 
 
 def test_units_keep_numbers_short():

@@ -31,7 +31,8 @@ class Scan:
       denominator of at most a million. None: each line lasts from its own marker to its stop marker.
     - ``serpentine``: True where the odd rows of a frame, counted from 0, run backwards, and ``"lines"`` where the odd
       lines of the file do, so that the direction goes on from frame to frame.
-    - ``phase``: how many sync periods the lines that run backwards are late; it is taken off the times in them.
+    - ``phase``: how many sync periods the lines that run backwards are late; it is taken off the times in them, as the
+      nearest fraction with a denominator of at most a thousand.
     - ``frames``: whether frames are an axis of the counts; else they are laid one on the other.
 
     Raises ``ValueError`` for settings that no scan has.
