@@ -68,6 +68,7 @@ def test_hostile_names_and_plans_stay_texts(small, tmp_path):
     assert "\x00" not in "".join(elements.texts)
 
 
+@pytest.mark.filterwarnings("ignore:Glyph")
 def test_labels_of_figures_are_escaped_too(small):
     curve = Curve(HOSTILE, HOSTILE, HOSTILE, np.arange(3.0), np.arange(3.0), HOSTILE, HOSTILE, HOSTILE, HOSTILE, names=[HOSTILE] * 3, log=True)
     text = document.whole_page(HOSTILE, [(HOSTILE, HOSTILE)], HOSTILE, HEAD, [curve], "/* plotly */")
