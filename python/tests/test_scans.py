@@ -9,8 +9,11 @@ from hypothesis import given, settings
 from hypothesis import strategies as st
 
 import ptulab
+from ptulab import groups
 from ptulab.groups import Group, photons_of, shifted
+from ptulab.pulsed import coincidences
 from ptulab.scans import Scan, best_phase, cube, image, lines_of
+from ptulab.segments import window
 
 BITS = st.one_of(st.none(), st.integers(1, 4))
 
@@ -182,3 +185,22 @@ def test_shifts_are_those_of_a_plan(program, folder):
     assert (np.bincount(dtimes, minlength=100) == report.table("histogram").counts).all()
     with pytest.raises(ValueError):
         shifted(events.array, {}, 0)
+
+
+@settings(max_examples=40, deadline=None)
+@given(random_events.scans, st.integers(1, 20), st.booleans())
+def test_pieces_of_a_file_are_put_together(folder, events, piece, by_path):
+    """Images, pairs, windows and groups are the same however the file falls into pieces."""
+    path = made.write(folder / "pieces.ptu", "HydraHarp2T3", events)
+    read = ptulab.read_events(path)
+    scan = Scan(5, 4, 1, stop=2, frame=3, serpentine=True, phase=1.5, frames=True)
+
+    def counted(source):
+        pairs, found = coincidences(source, 0, (1, 2), 9), cube(source, scan, 9, 3, (0, 1))
+        whole = [image(source, scan).counts, image(source, scan).outside, found.counts, found.outside, found.over]
+        return [*whole, pairs.pairs, pairs.length, photons_of(source, 1), window(source, 20, 300), lines_of(source, scan)]
+
+    with pytest.MonkeyPatch.context() as patch:
+        patch.setattr(groups, "PIECE", piece)
+        parts = counted(path if by_path else read)
+    assert all(np.array_equal(one, other) for one, other in zip(parts, counted(read), strict=True))
