@@ -12,7 +12,7 @@ import ptulab
 from ptulab import groups
 from ptulab.groups import Group, photons_of, shifted
 from ptulab.pulsed import coincidences
-from ptulab.scans import Scan, best_phase, cube, image, lines_of
+from ptulab.scans import Scan, best_phase, cube, image, lines_of, scan_of
 from ptulab.segments import window
 
 BITS = st.one_of(st.none(), st.integers(1, 4))
@@ -150,6 +150,25 @@ def test_a_phase_of_both_directions_is_found(make_file):
     assert (counts == np.array([0, 0, 3, 3, 0, 0, 0, 3, 0, 0])).all()
     with pytest.raises(ValueError, match="both directions"):
         best_phase(path, Scan(10, 5, 1, time=40), np.arange(3.0))
+
+
+HEADER = {"ImgHdr_PixX": 512, "ImgHdr_PixY": 256, "ImgHdr_LineStart": 1, "ImgHdr_LineStop": 2, "ImgHdr_Frame": 3, "ImgHdr_BiDirect": True}
+
+
+def test_the_header_tells_of_a_scan(make_file):
+    def told(tags, **other):
+        return scan_of(ptulab.read_header(make_file("HydraHarp2T3", [], tick=5e-8, **tags)), **other)
+
+    assert told(HEADER) == Scan(512, 256, 1, stop=2, frame=3, serpentine=True)
+    assert told(HEADER, phase=3.5, frames=True).phase == 3.5 and told(HEADER, height=4).height == 4
+    less = {"ImgHdr_PixX": 512, "ImgHdr_PixY": 256, "ImgHdr_LineStart": 1, "ImgHdr_LineStop": -1}
+    assert told(less | {"ImgHdr_TimePerPixel": 8.4 * 5e-5}).time == pytest.approx(4300.8)
+    assert told(less, time=99) == Scan(512, 256, 1, time=99)
+    with pytest.raises(ValueError, match="the time of a line"):
+        told(less)
+    for tag in ("PixX", "PixY", "LineStart"):
+        with pytest.raises(ptulab.NotKnown, match=f"ImgHdr_{tag}"):
+            told({name: value for name, value in HEADER.items() if name != f"ImgHdr_{tag}"})
 
 
 def test_lines_tell_their_markers(make_file):
