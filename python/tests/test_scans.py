@@ -37,7 +37,7 @@ def keys(width, height, dwell, line, frame, stop, serpentine):
     return ", ".join([*told, f"serpentine = {str(serpentine).lower()}"])
 
 
-@settings(max_examples=80, deadline=None)
+@settings(max_examples=60, deadline=None)
 @given(
     random_events.scans, st.integers(1, 6), st.integers(1, 4), st.integers(1, 9), st.integers(1, 4), BITS, BITS, st.booleans()
 )
@@ -88,7 +88,7 @@ def place(events, at, scan):
     return frame, row, scan.width - 1 - column if back else column
 
 
-@settings(max_examples=120, deadline=None)
+@settings(max_examples=80, deadline=None)
 @given(
     random_events.scans.map(lambda events: sorted(events, key=lambda event: event[0])),
     st.integers(1, 4),
