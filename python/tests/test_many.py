@@ -89,7 +89,11 @@ def test_files_by_dask_with_a_scheduler_and_three_workers(folder, program):
         for one in reversed(started):
             one.terminate()
         for one in started:
-            one.wait(30)
+            try:
+                one.wait(5)
+            except subprocess.TimeoutExpired:  # a worker that was just told of the scheduler's end may wait for it
+                one.kill()
+                one.wait()
 
 
 def test_without_dask_it_says_what_to_install(folder, program, monkeypatch):
