@@ -194,6 +194,11 @@ def test_settings_that_no_scan_has_are_refused(make_file):
         image(path, Scan(4, 4, 1, time=2.0**62))
     with pytest.raises(ValueError, match="bins"):
         cube(path, Scan(4, 4, 1, time=9), 0, 4)
+    for wrong in (65, [-1], [0, 300]):
+        with pytest.raises(ValueError, match="inputs are 0 to 64"):
+            image(path, Scan(4, 4, 1, time=9), wrong)
+    with pytest.raises(ValueError, match="a gate from 5 to 5"):
+        Group(gates=[(5, 5)])
 
 
 def test_shifts_are_those_of_a_plan(program, folder):
