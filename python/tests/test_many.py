@@ -1,5 +1,6 @@
 """Sums over many files: by processes, by dask on the loopback, and of reports on disk."""
 
+import multiprocessing
 import os
 import subprocess
 import sys
@@ -12,6 +13,7 @@ import pytest
 import made
 import ptulab
 from conftest import EXAMPLES
+from ptulab import many
 from ptulab.errors import Missing, PtulabError, Refusal
 from ptulab.many import Left, count_files, megabytes_of, sum_files
 from ptulab.texts import report_lines, summed_head, write_report
@@ -94,6 +96,31 @@ def test_files_by_dask_with_a_scheduler_and_three_workers(folder, program):
             except subprocess.TimeoutExpired:  # a worker that was just told of the scheduler's end may wait for it
                 one.kill()
                 one.wait()
+
+
+def test_what_the_workers_do(folder, program):
+    """The same in this process: the next file each time, and a share of its own."""
+    words, paths = (str(folder / "plan.toml"), program), list(map(str, files_of(folder)))
+    many._begin(many._Turns(multiprocessing.Value("q", 0), multiprocessing.Value("q", 0)))
+    check(many._sum_of(many._in_turns(*words, paths), paths), folder, program)
+    assert (many._turns[0].done.value, many._turns[0].take(8)) == (8, 8)
+    whole = many._of_share(words, list(enumerate(paths))[::2])
+    many._take(whole, many._of_share(words, list(enumerate(paths))[1::2]))
+    check(many._sum_of(whole, paths), folder, program)
+
+
+def test_a_fault_of_the_plan_stops_all_workers(folder, program):
+    (folder / "plan.toml").write_text("version = 3")
+    turns = many._Turns(multiprocessing.Value("q", 0), multiprocessing.Value("q", 0))
+    many._begin(turns)
+    with pytest.raises(Refusal, match="rule 2"):
+        many._in_turns(str(folder / "plan.toml"), program, list(map(str, files_of(folder))))
+    assert turns.take(8) == 8 and turns.done.value == 0
+
+
+def test_the_bar_counts_files(folder, program, capsys):
+    count_files(folder / "plan.toml", files_of(folder), program=program, processes=2, progress=True)
+    assert "8/8" in capsys.readouterr().err
 
 
 def test_without_dask_it_says_what_to_install(folder, program, monkeypatch):
