@@ -81,6 +81,8 @@ def main() -> None:
     parser.add_argument("--csv", metavar="FOLDER", help="a file of each table")
     parser.add_argument("--json", metavar="OUT")
     parser.add_argument("--page", metavar="OUT.html", help="a page with the head and a plot of every table")
+    parser.add_argument("--file", metavar="FILE", help="the name of the PTU file, for the heading of the page")
+    parser.add_argument("--program", metavar="PROGRAM", help="the program that made the report: the page has its SHA-256")
     given = parser.parse_args()
     if not (given.csv or given.json or given.page):
         parser.error("say what to make: --csv, --json or --page")
@@ -93,7 +95,7 @@ def main() -> None:
         if given.page:
             from ptulab.page import write_page
 
-            write_page(report, given.page, plan=given.plan)
+            write_page(report, given.page, file=given.file, plan=given.plan, program=given.program)
     except (PtulabError, OSError) as error:
         sys.exit(f"ptu_report.py: {error}")
 

@@ -207,12 +207,52 @@ def test_a_folder_by_snakemake(tmp_path, queue):
     wanted = script("add_reports.py", *paths).stdout
     for path in paths:
         path.unlink()
+    (tmp_path / "cut.ptu").write_bytes((tmp_path / "0.ptu").read_bytes()[:-1])
     words = ["snakemake", "-j", "2", "-s", f"{ROOT}/examples/Snakefile", *queue]
     words += ["--config", f"data={tmp_path}", f"plan={tmp_path}/plan.toml", f"ptu={os.path.abspath(PTU)}"]
     again = [subprocess.run(words, cwd=tmp_path, capture_output=True, text=True) for _ in range(2)]
     assert [one.returncode for one in again] == [0, 0], again[0].stderr
     assert (tmp_path / "sum.report").read_text() == wanted
+    assert (tmp_path / "sum.left").read_text() == f"{tmp_path}/cut.txt: not added: 3 bytes of a record at the end\n"
     assert "Nothing to be done" in again[1].stderr
+    assert not list(tmp_path.glob("*.part")) + list(tmp_path.glob("*.line"))
+
+
+@pytest.mark.parametrize(
+    ("sacct", "scontrol", "said"),
+    [
+        ("COMPLETED", "", "success"),
+        ("CANCELLED by 0", "", "failed"),
+        ("", "JobId=7 JobState=RUNNING Reason=None", "running"),
+        ("", "JobId=7 JobState=PENDING Reason=Resources", "running"),
+        ("", "JobId=7 JobState=OUT_OF_MEMORY Reason=None", "failed"),
+        ("", "", "failed"),
+    ],
+)
+def test_the_status_of_a_job_of_slurm(tmp_path, sacct, scontrol, said):
+    for name, text in (("sacct", sacct), ("scontrol", scontrol)):
+        (tmp_path / name).write_text(f"#!/bin/sh\nprintf '%s' '{text}'\n")
+        (tmp_path / name).chmod(0o755)
+    path = {"PATH": f"{tmp_path}:{os.environ['PATH']}"}
+    run = subprocess.run([f"{ROOT}/examples/slurm/status.sh", "7;cluster"], capture_output=True, text=True, env=os.environ | path)
+    assert (run.returncode, run.stdout) == (0, f"{said}\n")
+
+
+def test_jobs_of_slurm_are_cancelled_by_their_numbers(tmp_path):
+    (tmp_path / "scancel").write_text(f'#!/bin/sh\necho "$@" >> {tmp_path}/said\n')
+    (tmp_path / "scancel").chmod(0o755)
+    path = {"PATH": f"{tmp_path}:{os.environ['PATH']}"}
+    subprocess.run([f"{ROOT}/examples/slurm/cancel.sh", "7;cluster", "8"], check=True, env=os.environ | path)
+    assert (tmp_path / "said").read_text() == "7\n8\n"
+
+
+def test_a_plan_of_lifetimes_over_the_file_is_checked_too(tmp_path):
+    scan(tmp_path / "scan.ptu", 32)
+    (tmp_path / "plan.toml").write_text("group = [{ inputs = [0, 3] }]\nimage = [{ group = 1, width = 2, height = 2, dwell = 32, line = 1 }]\n")
+    said = script("check_plan.py", tmp_path / "plan.toml", PTU, "--file", tmp_path / "scan.ptu")
+    assert said.returncode == 0 and "input 3 doesn't occur" in said.stdout and "3 of 5 photons have no place" in said.stdout
+    (tmp_path / "plan.toml").write_text("group = [{ inputs = [0] }]\nhistogram = [{ group = 1, width = 0, bins = 9 }]\n")
+    assert "width = 0 isn't a whole number from 1 to 32,768\n" in script("check_plan.py", tmp_path / "plan.toml", PTU).stdout
 
 
 def test_the_man_page_has_the_tables_of_the_documents():

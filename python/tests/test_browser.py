@@ -15,7 +15,7 @@ selenium = pytest.importorskip("selenium", reason="python3-selenium isn't on thi
 BROWSER, DRIVER = shutil.which("chromium"), shutil.which("chromedriver")
 pytestmark = pytest.mark.skipif(not (BROWSER and DRIVER), reason="chromium and its driver aren't on this machine")
 HOSTILE = "<img src=x onerror=document.title='bad'></script><script>document.title='bad'</script>\"'.ptu"
-SECONDS = 60
+SECONDS = 180  # for whatever the browser does, on a machine with other work
 
 
 @pytest.fixture(scope="module")

@@ -23,14 +23,14 @@ def searched(times, minimum, m, longest):
     return [(a, b, times[a], times[b]) for a, b in bursts if b - a + 1 >= minimum]
 
 
-@settings(max_examples=300, deadline=None)
+@settings(max_examples=150, deadline=None)
 @given(random_events.times, st.integers(1, 30), st.integers(2, 8), st.floats(0.05, 3), st.sampled_from([-1, 0]))
 def test_bursts_are_those_of_the_plain_search(times, minimum, m, rate, c):
     ours = find_bursts(times, rate, minimum=minimum, m=m, c=c)
     assert ours.tolist() == searched(times.tolist(), minimum, m, (m - 1 - c) / rate)
 
 
-@settings(max_examples=100, deadline=None)
+@settings(max_examples=60, deadline=None)
 @given(random_events.times, st.integers(0, 30), st.floats(0.2, 2))
 def test_fused_bursts_are_apart(times, gap, rate):
     bursts = find_bursts(times, rate, minimum=3, m=3)

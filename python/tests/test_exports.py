@@ -1,6 +1,7 @@
 import importlib.util
 import json
 import os
+import sys
 from pathlib import Path
 
 import made
@@ -266,8 +267,29 @@ def test_photon_hdf5_of_t2_and_of_many_photons(make_file, tmp_path):
         assert (found["photon_data/timestamps"][:] == times).all() and found["photon_data/timestamps"].compression == "gzip"
 
 
+def test_a_file_without_photons_is_a_photon_hdf5_file_too(make_file, tmp_path):
+    events = ptulab.read_events(make_file("HydraHarp2T3", [(7, made.Bits(1))], tick=1e-8, resolution=1e-11))
+    exports.write_photon_hdf5(events, tmp_path / "none.h5", description="")
+    with h5py.File(tmp_path / "none.h5") as file:
+        found = fields_of(file)
+        assert found["description"][()] == b" " and "provenance" not in file
+        assert len(found["photon_data/timestamps"]) == 0 and found["acquisition_duration"][()] == pytest.approx(8e-8)
+        assert found["photon_data/nanotimes_specs/tcspc_num_bins"][()] == 1000
+
+
+@pytest.mark.parametrize("library", ["h5py", "tifffile"])
+def test_a_library_that_is_missing_is_named(monkeypatch, make_file, tmp_path, library):
+    monkeypatch.setitem(sys.modules, library, None)
+    events = ptulab.read_events(make_file("HydraHarp2T3", [(1, 0, 1)], tick=1e-8, resolution=1e-11))
+    with pytest.raises(ptulab.Missing, match=f"python3-{library}"):
+        if library == "h5py":
+            exports.write_photon_hdf5(events, tmp_path / "no.h5", description="d")
+        exports.write_ome_tiff(np.ones((2, 2)), tmp_path / "no.tif")
+    assert os.listdir(tmp_path) == ["data.ptu"]
+
+
 def test_photons_without_seconds_are_not_exported(make_file, tmp_path):
-    for tags in ({}, {"tick": 1e-8}):
+    for tags in ({}, {"tick": 1e-8}, {"tick": 0.0, "resolution": 1e-11}, {"tick": 1e-8, "resolution": -1.0}):
         events = ptulab.read_events(make_file("HydraHarp2T3", [(1, 0, 1)], **tags))
         with pytest.raises(ptulab.NotKnown):
             exports.write_photon_hdf5(events, tmp_path / "no.h5", description="")

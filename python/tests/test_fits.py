@@ -1,3 +1,7 @@
+import sys
+import types
+
+import lmfit
 import made
 import numpy as np
 import pytest
@@ -41,10 +45,10 @@ def test_errors_of_a_tail_are_those_of_its_scatter():
     """The errors that are told are as the scatter of fits of other measurements, also at few photons."""
     axis = np.arange(BINS) * WIDTH
     for photons in (2_000, 50_000):
-        found = [fits.fit_tail(decayed(seed, [2.6], [1.0], photons, background=0.2)[0], axis, 3.0) for seed in range(25)]
+        found = [fits.fit_tail(decayed(seed, [2.6], [1.0], photons, background=0.2)[0], axis, 3.0) for seed in range(20)]
         times = np.array([fit.values["lifetime_1"] for fit in found])
         told = np.median([fit.errors["lifetime_1"] for fit in found])
-        assert abs(times.mean() - 2.6) < 4 * times.std() / 5 + 0.01
+        assert abs(times.mean() - 2.6) < 4 * times.std() / np.sqrt(20) + 0.01
         assert 0.6 < told / times.std(ddof=1) < 1.6
 
 
@@ -197,6 +201,23 @@ def test_g2_of_what_has_none(program, tmp_path, make_file):
             call()
     empty = fits.g2(coincidences(path, 3, 4, 2))
     assert np.isnan(empty[0]).all()
+
+
+def test_lmfit_is_named_where_it_is_missing(monkeypatch):
+    monkeypatch.setitem(sys.modules, "lmfit", None)
+    with pytest.raises(ptulab.Missing, match="python3-lmfit"):
+        fits.fit_tail(np.arange(10, 0, -1), np.arange(10.0), 0)
+
+
+def test_fits_that_find_no_end_say_so(monkeypatch):
+    def failing(*words, **more):
+        raise ValueError("nan values")
+
+    endless = types.SimpleNamespace(success=False, message="too many calls")
+    for minimize, said in ((lambda *words, **more: endless, "too many calls"), (failing, "nan values")):
+        monkeypatch.setattr(lmfit, "minimize", minimize)
+        with pytest.raises(fits.FitFailed, match=said):
+            fits.fit_tail(np.arange(10, 0, -1), np.arange(10.0), 0)
 
 
 def test_fits_that_cannot_be():

@@ -20,6 +20,7 @@ def numbers(text):
 def test_the_notebook_runs_and_is_rendered_as_it_stands(program, monkeypatch):
     monkeypatch.setenv("PTU", program)
     monkeypatch.setenv("PYDEVD_DISABLE_FILE_VALIDATION", "1")
+    monkeypatch.delenv("MPLBACKEND", raising=False)  # pictures are drawn into the notebook
     monkeypatch.setattr(sys, "path", [str(DOCS), *sys.path])
     from notebook_render import rendered
 

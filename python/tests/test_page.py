@@ -6,6 +6,8 @@ import re
 
 import numpy as np
 import pytest
+from hypothesis import given
+from hypothesis import strategies as st
 
 import ptulab
 from conftest import EXAMPLES
@@ -68,6 +70,7 @@ def test_hostile_names_and_plans_stay_texts(small, tmp_path):
     assert "\x00" not in "".join(elements.texts)
 
 
+@pytest.mark.filterwarnings("ignore:Glyph")
 def test_labels_of_figures_are_escaped_too(small):
     curve = Curve(HOSTILE, HOSTILE, HOSTILE, np.arange(3.0), np.arange(3.0), HOSTILE, HOSTILE, HOSTILE, HOSTILE, names=[HOSTILE] * 3, log=True)
     text = document.whole_page(HOSTILE, [(HOSTILE, HOSTILE)], HOSTILE, HEAD, [curve], "/* plotly */")
@@ -76,6 +79,15 @@ def test_labels_of_figures_are_escaped_too(small):
     assert not any("onerror" in attributes for _, attributes in elements.found)
     assert json.loads(elements.scripts[0])[0]["xlabel"] == HOSTILE  # in JSON, whose < is written as an escape
     assert "<" not in elements.scripts[0]
+
+
+@given(text=st.text() | st.text(alphabet="<>&\"'/-! scriptalet()=\\u2028\x00\n"))
+def test_any_text_comes_back_as_a_text(text):
+    elements = Elements(f'<p title="{document.escaped(text)}">{document.escaped(text)}</p><script>{document.script_json([text])}</script>')
+    assert [tag for tag, _ in elements.found] == ["p", "script"]
+    shown = "".join(letter if letter.isprintable() or letter == "\n" else "\ufffd" for letter in text)
+    assert "".join(elements.texts) == shown and elements.found[0][1]["title"] == shown
+    assert json.loads("".join(elements.scripts)) == [text] and "<" not in elements.scripts[0]
 
 
 def test_only_the_two_scripts_of_the_page_may_run(small):

@@ -1,3 +1,5 @@
+import sys
+
 import made
 import matplotlib
 import numpy as np
@@ -62,6 +64,9 @@ def test_tables_of_a_scan(t3):
     assert (picture.images[0].get_array() == report.table("image").counts).all()
     lifetimes = plots.plot_lifetimes(report.table("cube"), threshold=20)
     assert bar(lifetimes) == ["mean delay (ns)"] and lifetimes.images[0].get_array().mask.any()
+    table = report.table("cube")
+    means = fits.mean_arrival(table.counts, table.seconds, threshold=20) * 1e9
+    assert np.allclose(lifetimes.images[0].get_array().filled(np.nan), means, equal_nan=True)
     curve = plots.plot(report.table("correlation"))
     assert labels(curve) == ("delay (s)", "G (1 without correlation)") and curve.get_xscale() == "log"
 
@@ -135,6 +140,12 @@ def test_phasors_and_bursts():
     both = plots.plot_fret(fret(*counts))
     assert labels(both) == ("E", "S") and bar(both) == ["bursts a bin"]
     assert labels(plots.plot_fret(fret(*counts[:2]))) == ("E", "bursts a bin")
+
+
+def test_matplotlib_is_named_where_it_is_missing(monkeypatch):
+    monkeypatch.setitem(sys.modules, "matplotlib.pyplot", None)
+    with pytest.raises(ptulab.Missing, match="python3-matplotlib"):
+        plots.plot_decay(np.ones(3))
 
 
 def test_units_keep_numbers_short():

@@ -29,7 +29,7 @@ def groups_of(*groups):
     return "group = [" + ", ".join(f"{{ inputs = {list(group)} }}" for group in groups) + "]\n"
 
 
-@settings(max_examples=60, deadline=None)
+@settings(max_examples=40, deadline=None)
 @given(random_events.streams, GROUPS, GROUPS, st.integers(1, 40), st.integers(1, 90))
 def test_coincidences_of_t3_are_those_of_the_same_times_in_t2(program, folder, events, first, second, reach, width):
     """A plan counts coincidences of T2 files: the sync periods of a T3 file are written as the ticks of one."""
@@ -55,7 +55,7 @@ def test_lags_of_sync_periods_are_those_of_the_first_level(program, folder, even
     assert (ours.pairs[15::-1] == report.table("correlation", 2).counts).all()
 
 
-@settings(max_examples=60, deadline=None)
+@settings(max_examples=40, deadline=None)
 @given(random_events.streams, GROUPS, GROUPS, st.integers(1, 9), st.integers(1, 9))
 def test_start_stops_are_those_of_ptu(program, folder, events, start, stop, width, bins):
     t2 = made.write(folder / "stops.ptu", "HydraHarp2T2", [(time, number) for time, number, _ in events])
@@ -67,7 +67,7 @@ def test_start_stops_are_those_of_ptu(program, folder, events, start, stop, widt
         assert (ours.counts == table.counts).all() and ours.over == table.rest["over"]
 
 
-@settings(max_examples=60, deadline=None)
+@settings(max_examples=40, deadline=None)
 @given(random_events.streams, GROUPS, GROUPS, st.integers(1, 150), st.sampled_from([40, 41, 64.5]))
 def test_differences_in_ticks_join_sync_and_dtime(folder, events, first, second, reach, period):
     path = made.write(folder / "ticks.ptu", "HydraHarp2T3", events)

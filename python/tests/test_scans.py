@@ -9,8 +9,11 @@ from hypothesis import given, settings
 from hypothesis import strategies as st
 
 import ptulab
+from ptulab import groups
 from ptulab.groups import Group, photons_of, shifted
-from ptulab.scans import Scan, best_phase, cube, image, lines_of
+from ptulab.pulsed import coincidences
+from ptulab.scans import Scan, best_phase, cube, image, lines_of, scan_of
+from ptulab.segments import window
 
 BITS = st.one_of(st.none(), st.integers(1, 4))
 
@@ -34,7 +37,7 @@ def keys(width, height, dwell, line, frame, stop, serpentine):
     return ", ".join([*told, f"serpentine = {str(serpentine).lower()}"])
 
 
-@settings(max_examples=80, deadline=None)
+@settings(max_examples=60, deadline=None)
 @given(
     random_events.scans, st.integers(1, 6), st.integers(1, 4), st.integers(1, 9), st.integers(1, 4), BITS, BITS, st.booleans()
 )
@@ -85,7 +88,7 @@ def place(events, at, scan):
     return frame, row, scan.width - 1 - column if back else column
 
 
-@settings(max_examples=120, deadline=None)
+@settings(max_examples=80, deadline=None)
 @given(
     random_events.scans.map(lambda events: sorted(events, key=lambda event: event[0])),
     st.integers(1, 4),
@@ -149,6 +152,25 @@ def test_a_phase_of_both_directions_is_found(make_file):
         best_phase(path, Scan(10, 5, 1, time=40), np.arange(3.0))
 
 
+HEADER = {"ImgHdr_PixX": 512, "ImgHdr_PixY": 256, "ImgHdr_LineStart": 1, "ImgHdr_LineStop": 2, "ImgHdr_Frame": 3, "ImgHdr_BiDirect": True}
+
+
+def test_the_header_tells_of_a_scan(make_file):
+    def told(tags, **other):
+        return scan_of(ptulab.read_header(make_file("HydraHarp2T3", [], tick=5e-8, **tags)), **other)
+
+    assert told(HEADER) == Scan(512, 256, 1, stop=2, frame=3, serpentine=True)
+    assert told(HEADER, phase=3.5, frames=True).phase == 3.5 and told(HEADER, height=4).height == 4
+    less = {"ImgHdr_PixX": 512, "ImgHdr_PixY": 256, "ImgHdr_LineStart": 1, "ImgHdr_LineStop": -1}
+    assert told(less | {"ImgHdr_TimePerPixel": 8.4 * 5e-5}).time == pytest.approx(4300.8)
+    assert told(less, time=99) == Scan(512, 256, 1, time=99)
+    with pytest.raises(ValueError, match="the time of a line"):
+        told(less)
+    for tag in ("PixX", "PixY", "LineStart"):
+        with pytest.raises(ptulab.NotKnown, match=f"ImgHdr_{tag}"):
+            told({name: value for name, value in HEADER.items() if name != f"ImgHdr_{tag}"})
+
+
 def test_lines_tell_their_markers(make_file):
     path = make_file("HydraHarp2T3", [(5, made.Bits(1)), (10, made.Bits(3)), (30, made.Bits(2)), (40, made.Bits(1)), (41, 0)])
     lines = lines_of(ptulab.read_events(path), Scan(4, 2, 1, stop=2))
@@ -172,6 +194,11 @@ def test_settings_that_no_scan_has_are_refused(make_file):
         image(path, Scan(4, 4, 1, time=2.0**62))
     with pytest.raises(ValueError, match="bins"):
         cube(path, Scan(4, 4, 1, time=9), 0, 4)
+    for wrong in (65, [-1], [0, 300]):
+        with pytest.raises(ValueError, match="inputs are 0 to 64"):
+            image(path, Scan(4, 4, 1, time=9), wrong)
+    with pytest.raises(ValueError, match="a gate from 5 to 5"):
+        Group(gates=[(5, 5)])
 
 
 def test_shifts_are_those_of_a_plan(program, folder):
@@ -182,3 +209,22 @@ def test_shifts_are_those_of_a_plan(program, folder):
     assert (np.bincount(dtimes, minlength=100) == report.table("histogram").counts).all()
     with pytest.raises(ValueError):
         shifted(events.array, {}, 0)
+
+
+@settings(max_examples=40, deadline=None)
+@given(random_events.scans, st.integers(1, 20), st.booleans())
+def test_pieces_of_a_file_are_put_together(folder, events, piece, by_path):
+    """Images, pairs, windows and groups are the same however the file falls into pieces."""
+    path = made.write(folder / "pieces.ptu", "HydraHarp2T3", events)
+    read = ptulab.read_events(path)
+    scan = Scan(5, 4, 1, stop=2, frame=3, serpentine=True, phase=1.5, frames=True)
+
+    def counted(source):
+        pairs, found = coincidences(source, 0, (1, 2), 9), cube(source, scan, 9, 3, (0, 1))
+        whole = [image(source, scan).counts, image(source, scan).outside, found.counts, found.outside, found.over]
+        return [*whole, pairs.pairs, pairs.length, photons_of(source, 1), window(source, 20, 300), lines_of(source, scan)]
+
+    with pytest.MonkeyPatch.context() as patch:
+        patch.setattr(groups, "PIECE", piece)
+        parts = counted(path if by_path else read)
+    assert all(np.array_equal(one, other) for one, other in zip(parts, counted(read), strict=True))

@@ -24,7 +24,7 @@ def report_of(program, folder, first, second, lags, levels, path):
     return ptulab.run(folder / "plan.toml", path, program=program)
 
 
-@settings(max_examples=80, deadline=None)
+@settings(max_examples=50, deadline=None)
 @given(random_events.rising, GROUPS, GROUPS, st.sampled_from([2, 4, 6, 16]), st.integers(1, 8), st.sampled_from(["HydraHarp2T2", "PicoHarpT3"]))
 def test_correlations_are_those_of_ptu(program, folder, events, first, second, lags, levels, kind):
     path = made.write(folder / "data.ptu", kind, events)

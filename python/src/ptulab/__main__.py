@@ -86,7 +86,8 @@ def count(words: Sequence[str]) -> int:
     given = parser.parse_args(words)
     client = want("distributed", "many machines").Client(given.scheduler) if given.scheduler else None
     try:
-        whole = count_files(given.plan, given.files, program=given.program, processes=given.processes, client=client, progress=sys.stderr.isatty())
+        more = {"program": given.program, "processes": given.processes, "client": client}
+        whole = count_files(given.plan, given.files, progress=sys.stderr.isatty(), **more)
     finally:
         if client is not None:
             client.close()
@@ -121,8 +122,10 @@ def main(words: Sequence[str] | None = None) -> int:
     name, *rest = (sys.argv[1:] if words is None else list(words)) or [""]
     if name not in COMMANDS:
         lines = [f"  {name:6} {function.__doc__}" for name, function in COMMANDS.items()]
-        print("\n".join(["usage: ptulab COMMAND ..", *lines, "ptulab COMMAND --help tells its words."]), file=sys.stdout if name in ("-h", "--help") else sys.stderr)
-        return 0 if name in ("-h", "--help") else 2
+        asked = name in ("-h", "--help")
+        told = ["usage: ptulab COMMAND ..", *lines, "ptulab COMMAND --help tells its words."]
+        print("\n".join(told), file=sys.stdout if asked else sys.stderr)
+        return 0 if asked else 2
     try:
         return COMMANDS[name](rest)
     except Refusal as refusal:

@@ -81,6 +81,9 @@ def photons_in(bursts: NDArray[np.void], photons: NDArray[np.void], group: Group
     return np.asarray(so_far[bursts["last"] + 1] - so_far[bursts["first"]])
 
 
+Counted = tuple[NDArray[np.int64], NDArray[np.float64]]  # bursts in bins, and the edges of the bins
+
+
 @dataclass(frozen=True)
 class Fret:
     """Of each burst E and S, shape (bursts,), nan where no photon tells.
@@ -92,12 +95,12 @@ class Fret:
     E: NDArray[np.float64]
     S: NDArray[np.float64] | None
 
-    def histogram(self, bins: int = 48, span: tuple[float, float] = (-0.1, 1.1)) -> tuple[NDArray[np.int64], NDArray[np.float64]]:
+    def histogram(self, bins: int = 48, span: tuple[float, float] = (-0.1, 1.1)) -> Counted:
         """How many bursts have each E, shape (bins,), and the edges of the bins, shape (bins + 1,)."""
         counts, edges = np.histogram(self.E[~np.isnan(self.E)], bins=bins, range=span)
         return counts.astype(np.int64), edges
 
-    def histogram_2d(self, bins: int = 48, span: tuple[float, float] = (-0.1, 1.1)) -> tuple[NDArray[np.int64], NDArray[np.float64]]:
+    def histogram_2d(self, bins: int = 48, span: tuple[float, float] = (-0.1, 1.1)) -> Counted:
         """How many bursts have each S and E, shape (bins, bins) with S first, and the edges of both, shape (bins + 1,).
 
         Raises ``NotKnown`` without S.

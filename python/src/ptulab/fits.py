@@ -47,7 +47,11 @@ class Fit:
 
 
 def _fit(
-    axis: Numbers, data: Numbers, model: Callable[[Mapping[str, float]], Numbers], residual: Callable[[Numbers], Numbers], begin: Any
+    axis: Numbers,
+    data: Numbers,
+    model: Callable[[Mapping[str, float]], Numbers],
+    residual: Callable[[Numbers], Numbers],
+    begin: Any,
 ) -> Fit:
     """The fit of a model with parameters that begin so, by least squares of residuals in standard deviations."""
     lmfit = want("lmfit", "fits")

@@ -19,11 +19,20 @@ class Group:
     """Which photons are meant: of these inputs, and with a dtime in one of the gates.
 
     ``inputs``: channels of the device, None for all. ``gates``: pairs (from, to) of ticks of the dtime, without the
-    second, None for every dtime. A late photon is in no group, and neither is a marker (``docs/plan.md``).
+    second, None for every dtime. A late photon is in no group, and neither is a marker (``docs/plan.md``). Raises
+    ``ValueError`` for an input that no device has, and a gate that holds no dtime.
     """
 
     inputs: Collection[int] | None = None
     gates: Collection[tuple[int, int]] | None = None
+
+    def __post_init__(self) -> None:
+        for number in self.inputs or ():
+            if not 0 <= number <= 64:
+                raise ValueError(f"input {number}: inputs are 0 to 64")
+        for start, stop in self.gates or ():
+            if not 0 <= start < stop:
+                raise ValueError(f"a gate from {start} to {stop}")
 
     def mask(self, array: NDArray[np.void]) -> NDArray[np.bool_]:
         """Which of these events are photons of the group: shape (events,)."""

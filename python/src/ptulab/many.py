@@ -59,7 +59,13 @@ class _Share:
 
 
 def count_files(
-    plan: PathLike, files: Iterable[PathLike], *, program: PathLike | None = None, processes: int | None = None, client: Any = None, progress: bool = False
+    plan: PathLike,
+    files: Iterable[PathLike],
+    *,
+    program: PathLike | None = None,
+    processes: int | None = None,
+    client: Any = None,
+    progress: bool = False,
 ) -> Sum:
     """Counts files by one plan and adds up their reports: ``Sum`` with the report, the files in it, and those left.
 
@@ -250,7 +256,8 @@ def _sum_of(whole: _Share, paths: Sequence[str]) -> Sum:
     first = min(whole.sums, key=lambda key: min(whole.sums[key][1]))
     report, places = whole.sums.pop(first)
     for key, (_, others) in whole.sums.items():
-        why = "; ".join(f"{word} {one}, not {wanted}" for word, one, wanted in zip(("type", "global", "resolution"), key, first) if one != wanted)
+        both = zip(("type", "global", "resolution"), key, first)
+        why = "; ".join(f"{word} {one}, not {wanted}" for word, one, wanted in both if one != wanted)
         whole.left |= {place: Left(paths[place], None, why) for place in others}
     if len(places) == 1:
         report = replace(report, head=replace(report.head, first=None, last=None))

@@ -39,26 +39,28 @@ def write_photon_hdf5(
     ``NotKnown`` where the header doesn't tell the seconds of a tick, and ``Missing`` without h5py.
     """
     h5py = want("h5py", "Photon-HDF5")
-    header = events.header
-    if header.global_seconds is None or (header.mode == "T3" and header.resolution_seconds is None):
-        raise NotKnown("the header doesn't tell how many seconds a tick has")
-    photons = photons_of(events, group)
+    unit, photons = _positive(events.header.global_seconds), photons_of(events, group)
     times = events.array["time"][~events.array["late"]]
-    duration = float(times.max() + 1) * header.global_seconds if len(times) else 0.0
     tree = {
-        "acquisition_duration": duration,
+        "acquisition_duration": float(times.max() + 1) * unit if len(times) else 0.0,
         "description": description,
         "photon_data": _photon_data(events, photons),
         "setup": _setup(events, photons, alternated),
         "identity": _identity(author, affiliation, Path(path).name),
-        "provenance": _provenance(events, filename),
     }
+    if provenance := _provenance(events, filename):
+        tree["provenance"] = provenance
     with whole_path(path) as part, h5py.File(part, "w") as file:
         title = "Photon-HDF5: A file format for photon-counting detector based single-molecule spectroscopy experiments."
-        _put(file, "", {name: value for name, value in tree.items() if value}, title)
-        file.attrs["format_name"] = np.bytes_(b"Photon-HDF5")
-        file.attrs["format_version"] = np.bytes_(PHOTON_HDF5.encode())
-        file.attrs["format_url"] = np.bytes_(FORMAT_URL.encode())
+        _put(file, "", tree, title)
+        for name, text in (("format_name", "Photon-HDF5"), ("format_version", PHOTON_HDF5), ("format_url", FORMAT_URL)):
+            file.attrs[name] = np.bytes_(text.encode())
+
+
+def _positive(seconds: float | None) -> float:
+    if seconds is None or not seconds > 0:
+        raise NotKnown("the header doesn't tell how many seconds a tick has")
+    return seconds
 
 
 def _photon_data(events: Events, photons: NDArray[np.void]) -> dict[str, Any]:
@@ -70,15 +72,12 @@ def _photon_data(events: Events, photons: NDArray[np.void]) -> dict[str, Any]:
         "detectors": np.ascontiguousarray(photons["number"]),
         "measurement_specs": {"measurement_type": "generic", "detectors_specs": {"spectral_ch1": inputs}},
     }
-    if header.mode == "T3" and header.resolution_seconds is not None and header.global_seconds is not None:
-        bins = max(round(header.global_seconds / header.resolution_seconds), int(photons["dtime"].max(initial=0)) + 1)
+    if header.mode == "T3":
+        period, tick = _positive(header.global_seconds), _positive(header.resolution_seconds)
+        bins = max(round(period / tick), int(photons["dtime"].max(initial=0)) + 1)
         data["nanotimes"] = photons["dtime"].astype(np.uint16)
-        data["nanotimes_specs"] = {
-            "tcspc_unit": header.resolution_seconds,
-            "tcspc_num_bins": bins,
-            "tcspc_range": bins * header.resolution_seconds,
-        }
-        data["measurement_specs"]["laser_repetition_rate"] = 1 / header.global_seconds
+        data["nanotimes_specs"] = {"tcspc_unit": tick, "tcspc_num_bins": bins, "tcspc_range": bins * tick}
+        data["measurement_specs"]["laser_repetition_rate"] = 1 / period
     return data
 
 
@@ -97,8 +96,8 @@ def _setup(events: Events, photons: NDArray[np.void], alternated: bool) -> dict[
         "lifetime": pulsed,
         "detectors": {"id": inputs, "counts": counts},
     }
-    if pulsed and events.header.global_seconds is not None:
-        setup["laser_repetition_rates"] = np.array([1 / events.header.global_seconds])
+    if pulsed:
+        setup["laser_repetition_rates"] = np.array([1 / _positive(events.header.global_seconds)])
     return setup
 
 
@@ -191,7 +190,7 @@ def _put(node: Any, place: str, tree: dict[str, Any], title: str) -> None:
             _put(node.create_group(name), inner, value, TITLES[inner])
             continue
         if isinstance(value, str):
-            value = np.bytes_(value.encode())
+            value = np.bytes_(value.encode() or b" ")  # HDF5 has no text of no length
         elif isinstance(value, bool):
             value = np.int8(value)
         large = isinstance(value, np.ndarray) and value.size > 1000

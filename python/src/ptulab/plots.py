@@ -43,12 +43,16 @@ def plot(what: Table | Image | Cube | Curve | Coincidences | StartStops, axes: A
     """
     if isinstance(what, Table):
         return TABLES[what.kind](what, _axes(axes))
-    drawn: dict[type, Callable[[Any, Any], Any]] = {Image: plot_image, Cube: plot_lifetimes, Curve: plot_correlation, Coincidences: plot_g2, StartStops: plot_start_stops}
-    return drawn[type(what)](what, axes)
+    return COUNTED[type(what)](what, axes)
 
 
 def plot_decay(
-    counts: NDArray[Any], seconds: NDArray[Any] | None = None, *, ticks: NDArray[Any] | None = None, fit: Fit | None = None, axes: Any = None
+    counts: NDArray[Any],
+    seconds: NDArray[Any] | None = None,
+    *,
+    ticks: NDArray[Any] | None = None,
+    fit: Fit | None = None,
+    axes: Any = None,
 ) -> Any:
     """A decay with logarithmic counts: ``counts`` of shape (bins,) over ``seconds``, or ``ticks``, where bins begin.
 
@@ -87,12 +91,22 @@ def plot_fit(fit: Fit, xlabel: str = "axis", ylabel: str = "counts", *, logarith
     return axes
 
 
-def plot_picture(pixels: NDArray[Any], label: str, *, axes: Any = None, cmap: str = "inferno", least: float | None = None, most: float | None = None) -> Any:
-    """Pixels of shape (rows, columns) with a colour bar of this label; pixels that are nan are grey."""
+def plot_picture(
+    pixels: NDArray[Any],
+    label: str,
+    *,
+    axes: Any = None,
+    cmap: str = "inferno",
+    least: float | None = None,
+    most: float | None = None,
+) -> Any:
+    """Pixels of shape (rows, columns) with a colour bar of this label; pixels that are nan are grey. The colours, a
+    colour map of Matplotlib's, go from ``least`` to ``most``, or over all pixels."""
     axes = _axes(axes)
     colours = want("matplotlib.pyplot", "plots").get_cmap(cmap).copy()
     colours.set_bad("0.7")
-    drawn = axes.imshow(np.asarray(pixels, dtype=np.float64), cmap=colours, vmin=least, vmax=most, interpolation="nearest")
+    shown = np.asarray(pixels, dtype=np.float64)
+    drawn = axes.imshow(shown, cmap=colours, vmin=least, vmax=most, interpolation="nearest")
     axes.figure.colorbar(drawn, ax=axes, label=label)
     axes.set(xlabel="column (pixels)", ylabel="row (pixels)")
     return axes
@@ -130,7 +144,8 @@ def plot_correlation(curve: Curve | Table, axes: Any = None, *, fit: Fit | None 
     delays, unit = (curve.ticks.astype(np.float64), "ticks") if curve.seconds is None else (curve.seconds, "s")
     values = curve.normalised() if isinstance(curve, Table) else curve.values
     if isinstance(curve, Curve) and not np.isnan(curve.errors).all():
-        axes.errorbar(delays, values, curve.errors, fmt=".", markersize=3, linewidth=0.7, label="mean of segments, standard error")
+        label = "mean of segments, standard error"
+        axes.errorbar(delays, values, curve.errors, fmt=".", markersize=3, linewidth=0.7, label=label)
     else:
         axes.plot(delays, values, ".-", markersize=3, linewidth=0.7, label="correlation")
     if fit is not None:
@@ -162,10 +177,13 @@ def plot_g2(pairs: Coincidences | Table, axes: Any = None) -> Any:
 def plot_start_stops(stops: StartStops, axes: Any = None) -> Any:
     """Times between neighbours."""
     ticks = stops.width * np.arange(len(stops.counts))
-    return _plot_steps(ticks, None if stops.unit_seconds is None else ticks * stops.unit_seconds, stops.counts, "time between photons", "times a bin", _axes(axes))
+    seconds = None if stops.unit_seconds is None else ticks * stops.unit_seconds
+    return _plot_steps(ticks, seconds, stops.counts, "time between photons", "times a bin", _axes(axes))
 
 
-def _plot_steps(ticks: NDArray[Any], seconds: NDArray[np.float64] | None, counts: NDArray[Any], across: str, up: str, axes: Any) -> Any:
+def _plot_steps(
+    ticks: NDArray[Any], seconds: NDArray[np.float64] | None, counts: NDArray[Any], across: str, up: str, axes: Any
+) -> Any:
     axis, unit = in_units(seconds, ticks)
     axes.step(axis, counts.astype(np.float64), "o" if len(axis) == 1 else "-", where="post", linewidth=0.8)
     axes.set(xlabel=f"{across} ({unit})", ylabel=up)
@@ -216,6 +234,13 @@ TABLES: dict[str, Callable[[Table, Any], Any]] = {
     "correlation": _correlation,
     "cube": plot_lifetimes,
     "fold": _fold,
+}
+COUNTED: dict[type, Callable[[Any, Any], Any]] = {
+    Image: plot_image,
+    Cube: plot_lifetimes,
+    Curve: plot_correlation,
+    Coincidences: plot_g2,
+    StartStops: plot_start_stops,
 }
 
 

@@ -7,16 +7,19 @@ it, and its counts are proved. What stands here is tested to give the same count
 import math
 from dataclasses import dataclass, replace
 from fractions import Fraction
-from typing import Literal
+from typing import Any, Literal
 
 import numpy as np
 from numpy.typing import NDArray
 
+from .errors import NotKnown
 from .events import Events
 from .groups import GroupLike, Source, group_of, pieces_of
+from .headers import Header
 
 LINE = np.dtype([("record", "<i8"), ("until", "<i8"), ("start", "<i8"), ("length", "<i8"), ("row", "<i8"), ("frame", "<i8")])
 FOREVER = np.iinfo(np.int64).max
+TAGS = {"width": "PixX", "height": "PixY", "line": "LineStart", "stop": "LineStop", "frame": "Frame"}  # of a header
 FINEST = 1_000_000  # the greatest denominator of a line's time
 
 
@@ -31,7 +34,8 @@ class Scan:
       denominator of at most a million. None: each line lasts from its own marker to its stop marker.
     - ``serpentine``: True where the odd rows of a frame, counted from 0, run backwards, and ``"lines"`` where the odd
       lines of the file do, so that the direction goes on from frame to frame.
-    - ``phase``: how many sync periods the lines that run backwards are late; it is taken off the times in them.
+    - ``phase``: how many sync periods the lines that run backwards are late; it is taken off the times in them, as the
+      nearest fraction with a denominator of at most a thousand.
     - ``frames``: whether frames are an axis of the counts; else they are laid one on the other.
 
     Raises ``ValueError`` for settings that no scan has.
@@ -57,6 +61,25 @@ class Scan:
             raise ValueError("the time of a line isn't known: give its stop marker, or its time in sync periods")
         if self.time is not None and not (math.isfinite(self.time) and self.time > 0):
             raise ValueError(f"a line of {self.time} sync periods")
+
+
+def scan_of(header: Header, **other: Any) -> Scan:
+    """The scan that a header tells of, by the tags ImgHdr_PixX, PixY, LineStart, LineStop, Frame and BiDirect.
+
+    A line lasts from its marker to its stop marker, and where there is none PixX * ImgHdr_TimePerPixel (in milliseconds).
+    ``other``: settings of ``Scan`` that the header doesn't tell, or tells wrong. Raises ``NotKnown`` where the columns, the
+    rows or the marker of a line aren't told, and ``ValueError`` as ``Scan`` does.
+    """
+    tags = {name: header.tags.get(f"ImgHdr_{tag}") for name, tag in TAGS.items()}
+    told: dict[str, Any] = {name: value for name, value in tags.items() if isinstance(value, int) and value > 0}
+    pixel = header.tags.get("ImgHdr_TimePerPixel")
+    told |= {"serpentine": bool(header.tags.get("ImgHdr_BiDirect"))} | other
+    missing = [TAGS[name] for name in ("width", "height", "line") if name not in told]
+    if missing:
+        raise NotKnown(f"the header has no ImgHdr_{missing[0]}")
+    if "stop" not in told and isinstance(pixel, int | float) and header.global_seconds:
+        told.setdefault("time", told["width"] * pixel * 1e-3 / header.global_seconds)
+    return Scan(**told)
 
 
 @dataclass(frozen=True)

@@ -21,7 +21,8 @@ from .plain import plain_picture
 DIGITS = 9  # that numbers have in the page
 KEYS = "With the keys: arrows go from point to point, Home and End to the first and the last."
 HEAD = {
-    "type": "record type", "announced": "records announced by the header", "global": "a tick, or a sync period", "resolution": "a tick of the dtime",
+    "type": "record type", "announced": "records announced by the header", "global": "a tick, or a sync period",
+    "resolution": "a tick of the dtime",
     "records": "records", "photons": "photons", "markers": "markers", "wraps": "wraps", "reserved": "reserved words", "late": "late events",
     "first": "first event",
     "last": "last event",
@@ -116,16 +117,17 @@ def _link(figure: Figure) -> str:
 
 def _section(figure: Figure) -> str:
     name, title = escaped(figure.name), escaped(figure.title)
+    begin = f'<section id="{name}" aria-labelledby="{name}-title">\n<h2 id="{name}-title">{title}</h2>\n'
+    begin += f'<p id="{name}-summary">{escaped(figure.summary)}</p>\n'
     if not _points(figure):
-        return f'<section id="{name}" aria-labelledby="{name}-title">\n<h2 id="{name}-title">{title}</h2>\n<p>{escaped(figure.summary)}</p>\n</section>\n'
+        return f"{begin}</section>\n"
     kind = "picture" if isinstance(figure, Picture) else "curve"
     return (
-        f'<section id="{name}" aria-labelledby="{name}-title">\n<h2 id="{name}-title">{title}</h2>\n<p id="{name}-summary">{escaped(figure.summary)}</p>\n'
-        f'<noscript><img class="plain" alt="{title}" aria-describedby="{name}-summary" src="{plain_picture(figure)}"></noscript>\n'
+        f'{begin}<noscript><img class="plain" alt="{title}" aria-describedby="{name}-summary" src="{plain_picture(figure)}"></noscript>\n'
         f'<figure id="{name}-figure" hidden>\n<div class="controls">{_controls(figure)}</div>\n'
-        f'<div id="{name}-plot" class="plot {kind}" tabindex="0" role="application" aria-label="{title}" aria-describedby="{name}-summary {name}-keys"></div>\n'
-        f'<p id="{name}-said" class="said" role="status" aria-live="polite"></p>\n<p id="{name}-keys" class="faint">{KEYS}</p>\n</figure>\n'
-        f"{_table(figure)}</section>\n"
+        f'<div id="{name}-plot" class="plot {kind}" tabindex="0" role="application" aria-label="{title}" '
+        f'aria-describedby="{name}-summary {name}-keys"></div>\n<p id="{name}-said" class="said" role="status" aria-live="polite"></p>\n'
+        f'<p id="{name}-keys" class="faint">{KEYS}</p>\n</figure>\n{_table(figure)}</section>\n'
     )
 
 
@@ -138,8 +140,9 @@ def _controls(figure: Figure) -> str:
     if isinstance(figure, Picture):
         most = int(figure.photons.max(initial=1))
         return (
-            f'<label for="{name}-threshold">pixels with at least</label><input type="range" id="{name}-threshold" min="0" max="{most}" value="{figure.threshold}" '
-            f'aria-valuetext="{figure.threshold} photons"><span><output id="{name}-bound" for="{name}-threshold">{figure.threshold:,}</output> photons</span>'
+            f'<label for="{name}-threshold">pixels with at least</label><input type="range" id="{name}-threshold" min="0" max="{most}" '
+            f'value="{figure.threshold}" aria-valuetext="{figure.threshold} photons">'
+            f'<span><output id="{name}-bound" for="{name}-threshold">{figure.threshold:,}</output> photons</span>'
         )
     boxes = []
     if figure.log is not None:
@@ -197,8 +200,8 @@ def _numbers(figure: Figure) -> dict[str, Any] | None:
         return _pixels(figure)
     places = thinned(figure)
     return {
-        "kind": "curve" if figure.names is None else "bars", "name": figure.name, "x": _listed(figure.xs[places]), "y": _listed(figure.ys[places]),
-        "errors": None if figure.errors is None else _listed(figure.errors[places]), "names": figure.names, "xlabel": figure.xlabel,
+        "kind": "curve" if figure.names is None else "bars", "name": figure.name,
+        "x": _listed(figure.xs[places]), "y": _listed(figure.ys[places]), "errors": None if figure.errors is None else _listed(figure.errors[places]), "names": figure.names, "xlabel": figure.xlabel,
         "ylabel": figure.ylabel, "xunit": figure.xunit, "yunit": figure.yunit, "xlog": figure.xlog, "shape": figure.shape, "start": figure.start,
         "level": figure.level, "choice": figure.log is not None,
     }
@@ -210,7 +213,8 @@ def _pixels(figure: Picture) -> dict[str, Any]:
     seen = figure.values[(figure.photons >= figure.threshold) & np.isfinite(figure.values)]
     least, most = (0.0, float(seen.max(initial=1.0))) if of_photons else (np.percentile(seen, (2, 98)) if len(seen) else (0.0, 1.0))
     return {
-        "kind": "picture", "name": figure.name, "rows": rows, "columns": columns, "block": figure.block, "label": figure.label, "unit": figure.unit,
+        "kind": "picture", "name": figure.name, "rows": rows, "columns": columns, "block": figure.block, "label": figure.label,
+        "unit": figure.unit,
         "photons": packed(figure.photons), "values": None if of_photons else packed(figure.values.astype("<f4")), "zmin": float(least),
         "zmax": float(most), "colours": figure.colours,
     }

@@ -146,9 +146,13 @@ def _named(table: Table, title: str) -> dict[str, Any]:
     return {"name": f"{table.kind}-{table.number}", "title": f"{title}: {table.kind} {table.number}{_of_groups(table)}"}
 
 
+WHERE = {"over": "past the last bin", "before": "before the first bin", "beyond": "behind the last bin", "outside": "outside the picture"}
+UNKNOWN = "It isn't normalised, since the photons of the groups aren't known: a plan with a trace of each tells them."
+
+
 def _rest(table: Table) -> str:
-    said = {"over": "past the last bin", "before": "before the first bin", "beyond": "behind the last bin", "outside": "outside the picture"}
-    return " ".join(f"{count(number)} {'times' if table.kind == 'startstop' else 'photons'} are {said[word]}." for word, number in table.rest.items() if number)
+    what = "times" if table.kind == "startstop" else "photons"
+    return " ".join(f"{count(number)} {what} are {WHERE[word]}." for word, number in table.rest.items() if number)
 
 
 def _decay(table: Table, scale: Scale) -> list[Figure]:
@@ -165,8 +169,8 @@ def _trace(table: Table, scale: Scale) -> list[Figure]:
     width, ys = table.settings["width"], counts_of(table)
     summary = f"{count(ys.sum())} photons over the time of the file, in {len(xs)} bins of {width * tick:.6g} {unit}. {_rest(table)}"
     if len(xs) == 1:
-        return [Curve(**_named(table, "Photons"), summary=f"{count(ys.sum())} photons in one bin. {_rest(table)}", xs=xs[:0], ys=ys[:0],
-                      xlabel="", ylabel="", xunit="", yunit="")]
+        summary, none = f"{count(ys.sum())} photons in one bin. {_rest(table)}", xs[:0]
+        return [Curve(**_named(table, "Photons"), summary=summary, xs=none, ys=none, xlabel="", ylabel="", xunit="", yunit="")]
     label, yunit = "photons in a bin", "photons"
     if scale.seconds is not None:
         ys, label, yunit = ys / (width * scale.seconds) / 1e3, "rate (1000 photons/s)", "thousand photons a second"
@@ -184,20 +188,23 @@ def _startstop(table: Table, scale: Scale) -> list[Figure]:
 
 def _coincidence(table: Table, scale: Scale) -> list[Figure]:
     xs, unit, tick = axis_of(table, scale)
-    summary = f"{count(counts_of(table).sum())} pairs of photons by the difference of their times, in cells of {table.settings['width'] * tick:.6g} {unit}."
+    width = table.settings["width"] * tick
+    summary = f"{count(counts_of(table).sum())} pairs of photons by the difference of their times, in cells of {width:.6g} {unit}."
     common: dict[str, Any] = {"xs": xs, "xlabel": f"difference of times ({unit})", "xunit": unit, "shape": "hvh"}
     try:
         values, errors = g2(table)
     except NotKnown:
-        said = "It isn't normalised, since the photons of the groups aren't known: a plan with a trace of each tells them."
-        return [Curve(**_named(table, "Coincidence"), summary=f"{summary} {said}", ys=counts_of(table), ylabel="pairs", yunit="pairs", **common)]
+        named = _named(table, "Coincidence")
+        return [Curve(**named, summary=f"{summary} {UNKNOWN}", ys=counts_of(table), ylabel="pairs", yunit="pairs", **common)]
     there = np.isfinite(values)
     common["xs"], values, errors = xs[there], values[there], errors[there]
     if not len(values):
-        return [Curve(**_named(table, "g2"), summary=f"{summary} Without photons in both groups there is no g2.", ys=values, ylabel="", yunit="", **common)]
+        summary += " Without photons in both groups there is no g2."
+        return [Curve(**_named(table, "g2"), summary=summary, ys=values, ylabel="", yunit="", **common)]
     middle, xs = int(np.abs(xs[there]).argmin()), xs[there]
-    said = f"Normalised, 1 is light without correlation: g2 is {values[middle]:.3g} ± {errors[middle]:.2g} at {xs[middle]:.4g} {unit}. Bars are Poisson errors."
-    return [Curve(**_named(table, "g2"), summary=f"{summary} {said}", ys=values, errors=errors, ylabel="g2 (1 is no correlation)", yunit="", level=1.0, **common)]
+    summary += f" Normalised, 1 is light without correlation: g2 is {values[middle]:.3g} ± {errors[middle]:.2g} at {xs[middle]:.4g} {unit}."
+    return [Curve(**_named(table, "g2"), summary=f"{summary} Bars are Poisson errors.", ys=values, errors=errors,
+                  ylabel="g2 (1 is no correlation)", yunit="", level=1.0, **common)]
 
 
 def start_of(values: Floats, errors: Floats) -> int:
@@ -222,15 +229,15 @@ def _correlation(table: Table, scale: Scale) -> list[Figure]:
     try:
         values, errors = g2(table)
     except NotKnown:
-        said = "It isn't normalised, since the photons of the groups aren't known: a plan with a trace of each tells them."
-        return [Curve(**_named(table, "Correlation"), summary=f"{summary} {said}", xs=xs, ys=np.asarray(counts_of(table) / 2.0**levels, dtype=np.float64),
-                      ylabel="pairs / 2^level", yunit="", **common)]
+        pairs = np.asarray(counts_of(table) / 2.0**levels, dtype=np.float64)
+        return [Curve(**_named(table, "Correlation"), summary=f"{summary} {UNKNOWN}", xs=xs, ys=pairs, ylabel="pairs / 2^level", yunit="", **common)]
     there = np.isfinite(values)
     xs, values, errors = xs[there], values[there], errors[there]
     begin = start_of(values, errors) if len(values) else 0
     said = "Normalised, 1 is light without correlation; bars are Poisson errors."
     if len(values):
-        said += f" From {measured(xs[begin], unit)} on the errors are small: there it is {values[begin]:.4g} ± {errors[begin]:.2g}, and {values[-1]:.4g} at {measured(xs[-1], unit)}."
+        said += f" From {measured(xs[begin], unit)} on the errors are small: there it is {values[begin]:.4g} ± {errors[begin]:.2g},"
+        said += f" and {values[-1]:.4g} at {measured(xs[-1], unit)}."
     return [Curve(**_named(table, "Correlation"), summary=f"{summary} {said}", xs=xs, ys=values, errors=errors, ylabel="G (1 is no correlation)",
                   yunit="", level=1.0, start=float(xs[begin]) if begin else None, **common)]
 
@@ -297,17 +304,21 @@ def _mean_delays(table: Table, scale: Scale) -> Picture:
     seen = values[photons >= threshold]
     summary = f"The mean delay of each pixel after {xs[begin]:.6g} {unit}, where the decay of all pixels begins."
     if len(seen):
-        summary += f" Of pixels with {count(threshold)} photons or more the median is {np.median(seen):.4g} {unit}, from {seen.min():.4g} to {seen.max():.4g}."
+        summary += f" Of pixels with {count(threshold)} photons or more the median is {np.median(seen):.4g} {unit},"
+        summary += f" from {seen.min():.4g} to {seen.max():.4g}."
     named = _named(table, "Mean delays")
-    return Picture(named["name"] + "-delays", named["title"], summary, photons, values, f"mean delay ({unit})", unit, size, threshold, "Cividis")
+    label = f"mean delay ({unit})"
+    return Picture(named["name"] + "-delays", named["title"], summary, photons, values, label, unit, size, threshold, "Cividis")
 
 
 def _sum_of_pixels(table: Table, scale: Scale) -> Curve:
     xs, unit, tick = axis_of(table, scale)
     ys = np.asarray(table.counts.sum(axis=(0, 1)).astype(np.float64))
     named = _named(table, "Decay of all pixels")
-    summary = f"{count(ys.sum())} photons of all pixels, in {len(xs)} bins of {table.settings['dwidth'] * tick:.6g} {unit}. {peak(xs, ys, unit, 'photons')} {_rest(table)}"
-    return Curve(named["name"] + "-decay", named["title"], summary, xs, ys, f"delay after the sync ({unit})", "photons", unit, "photons", log=True)
+    summary = f"{count(ys.sum())} photons of all pixels, in {len(xs)} bins of {table.settings['dwidth'] * tick:.6g} {unit}."
+    summary = f"{summary} {peak(xs, ys, unit, 'photons')} {_rest(table)}"
+    across = f"delay after the sync ({unit})"
+    return Curve(named["name"] + "-decay", named["title"], summary, xs, ys, across, "photons", unit, "photons", log=True)
 
 
 DRAWN: dict[str, Callable[[Table, Scale], Sequence[Figure]]] = {

@@ -52,6 +52,7 @@
       Object.assign(trace, { type: "scatter", mode: figure.errors ? "lines+markers" : "lines",
         line: { color: colour("curve"), width: 1.6, shape: figure.shape } });
     }
+    if (figure.shape === "hv" && !figure.names && figure.x.length > 1) close(trace);
     if (figure.errors) {
       trace.error_y = { type: "data", array: figure.errors, color: colour("faint"), thickness: 1, width: 0 };
     }
@@ -74,6 +75,14 @@
         line: { color: colour("faint"), width: 1, dash: "dot" } }];
     }
     return [[trace], look];
+  }
+
+  // Steps are drawn to the end of the last bin.
+  function close(trace) {
+    const [before, last] = trace.x.slice(-2);
+    trace.x = [...trace.x, 2 * last - before];
+    trace.y = [...trace.y, trace.y[trace.y.length - 1]];
+    trace.text = [...trace.text, trace.text[trace.text.length - 1]];
   }
 
   function decades(values) {
@@ -184,7 +193,7 @@
     place.addEventListener("keydown", (event) => walk(figure, event));
     place.on("plotly_hover", (event) => {
       const point = event.points[0];
-      const at = Array.isArray(point.pointNumber) ? point.pointNumber[0] * figure.columns + point.pointNumber[1] : point.pointNumber;
+      const at = Array.isArray(point.pointNumber) ? point.pointNumber[0] * figure.columns + point.pointNumber[1] : Math.min(point.pointNumber, figure.x.length - 1);
       figure.at = at;
       element(figure, "said").textContent = told(figure, at);
     });
