@@ -12,11 +12,11 @@ A page is README.md, a page of docs/ or examples/README.md, or the man page. Its
 - in the man page the lines between .nf and .fi are console.
 
 The blocks of a page are tried in their order, in a folder of their own that has what the pages speak of: the folders
-examples, docs and bench, ./ptu, FILE and PLAN, which are the sample of a scan and its plan, the same as big.ptu,
+examples, docs, bench and python, ./ptu, FILE and PLAN, which are the sample of a scan and its plan, the same as big.ptu,
 big.ptu.gz and plan.toml, and the folder data with three such files. A block with a program that isn't on this machine is
 left out, and that is said. PROGRAM is ./ptu of this tree by default. What differs is shown, and so is each link to a
-file or a title that isn't there; it ends with 1 if there is any. The scripts of examples/ want NumPy and Matplotlib: call it
-by a Python that has them.
+file or a title that isn't there; it ends with 1 if there is any. The scripts of examples/ want what ptulab
+wants (python/debian-packages): call it by a Python that has it.
 """
 
 import difflib
@@ -97,7 +97,7 @@ def try_block(kind, text):
     elif kind in ("sh", "python"):
         with open("block", "w", encoding="utf-8") as out:
             out.write(text)
-        printed, status = shell("sh -e block" if kind == "sh" else "PYTHONPATH=examples python3 block")
+        printed, status = shell("sh -e block" if kind == "sh" else "PYTHONPATH=examples:python/src python3 block")
         if status != 0:
             yield f"{text}ends with {status}:\n{printed}"
     elif kind == "toml":
@@ -112,7 +112,7 @@ def try_block(kind, text):
 
 def furnish(program):
     """Puts into this folder what the pages speak of."""
-    for name in ("examples", "docs", "bench", "install.sh"):
+    for name in ("examples", "docs", "bench", "python", "install.sh"):
         os.symlink(os.path.join(ROOT, name), name)
     scan, plan = (os.path.join(ROOT, "examples", name) for name in ("scan.ptu", "scan.toml"))
     for name, target in (("ptu", program), ("FILE", scan), ("PLAN", plan), ("big.ptu", scan), ("plan.toml", plan)):
