@@ -40,8 +40,8 @@ pub(crate) struct Left {
     pub(crate) reads: u64,
 }
 
-/// The plan `p` and the file `f` of a row, in pieces of these sizes.
-fn inputs_of(alloc: Global, row: &Row, pieces: &[usize]) -> Result<Counted, AllocError> {
+/// The plan `p` and the file `f` of a row.
+fn files_of(alloc: Global, row: &Row) -> Result<Vec<MemoryFile>, AllocError> {
     let mut files = Vec::new(alloc);
     files.push(MemoryFile::new(
         String::from_str(alloc, "p")?,
@@ -51,18 +51,19 @@ fn inputs_of(alloc: Global, row: &Row, pieces: &[usize]) -> Result<Counted, Allo
         String::from_str(alloc, "f")?,
         row.file.as_slice().to_vec(alloc)?,
     ))?;
-    let failing = row.failing.as_slice().to_vec(alloc)?;
-    Ok(Counted {
-        inputs: MemoryInputs::new(files, pieces.to_vec(alloc)?, failing),
-        reads: 0,
-    })
+    Ok(files)
 }
 
 /// What the run of a row leaves, its bytes in such pieces and with such a room of standard output.
 fn left_of(alloc: Global, row: &Row, pieces: &[usize], room: usize) -> Result<Left, AllocError> {
-    let mut inputs = inputs_of(alloc, row, pieces)?;
-    let failing = row.failing_writes.as_slice().to_vec(alloc)?;
-    let mut out = MemorySink::new(alloc, room, failing)?;
+    let files = files_of(alloc, row)?;
+    let failing = row.failing.as_slice().to_vec(alloc)?;
+    let mut inputs = Counted {
+        inputs: MemoryInputs::new(files, pieces.to_vec(alloc)?, failing),
+        reads: 0,
+    };
+    let failing_writes = row.failing_writes.as_slice().to_vec(alloc)?;
+    let mut out = MemorySink::new(alloc, room, failing_writes)?;
     let mut err = MemorySink::new(alloc, row.err_room, Vec::new(alloc))?;
     let status = ptu_main(alloc, row.words.as_slice(), &mut inputs, &mut out, &mut err);
     Ok(Left {
