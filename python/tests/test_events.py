@@ -220,6 +220,36 @@ def test_a_file_whose_wraps_pass_the_greatest_time(tmp_path: Path, program: str,
     assert ptulab.read_events(tmp_path / "old.ptu").array["time"].tolist() == [3 * made.unit(old) + 5]
 
 
+def tag(name: bytes, code: int, value: int) -> bytes:
+    return struct.pack("<32siIq", name, -1, code, value)
+
+
+START, END = b"PQTTTR\0\0" + b"1.0.00\0\0", tag(b"Header_End", headers.EMPTY, 0)
+TYPE = b"TTResultFormat_TTTRRecType"
+
+
+@pytest.mark.parametrize(
+    ("data", "status"),
+    [
+        (b"PQHISTO\0" + END, 10),
+        (b"PQTTT", 11),
+        (START + tag(TYPE, headers.INTEGER, made.CODES["PicoHarpT2"]) + END[:-1], 11),
+        (START + tag(b"Long", headers.BLOB, 2**62), 11),
+        (START + tag(b"Odd", 0x10000009, 0) + END, 12),
+        (START + tag(b"Odd", headers.TEXT, -1) + END, 13),
+        (START + tag(TYPE, headers.BITS, made.CODES["PicoHarpT2"]) + END, 14),
+        (START + tag(TYPE, headers.INTEGER, 0x10203 + 2**32) + END, 15),
+        (START + tag(TYPE, headers.INTEGER, -1) + tag(TYPE, headers.INTEGER, made.CODES["PicoHarpT2"]) + END, 15),
+    ],
+)
+def test_headers_that_are_refused(tmp_path: Path, program: str, data: bytes, status: int) -> None:
+    (tmp_path / "some.ptu").write_bytes(data)
+    agrees(program, tmp_path / "some.ptu")
+    with pytest.raises(BadFile, match="some.ptu: ") as fault:
+        ptulab.read_header(tmp_path / "some.ptu")
+    assert fault.value.status == status
+
+
 def test_a_long_header(tmp_path: Path, program: str) -> None:
     """Up to 2^24 bytes; more than that is refused, however much there is."""
     start = made.header("HydraHarp2T3")[:-48]

@@ -96,6 +96,10 @@ def test_the_position_of_a_file_that_is_read(tmp_path: Path) -> None:
     assert max(seen) == 300
 
 
+def test_the_position_in_a_process_that_is_gone() -> None:
+    assert module._position(2**22 + 1, str(SCAN[1])) == 0
+
+
 def test_a_bar_without_tqdm(monkeypatch: pytest.MonkeyPatch, program: str) -> None:
     monkeypatch.setitem(sys.modules, "tqdm", None)
     assert ptulab.run(*SCAN, program=program).head.photons == 97492
