@@ -108,6 +108,12 @@ def test_bins_of_a_decay_are_its_integrals(lifetime, width):
     assert fits.decay_of_bins(lifetime, width, 40, 40 * width).sum() == pytest.approx(1, rel=1e-9)
 
 
+def test_a_decay_much_shorter_than_a_bin():
+    with np.errstate(over="raise", divide="raise", invalid="raise"):
+        for period in (None, 4.0):
+            assert fits.decay_of_bins(1e-4, 1.0, 4, period) == pytest.approx([1 - 1e-4, 1e-4, 0, 0], rel=1e-12)
+
+
 @settings(max_examples=200, deadline=None)
 @given(st.integers(0, 10**7), st.floats(0.01, 1e7))
 def test_residuals_are_those_of_the_likelihood(count, expected):
@@ -216,7 +222,7 @@ def test_fits_that_find_no_end_say_so(monkeypatch):
     endless = types.SimpleNamespace(success=False, message="too many calls")
     for minimize, said in ((lambda *words, **more: endless, "too many calls"), (failing, "nan values")):
         monkeypatch.setattr(lmfit, "minimize", minimize)
-        with pytest.raises(fits.FitFailed, match=said):
+        with pytest.raises(ptulab.FitFailed, match=said):
             fits.fit_tail(np.arange(10, 0, -1), np.arange(10.0), 0)
 
 
@@ -226,6 +232,10 @@ def test_fits_that_cannot_be():
         lambda: fits.fit_tail(np.zeros(10), axis, 0),
         lambda: fits.fit_tail(np.ones(10), axis, 9),
         lambda: fits.fit_tail(np.ones(10), axis, 0, terms=5),
+        lambda: fits.fit_tail(np.ones(9), axis, 0),
+        lambda: fits.fit_tail(np.ones((10, 10)), axis, 0),
+        lambda: fits.fit_tail(axis - 1, axis, 0),
+        lambda: fits.fit_reconvolution(axis - 1, np.ones(10), 1.0),
         lambda: fits.fit_reconvolution(np.ones(4), np.zeros(4), 1.0),
         lambda: fits.fit_reconvolution(np.ones(4), np.ones(5), 1.0),
         lambda: fits.fit_reconvolution(np.ones(4), np.ones(4), 1.0, period=3.0),
@@ -234,5 +244,5 @@ def test_fits_that_cannot_be():
         with pytest.raises(ValueError):
             call()
     for call in (lambda: fits.fit_fcs(axis, axis * np.nan), lambda: fits.fit_tail(np.ones(10), axis, 7, terms=3)):
-        with pytest.raises(fits.FitFailed):
+        with pytest.raises(ptulab.FitFailed):
             call()

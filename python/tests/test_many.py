@@ -13,7 +13,7 @@ import made
 import ptulab
 from conftest import EXAMPLES
 from ptulab import many
-from ptulab.errors import Missing, PtulabError, Refusal
+from ptulab.errors import BadPlan, Missing, PtulabError, Refusal, Unlike
 from ptulab.many import Left, count_files, megabytes_of, sum_files
 from ptulab.texts import report_lines, summed_head, write_report
 
@@ -143,6 +143,19 @@ def test_a_report_is_added_into_the_arrays_of_another(folder, program):
     assert same(ptulab.run(folder / "plan.toml", folder / "2.ptu", program=program, whole=one), wanted + ptulab.run(folder / "plan.toml", folder / "2.ptu", program=program))
 
 
+def test_a_plan_of_other_tables_leaves_a_report_as_it_is(folder, program):
+    one = ptulab.run(folder / "plan.toml", folder / "0.ptu", program=program)
+    before = one + ptulab.run(folder / "plan.toml", folder / "0.ptu", program=program)
+    text = (folder / "plan.toml").read_text()
+    (folder / "more.toml").write_text(text.replace("bins = 1 }]", "bins = 1 }, { group = 1, width = 77, bins = 3 }]"))
+    (folder / "bad.toml").write_text("order = 1" + text)
+    with pytest.raises(Unlike):
+        ptulab.run(folder / "more.toml", folder / "0.ptu", program=program, whole=one)
+    with pytest.raises(Refusal, match="rule 3"):
+        ptulab.run(folder / "bad.toml", folder / "0.ptu", program=program, whole=one)
+    assert same(one + ptulab.run(folder / "plan.toml", folder / "0.ptu", program=program), before)
+
+
 def test_no_file_can_be_added(folder, program):
     bad = folder / "3.ptu"
     whole = count_files(folder / "plan.toml", [bad, folder / "none.ptu"], program=program, progress=True)
@@ -171,6 +184,16 @@ def test_reports_on_disk_and_lines_of_refusals(folder, program):
     assert [(one.path.rpartition("/")[2], one.status) for one in whole.left] == [("3.txt", 17), ("5.txt", None), ("cut.txt", None)]
     with pytest.raises(OSError):
         sum_files([folder / "none.txt"])
+
+
+def test_reports_of_other_tables_are_left(folder, program):
+    (folder / "other.toml").write_text("[[group]]\ninputs = [1]\n[[trace]]\ngroup = 1\nwidth = 7\nbins = 3\n")
+    for name, plan, number in (("a", "plan", 0), ("b", "other", 0), ("c", "plan", 1)):
+        write_report(ptulab.run(folder / f"{plan}.toml", folder / f"{number}.ptu", program=program), folder / f"{name}.txt")
+    paths = [str(folder / f"{name}.txt") for name in "abc"]
+    for plan, why in ((None, "other tables"), (folder / "plan.toml", "the plan has other tables than the report")):
+        whole = sum_files(paths, plan)
+        assert whole.left == (Left(paths[1], None, why),) and same(whole.report, sum_files(paths[::2], plan).report)
 
 
 # ## Texts
@@ -208,8 +231,15 @@ def test_great_counts_are_written_whole(tmp_path, ptu):
     ],
 )
 def test_the_memory_that_is_asked_for(tmp_path, plan, least, most):
-    (tmp_path / "plan.toml").write_text(plan)
+    (tmp_path / "plan.toml").write_text("version = 2\ngroup = [{ inputs = [0] }, { inputs = [1] }]\n" + plan)
     assert least <= megabytes_of(tmp_path / "plan.toml") <= most
+
+
+@pytest.mark.parametrize("plan", ["cube = 1", "cube = [{ group = 1 }]", "coincidence = [{ reach = 3, width = 0 }]", "fold = ["])
+def test_no_memory_is_told_of_a_bad_plan(tmp_path, plan):
+    (tmp_path / "plan.toml").write_text(plan)
+    with pytest.raises(BadPlan):
+        megabytes_of(tmp_path / "plan.toml")
 
 
 def test_the_memory_of_a_run_is_less(tmp_path, program):

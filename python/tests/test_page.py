@@ -85,7 +85,7 @@ def test_labels_of_figures_are_escaped_too(small):
 def test_any_text_comes_back_as_a_text(text):
     elements = Elements(f'<p title="{document.escaped(text)}">{document.escaped(text)}</p><script>{document.script_json([text])}</script>')
     assert [tag for tag, _ in elements.found] == ["p", "script"]
-    shown = "".join(letter if letter.isprintable() or letter == "\n" else "\ufffd" for letter in text)
+    shown = "".join(letter if letter.isprintable() or letter in "\n\t" else "\ufffd" for letter in text)
     assert "".join(elements.texts) == shown and elements.found[0][1]["title"] == shown
     assert json.loads("".join(elements.scripts)) == [text] and "<" not in elements.scripts[0]
 
@@ -99,6 +99,8 @@ def test_only_the_two_scripts_of_the_page_may_run(small):
 
 def test_the_heading_and_its_warnings(small, tmp_path):
     (tmp_path / "ptu").write_bytes(b"abc")
+    (tmp_path / "plan.toml").write_bytes(b"\xef\xbb\xbf[[group]]\r\n\tinputs = [1]\r\n")
+    assert ">[[group]]\n\tinputs = [1]\n</pre>" in page(Report(HEAD, ()), plan=tmp_path / "plan.toml")
     text = page(Report(HEAD, ()), file="some/data.ptu", program=tmp_path / "ptu")
     assert "<h1>Report of data.ptu</h1>" in text and "<dd>some/data.ptu</dd>" in text
     assert "ba7816bf8f01cfea414140de5dae2223b00361a396177a9cb410ff61f20015ad" in text and checksum(tmp_path / "ptu") in text
@@ -162,6 +164,13 @@ def test_a_trace_is_a_rate_where_the_seconds_are_known():
         assert (curve.xlabel, curve.ylabel, curve.ys.tolist()) == ("time (sync periods)", "photons in a bin", [5, 10])
     (curve,) = figures_of(Report(HEAD, (table("trace", {"origin": 0, "width": 9, "bins": 1}, [5], {"before": 0, "beyond": 2}),)))
     assert len(curve.xs) == 0 and curve.summary == "5 photons in one bin. 2 photons are behind the last bin."
+
+
+@pytest.mark.parametrize("tick", [5e-324, 1e300, float("inf"), float("nan"), -1.0])
+def test_odd_seconds_of_a_tick_are_not_taken(program, make_file, make_plan, tick):
+    plan = make_plan("group = [{ inputs = [1] }]\ntrace = [{ group = 1, width = 100, bins = 10 }]\ncorrelation = [{ first = 1, second = 1, lags = 4, levels = 2 }]")
+    report = ptulab.run(plan, make_file("HydraHarp2T2", [(1, 1), (900, 1)], tick=tick), program=program)
+    assert [figure.xunit for figure in figures_of(report)] == ["ticks", "ticks"]
 
 
 def test_g2_of_even_light_is_1_in_every_cell_and_the_last_one_is_narrower():

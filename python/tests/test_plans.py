@@ -66,6 +66,15 @@ def test_scans_that_no_image_suits(make_file, proposed, tags, said):
     assert said in proposed(make_file(T3, scan(32), tick=SYNC, **(SCAN | tags)))[0]
 
 
+@pytest.mark.parametrize("number", [float("inf"), float("nan"), 1e300, 5e-324, 0.0, -1.0])
+def test_headers_of_odd_seconds(make_file, proposed, number):
+    """The plan is one that the program takes, whatever numbers stand in the header."""
+    for tags in ({"tick": number, "resolution": 1e-12}, {"tick": SYNC, "resolution": number}, {"tick": SYNC, "ImgHdr_TimePerPixel": number}):
+        report = proposed(make_file(T3, scan(32), **(SCAN | tags)))[1]
+        assert report.table("histogram").counts.sum() == report.head.photons
+    assert proposed(make_file("HydraHarp2T2", [(0, 1), (1000, 2)], tick=number))[1].table("coincidence").counts.sum() == 1
+
+
 def test_a_deep_file_of_great_pictures_has_few_bins_a_pixel(make_file, proposed):
     text, report = proposed(make_file(T3, scan(1), tick=SYNC, resolution=2e-12, **(SCAN | {"ImgHdr_PixX": 2048, "ImgHdr_PixY": 2048})))
     cube = report.table("cube").settings

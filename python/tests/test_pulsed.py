@@ -145,7 +145,11 @@ def test_nothing_to_pair(make_file):
     assert ours.pairs.tolist() == [0] * 7 and ours.expected().tolist() == [0] * 7 and ours.seconds is None
     with pytest.raises(ptulab.NotKnown):
         ours.central_ratio()
-    assert start_stops(path, 0, 1, 1, 2).counts.tolist() == [0, 0]
+    assert start_stops(path, 0, 1, 1, 2).counts.tolist() == [0, 0] and start_stops(path, 0, 1, 1, 2).seconds is None
+    timed = make_file("HydraHarp2T2", [(1, 1), (8, 2)], name="timed.ptu", tick=1e-9)
+    stops = start_stops(ptulab.read_events(timed), 1, 2, 3, 4)
+    assert stops.counts.tolist() == [0, 0, 1, 0] and stops.ticks.tolist() == [0, 3, 6, 9]
+    assert stops.seconds == pytest.approx([0, 3e-9, 6e-9, 9e-9])
     with pytest.raises(ValueError):
         coincidences(path, 0, 1, 0)
     with pytest.raises(ValueError):

@@ -46,7 +46,7 @@ def test_the_letter_stands_still(folder):
 
 def test_lifetimes_of_the_letter(folder):
     found = cube(ptulab.read_events(folder / "two_ways.ptu"), Scan(**TWO_WAYS, time=64 * 8.4, phase=12.6), 10, 200)
-    means = fits.mean_arrival(found.counts, found.ticks * found.resolution_seconds, offset=5e-9, threshold=15)
+    means = fits.mean_arrival(found.counts, found.seconds, offset=5e-9, threshold=15)
     assert np.nanmean(means[10:18]) == pytest.approx(1.5e-9, rel=0.05) and np.nanmean(means[28:36]) == pytest.approx(4e-9, rel=0.05)
 
 

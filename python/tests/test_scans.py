@@ -186,7 +186,7 @@ def test_empty_files_give_empty_images(make_file):
 
 
 def test_settings_that_no_scan_has_are_refused(make_file):
-    for bad in ({"width": 0}, {"line": 5}, {"stop": 0}, {"time": None}, {"time": -1.0}, {"time": float("nan")}):
+    for bad in ({"width": 0}, {"line": 5}, {"stop": 0}, {"time": None}, {"time": -1.0}, {"time": float("nan")}, {"phase": float("inf")}):
         with pytest.raises(ValueError):
             Scan(**({"width": 4, "height": 4, "line": 1, "time": 9} | bad))
     path = make_file("HydraHarp2T3", [(5, made.Bits(1)), (7, 0)])

@@ -30,3 +30,15 @@ def test_after_a_fault_the_old_file_stands(tmp_path):
 def test_no_folder_is_an_error(tmp_path):
     with pytest.raises(FileNotFoundError), written_whole(tmp_path / "none" / "out.txt"):
         pass
+
+
+def test_a_link_stays_and_a_device_is_let_be(tmp_path):
+    (tmp_path / "link").symlink_to("out.txt")
+    with written_whole(tmp_path / "link") as out:
+        out.write(b"some")
+    assert (tmp_path / "link").is_symlink() and (tmp_path / "out.txt").read_bytes() == b"some"
+    os.mkfifo(tmp_path / "pipe")
+    for path in (tmp_path / "pipe", tmp_path):
+        with pytest.raises(OSError, match="no regular file"), written_whole(path):
+            pass
+    assert stat.S_ISFIFO((tmp_path / "pipe").stat().st_mode) and sorted(os.listdir(tmp_path)) == ["link", "out.txt", "pipe"]

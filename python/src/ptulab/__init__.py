@@ -4,7 +4,7 @@ Reports and their sums (``read_report``, ``sum_reports``), runs of the program (
 (``read_events``, ``iter_events``). It is tested, not proved; docs/python.md tells all of it.
 """
 
-from .errors import BadFile, BadPlan, BadReport, Missing, NoProgram, NotKnown, NoTable, PtulabError, Refusal, Unlike
+from .errors import BadFile, BadPlan, BadReport, FitFailed, Missing, NoProgram, NotKnown, NoTable, PtulabError, Refusal, Unlike
 from .events import EVENT, Events, iter_events, read_events
 from .headers import Header, read_header
 from .many import count_files
@@ -21,6 +21,7 @@ __all__ = [
     "BadPlan",
     "BadReport",
     "Events",
+    "FitFailed",
     "Head",
     "Header",
     "LongTrace",

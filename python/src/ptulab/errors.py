@@ -13,7 +13,7 @@ class BadReport(PtulabError, ValueError):
 
 
 class BadPlan(PtulabError, ValueError):
-    """A plan that is no TOML document, or longer than a plan may be."""
+    """A plan that is no TOML document, or longer than a plan may be, or breaks a rule where its numbers are needed."""
 
 
 class NoTable(PtulabError, LookupError):
@@ -26,6 +26,10 @@ class Unlike(PtulabError, ValueError):
 
 class NotKnown(PtulabError, ValueError):
     """A number that is needed is told by nothing, as the seconds of a tick, or the photons of a group."""
+
+
+class FitFailed(PtulabError, ArithmeticError):
+    """A fit that found no end, or that can't be begun, as one over no photons."""
 
 
 class BadFile(PtulabError, ValueError):

@@ -12,16 +12,12 @@ from typing import Any, Literal
 import numpy as np
 from numpy.typing import NDArray
 
-from .errors import NotKnown, PtulabError
+from .errors import FitFailed, NotKnown
 from .optional import want
 from .pulsed import Coincidences
 from .tables import Table
 
 Numbers = NDArray[np.float64]
-
-
-class FitFailed(PtulabError, ArithmeticError):
-    """A fit that found no end, or that can't be begun, as one over no photons."""
 
 
 @dataclass(frozen=True)
@@ -98,6 +94,12 @@ def _begin_decay(terms: int, amplitude: float, lifetime: float, most: float, bac
     return begin
 
 
+def _good_counts(counts: Numbers, beside: Numbers) -> None:
+    """Counts stand in one row, one beside each of these numbers, and none is less than 0."""
+    if counts.ndim != 1 or counts.shape != beside.shape or np.any(counts < 0):
+        raise ValueError(f"no counts of a decay: shape {counts.shape} beside {beside.shape}, the least {counts.min(initial=0):g}")
+
+
 def fit_tail(
     counts: NDArray[Any], axis: NDArray[Any], start: float, *, stop: float | None = None, terms: int = 1
 ) -> Fit:
@@ -106,9 +108,10 @@ def fit_tail(
     ``counts``: shape (bins,), a histogram; ``axis``: shape (bins,), where its bins begin, evenly spaced, in seconds or
     ticks. The bins from ``start`` on and before ``stop`` are fitted; the pulse must be over by ``start``. Amplitudes and
     ``background`` are counts a bin, lifetimes in the unit of the axis. Raises ``FitFailed`` and ``ValueError`` where
-    there are no such bins, or they have no counts.
+    there are no such bins, or they have no counts, or one is less than 0.
     """
     axis, counts = np.asarray(axis, dtype=np.float64), np.asarray(counts, dtype=np.float64)
+    _good_counts(counts, axis)
     inside = (axis >= start) & (axis < (np.inf if stop is None else stop))
     times, tail = axis[inside] - start, counts[inside]
     if len(times) < 3 or not tail.sum() > 0:
@@ -133,14 +136,13 @@ def decay_of_bins(lifetime: float, width: float, bins: int, period: float | None
     integral over both bins. With ``period`` what comes from earlier pulses is added, 1 / (1 - exp(-period / lifetime)).
     """
     d = width / lifetime
-    q = np.exp(-d)
-    decay = (-np.expm1(-d)) ** 2 / d * q ** (np.arange(bins) - 1.0)
+    decay = np.expm1(-d) ** 2 / d * np.exp(-d * np.maximum(np.arange(bins) - 1.0, 0.0))  # of bin 0 as of bin 1
     own = 1 + np.expm1(-d) / d
     if period is None:
         decay[0] = own
         return np.asarray(decay)
     decay /= -np.expm1(-period / lifetime)
-    decay[0] = own + decay[0] * np.exp(-period / lifetime)
+    decay[0] = own + decay[0] * np.exp((width - period) / lifetime)
     return np.asarray(decay)
 
 
@@ -154,11 +156,12 @@ def fit_reconvolution(
     in the same unit, where its decay runs over into the next; the bins must not go on behind it.
     ``amplitude_n`` are photons, ``lifetime_n`` and ``shift`` are in the unit of ``width`` (a part of a bin by linear
     interpolation), ``background`` is counts a bin. Raises ``FitFailed`` and ``ValueError`` where the shapes differ, there
-    are no counts, or the bins are longer than the period.
+    are no counts, or one is less than 0, or the bins are longer than the period.
     """
     counts, pulse = np.asarray(counts, dtype=np.float64), np.asarray(pulse, dtype=np.float64)
+    _good_counts(counts, pulse)
     bins = len(counts)
-    if counts.shape != pulse.shape or not counts.sum() > 0 or not pulse.sum() > 0:
+    if not counts.sum() > 0 or not pulse.sum() > 0:
         raise ValueError("a decay and a pulse need counts, in as many bins")
     circle = 3 * bins if period is None else round(period / width)
     if circle < bins:

@@ -16,17 +16,18 @@ from dataclasses import dataclass, replace
 from typing import Any
 
 from .documents import read_plan
-from .errors import BadReport, Refusal, Unlike
+from .errors import BadPlan, BadReport, Refusal, Unlike
 from .optional import want
+from .plan_rules import broken_rules
 from .program import find_program, run
-from .report import Report, read_report
+from .report import Report, first_lines, read_report
 
 PathLike = str | os.PathLike[str]
 OF_FILE = (*range(9, 22), 24)  # statuses by which the program refuses a file, and not the plan or the machine
 REFUSED = re.compile(rb"refused (\d+) ([^\n]*)\n")  # what stands in the place of a report of a file that was refused
 UNREAD = ("ptu: cannot open the data", "ptu: cannot read the data")
 LOOKS = 0.2  # seconds between two looks at how many files are done
-Key = tuple[str, str, str]
+Key = tuple[str, str, str, str]  # record type, seconds of a tick and of a dtime's, and tables: what is alike adds up
 
 
 @dataclass(frozen=True, order=True)
@@ -42,7 +43,8 @@ class Left:
 class Sum:
     """A sum over files: ``report`` is None where none could be added. ``added`` and ``left`` are in the order of the files.
 
-    Reports of other record types or seconds of a tick than those of the first file are left too, since they don't add up.
+    Reports of other record types, seconds of a tick or tables than those of the first file are left too, since they don't
+    add up.
     """
 
     report: Report | None
@@ -93,7 +95,8 @@ def sum_files(reports: Iterable[PathLike], plan: PathLike | None = None) -> Sum:
     """Adds up reports on disk, read one at a time, as ``count_files`` adds up files.
 
     In the place of a report a line ``refused STATUS LINE`` may stand, as the jobs of ``examples/Snakefile`` write it. Such
-    a file is left, and so is a text that is no whole report. Raises ``OSError`` for a path that can't be read.
+    a file is left, and so are a text that is no whole report and a report of other tables than those of the first or of
+    the plan. Raises ``OSError`` for a path that can't be read.
     """
     paths = [os.fspath(path) for path in reports]
     whole = _Share({}, {})
@@ -106,9 +109,11 @@ def megabytes_of(plan: PathLike) -> int:
     """How many MiB a run of this plan takes at most, with something to spare: what to ask a queue for.
 
     By the entries of its tables (docs/run.md, "Memory"): 8 bytes for a count and 16 for one of pairs, and of what pairs keep
-    24 bytes for each bin. Raises ``BadPlan`` for a plan that is no TOML.
+    24 bytes for each bin. Raises ``BadPlan`` for a plan that is no TOML, or breaks a rule.
     """
     document = read_plan(plan)
+    if found := broken_rules(document):
+        raise BadPlan(f"{os.fspath(plan)}: {found[0]}")
     size = 16 << 20
     for kind, entries in BYTES.items():
         size += sum(entries(table) for table in document.get(kind, []))
@@ -224,10 +229,11 @@ def _counted(place: int, path: str, report_of: Callable[[], Report]) -> _Share:
         report = report_of()
     except Refusal as refusal:
         return _Share({}, {place: _left_by(refusal, path)})
-    except BadReport as error:
-        return _Share({}, {place: Left(path, None, str(error))})
+    except (BadReport, Unlike) as error:
+        return _Share({}, {place: Left(path, None, str(error).removeprefix(f"{path}: "))})
     head = report.head
-    return _Share({(head.type, repr(head.global_seconds), repr(head.resolution_seconds)): (report, [place])}, {})
+    key = (head.type, repr(head.global_seconds), repr(head.resolution_seconds), repr(first_lines(report)))
+    return _Share({key: (report, [place])}, {})
 
 
 def _left_by(refusal: Refusal, path: str) -> Left:
@@ -257,7 +263,7 @@ def _sum_of(whole: _Share, paths: Sequence[str]) -> Sum:
     report, places = whole.sums.pop(first)
     for key, (_, others) in whole.sums.items():
         both = zip(("type", "global", "resolution"), key, first)
-        why = "; ".join(f"{word} {one}, not {wanted}" for word, one, wanted in both if one != wanted)
+        why = "; ".join(f"{word} {one}, not {wanted}" for word, one, wanted in both if one != wanted) or "other tables"
         whole.left |= {place: Left(paths[place], None, why) for place in others}
     if len(places) == 1:
         report = replace(report, head=replace(report.head, first=None, last=None))

@@ -13,12 +13,11 @@ from collections.abc import Iterator
 
 from .looks import Look, look
 from .plan_checks import check_plan
-from .plan_rules import Finding
+from .plan_rules import BINS_OF_CUBE, Finding
 
 __all__ = ["Finding", "check_plan", "plan_for"]
 BINS = 512  # of a trace over the whole file, at most
 DEPTH = 128  # bins of a pixel of a cube, at most
-BINS_OF_CUBE = 1 << 26
 WHOLE = 1 << 62  # the width of a bin that has all photons
 LAGS = 16
 CELL, REACH = 0.5e-9, 200e-9  # seconds of a cell of coincidences, and how far they reach
@@ -98,7 +97,7 @@ def _depth(seen: Look) -> int:
     """Ticks of a sync period, or up to the greatest dtime where that is later."""
     sync, tick = seen.header.global_seconds, seen.header.resolution_seconds
     told = sync / tick if sync and tick and sync > 0 and tick > 0 else 0.0
-    return max(seen.deepest + 1, min(32768, math.ceil(told)))
+    return max(seen.deepest + 1, min(32768, math.ceil(told)) if math.isfinite(told) else 1)
 
 
 # ## Scans
@@ -134,8 +133,9 @@ def _bit(seen: Look, name: str) -> int | None:
 def _periods_of_pixel(seen: Look, start: int, stop: int, width: int) -> tuple[float | None, str]:
     """Sync periods of a pixel, by the header's milliseconds, or by the lines that the markers begin and end."""
     milliseconds, sync = seen.header.tags.get("ImgHdr_TimePerPixel"), seen.header.global_seconds
-    if isinstance(milliseconds, int | float) and milliseconds > 0 and sync and sync > 0:
-        return milliseconds * 1e-3 / sync, "the header's time of a pixel"
+    told = milliseconds * 1e-3 / sync if isinstance(milliseconds, int | float) and sync and sync > 0 else 0.0
+    if 0 < told < WHOLE:
+        return told, "the header's time of a pixel"
     line = seen.periods_of_line(start, stop)
     return (line / width, "measured by the line markers") if line else (None, "")
 
@@ -180,7 +180,7 @@ def _pairs(seen: Look) -> Iterator[str]:
     if first == second:
         return
     tick = seen.header.global_seconds
-    known = tick is not None and 0 < tick < 1
+    known = tick is not None and 1e-15 <= tick < 1  # of less a cell would be wider than a plan's
     unit = tick if tick is not None and known else 1e-12
     width = 2 * round((CELL / unit - 1) / 2) + 1 if CELL > unit else 1
     sides = max(1, min(round(REACH / unit / width), ((1 << 20) - width // 2) // width, 4096))

@@ -122,7 +122,7 @@ def plot_lifetimes(cube: Cube | Table, axes: Any = None, *, offset: float = 0.0,
     """The mean delay of each pixel of a cube, of all frames; ``offset``, in seconds (ticks where the file doesn't tell), is
     taken off, and pixels with fewer photons than ``threshold`` are grey."""
     counts = cube.counts.sum(axis=0) if cube.counts.ndim == 4 else cube.counts
-    seconds = _cube_seconds(cube)
+    seconds = cube.seconds
     means = mean_arrival(counts, cube.ticks if seconds is None else seconds, offset=offset, threshold=threshold)
     known = means[np.isfinite(means)]
     if seconds is None:
@@ -130,12 +130,6 @@ def plot_lifetimes(cube: Cube | Table, axes: Any = None, *, offset: float = 0.0,
     _, unit = in_units(known, known)
     factor = dict((name, factor) for factor, name in UNITS)[unit]
     return plot_picture(means * factor, f"mean delay ({unit})", axes=axes, cmap="viridis")
-
-
-def _cube_seconds(cube: Cube | Table) -> NDArray[np.float64] | None:
-    if isinstance(cube, Table):
-        return cube.seconds
-    return None if cube.resolution_seconds is None else cube.ticks * cube.resolution_seconds
 
 
 def plot_correlation(curve: Curve | Table, axes: Any = None, *, fit: Fit | None = None) -> Any:
@@ -176,9 +170,7 @@ def plot_g2(pairs: Coincidences | Table, axes: Any = None) -> Any:
 
 def plot_start_stops(stops: StartStops, axes: Any = None) -> Any:
     """Times between neighbours."""
-    ticks = stops.width * np.arange(len(stops.counts))
-    seconds = None if stops.unit_seconds is None else ticks * stops.unit_seconds
-    return _plot_steps(ticks, seconds, stops.counts, "time between photons", "times a bin", _axes(axes))
+    return _plot_steps(stops.ticks, stops.seconds, stops.counts, "time between photons", "times a bin", _axes(axes))
 
 
 def _plot_steps(

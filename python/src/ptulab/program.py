@@ -7,7 +7,7 @@ import subprocess
 import tempfile
 import threading
 from collections.abc import Callable, Iterator
-from contextlib import contextmanager
+from contextlib import contextmanager, suppress
 from importlib import resources
 from pathlib import Path
 from typing import IO, Any
@@ -15,7 +15,7 @@ from typing import IO, Any
 from .documents import read_plan
 from .errors import BadPlan, BadReport, NoProgram, Refusal
 from .optional import want
-from .report import Report, read_stream
+from .report import Report, groups_of, read_stream
 
 LOOKS = 0.1  # seconds between two looks at how far the program is
 
@@ -43,12 +43,16 @@ def run(
 
     With ``progress`` tqdm shows a bar of the bytes of the file that the program has read. The report is read while it
     is printed, so the memory is that of its tables. With ``whole``, a report of the same plan, it is added into the
-    arrays of that one, and the sum is given; what is ``Unlike`` it or refused leaves it as it is. Raises ``Refusal`` where the program ends with another status
+    arrays of that one, and the sum is given; a file that is refused and what is ``Unlike`` it, as a plan of other tables or
+    a file of another record type or tick, leave it as it is. Raises ``Refusal`` where the program ends with another status
     than 0, with its line and its meaning; ``NoProgram``; and ``Missing`` where a bar is wanted and tqdm isn't there.
     """
     words = [find_program(program), "run", os.fspath(plan), os.fspath(file)]
     bar = want("tqdm", "the progress of a run").tqdm if progress else None
     document = _document(plan)
+    if whole is not None and document is not None:
+        with suppress(KeyError, TypeError, AttributeError):  # a bad plan is for the program to refuse
+            groups_of(document, whole.tables)
     with tempfile.TemporaryFile() as told:
         with subprocess.Popen(words, stdout=subprocess.PIPE, stderr=told) as child, _shown(bar, child, words[-1]):
             try:

@@ -203,6 +203,16 @@ class StartStops:
     over: int
     unit_seconds: float | None = None
 
+    @property
+    def ticks(self) -> NDArray[np.int64]:
+        """Where each bin begins: shape (bins,), in the unit of ``width``."""
+        return self.width * np.arange(len(self.counts), dtype=np.int64)
+
+    @property
+    def seconds(self) -> NDArray[np.float64] | None:
+        """The same in seconds, None where the file doesn't tell."""
+        return None if self.unit_seconds is None else self.ticks * self.unit_seconds
+
 
 def start_stops(
     source: Source, start: GroupLike, stop: GroupLike, width: int, bins: int, *, period: float | None = None

@@ -7,7 +7,7 @@ import io
 import os
 import re
 import struct
-from collections.abc import Iterable, Iterator
+from collections.abc import Iterable, Iterator, Sequence
 from dataclasses import dataclass, replace
 from typing import IO, Any
 
@@ -132,8 +132,8 @@ def read_stream(source: Source | IO[bytes], plan: dict[str, Any] | None = None, 
     return _Reader(source, "", plan, whole).report()
 
 
-def _groups(plan: dict[str, Any], tables: list[Table]) -> list[tuple[int, ...]]:
-    """The groups of each table by the plan, whose tables must be those of the report."""
+def groups_of(plan: dict[str, Any], tables: Sequence[Table]) -> list[tuple[int, ...]]:
+    """The groups of each table by the plan. Raises ``Unlike`` where it has other tables than the report."""
     if any(len(plan.get(kind, ())) != sum(table.kind == kind for table in tables) for kind in KINDS):
         raise Unlike("the plan has other tables than the report")
     groups = []
@@ -153,7 +153,7 @@ def _copy(report: Report) -> Report:
 def _added(whole: Report, report: Report) -> Report:
     """Adds a report to another one, in whose arrays the sums are then."""
     _alike(whole.head, report.head, "")
-    if _first_lines(whole) != _first_lines(report):
+    if first_lines(whole) != first_lines(report):
         raise Unlike("other tables")
     for table, more in zip(whole.tables, report.tables):
         table.counts = _sum(table.counts, more.counts)
@@ -162,7 +162,8 @@ def _added(whole: Report, report: Report) -> Report:
     return Report(_head_of_sum(whole.head, report.head), whole.tables)
 
 
-def _first_lines(report: Report) -> list[tuple[str, int, dict[str, int]]]:
+def first_lines(report: Report) -> list[tuple[str, int, dict[str, int]]]:
+    """Kind, number and settings of each table, as its first line has them."""
     return [(table.kind, table.number, table.settings) for table in report.tables]
 
 
@@ -221,7 +222,7 @@ class _Reader:
                 table.measurements += (Measurement(length, None),)
             return
         try:
-            groups = _groups(self.plan, self.tables)
+            groups = groups_of(self.plan, self.tables)
         except (Unlike, KeyError, TypeError, AttributeError) as error:
             raise Unlike(f"{self.name}{error}" if isinstance(error, Unlike) else f"{self.name}the plan is none of this report") from error
         photons = {

@@ -61,6 +61,8 @@ class Scan:
             raise ValueError("the time of a line isn't known: give its stop marker, or its time in sync periods")
         if self.time is not None and not (math.isfinite(self.time) and self.time > 0):
             raise ValueError(f"a line of {self.time} sync periods")
+        if not math.isfinite(self.phase):
+            raise ValueError(f"a phase of {self.phase} sync periods")
 
 
 def scan_of(header: Header, **other: Any) -> Scan:
@@ -116,6 +118,11 @@ class Cube:
     def ticks(self) -> NDArray[np.int64]:
         """Where each bin begins, in ticks of the dtime: shape (bins,)."""
         return self.dwidth * np.arange(self.counts.shape[-1], dtype=np.int64)
+
+    @property
+    def seconds(self) -> NDArray[np.float64] | None:
+        """The same in seconds, None where the file doesn't tell."""
+        return None if self.resolution_seconds is None else self.ticks * self.resolution_seconds
 
     @property
     def image(self) -> NDArray[np.uint64]:

@@ -13,6 +13,7 @@ from numpy.typing import NDArray
 from .events import EVENT, Events
 from .groups import GroupLike, Source, group_of, pieces_of
 from .pulsed import occupied, pair_counts
+from .tables import lags_of
 
 
 @dataclass(frozen=True)
@@ -84,8 +85,7 @@ def delays(lags: int, levels: int) -> tuple[NDArray[np.int64], NDArray[np.int64]
     """
     if lags < 2 or lags % 2 or not 1 <= levels <= 40:
         raise ValueError(f"a correlation of {lags} lags and {levels} levels")
-    level = np.repeat(np.arange(levels), [lags] + [lags // 2] * (levels - 1))
-    lag = np.concatenate([np.arange(1, lags + 1)] + [np.arange(lags // 2 + 1, lags + 1)] * (levels - 1))
+    level, lag = lags_of({"lags": lags, "levels": levels})
     return lag << level, level
 
 
@@ -127,7 +127,8 @@ def correlation_by_segments(
     Each segment is correlated by itself, with times from its beginning, and normalised by its own photons and length:
     G = PAIRS * T^2 / (FIRST * SECOND * 2^L * (T - t)), as in ``docs/correlation.md``, with the segment's length T. The
     error is the standard deviation between segments over the root of their number (Wohland, Rigler and Vogel,
-    Biophysical Journal 80, 2987, 2001). A delay t must be short beside T: choose few segments for long delays.
+    Biophysical Journal 80, 2987, 2001). A delay t must be short beside T: choose few segments for long delays. The errors
+    of neighbouring delays go together, so many points can lie off by one error on the same side.
 
     Raises ``ValueError`` where there is no event, for segments without time, and as ``delays`` does.
     """

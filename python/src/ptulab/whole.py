@@ -3,6 +3,7 @@
 from __future__ import annotations
 
 import contextlib
+import errno
 import os
 import tempfile
 from collections.abc import Iterator
@@ -14,9 +15,12 @@ def whole_path(path: str | os.PathLike[str]) -> Iterator[str]:
     """The path of an empty file to write to, which gets the name ``path`` once the block has ended well.
 
     It stands in the folder of ``path`` till then, under another name; after an exception there is nothing of it, and
-    what stood at ``path`` stands there still. Raises ``OSError`` where it can't be written.
+    what stood at ``path`` stands there still. A link stays, and what it names is written. Raises ``OSError`` where it
+    can't be written, and where something else than a regular file stands there, as a device.
     """
-    target = os.fspath(path)
+    target = os.path.realpath(path)
+    if os.path.exists(path) and not os.path.isfile(path):
+        raise OSError(errno.EINVAL, "no regular file, so none can take its place", os.fspath(path))
     descriptor, temporary = tempfile.mkstemp(dir=os.path.dirname(target) or ".", prefix=".ptulab-")
     os.close(descriptor)
     try:

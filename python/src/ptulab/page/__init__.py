@@ -35,7 +35,7 @@ def page(report: Report, *, file: PathLike | None = None, plan: PathLike | None 
         told.append(("file", os.fspath(file)))
     if plan is not None:
         with open(plan, "rb") as opened:
-            plan_text = opened.read().decode("utf-8", errors="replace").removeprefix("\ufeff")
+            plan_text = opened.read().decode("utf-8", errors="replace").removeprefix("\ufeff").replace("\r\n", "\n")
         told.append(("plan", os.fspath(plan)))
     if program is not None:
         told.append(("program", f"{os.path.basename(os.fspath(program))}, SHA-256 {checksum(program)}"))

@@ -31,7 +31,7 @@ HEAD = {
 
 def escaped(value: Any) -> str:
     """A value as text of HTML, also within quotes; control characters, which HTML can't show, as question marks."""
-    return html.escape("".join(letter if letter.isprintable() or letter == "\n" else "\ufffd" for letter in str(value)))
+    return html.escape("".join(letter if letter.isprintable() or letter in "\n\t" else "\ufffd" for letter in str(value)))
 
 
 def script_json(value: Any) -> str:

@@ -100,7 +100,7 @@ def scale_of(table: Table, head: Head) -> Scale:
     """The scale of a table's axis."""
     of_delay = table.kind in BY_DTIME
     seconds = head.resolution_seconds if of_delay else head.global_seconds
-    known = seconds is not None and math.isfinite(seconds) and seconds > 0
+    known = seconds is not None and 1e-30 < seconds < 1e30  # a header may tell any number
     return Scale(seconds if known else None, "ticks" if of_delay or head.mode == "T2" else "sync periods")
 
 
