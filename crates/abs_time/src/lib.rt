@@ -2,5 +2,7 @@
 #![tactic(auto)]
 
 mod clock;
+mod floor;
 
 pub use clock::{Clock, Placed, is_ordered};
+pub use floor::{moved_floor, orders_markers};

@@ -6,9 +6,9 @@ use Rattle.ptu_definitions.{specs.declared.records.Summary.Summary, specs.Words.
 use Rattle.record_stream.proofs.Lasts.{streamed-refused}
 use Rattle.plan_text.specs.Plan.{PlanView, parts_of}
 use Rattle.coincidence.proofs.Places.{intervals-are-pairs}
-use Rattle.gate_plan.specs.Shifting.{sorting}
-use Rattle.tally_engine.{specs.Histories.{history, settled_history}, specs.Plans.reading_by}
-use Rattle.table_out.{specs.EventText.events_text, specs.Lines.line, specs.Printed.{texts, cell_line, cell_lines, first_line, table_lines}, specs.StartStop.startstop_printed, specs.Report.{head_text, printed, Table, table_text, report, with_events}}
+use Rattle.gate_plan.{specs.Shifting.sorting, specs.Histories.{history, settled_history}, specs.Plans.reading_by}
+use Rattle.list_out.{specs.EventText.events_text, specs.Lines.line}
+use Rattle.table_out.{specs.Printed.{texts, cell_line, cell_lines, first_line, table_lines}, specs.StartStop.startstop_printed, specs.Report.{head_text, printed, Table, table_text, report, with_events}}
 use Rattle.ptu_made.{specs.Generator.made_words, specs.Records.made_header}
 use Rattle.long_trace.specs.Texts.{open_text}
 use Rattle.report_work.{specs.Reports.{report_of, if_fits, report_behind, report_outcome, any_plan, reporting}, specs.Demo.{demo_plan, demo_report}}

@@ -13,7 +13,7 @@ use Rattle.ptu_cli.{specs.Behaviours.behaviour, specs.Commands.{Request, Pick, E
 use Rattle.pick_work.specs.PickOutcomes.{records_picked}
 use Rattle.command_laws.{specs.Causes.{IsValidPlan, Headed, Unheaded, IsPlanWith, Absent, NoPlan, Misfits, NoHeader, Cut, Refused, Lacking, TooLate, IsPickable, EndsWithFault, StatusIn, MayCallFor}, specs.Cases.{FileCase, HeaderCase, PrintCase, HasGroup, settled_photons, kept_photons, FirstLate, LateAtEnd, AllPicked, pick_end}, specs.CommandCases.{pick_statuses, RecordCases, Need, CommandCases, NamesLate, pick_cases, cases, Lacks, Suits, SuitCase, NeedCase, PlanCase, ShapeCase, IsOutcome, Needs, BadWords, Writes, ReadsHeader, ReadsRecords, ReadsByPlan}, proofs.FaultStatuses.{some-same, of-refused, of-written, range-as, wider, called-status, misfit-status, unheaded-status, cut_behind-status}, proofs.CaseShapes.{RecordCause, RecordsMeet, PlanMeets, MeetsCases}, proofs.Prints.print-holds, proofs.PickPhotons.none-or-late, proofs.PickCases.{first-settled, picked-holds}, proofs.Proved.{told, one-outcome}, proofs.PickedFiles.listed-picked, specs.Written.photons_written}
 use Rattle.gate_plan.specs.Shifting.{sorting}
-use Rattle.table_out.specs.EventText.{events_text}
+use Rattle.list_out.specs.EventText.{events_text}
 use Rattle.short_file.specs.ShortFiles.{short_file}
 use Rattle.record_write.specs.Picked.{picked_words, picked_file, picked_events}
 

@@ -5,7 +5,7 @@ use Rattle.tally_base.{specs.declared.fault.Fault.Fault, specs.declared.fault.Fa
 use Rattle.ptu_definitions.{specs.Words.{words_of, rest_of}, specs.Firsts.IsFirst, specs.Streams.{Reading, record_refusal, refusal}, proofs.Firsts.{first-refusal, refused-first, none-refused}}
 use Rattle.record_stream.proofs.Lasts.{streamed-refused}
 use Rattle.plan_text.specs.Plan.{PlanView}
-use Rattle.tally_engine.specs.Plans.{reading_by}
+use Rattle.gate_plan.specs.Plans.{reading_by}
 use Rattle.photon_pick.{specs.Late.too_late, specs.Ends.photons_by, specs.Texts.photons_in}
 use Rattle.pick_work.specs.PickOutcomes.{no_group, chosen_by, records_picked, picked_if_fits, picked_behind, picking}
 use Rattle.command_work.specs.Outcomes.{Outcome}

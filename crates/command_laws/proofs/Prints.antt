@@ -3,7 +3,7 @@ use Rattle.std.proofs.Common.{◌≡◌, ℕ, List, [], ◌∷◌, ◌++◌, Non
 use Rattle.std.specs.declared.option.Option.{Option}
 use Rattle.tally_base.specs.Faults.{fault_in}
 use Rattle.ptu_definitions.{specs.TagList.Item, specs.Endings.HasHeader, specs.Headers.{header_answer, head_of}, specs.Seen.{seen, seen_preamble, HasNoFront, HasLongestFront}, proofs.Sound.one_answer, proofs.SeenLemmas.{seen-header, seen_preamble-header}, proofs.SeenLaws.{seen-longest, seen-none}, proofs.Longest.some-longest}
-use Rattle.table_out.specs.HeaderText.{preamble_part, item_text, shown_text, header_text}
+use Rattle.list_out.specs.HeaderText.{preamble_part, item_text, shown_text, header_text}
 use Rattle.command_laws.{specs.Cases.{Prints, PrintCase}, proofs.CaseSteps.same-end}
 use Rattle.command_work.specs.Outcomes.{Outcome}
 use Rattle.file_work.specs.FileOutcomes.{header_outcome}

@@ -6,9 +6,9 @@ use Rattle.bench_io.specs.Inputs.{File}
 use Rattle.ptu_definitions.{specs.declared.records.Summary.Summary, specs.TagList.{Item, IsHeader}, specs.Headers.{HasAnswer, head_of}, specs.Seen.{begun, IsLongestFront, HasNoFront}, specs.Words.{words_of, rest_of}, specs.Layouts.meaning_of, specs.Kinds.counts_of, specs.Counted.record_limit, specs.Prefixes.each, specs.Settled.{kept_by, settled_by}, specs.Times.events, specs.Streams.{Reading, refusal, events_in, summary_of}, specs.Firsts.IsFirst}
 use Rattle.plan_text.specs.Plan.{PlanView, parts_of}
 use Rattle.coincidence.specs.Places.{count_pairs}
-use Rattle.gate_plan.specs.Shifting.{sorting}
-use Rattle.tally_engine.{specs.Histories.{history, settled_history}, specs.Plans.reading_by}
-use Rattle.table_out.{specs.HeaderText.{preamble_text, item_text}, specs.EventText.events_text, specs.Lines.line, specs.Printed.{Printed, cell_line, table_lines}, specs.StartStop.startstop_printed, specs.Report.{head_text, printed, same_kind, Table, with_events}}
+use Rattle.gate_plan.{specs.Shifting.sorting, specs.Histories.{history, settled_history}, specs.Plans.reading_by}
+use Rattle.list_out.{specs.HeaderText.{preamble_text, item_text}, specs.EventText.events_text, specs.Lines.line}
+use Rattle.table_out.{specs.Printed.{Printed, cell_line, table_lines}, specs.StartStop.startstop_printed, specs.Report.{head_text, printed, same_kind, Table, with_events}}
 use Rattle.file_work.{specs.CountText.counts_text, specs.FileOutcomes.listing}
 use Rattle.command_work.specs.Outcomes.{Outcome, refused, written}
 use Rattle.trace_work.specs.TraceOutcomes.{trace_of}

@@ -6,7 +6,7 @@ use Rattle.tally_base.{specs.declared.slot.Slot.TheVariants.{Plan, Data}, specs.
 use Rattle.bench_io.specs.Inputs.{File}
 use Rattle.ptu_definitions.{specs.Headers.HasAnswer, specs.Words.{words_of, rest_of}}
 use Rattle.plan_text.{specs.Plan.{PlanView, plan}, specs.Reading.{document, IsValid, IsCalledFor}, specs.Fits.IsMisfit}
-use Rattle.tally_engine.specs.Plans.{reading_by}
+use Rattle.gate_plan.specs.Plans.{reading_by}
 use Rattle.ptu_cli.{specs.Commands.Request, specs.Behaviours.behaviour}
 use Rattle.command_work.specs.Endings.{outcome}
 use Rattle.command_laws.{specs.Cases.{NoneRefused, HasGroup}, specs.CommandCases.{RecordCases, Need, CommandCases, BadWords, Writes, ReadsHeader, ReadsRecords, ReadsByPlan, IsIn, Has, Lacks, Suits}}

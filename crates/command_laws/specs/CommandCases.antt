@@ -6,7 +6,7 @@ use Rattle.tally_base.{specs.declared.slot.Slot.TheVariants.Plan, specs.declared
 use Rattle.bench_io.specs.Inputs.{File}
 use Rattle.ptu_definitions.{specs.Words.words_of, specs.Counted.record_limit, specs.Streams.Reading, specs.Firsts.IsFirst}
 use Rattle.plan_text.{specs.Plan.{PlanView, plan}, specs.Reading.{document, IsValid, IsCalledFor}, specs.Fits.IsMisfit}
-use Rattle.tally_engine.specs.Plans.{reading_by}
+use Rattle.gate_plan.specs.Plans.{reading_by}
 use Rattle.ptu_made.{specs.Generator.made_words, specs.Records.made_header}
 use Rattle.ptu_cli.{specs.Commands.{Request, Count, Events, Run, Trace, Pick, Demo}, specs.Commands.Header as HeaderOf}
 use Rattle.report_work.specs.Demo.{demo_plan}

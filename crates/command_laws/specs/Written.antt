@@ -2,7 +2,7 @@
 use Rattle.std.specs.Prelude.{ℕ, List}
 use Rattle.tally_base.{specs.declared.event.Event.Event, specs.declared.header.Header.Header, specs.RecordTypes.mode_of}
 use Rattle.plan_text.specs.Plan.{PlanView}
-use Rattle.tally_engine.specs.Plans.{reading_by}
+use Rattle.gate_plan.specs.Plans.{reading_by}
 use Rattle.photon_pick.{specs.Ends.photons_of, specs.Late.writable}
 use Rattle.pick_work.specs.PickOutcomes.{chosen_by}
 

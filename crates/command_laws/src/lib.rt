@@ -6,7 +6,7 @@ ghost use Rattle.std.specs.declared.option.Option.{Option};
 ghost use Rattle.bench_io.specs.Inputs.{File};
 ghost use Rattle.ptu_definitions.specs.Counted.{record_limit};
 ghost use Rattle.record_write.specs.Picked.{CanBePicked, picked_words, picked_file, picked_events};
-ghost use Rattle.table_out.specs.EventText.{events_text};
+ghost use Rattle.list_out.specs.EventText.{events_text};
 ghost use Rattle.ptu_made.{specs.MadeFile.made_file, specs.Generator.photon_limit};
 ghost use Rattle.tally_base.{specs.declared.event.Event.Event, specs.declared.header.Mode.Mode, specs.declared.fault.Fault.Fault, specs.declared.fault.Fault.TheVariants.{Usage, NoGroup}, specs.declared.header.Header.Header, specs.RecordTypes.mode_of};
 ghost use Rattle.plan_text.specs.Plan.{PlanView};

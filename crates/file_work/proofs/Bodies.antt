@@ -3,7 +3,7 @@ use Rattle.std.proofs.Common.{◌≡◌, ◌+◌, ◌<◌, ℕ, List, [], ◌∷
 use Rattle.std.{specs.declared.option.Option.Option, proofs.lemmas.List.take_more}
 use Rattle.bench_io.{specs.Sinks.{AppendsShort, PassesOn}, proofs.Bytes.{PassesOn-trans, AppendsShort-passed, AppendsShort-more, AppendsShort-same}}
 use Rattle.ptu_tag.specs.declared.kind.TagKind.{TagKind}
-use Rattle.table_out.{specs.HeaderText.body_text, proofs.Growing.body_text-grows}
+use Rattle.list_out.{specs.HeaderText.body_text, proofs.Growing.body_text-grows}
 use Rattle.file_work.specs.BodyPieces.{PutsBody, CutsBody}
 
 -- one byte more

@@ -6,7 +6,7 @@ use Rattle.bench_io.proofs.Bytes.{Appends-nil, Appends-trans, Consumes-trans}
 use Rattle.ptu_definitions.{specs.Headers.header_answer, specs.Words.words_of, specs.Times.events, specs.Kept.marked, specs.Prefixes.each, specs.Settled.{ordered, settles, delivered}, specs.Streams.{Reading, record_refusal, given}}
 use Rattle.command_work.{specs.Told.Says, specs.Works.AnswersWork, proofs.Told.{Says-shown, Says-map}, proofs.Pieces.ShowsHeader}
 use Rattle.file_work.{specs.EventPieces.{Wrote, WroteShort, Writes}, specs.EventRuns.{SaysLines, AnswersLines}, specs.FileOutcomes.{listing_all, listing, listed, events_outcome, events_behind}, proofs.EventEnds.says-refused}
-use Rattle.table_out.specs.EventText.{events_text, lines_of}
+use Rattle.list_out.specs.EventText.{events_text, lines_of}
 
 none-delivered : (zero : Bool) (k : ℕ) (mode : Mode) → (if zero then marked mode [] else each (settles k) (ordered mode [])) ≡ []
 unfolding marked

@@ -5,7 +5,7 @@ use Rattle.tally_base.{specs.declared.fault.Fault.Fault, specs.declared.fault.Fa
 use Rattle.ptu_definitions.{specs.declared.records.Summary.Summary, proofs.Firsts.record_refusal-inside, specs.Words.words_of, specs.Kept.Marked, specs.Times.events, specs.Streams.{Reading, last_in, record_refusal, streamed}, proofs.DeliveredLaws.delivered_last-0, proofs.WordsLemmas.words_of-append, proofs.StreamLemmas.given-stays}
 use Rattle.bench_io.proofs.Bytes.{Appends-nil, Appends-trans, AppendsShort-behind}
 use Rattle.record_stream.{specs.declared.taker.EventTaker.Ghosts, specs.Ending.Ended, proofs.Lasts.streamed-shown}
-use Rattle.table_out.specs.EventText.{events_text, lines_of}
+use Rattle.list_out.specs.EventText.{events_text, lines_of}
 use Rattle.file_work.{specs.EventPieces.{Wrote, WroteShort, Writes}, specs.EventRuns.{SaysLines, AnswersLines, CutsLines}}
 use Rattle.command_work.proofs.Told.{some_left, none_left}
 

@@ -4,7 +4,7 @@ use Rattle.std.{specs.declared.option.Option.Option, specs.Io.KnownBytes.{Append
 use Rattle.tally_base.specs.declared.header.Header.{Header}
 use Rattle.bench_io.{specs.Sinks.AppendsShort, proofs.Bytes.{Appends-nil, Appends-same, Appends-trans, Consumes-trans, AppendsShort-same, AppendsShort-more, AppendsShort-behind}}
 use Rattle.ptu_definitions.{specs.Words.{words_of, rest_of}, specs.Streams.{Reading, given}, proofs.WordsLemmas.words_of-append, proofs.StreamLemmas.given-front}
-use Rattle.table_out.specs.EventText.{events_text, lines_of}
+use Rattle.list_out.specs.EventText.{events_text, lines_of}
 use Rattle.command_work.{specs.Outcomes.{Outcome, IsCut}, specs.Behaviours.AsItReads, specs.Works.{CutsWork, ReadsWork}, proofs.Told.some_left, proofs.Pieces.ShowsHeader, proofs.Streams.streamed-open}
 use Rattle.file_work.{specs.FileOutcomes.{listing, listed, events_outcome, events_behind, events_so_far, listing_all}, specs.EventPieces.{Wrote, WroteShort}, specs.EventRuns.{ReadsLines, CutsLines}, proofs.EventSteps.events_text-append, proofs.EventComposed.lines_of-none}
 

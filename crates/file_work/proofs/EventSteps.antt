@@ -4,8 +4,9 @@ use Rattle.std.{specs.declared.option.Option.Option, specs.declared.result.Resul
 use Rattle.tally_base.{specs.declared.event.Event.Event, specs.declared.header.Mode.Mode, specs.declared.fault.Fault.Fault, specs.declared.fault.Fault.TheVariants.WriteFault, specs.Events.is_ordered, specs.FaultCounts.Rose}
 use Rattle.bench_io.{specs.Sinks.{AppendsShort, PassesOn}, proofs.Bytes.{PassesOn-trans, Appends-flushed, AppendsShort-passed, AppendsShort-flushed, AppendsShort-more, AppendsShort-kept, Keeps-from_none}}
 use Rattle.ptu_definitions.{specs.Kept.Marked, specs.Streams.{Reading, record_refusal, given}}
-use Rattle.table_out.specs.EventText.{event_text, events_text, lines_of}
-use Rattle.record_stream.{specs.declared.taker.EventTaker.Ghosts, specs.Feeding.{GaveOn, BrokeOn, Fed}, proofs.Floors.moved_floor-push}
+use Rattle.list_out.specs.EventText.{event_text, events_text, lines_of}
+use Rattle.record_stream.{specs.declared.taker.EventTaker.Ghosts, specs.Feeding.{GaveOn, BrokeOn, Fed}}
+use Rattle.abs_time.proofs.Floors.{moved_floor-push}
 use Rattle.file_work.{specs.EventLines.{Listed, ListedShort}, specs.EventPieces.Writes}
 
 pub events_text-append : (l m : Marked) → events_text (l ++ m) ≡ events_text l ++ events_text m

@@ -4,7 +4,7 @@ use Rattle.std.{specs.declared.option.Option.Option, specs.Io.KnownBytes.Appends
 use Rattle.tally_base.{specs.declared.fault.Fault.Fault, specs.declared.header.Header.Header, specs.Faults.fault_in}
 use Rattle.bench_io.{specs.Sinks.AppendsShort, proofs.Bytes.{Appends-trans, Appends-same, AppendsShort-behind, AppendsShort-more, AppendsShort-same}}
 use Rattle.ptu_definitions.{specs.Headers.header_answer, specs.Shown.Shows}
-use Rattle.table_out.{specs.HeaderText.header_text, proofs.Final.{header_text-grows, header_text-refused, header_text-done}}
+use Rattle.list_out.{specs.HeaderText.header_text, proofs.Final.{header_text-grows, header_text-refused, header_text-done}}
 use Rattle.file_work.{specs.FileOutcomes.header_outcome, specs.HeaderPrints.{AppendsHeader, CutsHeader}}
 
 outcome-at : (file text : List ℕ) (fault : Option Fault) → header_text file ≡ text → fault_in (header_answer file) ≡ fault → header_outcome file ≡ record { text = text; fault = fault }

@@ -4,9 +4,9 @@ use Rattle.std.specs.declared.option.Option.{Option}
 use Rattle.tally_base.{specs.declared.event.Event.Event, specs.declared.header.Mode.Mode, specs.Floors.{floor_after, InOrder}}
 use Rattle.bench_io.{specs.Sinks.{AppendsShort, PassesOn}, proofs.Bytes.{PassesOn-trans, AppendsShort-passed}}
 use Rattle.ptu_definitions.specs.Kept.{Marked}
-use Rattle.record_stream.specs.Blocks.{orders_markers, on_time}
-use Rattle.tally_engine.proofs.Behind.{length-on_time, floor_of-block}
-use Rattle.table_out.specs.EventText.{events_text}
+use Rattle.abs_time.specs.Floors.{orders_markers}
+use Rattle.record_stream.{specs.Blocks.on_time, proofs.Given.length-on_time, proofs.Eaches.floor_of-block}
+use Rattle.list_out.specs.EventText.{events_text}
 use Rattle.file_work.{specs.EventLines.{Listed, ListedShort}, proofs.EventSteps.events_text-append}
 
 lines_more : (held : List ℕ) (l more : Marked) → (held ++ events_text l) ++ events_text more ≡ held ++ events_text (l ++ more)

@@ -6,7 +6,7 @@ use Rattle.bench_io.{specs.Sinks.{AppendsShort, PassesOn}, proofs.Bytes.{PassesO
 use Rattle.ptu_tag.{specs.declared.kind.TagKind.TagKind, specs.declared.head.TagHead.TagHead}
 use Rattle.ptu_definitions.{specs.TagFields.code_in, specs.TagList.Item, specs.Seen.{seen, seen_preamble}}
 use Rattle.ptu_header.{specs.declared.reader.HeaderReader.HeaderReader, specs.declared.step.HeaderStep.TheVariants.{More, Preamble, Tag, Body, Done, Refused}, specs.Reading.{Steps, bytes_taken}}
-use Rattle.table_out.{specs.declared.body.BodyText.BodyText, specs.HeaderText.{kind_with, body_text, head_text, bare_end, preamble_lines_of, header_text}, specs.Body.HasPut, proofs.Final.{header_text-grows, header_text-refused, header_text-done}, proofs.StepTexts.{header_text-same, header_text-preamble, header_text-tag, header_text-body, kind_with-is}}
+use Rattle.list_out.{specs.declared.body.BodyText.BodyText, specs.HeaderText.{kind_with, body_text, head_text, bare_end, preamble_lines_of, header_text}, specs.Body.HasPut, proofs.Final.{header_text-grows, header_text-refused, header_text-done}, proofs.StepTexts.{header_text-same, header_text-preamble, header_text-tag, header_text-body, kind_with-is}}
 use Rattle.file_work.{specs.declared.print.HeaderPrinter.HeaderPrinter, specs.BodyPieces.end_line, specs.HeaderPrints.{Prints, PutsHeader, CutsHeader}, proofs.Printers.{no_items, last_item}}
 use Rattle.command_work.proofs.Pieces.{whole-piece}
 

@@ -2,7 +2,7 @@
 use Rattle.std.specs.Prelude.{ℕ, List, [], ◌++◌, codes, Bool, if◌then◌else◌}
 use Rattle.std.specs.declared.option.Option.{Option}
 use Rattle.ptu_tag.specs.declared.kind.TagKind.{TagKind}
-use Rattle.table_out.specs.HeaderText.{body_text}
+use Rattle.list_out.specs.HeaderText.{body_text}
 use Rattle.file_work.specs.Grown.{PutsMore, CutsMore}
 
 -- What bytes add to the text of a body was put behind what a block holds; was cut short.

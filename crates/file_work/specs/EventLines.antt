@@ -5,7 +5,7 @@ use Rattle.std.specs.declared.option.Option.{Option}
 use Rattle.tally_base.specs.declared.header.Mode.{Mode}
 use Rattle.bench_io.{specs.Sinks.{AppendsShort, PassesOn}, proofs.Bytes.PassesOn-held}
 use Rattle.ptu_definitions.specs.Kept.{Marked, floor_of}
-use Rattle.table_out.specs.EventText.{events_text}
+use Rattle.list_out.specs.EventText.{events_text}
 
 -- Nothing was listed yet: no event was taken, and the block is empty.
 pub record ListsNone (taken floor : ℕ) (held : List ℕ) : Type 0 where

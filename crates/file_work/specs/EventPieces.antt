@@ -6,7 +6,7 @@ use Rattle.bench_io.{specs.Sinks.AppendsShort, specs.declared.sink.Sink.Ghosts}
 use Rattle.ptu_definitions.{specs.Words.words_of, specs.Streams.{Reading, record_refusal}}
 use Rattle.command_work.specs.Once.{OutOnce}
 use Rattle.record_stream.{specs.declared.stream.RecordStream.RecordStream, specs.Standing.{how_of, refused_with, HasStreamed}}
-use Rattle.table_out.specs.EventText.{lines_of}
+use Rattle.list_out.specs.EventText.{lines_of}
 
 -- The stream is read in this mode, keeps no event back, and has refused nothing.
 pub record IsOpenIn (mode : Mode) (stream : RecordStream) : Type 0 where

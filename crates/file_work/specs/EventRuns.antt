@@ -4,7 +4,7 @@ use Rattle.std.{specs.declared.option.Option.Option, specs.Io.KnownBytes.{Append
 use Rattle.tally_base.{specs.declared.fault.Fault.Fault, specs.declared.slot.Slot.TheVariants.Data, specs.FaultCounts.Rose, specs.Faults.{is_outside, fault_in, HasReason}}
 use Rattle.bench_io.specs.Sinks.{AppendsShort}
 use Rattle.ptu_definitions.{specs.Words.words_of, specs.Streams.{Reading, record_refusal, streamed}}
-use Rattle.table_out.specs.EventText.{lines_of}
+use Rattle.list_out.specs.EventText.{lines_of}
 use Rattle.command_work.{specs.Told.MayBe, specs.Endings.Span}
 
 -- The text is what is written of the lines of some bytes behind those of others, and the bytes have this fault.

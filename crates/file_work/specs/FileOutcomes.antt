@@ -2,7 +2,7 @@
 use Rattle.std.specs.Prelude.{ℕ, List, Result, Ok, Err}
 use Rattle.tally_base.{specs.declared.fault.Fault.Fault, specs.declared.header.Header.Header, specs.Faults.fault_in, specs.declared.event.Policy.Policy, specs.declared.event.Order.TheVariants.Drop, specs.declared.event.OnReserved.TheVariants.Skip}
 use Rattle.ptu_definitions.{specs.declared.records.KindCounts.KindCounts, specs.Headers.header_answer, specs.Counted.{counted, record_limit}, specs.Words.words_of, specs.Streams.{Reading, reading, streamed}}
-use Rattle.table_out.{specs.EventText.lines_of, specs.HeaderText.header_text}
+use Rattle.list_out.{specs.EventText.lines_of, specs.HeaderText.header_text}
 use Rattle.file_work.specs.CountText.{counts_text}
 use Rattle.command_work.{specs.Outcomes.{Outcome, refused, written, MayChange, IsCut}, specs.Behaviours.{Work, AreWhole, AreRead, IsHeaded}}
 

@@ -4,7 +4,7 @@ use Rattle.std.specs.declared.option.Option.{Option}
 use Rattle.tally_base.{specs.declared.header.Header.Header, specs.Faults.is_outside}
 use Rattle.ptu_definitions.{specs.TagFields.code_in, specs.TagList.Item, specs.Headers.header_answer, specs.Seen.seen, specs.Shown.Shows}
 use Rattle.ptu_header.specs.Reading.{HasRead, bytes_taken, is_open}
-use Rattle.table_out.{specs.HeaderText.{kind_with, header_text}, specs.Body.HasPut}
+use Rattle.list_out.{specs.HeaderText.{kind_with, header_text}, specs.Body.HasPut}
 use Rattle.command_work.specs.Outcomes.{IsCut}
 use Rattle.file_work.{specs.Grown.{PutsMore, AppendsMore, CutsMore}, specs.declared.print.HeaderPrinter.HeaderPrinter, specs.declared.print.Printed.Printed, specs.declared.print.Printed.TheVariants.{More, Done, Refused}}
 

@@ -1,5 +1,5 @@
 // The commands on FILE alone.
-ghost use Rattle.table_out.specs.HeaderText.{header_text};
+ghost use Rattle.list_out.specs.HeaderText.{header_text};
 ghost use Rattle.command_work.specs.Behaviours.{AtEnd, AsItReads};
 ghost use Rattle.file_work.specs.FileOutcomes.{counting, printing, events_so_far, listing_all};
 

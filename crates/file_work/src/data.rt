@@ -4,7 +4,7 @@ ghost use Rattle.std.specs.Io.KnownBytes.{Consumes};
 ghost use Rattle.tally_base.{specs.declared.slot.Slot.TheVariants.Data, specs.declared.header.RecordType.RecordType, specs.Faults.fault_in};
 ghost use Rattle.bench_io.specs.Inputs.{OnlyReads};
 ghost use Rattle.ptu_definitions.specs.Counted.{counted};
-ghost use Rattle.table_out.specs.HeaderText.{header_text};
+ghost use Rattle.list_out.specs.HeaderText.{header_text};
 ghost use Rattle.command_work.{specs.Once.InputsOnce, specs.Endings.{Once, span}, specs.Outcomes.IsCut, specs.Behaviours.AsItReads, specs.Works.{AnswersWork, TakesFew, WantsNone, WorkReason}, specs.Pieces.{ReadReason, AnswersAs, AnswersBehind, IsReady, StopsSoon}};
 ghost use Rattle.file_work.{specs.FileOutcomes.{file_counts, counting, printing, events_so_far, listing_all}, specs.CountPieces.StopsCounting};
 ghost use Rattle.record_layout.specs.Counting.{HasCounted};

@@ -9,8 +9,9 @@ ghost use Rattle.ptu_definitions.specs.Streams.{streamed};
 
 use bench_io::{Block, Inputs, Sink};
 use command_work::READ_FAULT;
-use record_stream::{EventTaker, RecordStream, Summary, moved_floor, orders_markers};
-use table_out::{LINE_SIZE, LINES_SIZE, format_block, format_event};
+use abs_time::{moved_floor, orders_markers};
+use record_stream::{EventTaker, RecordStream, Summary};
+use list_out::{LINE_SIZE, LINES_SIZE, format_block, format_event};
 use tally_base::{Event, Failed, Fault, Mode, Slot};
 
 /// Writes the line of each event that it is given, through a block. It lives for one piece, or for the end.

@@ -5,14 +5,14 @@ ghost use Rattle.ptu_definitions.{specs.Headers.header_answer, specs.TagFields.c
 ghost use Rattle.bench_io.{specs.TriesOnce.TriesOnce, specs.Sinks.{AppendsShort, PassesOn}};
 ghost use Rattle.ptu_tag.{specs.declared.kind.TagKind.TagKind, specs.Kinds.{IsHead, code_of}};
 ghost use Rattle.ptu_header.specs.Reading.{bytes_taken, is_open};
-ghost use Rattle.table_out.{specs.HeaderText.{head_text, bare_end}, specs.Body.HasPut};
+ghost use Rattle.list_out.{specs.HeaderText.{head_text, bare_end}, specs.Body.HasPut};
 ghost use Rattle.file_work.specs.BodyPieces.{PutsBody, CutsBody, end_line};
 
 use arrayvec::ArrayVec;
 use bench_io::{Block, Sink};
 use ptu_header::{HeaderReader, HeaderStep};
 use ptu_tag::{TagHead, TagKind};
-use table_out::{BodyText, header_line, preamble_lines};
+use list_out::{BodyText, header_line, preamble_lines};
 use tally_base::{Failed, Fault};
 
 /// A header that is printed as far as it was read.

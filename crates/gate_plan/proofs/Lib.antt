@@ -3,3 +3,6 @@ pub mod Parts
 pub mod InputShifts
 pub mod Rows
 pub mod Inputs
+pub mod Histories
+pub mod Sorts
+pub mod Shifted

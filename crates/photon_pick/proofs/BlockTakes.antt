@@ -1,9 +1,10 @@
 -- A block of events more for a picker.
-use Rattle.std.proofs.Common.{◌≡◌, ◌∙◌, ℕ, ◌+◌, ◌<◌, ◌≤◌, Bool, true, false, List, [], ◌∷◌, ◌++◌, Some, cond, ap, sym, subst, refl, arith, append_assoc, append-nil, inl, inr, max, length, length-append, ⊎_elim, IsTrue, if◌then◌else◌}
+use Rattle.std.proofs.Common.{◌≡◌, ◌∙◌, ℕ, ◌+◌, ◌<◌, ◌≤◌, Bool, true, false, List, [], ◌∷◌, ◌++◌, Some, cond, ap, sym, subst, refl, arith, append_assoc, inl, inr, length, length-append, ⊎_elim, IsTrue, if◌then◌else◌}
 use Rattle.std.{specs.List.filter, proofs.lemmas.List.Elements.filter-append}
-use Rattle.tally_base.{specs.declared.event.Event.Event, specs.declared.fault.Fault.Fault, specs.declared.header.Mode.Mode, specs.Events.{is_photon, is_ordered}, specs.FaultCounts.Rose, specs.Tally.moves_floor, specs.Floors.{floor_after, InOrder}}
-use Rattle.ptu_definitions.{specs.Kept.{Marked, floor_of}, specs.Prefixes.each_after, specs.Settled.not_marked, proofs.DeliveredLaws.{not_marked-append, not_marked-false}, proofs.PrefixLemmas.each_after-append}
-use Rattle.record_stream.{specs.Blocks.{orders_markers, on_time}, proofs.Adding.moves_by, proofs.Eaches.{not_late, ordered-moves}, proofs.Floors.moved_floor-push}
+use Rattle.tally_base.{specs.declared.event.Event.Event, specs.declared.fault.Fault.Fault, specs.Events.is_photon, specs.FaultCounts.Rose, specs.Tally.moves_floor, specs.Floors.{floor_after, InOrder}}
+use Rattle.ptu_definitions.{specs.Kept.Marked, specs.Prefixes.each_after, specs.Settled.not_marked, proofs.DeliveredLaws.{not_marked-append, not_marked-false}, proofs.PrefixLemmas.each_after-append}
+use Rattle.abs_time.specs.Floors.{orders_markers}
+use Rattle.record_stream.{specs.Blocks.on_time, proofs.Given.length-on_time, proofs.Eaches.floor_of-block}
 use Rattle.record_write.{specs.Picked.{is_too_late, photon_words}, specs.Picker.{mode_of, HasPicked}, specs.Writing.{PutsWords, CutsWords}, proofs.Puts.{puts-more, cuts-behind}}
 use Rattle.photon_pick.{specs.Giving.{Pen, pen, Gave, Stopped}, specs.Late.too_late, specs.Taking.{Stand, Took, Refused, chosen_of}}
 
@@ -69,21 +70,6 @@ up_to p (a ∷ es) xs ys e is = pick (p a) xs refl is (λ firsts more. up_to p e
         record { front = a ∷ rest.front; back = rest.back; some = omega arith; are = ap (λ l. a ∷ l) rest.are; chosen = rw on (ap (λ y. y ∷ filter p rest.front) same ∙ ap (λ l. x ∷ l) rest.chosen) }
 
 -- ## A block more
-
-length-on_time : (es : List Event) → length (on_time es) ≡ length es
-length-on_time [] = refl
-length-on_time (e ∷ es) = omega (arith, length-on_time es)
-
--- the greatest time with a block
-floor_of-block : (mode : Mode) (l : Marked) (es : List Event) (first now : ℕ) → now ≡ max first (floor_of mode l) → InOrder (orders_markers mode) now es
-    → floor_after (orders_markers mode) now es ≡ max first (floor_of mode (l ++ on_time es))
-floor_of-block mode l [] first now is all = rw (append-nil l) is
-floor_of-block mode l (e ∷ es) first now is all =
-    let strict = orders_markers mode in
-    let next : (if moves_floor strict e then e.time else now) ≡ max first (floor_of mode (l ++ (e, false) ∷ [])) =
-    ap (λ b. if b then e.time else now) (moves_by mode e) ∙ sym (not_late (is_ordered mode e) e.time now) ∙ moved_floor-push mode first now l e false is (λ o. all.1 (ordered-moves mode e o)) in
-    floor_of-block mode (l ++ (e, false) ∷ []) es first (if moves_floor strict e then e.time else now) next all.2
-    ∙ ap (λ m. max first (floor_of mode m)) (append_assoc l ((e, false) ∷ []) (on_time es))
 
 module _ (s t : Stand) (l : Marked) (h : Took s t l) (of_mode : mode_of t.picker ≡ t.mode) (es : List Event) where
   mode : mode_of t.picker ≡ s.mode

@@ -3,7 +3,7 @@ use Rattle.std.proofs.Common.{◌≡◌, ◌∙◌, ◌+◌, ◌≤◌, ℕ, Lis
 use Rattle.std.{specs.List.filter, specs.declared.option.Option.Option, proofs.lemmas.List.Elements.filter-append}
 use Rattle.tally_base.{specs.declared.event.Event.Event, specs.declared.fault.Fault.TheVariants.{PickTime, WriteFault}, specs.FaultCounts.Rose, specs.Events.is_ordered}
 use Rattle.ptu_definitions.{specs.Kept.{Marked, floor_of}, specs.Prefixes.each_after, specs.Settled.not_marked, proofs.DeliveredLaws.not_marked-append, proofs.PrefixLemmas.each_after-append}
-use Rattle.record_stream.{specs.Floors.moved_floor, proofs.Floors.moved_floor-push}
+use Rattle.abs_time.{specs.Floors.moved_floor, proofs.Floors.moved_floor-push}
 use Rattle.record_write.{specs.declared.picker.Picker.Picker, specs.Picked.{is_too_late, photon_words}, specs.Picker.HasPicked, specs.Writing.{PutsWords, CutsWords}, proofs.Puts.{puts-more, cuts-behind}}
 use Rattle.photon_pick.{specs.Late.too_late, specs.Taking.{Stand, Took, Refused, chosen_of}}
 

@@ -9,7 +9,8 @@ use crate::choosing::choose;
 use crate::giving::give_photons;
 use bench_io::{Block, Sink};
 use gate_plan::Gates;
-use record_stream::{EventTaker, moved_floor, orders_markers};
+use abs_time::{moved_floor, orders_markers};
+use record_stream::EventTaker;
 use record_write::Picker;
 use tally_base::{BLOCK_SIZE, Event, Failed, Fault, Mode, is_in};
 

@@ -6,8 +6,7 @@ use Rattle.bench_io.{specs.Sinks.AppendsShort, proofs.Bytes.{Appends-trans, Appe
 use Rattle.told_text.specs.Texts.{WroteText, CutText, WritesText}
 use Rattle.ptu_definitions.{specs.Headers.header_answer, specs.Words.words_of, specs.Streams.Reading}
 use Rattle.plan_text.{specs.Plan.PlanView, specs.Fits.fits}
-use Rattle.gate_plan.{specs.declared.gates.Gates.Gates, specs.Groups.sorting_of, specs.Shifting.{Sorting, sorting}, proofs.Parts.few_groups}
-use Rattle.tally_engine.specs.Plans.{reading_by}
+use Rattle.gate_plan.{specs.declared.gates.Gates.Gates, specs.Groups.sorting_of, specs.Shifting.{Sorting, sorting}, proofs.Parts.few_groups, specs.Plans.reading_by}
 use Rattle.short_file.specs.ShortFiles.{short_header}
 use Rattle.photon_pick.{specs.Chosen.is_chosen, specs.Ends.WritesEnd, specs.Texts.{text_in, refusal_in}, proofs.Stays.{text-none, text-front, refused-stays, refused-inside, end-inside}}
 use Rattle.command_work.{specs.Told.Says, specs.Outcomes.{Outcome, IsCut}, specs.Endings.Span, specs.TextRuns.{ReadsText, CutsText}, specs.Behaviours.AsItReads, specs.Works.{AnswersWork, ReadsWork, CutsWork}, proofs.Pieces.ShowsHeader, proofs.TextEnds.{IsText, same-end}}

@@ -4,8 +4,7 @@ use Rattle.std.specs.declared.option.Option.{Option}
 use Rattle.tally_base.{specs.declared.event.Event.Event, specs.declared.fault.Fault.Fault, specs.declared.fault.Fault.TheVariants.NoGroup, specs.declared.header.Header.Header, specs.RecordTypes.mode_of}
 use Rattle.ptu_definitions.{specs.Headers.header_answer, specs.Words.words_of, specs.Streams.Reading}
 use Rattle.plan_text.{specs.Plan.PlanView, specs.Fits.fits}
-use Rattle.gate_plan.specs.Shifting.{sorting}
-use Rattle.tally_engine.specs.Plans.{reading_by}
+use Rattle.gate_plan.{specs.Shifting.sorting, specs.Plans.reading_by}
 use Rattle.short_file.specs.ShortFiles.{short_header}
 use Rattle.photon_pick.{specs.Chosen.is_chosen, specs.Texts.{text_in, refusal_in}, specs.Ends.{photons_kept, end_text, end_fault}, specs.Late.too_late}
 use Rattle.command_work.{specs.Outcomes.{Outcome, refused, MayChange}, specs.Behaviours.{Work, AreRead, IsHeaded}}

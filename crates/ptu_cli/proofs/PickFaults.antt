@@ -4,7 +4,7 @@ use Rattle.std.specs.declared.option.Option.{Option}
 use Rattle.tally_base.{specs.declared.event.Event.Event, specs.declared.fault.Fault.Fault, specs.declared.fault.Fault.TheVariants.NoGroup, specs.declared.header.Header.Header, specs.Faults.fault_in, specs.RecordTypes.mode_of}
 use Rattle.ptu_definitions.{specs.Headers.header_answer, specs.Prefixes.first, specs.Streams.streamed}
 use Rattle.plan_text.{specs.Plan.PlanView, specs.Fits.fits, proofs.Misfits.misfit_named}
-use Rattle.tally_engine.specs.Plans.{reading_by}
+use Rattle.gate_plan.specs.Plans.{reading_by}
 use Rattle.photon_pick.{specs.Late.too_late, specs.Texts.late_or, specs.Ends.photons_of}
 use Rattle.command_work.specs.Outcomes.{status}
 use Rattle.pick_work.specs.PickOutcomes.{no_group, chosen_by, picked_if_fits, picked_behind, pick_outcome}

@@ -9,7 +9,7 @@ use Rattle.plan_text.{specs.Plan.{PlanView, plan_rules, plan}, specs.Reading.{te
 use Rattle.command_work.specs.Outcomes.{status}
 use Rattle.report_work.specs.Reports.{report_outcome, report_of, if_fits, report_behind, file_report}
 use Rattle.ptu_cli.proofs.ByteFaults.{IsOfBytes, header_answer-bytes, streamed-bytes}
-use Rattle.tally_engine.specs.Plans.{reading_by}
+use Rattle.gate_plan.specs.Plans.{reading_by}
 
 names-bytes : (rules : List Rule) (fault : Fault) → Names rules fault → status_of fault ≢ 1
 names-bytes rules (PlanRule n index) h = λ e. omega arith

@@ -4,7 +4,7 @@ use Rattle.std.proofs.lemmas.Bool.Decides.{nat_tests}
 use Rattle.tally_base.{specs.Faults.fault_in, specs.declared.header.RecordType.RecordType}
 use Rattle.ptu_definitions.{specs.Headers.header_answer, specs.Words.words_of, specs.Kinds.counts_of, specs.Counted.{record_limit, records_of, counted}, specs.Streams.{Reading, summary, streamed}}
 use Rattle.plan_text.specs.Plan.{PlanView, plan}
-use Rattle.tally_engine.specs.Plans.{reading_by}
+use Rattle.gate_plan.specs.Plans.{reading_by}
 use Rattle.command_work.{specs.Outcomes.status, specs.Behaviours.{Work, Behaviour, AreWhole, AreRead, NoCommand, Alone, OnFile, ByPlan}}
 use Rattle.file_work.specs.FileOutcomes.{file_counts, listing, counting, printing, listing_all}
 use Rattle.trace_work.specs.TraceOutcomes.{trace_of, tracing}

@@ -4,8 +4,7 @@ use Rattle.std.specs.declared.option.Option.{Option}
 use Rattle.tally_base.{specs.declared.fault.Fault.Fault, specs.declared.header.Header.Header, specs.RecordTypes.mode_of, specs.Settings.TraceView}
 use Rattle.ptu_definitions.{specs.declared.records.Summary.Summary, specs.Headers.header_answer, specs.Streams.streamed}
 use Rattle.plan_text.{specs.Plan.PlanView, specs.Fits.fits}
-use Rattle.gate_plan.specs.Shifting.{sorting}
-use Rattle.tally_engine.specs.Plans.{reading_by}
+use Rattle.gate_plan.{specs.Shifting.sorting, specs.Plans.reading_by}
 use Rattle.command_work.specs.Outcomes.{status}
 use Rattle.report_work.specs.Reports.{report_outcome, report_of, if_fits, report_behind, file_report}
 use Rattle.trace_work.specs.TraceOutcomes.{unless_traced, trace_of, traced, traced_if_fits, traced_behind, trace_outcome}

@@ -1,15 +1,11 @@
 -- One word more of which none is refused and no event is late.
 use Rattle.std.proofs.Common.{◌≡◌, ◌+◌, ◌<◌, ◌≤◌, ◌^◌, ℕ, List, [], ◌∷◌, ◌++◌, Bool, true, false, max, None, Ok, map, refl, sym, ap, subst, ◌∙◌, append_assoc, append-nil, arith, add-zero, ◌&&◌, IsTrue, nat_lt, if◌then◌else◌}
 use Rattle.std.{proofs.lemmas.List.map-append, proofs.lemmas.List.Elements.All-push, proofs.lemmas.Bool.Decides.nat_tests}
-use Rattle.tally_base.{specs.declared.event.Event.Event, specs.declared.event.EventKind.TheVariants.Photon as PhotonEvent, specs.declared.event.EventKind.TheVariants.Marker as MarkerEvent, specs.declared.header.Mode.Mode, specs.declared.header.Mode.TheVariants.{T2, T3}, specs.Events.{is_ordered, stops_reserved}, specs.Tally.moves_floor, specs.Limits.{time_limit, wrap_limit}, proofs.Floors.{floor-push, order-push}}
+use Rattle.tally_base.{specs.declared.event.Event.Event, specs.declared.event.EventKind.TheVariants.{Photon as PhotonEvent, Marker as MarkerEvent}, specs.declared.header.Mode.Mode, specs.declared.header.Mode.TheVariants.{T2, T3}, specs.Events.{is_ordered, stops_reserved}, specs.Limits.{time_limit, wrap_limit}, proofs.Floors.{floor-push, order-push}}
 use Rattle.ptu_definitions.{specs.declared.records.Raw.Raw, specs.declared.records.Raw.TheVariants.{Photon, Marker, Wrap, Reserved}, specs.Kinds.is_reserved, specs.Times.{event_after, event_of, events, amount}, specs.Fitting.{Fits, KindFits}, specs.Kept.{Marked, ordered_time}, specs.Streams.{Reading, events_in}, proofs.StreamLemmas.{clear-push, events-push, events_in-push, fresh}}
-use Rattle.abs_time.{specs.declared.clock.Placed.Placed, specs.declared.clock.Placed.TheVariants.Event as InOrderPlaced, specs.declared.clock.Placed.TheVariants.Late, specs.declared.clock.Placed.TheVariants.Wrap as WrapPlaced, specs.declared.clock.Placed.TheVariants.Reserved as ReservedPlaced, specs.Placing.{IsClock, against, place_answer}, proofs.ClockLemmas.{IsClock-photon, IsClock-marker, IsClock-wrap, IsClock-reserved, answer-photon, answer-marker, answer-wrap, answer-reserved}}
+use Rattle.abs_time.{specs.declared.clock.Placed.Placed, specs.declared.clock.Placed.TheVariants.{Event as InOrderPlaced, Late, Wrap as WrapPlaced, Reserved as ReservedPlaced}, specs.Placing.{IsClock, against, place_answer}, proofs.ClockLemmas.{IsClock-photon, IsClock-marker, IsClock-wrap, IsClock-reserved, answer-photon, answer-marker, answer-wrap, answer-reserved}, specs.Floors.orders_markers, proofs.Floors.moves_by}
 use Rattle.settle.specs.Passing.{place_after}
-use Rattle.record_stream.{specs.Blocks.{orders_markers, on_time, greatest_with, IsOnTime, Adds, IsInLine, PlacesRise, RisesWithin}, specs.Recorded.refused_late, proofs.Placed.{IsEarly, event_in, marks_of, comes, refusal-ok, refused-early, fresh-plain}}
-
-pub moves_by : (mode : Mode) (e : Event) → moves_floor (orders_markers mode) e ≡ is_ordered mode e
-moves_by T2 e = refl
-moves_by T3 e = refl
+use Rattle.record_stream.{specs.Blocks.{on_time, greatest_with, IsOnTime, Adds, IsInLine, PlacesRise, RisesWithin}, specs.Recorded.refused_late, proofs.Placed.{IsEarly, event_in, marks_of, comes, refusal-ok, refused-early, fresh-plain}}
 
 -- an event that is not late
 against-on_time : (mode : Mode) (top : ℕ) (e : Event) → (IsTrue (is_ordered mode e) → top ≤ e.time) → against mode top e ≡ InOrderPlaced e

@@ -1,9 +1,10 @@
 -- The events of a block, one by one.
-use Rattle.std.proofs.Common.{◌≡◌, ◌+◌, ◌<◌, ℕ, zero, suc, List, [], ◌∷◌, ◌++◌, Bool, true, false, All, length, refl, sym, ap, subst, ◌∙◌, append_assoc, arith, length-append, ◌⊎◌, ⊎_elim, ◌&&◌, not, IsTrue, if◌then◌else◌}
+use Rattle.std.proofs.Common.{◌≡◌, ◌+◌, ◌<◌, ℕ, zero, suc, List, [], ◌∷◌, ◌++◌, Bool, true, false, All, length, refl, sym, ap, subst, ◌∙◌, append_assoc, arith, length-append, ◌⊎◌, ⊎_elim, ◌&&◌, not, IsTrue, if◌then◌else◌, max, append-nil, ◌≤◌}
 use Rattle.std.{specs.List.AllByRecursion, proofs.lemmas.List.Elements.All-from_recursion, proofs.lemmas.Grind.get_or_at_push, proofs.lemmas.List.{map-append, get_or_append_left}}
-use Rattle.tally_base.{specs.declared.event.Event.Event, specs.declared.header.Mode.Mode, specs.Events.is_ordered, specs.Tally.moves_floor, specs.Columns.rows, specs.Floors.floor_after, proofs.BlockRows.more_rows, proofs.Floors.floor-more}
-use Rattle.ptu_definitions.specs.Kept.{Marked}
-use Rattle.record_stream.{specs.Blocks.{orders_markers, on_time}, proofs.Adding.moves_by}
+use Rattle.tally_base.{specs.declared.event.Event.Event, specs.declared.header.Mode.Mode, specs.Events.is_ordered, specs.Tally.moves_floor, specs.Columns.rows, specs.Floors.{floor_after, InOrder}, proofs.BlockRows.more_rows, proofs.Floors.floor-more}
+use Rattle.ptu_definitions.specs.Kept.{Marked, floor_of}
+use Rattle.abs_time.{specs.Floors.orders_markers, proofs.Floors.{moves_by, moved_floor-push}}
+use Rattle.record_stream.specs.Blocks.{on_time}
 
 all-last : {X : Type 0} (P : X → Type 0) (xs : List X) (x : X) → All P (xs ++ x ∷ []) → P x
 all-last P xs x all = subst P (get_or_at_push xs x).1 (all (length xs) x (omega (arith, length-append xs (x ∷ []))))
@@ -53,3 +54,14 @@ floor-step mode mode' low floor now f i e mode_is e_is floor_is moved =
     let more : floor_after strict low (rows f (i + 1)) ≡ (if is_ordered mode (f i) then (f i).time else floor_after strict low (rows f i)) =
     floor-more strict low f i ∙ ap (λ b. if b then (f i).time else floor_after strict low (rows f i)) (moves_by mode (f i)) in
     moved ∙ flat ∙ sym more
+
+-- the greatest time with a block
+pub floor_of-block : (mode : Mode) (l : Marked) (es : List Event) (first now : ℕ) → now ≡ max first (floor_of mode l) → InOrder (orders_markers mode) now es
+    → floor_after (orders_markers mode) now es ≡ max first (floor_of mode (l ++ on_time es))
+floor_of-block mode l [] first now is all = rw (append-nil l) is
+floor_of-block mode l (e ∷ es) first now is all =
+    let strict = orders_markers mode in
+    let next : (if moves_floor strict e then e.time else now) ≡ max first (floor_of mode (l ++ (e, false) ∷ [])) =
+    ap (λ b. if b then e.time else now) (moves_by mode e) ∙ sym (not_late (is_ordered mode e) e.time now) ∙ moved_floor-push mode first now l e false is (λ o. all.1 (ordered-moves mode e o)) in
+    floor_of-block mode (l ++ (e, false) ∷ []) es first (if moves_floor strict e then e.time else now) next all.2
+    ∙ ap (λ m. max first (floor_of mode m)) (append_assoc l ((e, false) ∷ []) (on_time es))

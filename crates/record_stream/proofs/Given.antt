@@ -3,8 +3,8 @@ use Rattle.std.proofs.Common.{◌≡◌, ◌+◌, ◌≤◌, ℕ, List, [], ◌�
 use Rattle.std.{specs.declared.result.Result.Result, proofs.lemmas.List.map-append}
 use Rattle.tally_base.{specs.declared.event.Event.Event, specs.declared.header.Mode.Mode, specs.FaultCounts.Rose, specs.Floors.floor_after, proofs.Lower.floor-lower}
 use Rattle.ptu_definitions.{specs.declared.records.KindCounts.KindCounts, specs.declared.records.Summary.Summary, specs.Kinds.counts_of, specs.Kept.Marked, specs.Streams.{Reading, refusals, record_refusal, given, events_in}, proofs.StreamLemmas.given-clear}
-use Rattle.abs_time.{specs.declared.clock.Clock.Clock, specs.Placing.{mode_of, placed_by, base_of, greatest_by}}
-use Rattle.record_stream.{specs.declared.taker.EventTaker.Ghosts, specs.OneMore.with_block, specs.Blocks.{orders_markers, on_time, Adds, BrokeAmong}, specs.Feeding.{IsAt, GaveOn, BrokeOn}, specs.SoFar.so_far, proofs.Summaries.so_far-more}
+use Rattle.abs_time.{specs.declared.clock.Clock.Clock, specs.Placing.{mode_of, placed_by, base_of, greatest_by}, specs.Floors.orders_markers}
+use Rattle.record_stream.{specs.declared.taker.EventTaker.Ghosts, specs.OneMore.with_block, specs.Blocks.{on_time, Adds, BrokeAmong}, specs.Feeding.{IsAt, GaveOn, BrokeOn}, specs.SoFar.so_far, proofs.Summaries.so_far-more}
 
 pub ok_of : {X E P : Type 0} (r : Result X E) → is_err r ≡ false → OnOk r P → P
 ok_of (Ok x) is p = p

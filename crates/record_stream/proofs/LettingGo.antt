@@ -3,9 +3,9 @@ use Rattle.std.proofs.Common.{◌≡◌, ◌≢◌, ◌+◌, ◌<◌, ◌≤◌,
 use Rattle.std.{specs.Option.option_to_list, specs.List.{All, list_any}, specs.declared.option.Option.Option, proofs.lemmas.Bool.ne_eqb, proofs.lemmas.Bool.Decides.nat_tests, proofs.lemmas.List.Elements.filter-append}
 use Rattle.tally_base.{specs.declared.event.Event.Event, specs.declared.header.Mode.Mode, specs.Events.is_ordered, specs.Tally.moves_floor, specs.Columns.rows, specs.Floors.{floor_after, InOrder}, proofs.Floors.{order-at, order-parts}, proofs.BlockRows.rows-split}
 use Rattle.ptu_definitions.{specs.Kept.{Marked, floor_of, greatest, is_late}, specs.Settled.{delivered, is_overtaken, not_marked, ordered, put_in, settles}, specs.Streams.{Reading, events_in}, specs.Times.events, proofs.DeliveredLaws.{delivered-append, delivered_after, delivered_after-ordered, not_marked-append, not_marked-false}, proofs.StreamLemmas.{greatest-push, later}}
-use Rattle.abs_time.specs.Placing.{IsSmall}
+use Rattle.abs_time.{specs.Placing.IsSmall, specs.Floors.{orders_markers, moved_floor}, proofs.Floors.{moves_by, moved_floor-push}}
+use Rattle.record_stream.{specs.Blocks.{on_time, IsInLine, PlacesRise}, specs.Keeping.{CanWait, HasCome}, specs.LettingGo.{LetsGo, IsDelivered}, proofs.Adding.{greatest-on_time, on_time-push, in_line-event}, proofs.Eaches.not_late, proofs.Placed.not_late as not_late_by, proofs.Settles.{ordered-on, that_goes, those_waiting, count_going, count_waiting}}
 use Rattle.settle.{specs.Settling.told, specs.Standing.{HasSettled, kept_back, last_place, last_time, reach_of, was_popped}, specs.declared.settle.Settle.Settle, specs.Passing.place_after}
-use Rattle.record_stream.{specs.Blocks.{orders_markers, on_time, IsInLine, PlacesRise}, specs.Keeping.{CanWait, HasCome}, specs.LettingGo.{LetsGo, IsDelivered}, specs.Floors.moved_floor, proofs.Adding.{moves_by, greatest-on_time, on_time-push, in_line-event}, proofs.Eaches.not_late, proofs.Floors.moved_floor-push, proofs.Placed.not_late as not_late_by, proofs.Settles.{ordered-on, that_goes, those_waiting, count_going, count_waiting}}
 
 -- The greatest time of events in order.
 on_true : (mode : Mode) (top : ℕ) (e : Event) → (IsTrue (moves_floor (orders_markers mode) e) → top ≤ e.time) → IsTrue (is_ordered mode e) → top ≤ e.time

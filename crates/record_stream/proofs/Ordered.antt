@@ -3,9 +3,9 @@ use Rattle.std.proofs.Common.{◌≡◌, ◌≢◌, ◌<◌, ◌≤◌, ℕ, Lis
 use Rattle.std.{specs.List.AllByRecursion, proofs.lemmas.Bool.ne_eqb, proofs.lemmas.List.Elements.{All-from_recursion, filter-append, recursion_from_All}}
 use Rattle.tally_base.{specs.declared.event.Event.Event, specs.declared.header.Mode.Mode, specs.Events.is_ordered, specs.Tally.moves_floor, specs.Floors.InOrder}
 use Rattle.ptu_definitions.{specs.Fitting.KindFits, specs.Kept.mark, specs.Prefixes.each_after, specs.Settled.{delivered, not_marked, ordered, settles}, specs.Streams.{Reading, events_in}, specs.Times.events, proofs.DeliveredLaws.{delivered-append, delivered_after}}
-use Rattle.abs_time.specs.Placing.{placed_by}
+use Rattle.abs_time.{specs.Placing.placed_by, specs.Floors.orders_markers, proofs.Floors.moves_by}
+use Rattle.record_stream.{specs.Blocks.PlacesRise, specs.LettingGo.{AreOrdered, ComesNext, IsDelivered}, specs.Walking.{how_of, greatest_of, clock_in}, specs.declared.walk.Walk.Walk, proofs.Passed.ordered-same}
 use Rattle.settle.{specs.Passing.place_after, specs.Standing.HasSettled, specs.declared.settle.Settle.Settle}
-use Rattle.record_stream.{specs.Blocks.{orders_markers, PlacesRise}, specs.LettingGo.{AreOrdered, ComesNext, IsDelivered}, specs.Walking.{how_of, greatest_of, clock_in}, specs.declared.walk.Walk.Walk, proofs.Adding.moves_by, proofs.Passed.ordered-same}
 
 -- They are all in order.
 one_ordered : (b : Bool) (mode : Mode) (e : Event) (es : List Event) → is_ordered mode e ≡ b → AreOrdered mode es → AreOrdered mode (cond b (e ∷ es) es)

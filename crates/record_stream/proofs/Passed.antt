@@ -3,9 +3,9 @@ use Rattle.std.proofs.Common.{◌≡◌, ◌≢◌, ◌+◌, ◌-◌, ◌<◌, �
 use Rattle.std.{specs.List.{All, AllByRecursion}, specs.List.Sorted.IsNonDecreasingBy, proofs.Math.Seq.drop-append_seam, proofs.lemmas.Bool.ne_eqb, proofs.lemmas.List.Elements.{All-tail, All-from_recursion, filter-append, recursion_from_All}}
 use Rattle.tally_base.{specs.declared.event.Event.Event, specs.declared.header.Mode.Mode, specs.Events.is_ordered, specs.Tally.moves_floor, specs.Columns.rows, specs.Floors.{floor_after, InOrder}, proofs.Lower.order-lower, proofs.Floors.{order-append, order-parts}, proofs.BlockRows.{length-rows, rows-split}}
 use Rattle.ptu_definitions.{specs.Fitting.KindFits, specs.Kept.mark, specs.Prefixes.each_after, specs.Settled.{not_marked, ordered, Rises, settles}, specs.Streams.{Reading, events_in}, specs.Times.events, proofs.DeliveredLaws.{delivered-append, delivered_after}, proofs.SettledLemmas.IsNonDecreasingBy-Rises, proofs.SettlingLemmas.each-weaker}
-use Rattle.abs_time.specs.Placing.{placed_by}
+use Rattle.abs_time.{specs.Placing.placed_by, specs.Floors.orders_markers, proofs.Floors.moves_by}
+use Rattle.record_stream.{specs.Blocks.{on_time, AllFit, PlacesRise}, specs.Keeping.{CanWait, IsKeeping}, specs.LettingGo.{AreOrdered, ComesNext, IsFull, LetsGo, IsDelivered}, specs.Walking.{how_of, greatest_of, clock_in}, specs.declared.walk.Walk.Walk, proofs.LettingGo.place-push}
 use Rattle.settle.{specs.Passing.{ComesBehind, ComesOn, HasPassed, place_after, time_after}, specs.Standing.{HasSettled, kept_back, last_place, last_time, reach_of, was_popped}, specs.declared.settle.Settle.Settle}
-use Rattle.record_stream.{specs.Blocks.{orders_markers, on_time, AllFit, PlacesRise}, specs.Keeping.{CanWait, IsKeeping}, specs.LettingGo.{AreOrdered, ComesNext, IsFull, LetsGo, IsDelivered}, specs.Walking.{how_of, greatest_of, clock_in}, specs.declared.walk.Walk.Walk, proofs.Adding.moves_by, proofs.LettingGo.place-push}
 
 -- Lists of which each event is in order.
 pub ordered-same : (mode : Mode) (es : List Event) → AreOrdered mode es → ordered mode es ≡ es

@@ -3,9 +3,9 @@ use Rattle.std.proofs.Common.{◌≡◌, ◌+◌, ◌<◌, ◌≤◌, ℕ, suc, 
 use Rattle.std.{specs.List.All, specs.Option.option_to_list, specs.declared.option.Option.Option, specs.declared.result.Result.Result, proofs.lemmas.List.map-append, proofs.lemmas.List.Elements.{filter-append, All-tail, All-from_recursion, recursion_from_All}}
 use Rattle.tally_base.{specs.declared.event.Event.Event, specs.declared.fault.Fault.Fault, specs.declared.fault.Fault.TheVariants.{BackwardTime, WriteFault}, specs.declared.header.Mode.Mode, specs.Events.{is_ordered, stops_late}, specs.FaultCounts.HasCause}
 use Rattle.ptu_definitions.{specs.Kept.{Marked, floor_of}, specs.Settled.{is_overtaken, ordered, settles, put_in, not_marked}, specs.Streams.{Reading, events_in}, specs.Times.{event_after, events}, proofs.DeliveredLaws.not_marked-append, proofs.SettledLemmas.length-put_in, proofs.SettlingLemmas.each-put_in, proofs.StreamLemmas.{events-push, events_in-push, fresh}}
-use Rattle.abs_time.specs.Placing.{placed_by}
+use Rattle.abs_time.{specs.Placing.placed_by, specs.Floors.moved_floor, proofs.Floors.moved_floor-push}
+use Rattle.record_stream.{specs.Keeping.{CanWait, IsKeeping, HasCome, tells, refused_for}, specs.OneMore.with_marks, specs.Settling.{Told, Untold}, specs.Walking.{how_of, given_by, records_of, summary_in, clock_in, Notes}, specs.declared.taker.EventTaker.Ghosts, specs.declared.walk.Walk.Walk}
 use Rattle.settle.{specs.Standing.{HasSettled, kept_back, last_place, last_time, reach_of, was_popped}, specs.declared.settle.Settle.Settle}
-use Rattle.record_stream.{specs.Floors.moved_floor, specs.Keeping.{CanWait, IsKeeping, HasCome, tells, refused_for}, specs.OneMore.with_marks, specs.Settling.{Told, Untold}, specs.Walking.{how_of, given_by, records_of, summary_in, clock_in, Notes}, specs.declared.taker.EventTaker.Ghosts, specs.declared.walk.Walk.Walk, proofs.Floors.moved_floor-push}
 
 -- What an event in order adds, by what its push tells.
 pub tells-on : (k reach : ℕ) (mode : Mode) (before : List Event) (e : Event) (l : Marked) → reach ≡ k → is_ordered mode e ≡ true → settles reach before e ≡ l → tells k mode before e ≡ l

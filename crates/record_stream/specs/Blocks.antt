@@ -1,14 +1,9 @@
 -- What words add of which none is refused and no event is late.
 use Rattle.std.specs.Prelude.{ℕ, ◌≡◌, ◌<◌, ◌≤◌, IsTrue, true, false, Bool, List, [], ◌∷◌, ◌++◌, All, length, map, if◌then◌else◌}
-use Rattle.tally_base.{specs.declared.event.Event.Event, specs.declared.header.Mode.Mode, specs.declared.header.Mode.TheVariants.{T2, T3}, specs.Events.is_ordered, specs.Floors.{floor_after, InOrder}}
+use Rattle.tally_base.{specs.declared.event.Event.Event, specs.declared.header.Mode.Mode, specs.Events.is_ordered, specs.Floors.{floor_after, InOrder}}
 use Rattle.ptu_definitions.{specs.Kept.Marked, specs.Fitting.KindFits, specs.Settled.ordered, specs.Streams.{Reading, refusals, events_in}, specs.Times.events}
-use Rattle.abs_time.specs.Placing.{IsClock}
+use Rattle.abs_time.{specs.Placing.IsClock, specs.Floors.orders_markers}
 use Rattle.settle.specs.Passing.{place_after}
-
--- markers come in the order of their times, as photons do
-abbrev pub orders_markers : Mode → Bool
-orders_markers T2 = false
-orders_markers T3 = true
 
 -- the events, none of them late
 abbrev pub on_time : List Event → Marked

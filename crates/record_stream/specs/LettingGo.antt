@@ -3,9 +3,9 @@ use Rattle.std.specs.Prelude.{ℕ, ◌≡◌, ◌+◌, ◌≤◌, true, false, L
 use Rattle.std.specs.List.{All, AllByRecursion}
 use Rattle.tally_base.{specs.declared.event.Event.Event, specs.declared.header.Mode.Mode, specs.Events.is_ordered, specs.Floors.InOrder}
 use Rattle.ptu_definitions.{specs.Settled.{delivered, not_marked, ordered}, specs.Streams.{Reading, events_in}, specs.Times.events}
-use Rattle.abs_time.specs.Placing.{placed_by}
+use Rattle.abs_time.{specs.Placing.placed_by, specs.Floors.orders_markers}
+use Rattle.record_stream.{specs.Blocks.{on_time, AllFit, IsInLine, PlacesRise}, specs.Keeping.CanWait, specs.Walking.{how_of, greatest_of, clock_in, IsBlank}, specs.declared.settled_blocks.Room.Room, specs.declared.walk.Walk.Walk}
 use Rattle.settle.{specs.Standing.{HasSettled, kept_back, last_place, last_time, reach_of, was_popped}, specs.declared.settle.Settle.Settle, specs.Passing.place_after}
-use Rattle.record_stream.{specs.Blocks.{orders_markers, on_time, AllFit, IsInLine, PlacesRise}, specs.Keeping.CanWait, specs.Walking.{how_of, greatest_of, clock_in, IsBlank}, specs.declared.settled_blocks.Room.Room, specs.declared.walk.Walk.Walk}
 
 -- each event is in order
 abbrev pub AreOrdered : Mode → List Event → Type 0

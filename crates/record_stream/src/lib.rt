@@ -13,4 +13,4 @@ mod walk;
 
 pub use ptu_definitions::Summary;
 pub use stream::RecordStream;
-pub use taker::{EventTaker, moved_floor, orders_markers};
+pub use taker::EventTaker;

@@ -3,9 +3,9 @@ ghost use Rattle.std.specs.Prelude.{◌≡◌, ◌≢◌, ◌+◌, ◌<◌, ◌�
 ghost use Rattle.std.specs.Option.{option_to_list};
 ghost use Rattle.tally_base.{specs.declared.event.Event.Event, specs.declared.fault.Fault.TheVariants.WriteFault, specs.FaultCounts.HasCause, specs.Columns.{count, sorted, gathered, written}, specs.Floors.InOrder};
 ghost use Rattle.ptu_definitions.specs.Fours.{numbers};
-ghost use Rattle.abs_time.specs.Placing.{placed_by};
+ghost use Rattle.abs_time.{specs.Placing.placed_by, specs.Floors.orders_markers};
+ghost use Rattle.record_stream.{specs.Blocks.{on_time, AllFit, PlacesRise}, specs.Feeding.{Follows, Fed}, specs.Keeping.IsKeeping, specs.LettingGo.{AreBlank, LetsGo, IsDelivered}, specs.Settling.{IsSettledBehind, IsFollowedBy, SettlesOn}, specs.Walking.{how_of, given_by, greatest_of, records_of, clock_in, summary_in, IsBlank, Stays}};
 ghost use Rattle.settle.specs.Standing.{last_time};
-ghost use Rattle.record_stream.{specs.Blocks.{orders_markers, on_time, AllFit, PlacesRise}, specs.Feeding.{Follows, Fed}, specs.Keeping.IsKeeping, specs.LettingGo.{AreBlank, LetsGo, IsDelivered}, specs.Settling.{IsSettledBehind, IsFollowedBy, SettlesOn}, specs.Walking.{how_of, given_by, greatest_of, records_of, clock_in, summary_in, IsBlank, Stays}};
 
 use crate::blocks::{EARLY_ENOUGH, gather};
 use crate::count::{add_block, stops_reserved};

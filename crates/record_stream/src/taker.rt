@@ -1,10 +1,11 @@
 // What events are given to.
-ghost use Rattle.std.specs.Prelude.{◌≡◌, ℕ, ◌+◌, ◌<◌, ◌≤◌, ◌&&◌, not, IsTrue, List, [], ◌∷◌, ◌++◌, length, OnOk, OnErr, max};
+ghost use Rattle.std.specs.Prelude.{◌≡◌, ℕ, ◌+◌, ◌<◌, ◌≤◌, ◌&&◌, not, IsTrue, [], ◌∷◌, ◌++◌, length, OnOk, OnErr, max};
 ghost use Rattle.tally_base.{specs.declared.header.Mode.Mode, specs.FaultCounts.HasCause, specs.Events.is_ordered, specs.Limits.{record_limit, time_limit}, specs.Columns.{sorted, gathered}, specs.Floors.{floor_after, InOrder}};
 ghost use Rattle.ptu_definitions.{specs.Fitting.KindFits, specs.Kept.{Marked, floor_of}};
-ghost use Rattle.record_stream.{specs.Floors.moved_floor, specs.Blocks.{orders_markers, on_time, AllFit, BrokeAmong}};
+ghost use Rattle.abs_time.specs.Floors.{moved_floor, orders_markers};
+ghost use Rattle.record_stream.specs.Blocks.{on_time, AllFit, BrokeAmong};
 
-use tally_base::{Block, Event, EventKind, Failed, Mode};
+use tally_base::{Block, Event, Failed, Mode};
 
 /// What a stream gives its events to, each with whether it is late.
 pub trait EventTaker {
@@ -76,28 +77,4 @@ pub trait EventTaker {
     ghost same_none: { (t : Self) → same t t };
 
     ghost same_more: { (t u v : Self) → same t u → same u v → same t v };
-}
-
-/// Whether markers come in the order of their times, as photons do.
-#[inline(always)]
-pub fn orders_markers(mode: Mode) -> bool
-    ensures { result ≡ orders_markers mode }
-{
-    match mode {
-        Mode::T2 => false,
-        Mode::T3 => true,
-    }
-}
-
-/// The greatest time of the events in order that were not late, with one event more. It is what the
-/// `floor` of a taker becomes.
-#[inline(always)]
-pub fn moved_floor(mode: Mode, floor: u64, event: &Event, late: bool) -> u64
-    ensures { result ≡ moved_floor mode floor event.now late }
-{
-    match (mode, event.kind) {
-        (Mode::T2, EventKind::Marker { .. }) => floor,
-        _ if late => floor,
-        _ => event.time,
-    }
 }

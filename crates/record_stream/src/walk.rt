@@ -31,8 +31,8 @@ impl Walk {
     ghost use Rattle.std.specs.Prelude.{◌&&◌, not, IsTrue};
     ghost use Rattle.tally_base.{specs.declared.fault.Fault.TheVariants.WriteFault, specs.FaultCounts.HasCause, specs.Events.is_ordered};
     ghost use Rattle.ptu_definitions.{specs.Kept.Marked, specs.Fitting.Fits, specs.Fours.numbers, specs.Streams.refusal};
-    ghost use Rattle.abs_time.specs.Placing.{IsSmall};
-    ghost use Rattle.record_stream.{specs.OneMore.with_event, specs.Floors.moved_floor, specs.Feeding.{Follows, CanGet, Fed}, specs.Walking.{how_of, given_by, greatest_of, records_of, Notes, KeepsPlace, IsBehind, IsFollowed, WalksOn, Stays}, specs.Recorded.{IsPlaced, CountsOne, KeepsGiven}};
+    ghost use Rattle.abs_time.{specs.Placing.IsSmall, specs.Floors.moved_floor};
+    ghost use Rattle.record_stream.{specs.OneMore.with_event, specs.Feeding.{Follows, CanGet, Fed}, specs.Walking.{how_of, given_by, greatest_of, records_of, Notes, KeepsPlace, IsBehind, IsFollowed, WalksOn, Stays}, specs.Recorded.{IsPlaced, CountsOne, KeepsGiven}};
 
     /// What a word means.
     #[inline(always)]

@@ -5,7 +5,8 @@ use Rattle.tally_base.{specs.declared.fault.Fault.Fault, specs.declared.fault.Fa
 use Rattle.bench_io.{specs.Inputs.InputState, specs.Sinks.AppendsShort, proofs.Bytes.{Appends-nil, Keeps-from_none}}
 use Rattle.ptu_definitions.{specs.Headers.header_answer, specs.Words.words_of, specs.Streams.{record_refusal, streamed, summary}}
 use Rattle.plan_text.{specs.declared.plan.Plan.Plan, specs.Plan.PlanView, specs.Reading.{plan_view, plan_answer}, specs.Fits.fits, proofs.OnLiterals.plan_on_literals}
-use Rattle.tally_engine.{specs.declared.engine.Results.Results, specs.Plans.policy_of}
+use Rattle.plan_parts.specs.declared.results.Results.{Results}
+use Rattle.gate_plan.specs.Plans.{policy_of}
 use Rattle.table_out.specs.Report.{Table, report, EachHolds}
 use Rattle.ptu_made.{specs.Generator.{made_words, photon_limit}, specs.MadeFile.made_file, specs.Records.made_header, specs.declared.made.Made.Made, specs.Made.made_state, proofs.Meanings.{all-made, words-bytes}, proofs.MadeEvents.few-words, proofs.Unrefused.unrefused}
 use Rattle.short_file.{specs.ShortFiles.{short_header, short_file, bytes_in}, proofs.ShortHeaders.short-answer}

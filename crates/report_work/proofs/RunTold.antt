@@ -4,7 +4,7 @@ use Rattle.std.{specs.declared.option.Option.Option, specs.Io.KnownBytes.{Append
 use Rattle.tally_base.{specs.declared.slot.Slot.TheVariants.Data, specs.declared.fault.Fault.Fault, specs.declared.fault.Fault.TheVariants.WriteFault, specs.FaultCounts.Rose}
 use Rattle.bench_io.{specs.Inputs.InputState, specs.Sinks.AppendsShort}
 use Rattle.plan_text.specs.Plan.{PlanView}
-use Rattle.tally_engine.specs.declared.engine.Results.{Results}
+use Rattle.plan_parts.specs.declared.results.Results.{Results}
 use Rattle.table_out.specs.Report.{Table, report, EachHolds}
 use Rattle.report_work.{specs.Reports.{report_outcome, file_report, reporting}, specs.RunPieces.{IsReport, AnswersReport, RunReason}}
 use Rattle.command_work.{specs.Behaviours.AtEnd, specs.Endings.{StopsAtHeader, Span}, specs.Works.{AnswersWork, WorkReason}, proofs.Told.Says-map, proofs.WorkTold.{refused-answers, written-answers, unwritten-reason, unread-reason}}

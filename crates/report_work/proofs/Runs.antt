@@ -5,7 +5,9 @@ use Rattle.tally_base.{specs.declared.fault.Fault.Fault, specs.declared.header.M
 use Rattle.bench_io.{specs.Inputs.{InputState, NoneFalls}, proofs.Bytes.Consumes-trans, proofs.Rises.Rose-behind}
 use Rattle.ptu_definitions.{specs.declared.records.Summary.Summary, specs.Headers.header_answer, specs.Shown.Shows, specs.Streams.{record_refusal, streamed}, specs.Words.words_of}
 use Rattle.plan_text.{specs.Plan.PlanView, specs.Fits.{fits, IsMisfit}, proofs.Misfits.{misfit_named, names_part}}
-use Rattle.tally_engine.{specs.declared.engine.Engine.Engine, specs.declared.engine.Results.Results, specs.Engine.{engine_sorting, reading_of, IsFor, SameEngine, IsCounted, Finishes}, specs.Plans.{reading_by, OpensAs}, specs.Histories.history, specs.Parts.settings_in}
+use Rattle.tally_engine.{specs.declared.engine.Engine.Engine, specs.Engine.{engine_sorting, reading_of, IsFor, SameEngine, IsCounted, Finishes, OpensAs}}
+use Rattle.plan_parts.{specs.declared.results.Results.Results, specs.Parts.settings_in}
+use Rattle.gate_plan.{specs.Plans.reading_by, specs.Histories.history}
 use Rattle.table_out.{specs.Report.with_events, proofs.Tables.each_holds_all}
 use Rattle.command_work.{specs.Told.Says, specs.Outcomes.{IsCut, MayChange}, specs.Behaviours.piece_limit, specs.Pieces.{ReadReason, TakesOpen, StopsSoon}, proofs.Told.{Says-at_end, Says-shown, Says-map}, proofs.Pieces.ShowsHeader, proofs.Streams.streamed-open}
 use Rattle.report_work.{specs.Reports.{report_of, if_fits, report_behind, file_report}, specs.RunPieces.{EndsEngine, IsReport, AnswersReport, RunReason}}

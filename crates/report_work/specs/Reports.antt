@@ -4,8 +4,7 @@ use Rattle.std.specs.declared.option.Option.{Option}
 use Rattle.tally_base.{specs.declared.fault.Fault.Fault, specs.declared.header.Header.Header, specs.RecordTypes.mode_of, specs.Faults.fault_in}
 use Rattle.ptu_definitions.{specs.declared.records.Summary.Summary, specs.Headers.header_answer, specs.Words.words_of, specs.Streams.streamed}
 use Rattle.plan_text.{specs.Plan.{PlanView, parts_of}, specs.Fits.fits}
-use Rattle.gate_plan.specs.Shifting.{sorting}
-use Rattle.tally_engine.{specs.Histories.history, specs.Plans.reading_by}
+use Rattle.gate_plan.{specs.Shifting.sorting, specs.Histories.history, specs.Plans.reading_by}
 use Rattle.table_out.specs.Report.{report, with_events}
 use Rattle.command_work.{specs.Outcomes.{Outcome, refused, written, MayChange}, specs.Behaviours.{Work, AreRead, IsHeaded}}
 

@@ -5,7 +5,8 @@ use Rattle.tally_base.{specs.declared.slot.Slot.TheVariants.Data, specs.declared
 use Rattle.bench_io.specs.Inputs.{InputState}
 use Rattle.ptu_definitions.specs.Streams.{streamed}
 use Rattle.plan_text.specs.Plan.{PlanView}
-use Rattle.tally_engine.{specs.declared.engine.Engine.Engine, specs.declared.engine.Results.Results, specs.Engine.{HasFed, refused_by, reading_of, IsCounted}, specs.Parts.AllClosed}
+use Rattle.tally_engine.{specs.declared.engine.Engine.Engine, specs.Engine.{HasFed, refused_by, reading_of, IsCounted}}
+use Rattle.plan_parts.{specs.declared.results.Results.Results, specs.Parts.AllClosed}
 use Rattle.table_out.specs.Report.{Table, report, EachHolds}
 use Rattle.command_work.{specs.Told.Says, specs.Pieces.TakesOpen, specs.Endings.StopsAtHeader}
 use Rattle.report_work.specs.Reports.{file_report}

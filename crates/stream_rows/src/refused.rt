@@ -4,7 +4,8 @@ ghost use Rattle.tally_base.specs.Limits.{record_limit};
 ghost use Rattle.ptu_definitions.specs.Kept.{floor_of};
 ghost use Rattle.record_stream.{specs.Feeding.Follows, specs.Standing.{how_of, given_by, greatest_of, refused_with}};
 
-use record_stream::{EventTaker, RecordStream, moved_floor};
+use abs_time::moved_floor;
+use record_stream::{EventTaker, RecordStream};
 use std::test::Fail;
 use tally_base::{Event, Failed, Fault, Mode, OnReserved, Order, Policy, RecordType};
 

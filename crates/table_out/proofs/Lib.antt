@@ -1,10 +1,3 @@
-pub mod Bodies
-pub mod Growing
-pub mod Final
-pub mod StepTexts
-pub mod Rows
-pub mod EventRows
-pub mod BlockTexts
 pub mod Putting
 pub mod Tables
 pub mod Reports

@@ -3,7 +3,7 @@ use Rattle.std.proofs.Common.{◌≡◌, ℕ, zero, suc, ◌+◌, ◌<◌, ◌�
 use Rattle.std.{specs.declared.option.Option.Option, proofs.lemmas.List.{take_all, take_more}, proofs.lemmas.List.Elements.{All-head, All-tail}}
 use Rattle.tally_base.{specs.Settings.PartSettings, specs.Tally.History}
 use Rattle.ptu_definitions.{specs.Prefixes.each_after, proofs.PrefixLemmas.{each-push, each_after-append}}
-use Rattle.tally_engine.{specs.contracts.part.PartTally.TheImpl.ghosts, specs.declared.part.Part.Part, specs.Parts.{settings_in, AllHold}}
+use Rattle.plan_parts.{specs.contracts.part.PartTally.TheImpl.ghosts, specs.declared.part.Part.Part, specs.Parts.{settings_in, AllHold}}
 use Rattle.table_out.{specs.Puts.{PutsText, CutsText}, specs.Report.{Table, StandsFor, EachHolds, same_kind, part_text, table_text, parts_text, with_events}, proofs.Putting.{puts-more, cuts-behind, cuts-front}}
 
 -- ## The tables, each with what it stands for

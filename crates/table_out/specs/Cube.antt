@@ -3,7 +3,8 @@ use Rattle.std.specs.Prelude.{ℕ, ◌*◌, ◌/◌, ◌%◌, ◌==◌, ◌++◌
 use Rattle.tally_base.specs.Settings.{CubeView}
 use Rattle.scan_image.specs.ImageCounts.{count_outside}
 use Rattle.flim_cube.specs.CubeCounts.{in_cell, count_over}
-use Rattle.table_out.{specs.Lines.line, specs.Printed.Printed}
+use Rattle.list_out.specs.Lines.{line}
+use Rattle.table_out.specs.Printed.{Printed}
 
 -- the three numbers of a cell and its count. A cell that is 0 has no line.
 abbrev pub triple_line : ℕ → ℕ → ℕ → ℕ → List ℕ

@@ -1,7 +1,3 @@
-pub mod HeaderText
-pub mod Body
-pub mod EventText
-pub mod Lines
 pub mod Printed
 pub mod Histogram
 pub mod Trace

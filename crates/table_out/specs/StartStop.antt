@@ -2,7 +2,8 @@
 use Rattle.std.specs.Prelude.{◌++◌, codes, decimal}
 use Rattle.tally_base.specs.Settings.{StartStopView}
 use Rattle.coincidence.specs.Intervals.{in_interval, count_over}
-use Rattle.table_out.{specs.Lines.line, specs.Printed.{Printed, cell_line}}
+use Rattle.list_out.specs.Lines.{line}
+use Rattle.table_out.specs.Printed.{Printed, cell_line}
 
 unfoldable pub startstop_printed : StartStopView → Printed
 startstop_printed set = record {

@@ -2,7 +2,8 @@
 use Rattle.std.specs.Prelude.{◌++◌, codes, decimal}
 use Rattle.tally_base.specs.Settings.{TraceView}
 use Rattle.count_trace.specs.TraceCounts.{in_trace_bin, count_before, count_beyond}
-use Rattle.table_out.{specs.Lines.line, specs.Printed.{Printed, cell_line}}
+use Rattle.list_out.specs.Lines.{line}
+use Rattle.table_out.specs.Printed.{Printed, cell_line}
 
 unfoldable pub trace_printed : TraceView → Printed
 trace_printed set = record {

@@ -2,12 +2,12 @@
 ghost use Rattle.std.specs.Prelude.{◌≡◌, ◌<◌, ◌≤◌, true, length, OnOk, OnErr, codes, decimal};
 ghost use Rattle.bench_io.specs.TriesOnce.{TriesOnce};
 ghost use Rattle.tally_base.specs.Tally.{History};
-ghost use Rattle.table_out.{specs.Lines.line, specs.Printed.{cell_line, pair_line, row_lines, cell_lines, first_line}, specs.Puts.{PutsText, CutsText}, specs.Report.{printed, part_text}};
+ghost use Rattle.list_out.specs.Lines.{line};
+ghost use Rattle.table_out.{specs.Printed.{cell_line, pair_line, row_lines, cell_lines, first_line}, specs.Puts.{PutsText, CutsText}, specs.Report.{printed, part_text}};
 
-use crate::backwards::{LINE_SIZE, write_newline, write_number, write_text, write_wide};
-use crate::line::put_count;
 use arrayvec::ArrayVec;
 use bench_io::{Block, Sink};
+use list_out::{LINE_SIZE, put_count, write_newline, write_number, write_text, write_wide};
 use tally_base::{Failed, Tally, put_decimal, put_text};
 
 /// A table that is printed: its cells stand in rows, and are read once it is closed. Rows, and the columns

@@ -1,9 +1,9 @@
 // How a correlation is printed.
 ghost use Rattle.std.specs.Prelude.{◌≡◌};
 
-use crate::backwards::LINE_SIZE;
 use crate::cells::{Prints, pair_line};
 use arrayvec::ArrayVec;
+use list_out::LINE_SIZE;
 use tally_base::{put_decimal, put_text};
 use tau_cascade::Cascade;
 

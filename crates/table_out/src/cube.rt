@@ -2,11 +2,10 @@
 ghost use Rattle.std.specs.Prelude.{◌≡◌};
 ghost use Rattle.table_out.specs.Cube.{triple_line};
 
-use crate::backwards::{LINE_SIZE, write_newline, write_number, write_text};
 use crate::cells::Prints;
-use crate::line::put_count;
 use arrayvec::ArrayVec;
 use flim_cube::FlimCube;
+use list_out::{LINE_SIZE, put_count, write_newline, write_number, write_text};
 use tally_base::{put_decimal, put_text};
 
 /// Formats the line of a cell with three numbers in a buffer. A cell that is 0 has none.

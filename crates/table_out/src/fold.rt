@@ -1,10 +1,10 @@
 // How a fold is printed.
 ghost use Rattle.std.specs.Prelude.{◌≡◌};
 
-use crate::backwards::LINE_SIZE;
 use crate::cells::{Prints, cell_line};
 use arrayvec::ArrayVec;
 use fold_count::Fold;
+use list_out::LINE_SIZE;
 use tally_base::{put_decimal, put_text};
 
 impl Prints for Fold {

@@ -1,9 +1,9 @@
 // How a histogram is printed.
 ghost use Rattle.std.specs.Prelude.{◌≡◌};
 
-use crate::backwards::LINE_SIZE;
 use crate::cells::{Prints, cell_line, over_line};
 use arrayvec::ArrayVec;
+use list_out::LINE_SIZE;
 use tally_base::{put_decimal, put_text};
 use tcspc_hist::Hist;
 

@@ -1,10 +1,9 @@
 // How an image is printed.
 ghost use Rattle.std.specs.Prelude.{◌≡◌};
 
-use crate::backwards::LINE_SIZE;
 use crate::cells::{Prints, pair_line};
-use crate::line::put_count;
 use arrayvec::ArrayVec;
+use list_out::{LINE_SIZE, put_count};
 use scan_image::Image;
 use tally_base::{put_decimal, put_text};
 

@@ -1,10 +1,10 @@
 // How a table of coincidences is printed.
 ghost use Rattle.std.specs.Prelude.{◌≡◌};
 
-use crate::backwards::LINE_SIZE;
 use crate::cells::{Prints, cell_line};
 use arrayvec::ArrayVec;
 use coincidence::Coincidence;
+use list_out::LINE_SIZE;
 use tally_base::{put_decimal, put_text};
 
 impl Prints for Coincidence {

@@ -2,14 +2,14 @@
 ghost use Rattle.std.specs.Prelude.{◌≡◌, ◌+◌, ◌≤◌, true, List, count_by, OnOk, OnErr, IfErr};
 ghost use Rattle.std.specs.Io.KnownBytes.{Appends};
 ghost use Rattle.bench_io.{specs.TriesOnce.TriesOnce, specs.Sinks.AppendsShort};
-ghost use Rattle.tally_engine.specs.Parts.{settings_in, AllClosed};
+ghost use Rattle.plan_parts.specs.Parts.{settings_in, AllClosed};
 ghost use Rattle.table_out.{specs.Report.{Table, EachHolds, printed, same_kind, part_text, parts_text, report}, specs.Puts.{PutsText, CutsText}};
 
 use crate::cells::{Prints, put_table};
 use crate::report_head::report_head;
 use bench_io::{Block, Sink};
+use plan_parts::{Part, Results};
 use tally_base::{Failed, Fault, Tally};
-use tally_engine::{Part, Results};
 
 /// The name of a table's kind.
 fn word(part: &Part) -> &'static str

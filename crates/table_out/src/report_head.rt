@@ -2,8 +2,8 @@
 ghost use Rattle.std.specs.Prelude.{◌≡◌};
 ghost use Rattle.table_out.specs.Report.{head_text};
 
-use crate::line::{put_announced, put_bits, put_count, put_line, put_time};
 use arrayvec::ArrayVec;
+use list_out::{put_announced, put_bits, put_count, put_line, put_time};
 use ptu_definitions::Summary;
 use tally_base::Header;
 

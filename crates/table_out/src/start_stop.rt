@@ -1,10 +1,10 @@
 // How a start-stop table is printed.
 ghost use Rattle.std.specs.Prelude.{◌≡◌};
 
-use crate::backwards::LINE_SIZE;
 use crate::cells::{Prints, cell_line, over_line};
 use arrayvec::ArrayVec;
 use coincidence::StartStop;
+use list_out::LINE_SIZE;
 use tally_base::{put_decimal, put_text};
 
 impl Prints for StartStop {

@@ -1,11 +1,10 @@
 // How a trace is printed.
 ghost use Rattle.std.specs.Prelude.{◌≡◌};
 
-use crate::backwards::LINE_SIZE;
 use crate::cells::{Prints, cell_line};
-use crate::line::put_count;
 use arrayvec::ArrayVec;
 use count_trace::Trace;
+use list_out::{LINE_SIZE, put_count};
 use tally_base::{put_decimal, put_text};
 
 impl Prints for Trace {

@@ -1,11 +1,12 @@
 -- A block more for all tables.
-use Rattle.std.proofs.Common.{◌≡◌, ◌+◌, ◌≤◌, ◌<◌, ℕ, List, [], ◌∷◌, ◌++◌, Bool, true, false, max, refl, sym, ap, ◌∙◌, append_assoc, append-nil, arith, length, length-append, ◌&&◌, not, IsTrue, if◌then◌else◌, slice_index_or}
+use Rattle.std.proofs.Common.{◌≡◌, ◌+◌, ◌≤◌, ◌<◌, ℕ, List, [], ◌∷◌, ◌++◌, Bool, false, refl, ap, ◌∙◌, append_assoc, arith, length, length-append, IsTrue, slice_index_or}
 use Rattle.std.{proofs.lemmas.List.map-append, proofs.lemmas.List.Elements.filter-append}
-use Rattle.tally_base.{specs.declared.event.Event.Event, specs.declared.header.Mode.Mode, specs.declared.header.Mode.TheVariants.{T2, T3}, specs.declared.tally.Tally.Ghosts, specs.Events.is_ordered, specs.Settings.is_strict, specs.Tally.moves_floor, specs.Limits.record_limit, specs.Floors.{floor_after, InOrder}, proofs.Floors.{floor-append, order-append, order-parts}, proofs.Lower.order-looser}
-use Rattle.ptu_definitions.{specs.Kept.{Marked, floor_of}, specs.Settled.not_marked}
-use Rattle.gate_plan.specs.Shifting.{Sorting}
-use Rattle.record_stream.{specs.Blocks.{orders_markers, on_time}, proofs.Adding.moves_by, proofs.Floors.moved_floor-push, proofs.Eaches.{not_late, ordered-moves}}
-use Rattle.tally_engine.{specs.Histories.with_groups, specs.Give.{Holding, Moves}, specs.Taker.{Waits, Gave}, specs.Tables.{MayTake, HasTaken}}
+use Rattle.tally_base.{specs.declared.event.Event.Event, specs.declared.header.Mode.Mode, specs.declared.header.Mode.TheVariants.{T2, T3}, specs.declared.tally.Tally.Ghosts, specs.Settings.is_strict, specs.Limits.record_limit, specs.Floors.{floor_after, InOrder}, proofs.Floors.{floor-append, order-append}, proofs.Lower.order-looser}
+use Rattle.ptu_definitions.{specs.Kept.Marked, specs.Settled.not_marked}
+use Rattle.gate_plan.{specs.Shifting.Sorting, proofs.Histories.with_groups-more}
+use Rattle.abs_time.specs.Floors.{orders_markers}
+use Rattle.record_stream.{specs.Blocks.on_time, proofs.Given.length-on_time, proofs.Eaches.floor_of-block}
+use Rattle.fed_parts.{specs.Give.Moves, specs.Taker.{Waits, Gave}, specs.Tables.MayTake}
 
 -- a strict table is of a mode that orders markers
 fewer : (mode : Mode) (strict : Bool) → (mode ≡ T2 → strict ≡ false) → IsTrue strict → IsTrue (orders_markers mode)
@@ -19,44 +20,7 @@ not_marked-on_time (e ∷ es) = ap (λ l. e ∷ l) (not_marked-on_time es)
 not_marked-block : (l : Marked) (es : List Event) → not_marked (l ++ on_time es) ≡ not_marked l ++ es
 not_marked-block l es = rw (filter-append, map-append) (ap (λ m. not_marked l ++ m) (not_marked-on_time es))
 
-pub length-on_time : (es : List Event) → length (on_time es) ≡ length es
-length-on_time [] = refl
-length-on_time (e ∷ es) = omega (arith, length-on_time es)
-
--- the greatest time with a block
-pub floor_of-block : (mode : Mode) (l : Marked) (es : List Event) (first now : ℕ) → now ≡ max first (floor_of mode l) → InOrder (orders_markers mode) now es
-    → floor_after (orders_markers mode) now es ≡ max first (floor_of mode (l ++ on_time es))
-floor_of-block mode l [] first now is all = rw (append-nil l) is
-floor_of-block mode l (e ∷ es) first now is all =
-    let strict = orders_markers mode in
-    let next : (if moves_floor strict e then e.time else now) ≡ max first (floor_of mode (l ++ (e, false) ∷ [])) =
-    ap (λ b. if b then e.time else now) (moves_by mode e) ∙ sym (not_late (is_ordered mode e) e.time now) ∙ moved_floor-push mode first now l e false is (λ o. all.1 (ordered-moves mode e o)) in
-    floor_of-block mode (l ++ (e, false) ∷ []) es first (if moves_floor strict e then e.time else now) next all.2
-    ∙ ap (λ m. max first (floor_of mode m)) (append_assoc l ((e, false) ∷ []) (on_time es))
-
 module _ {T : Type 0} (g : Ghosts T) where
-  pub can_parts : (es more : List Event) (t : T) → MayTake g (es ++ more) t → MayTake g es t
-  can_parts es more t can = record { open' = can.open'; room = omega (arith, can.room, length-append es more); in_order = (order-parts (is_strict (g.settings t)) (g.floor t) es more can.in_order).0 }
-
-  -- the rest, once the front was given
-  pub can_rest : (es more : List Event) (given : _) (old new : T) → MayTake g (es ++ more) old → HasTaken g es given old new → MayTake g more new
-  can_rest es more given old new can took = record {
-    open' = took.still_open;
-    room = omega (arith, can.room, took.count, length-append es more);
-    in_order = rw (took.same_settings, took.moved) (order-parts (is_strict (g.settings old)) (g.floor old) es more can.in_order).1;
-  }
-
-  -- what waited was given, and then the block
-  pub moves_two : (by : Sorting) (es more none : List Event) (old mid new : T) → none ≡ [] → HasTaken g es (with_groups by es) old mid → HasTaken g more (with_groups by more) mid new → Moves g by es none more old new
-  moves_two by es more none old mid new empty first second = rw empty (record {
-    follows = λ h held. (h ++ with_groups by more, sym (append-nil (h ++ with_groups by more)), second.follows h (rw held.1 (first.follows held.0 held.2)));
-    still_open = second.still_open;
-    count = omega (arith, first.count, second.count, length-append es more);
-    moved = second.moved ∙ rw (first.same_settings, first.moved) (sym (floor-append (is_strict (g.settings old)) (g.floor old) es more));
-    in_order = tt;
-    same_settings = second.same_settings ∙ first.same_settings;
-  })
-
   -- a block that comes in order can be taken behind the events that wait
   pub can_block : (mode : Mode) (taken floor : ℕ) (es more : List Event) (t : T) → Waits g mode taken floor es t → taken + length more ≤ record_limit → InOrder (orders_markers mode) floor more → MayTake g (es ++ more) t
   can_block mode taken floor es more t w room order =
@@ -92,8 +56,5 @@ module _ {T : Type 0} (g : Ghosts T) where
     moved = is ∙ floor_of-block mode' l more floor floor' (rw gave.same_mode gave.moved) order ∙ rw gave.same_mode refl;
     follows = λ h held. λ k d inside.
         let within : k < length old = omega (arith, same, inside) in
-        rw (not_marked-block l more, with_groups-two by (not_marked l) more, ← append_assoc h) ((rw gave.same_sorting at (moves k d within)).follows _ (gave.follows h held k d within));
+        rw (not_marked-block l more, with_groups-more by (not_marked l) more, ← append_assoc h) ((rw gave.same_sorting at (moves k d within)).follows _ (gave.follows h held k d within));
   }
-    where
-      with_groups-two : (by : Sorting) (es more : List Event) → with_groups by (es ++ more) ≡ with_groups by es ++ with_groups by more
-      with_groups-two by es more = rw (map-append, map-append) refl

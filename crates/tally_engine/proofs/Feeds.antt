@@ -1,13 +1,14 @@
 -- What the words of a piece give to the tables.
 use Rattle.std.proofs.Common.{◌≡◌, ◌≢◌, ℕ, false, List, [], ◌++◌, map, None, Some, Ok, Err, IfErr, OnOk, refl, sym, ap, subst, ◌∙◌, inl, inr, ⊎_elim, arith}
-use Rattle.std.{specs.declared.option.Option.Option, specs.declared.result.Result.Result, proofs.lemmas.List.map-append, proofs.lemmas.List.Elements.filter-append}
+use Rattle.std.{specs.declared.option.Option.Option, specs.declared.result.Result.Result}
 use Rattle.tally_base.{specs.declared.fault.Fault.Fault, specs.declared.fault.Fault.TheVariants.WriteFault, specs.FaultCounts.Rose, specs.Tally.History, specs.Faults.{fault_in, is_outside}}
-use Rattle.ptu_definitions.{specs.declared.records.Summary.Summary, specs.Kept.Marked, specs.Times.events, specs.Streams.{Reading, record_refusal, given, last_in}, specs.Words.words_of, proofs.StreamLemmas.given-clear, proofs.DeliveredLaws.{delivered-settled, delivered-kept}, specs.Settled.{delivered, delivered_last, not_marked}}
+use Rattle.ptu_definitions.{specs.declared.records.Summary.Summary, specs.Kept.Marked, specs.Times.events, specs.Streams.{Reading, record_refusal, given, last_in}, specs.Words.words_of, proofs.StreamLemmas.given-clear, proofs.DeliveredLaws.delivered-settled, specs.Settled.not_marked}
 use Rattle.abs_time.specs.declared.clock.Clock.{Clock}
 use Rattle.record_stream.{specs.declared.taker.EventTaker.Ghosts, specs.Feeding.{GaveOn, BrokeOn, Fed}, specs.Ending.Ended, specs.Standing.Stands}
 use Rattle.settle.specs.declared.settle.Settle.{Settle}
-use Rattle.gate_plan.specs.Shifting.{Sorting}
-use Rattle.tally_engine.{specs.Parts.{AllHold, Ends}, specs.declared.part.Part.Part, specs.Histories.{with_groups, history, settled_history}}
+use Rattle.gate_plan.{specs.Shifting.Sorting, specs.Histories.{with_groups, history, settled_history}, proofs.Histories.with_groups-append}
+use Rattle.plan_parts.{specs.Parts.AllHold, specs.declared.part.Part.Part}
+use Rattle.tally_engine.specs.Pieces.{Ends}
 
 -- a taker that never breaks was given all that the words call for
 pub fed_whole : {T : Type 0} (g : Ghosts T) {X : Type 0} (how : Reading) (old new : T) (words now : List ℕ) (r : Result X Fault) → g.got old old [] → ((l : Marked) → g.broke old new l → ⊥) → Fed g how old new words now r
@@ -27,23 +28,9 @@ history-given by how clock sum count settle carried None bytes h none =
     rw (given-clear how (words_of bytes) h.1.at.clear, delivered-settled how.policy.settle how.mode (events (map how.meaning (words_of bytes)))) refl
 history-given by how clock sum count settle carried (Some fault) bytes h none = cc
 
-with_groups-append : (by : Sorting) (l m : Marked) → with_groups by (not_marked (l ++ m)) ≡ with_groups by (not_marked l) ++ with_groups by (not_marked m)
-with_groups-append by l m = rw (filter-append, map-append, map-append, map-append) refl
-
 history-adds : (by : Sorting) (how : Reading) (before now : List ℕ) (more : Marked) → given how now ≡ given how before ++ more
     → with_groups by (not_marked (given how now)) ≡ with_groups by (not_marked (given how before)) ++ with_groups by (not_marked more)
 history-adds by how before now more adds = ap (λ l. with_groups by (not_marked l)) adds ∙ with_groups-append by (given how before) more
-
--- the kept list is what is settled, and the rest that is given at the end
-pub history-ends : (by : Sorting) (how : Reading) (words : List ℕ) → history by how words ≡ settled_history by how words ++ with_groups by (not_marked (last_in how words))
-unfolding history settled_history
-history-ends by how words =
-    let k = how.policy.settle in
-    let es = events (map how.meaning words) in
-    let last = delivered_last k how.mode es in
-    ap (with_groups by) (sym (delivered-kept k how.mode es))
-    ∙ with_groups-append by (delivered k how.mode es) last
-    ∙ ap (λ l. with_groups by l ++ with_groups by (not_marked last)) (delivered-settled k how.mode es)
 
 pub at_same : {A : Type 0} (P : A → Type 0) (x y : A) → P x → x ≡ y → P y
 at_same P x y h is = subst P is h

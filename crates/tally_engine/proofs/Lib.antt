@@ -1,10 +1,5 @@
-pub mod Takes
-pub mod Aheads
-pub mod Sorts
-pub mod Shifts
 pub mod Feeds
 pub mod Slices
 pub mod Refusals
 pub mod Opens
-pub mod Suits
 pub mod Behind

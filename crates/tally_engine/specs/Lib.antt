@@ -1,11 +1,3 @@
-pub mod Ahead
 pub mod Engine
-pub mod Give
-pub mod Histories
-pub mod Part
-pub mod Parts
 pub mod Pieces
-pub mod Plans
 pub mod Same
-pub mod Taker
-pub mod Tables

@@ -1,10 +1,25 @@
 -- What a piece of the bytes does to a stream and to the tables behind it.
-use Rattle.std.specs.Prelude.{◌≡◌, ◌≢◌, ◌+◌, ℕ, List, ◌++◌, All, Result, Err, OnOk, IfErr}
+use Rattle.std.specs.Prelude.{◌≡◌, ◌≢◌, ◌+◌, ℕ, List, ◌++◌, All, Result, Err, OnOk, IfErr, Ok}
 use Rattle.tally_base.{specs.declared.fault.Fault.Fault, specs.declared.fault.Fault.TheVariants.WriteFault, specs.declared.header.Mode.Mode, specs.Faults.fault_in}
-use Rattle.ptu_definitions.{specs.Shown.Shows, specs.Streams.{record_refusal, streamed}, specs.Words.words_of}
+use Rattle.ptu_definitions.{specs.Shown.Shows, specs.Streams.{record_refusal, streamed, Reading}, specs.Words.words_of, specs.declared.records.Summary.Summary}
 use Rattle.record_stream.{specs.declared.stream.RecordStream.RecordStream, specs.Standing.{how_of, given_by, greatest_of, bytes_in, HasStreamed}}
-use Rattle.gate_plan.specs.Shifting.{Sorting}
-use Rattle.tally_engine.{specs.declared.part.Part.Part, specs.contracts.part.PartTally.TheImpl.ghosts, specs.Parts.HoldOn, specs.Taker.Standing}
+use Rattle.gate_plan.{specs.Shifting.Sorting, specs.Histories.{history, settled_history}}
+use Rattle.plan_parts.{specs.declared.part.Part.Part, specs.contracts.part.PartTally.TheImpl.ghosts, specs.Parts.AllHold}
+use Rattle.fed_parts.specs.Taker.{Standing}
+
+-- Where the old tables hold the events of these words, the new ones hold those of more words.
+abbrev pub HoldOn : Sorting → Reading → List ℕ → List ℕ → List Part → List Part → Type 0
+HoldOn by how words now old new = AllHold old (settled_history by how words) → AllHold new (settled_history by how now)
+
+-- The bytes have this summary, and where the old tables hold what is settled of them, the new ones hold all that is
+-- kept.
+pub record EndsWith (by : Sorting) (how : Reading) (bytes : List ℕ) (old new : List Part) (summary : Summary) : Type 0 where
+  pub streams : streamed how bytes ≡ Ok summary
+  pub follows : AllHold old (settled_history by how (words_of bytes)) → AllHold new (history by how (words_of bytes))
+
+abbrev pub Ends : Sorting → Reading → List ℕ → List Part → List Part → Result Summary Fault → Type 0
+Ends by how bytes old new (Ok summary) = EndsWith by how bytes old new summary
+Ends by how bytes old new (Err fault) = streamed how bytes ≡ Err fault
 
 -- Behind these bytes the stream was given the piece. The answer is the refusal that the words call for, and where there is none the tables were given their events.
 pub record AnswersPiece (by : Sorting) (old new : RecordStream) (bytes piece : List ℕ) (parts parts' : List Part) (r : Result (Unit {0}) Fault) : Type 0 where

@@ -2,29 +2,17 @@
 ghost use Rattle.std.specs.Prelude.{◌≡◌, ℕ, All, List, None, Some, false};
 ghost use Rattle.tally_base.{specs.declared.fault.Fault.Fault, specs.Faults.is_outside, specs.RecordTypes.mode_of, specs.Limits.record_limit};
 ghost use Rattle.record_stream.specs.Standing.{how_of, given_by, greatest_of, refused_with, HasStreamed};
-ghost use Rattle.tally_engine.specs.Taker.{Standing};
+ghost use Rattle.fed_parts.specs.Taker.{Standing};
 
-use crate::give::close_all;
-use crate::open::open_all;
-use crate::part::Part;
 use crate::part_taker::{feed_parts, finish_parts};
+use fed_parts::{close_all, open_all};
 use gate_plan::Gates;
+use plan_parts::{Part, Results};
 use plan_text::Plan;
-use record_stream::{RecordStream, Summary};
+use record_stream::RecordStream;
 use std::alloc::{AllocError, Global};
 use std::sync::ledger::Ledger;
 use tally_base::{Fault, Header, Steps, Tally};
-
-/// What a run counted.
-#[derive(Drop)]
-pub struct Results {
-    /// The header of the file.
-    pub header: Header,
-    /// The counts of its records.
-    pub summary: Summary,
-    /// The tables, all closed, in the order of the report: by kinds, and by numbers in each.
-    pub parts: Vec<Part>,
-}
 
 /// All tables of a plan, and the stream of a file's records that feeds them.
 ///
@@ -47,7 +35,7 @@ pub struct Engine {
 impl Engine {
     ghost use Rattle.std.specs.Prelude.{◌+◌, ◌*◌, ◌<◌, ◌≤◌, [], ◌++◌, length, Err, OnOk, IfOk, IfErr};
     ghost use Rattle.plan_text.{specs.Fits.fits, specs.Reading.plan_view, specs.Bound.bound as plan_bound};
-    ghost use Rattle.tally_engine.{specs.Plans.OpensAs, specs.Engine.{reading_of, refused_by, bytes_fed, HasFed, IsFor, SameEngine, Finishes, held, bound}};
+    ghost use Rattle.tally_engine.specs.Engine.{OpensAs, reading_of, refused_by, bytes_fed, HasFed, IsFor, SameEngine, Finishes, held, bound};
     ghost use Rattle.ptu_definitions.{specs.Shown.Shows, specs.Streams.{record_refusal, streamed}, specs.Words.words_of};
     ghost use Rattle.tally_base.specs.Faults.{fault_in};
 

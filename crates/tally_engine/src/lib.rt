@@ -2,14 +2,8 @@
 #![tactic(auto)]
 
 mod engine;
-mod give;
-mod give_behind;
 pub mod laws;
-mod open;
-mod part;
 mod part_taker;
-mod reached;
 
-pub use engine::{Engine, Results};
-pub use give::sort_events;
-pub use part::Part;
+pub use engine::Engine;
+pub use plan_parts::{Part, Results};

@@ -9,8 +9,7 @@ use Rattle.trace_work.{proofs.TraceTexts.text-front, specs.TraceOutcomes.{settle
 use Rattle.command_work.{specs.Told.Says, specs.Outcomes.{Outcome, MayChange, IsCut}, specs.TextRuns.{AnswersText, ReadsText, CutsText}, specs.Behaviours.AsItReads, specs.Works.{AnswersWork, ReadsWork, CutsWork}, proofs.Pieces.ShowsHeader}
 use Rattle.command_work.proofs.TextComposed as composed
 use Rattle.bench_io.{specs.Sinks.AppendsShort, proofs.Bytes.{Appends-trans, Appends-same, AppendsShort-behind, AppendsShort-same}}
-use Rattle.gate_plan.specs.Shifting.{Sorting, sorting}
-use Rattle.tally_engine.{proofs.Opens.history-none, specs.Plans.reading_by}
+use Rattle.gate_plan.{specs.Shifting.{Sorting, sorting}, proofs.Histories.history-none, specs.Plans.reading_by}
 use Rattle.long_trace.specs.Texts.{first_line, open_text}
 
 abbrev fit : Result (Unit {0}) Fault

@@ -6,8 +6,7 @@ use Rattle.told_text.specs.Texts.{WroteText, WritesText}
 use Rattle.bench_io.{specs.TriesOnce.TriesOnce, specs.Sinks.{AppendsShort, PassesOn}, specs.declared.sink.Sink.Ghosts as SinkGhosts, proofs.Bytes.{Appends-flushed, AppendsShort-flushed, AppendsShort-more, AppendsShort-kept, Keeps-from_none}}
 use Rattle.ptu_definitions.{specs.declared.records.Summary.Summary, specs.Kept.Marked, specs.Settled.not_marked, specs.Words.{words_of, rest_of}, specs.Streams.{Reading, record_refusal, last_in, streamed}, proofs.DeliveredLaws.not_marked-append}
 use Rattle.record_stream.{specs.declared.taker.EventTaker.Ghosts, specs.Feeding.{GaveOn, BrokeOn, Fed}, specs.Ending.{GaveRest, BrokeFirst, Ended}}
-use Rattle.gate_plan.specs.Shifting.{Sorting}
-use Rattle.tally_engine.{specs.Histories.{with_groups, history}, proofs.Takes.with_groups-more}
+use Rattle.gate_plan.{specs.Shifting.Sorting, specs.Histories.{with_groups, history}, proofs.Histories.with_groups-more}
 use Rattle.long_trace.{specs.declared.trace.LongTrace.LongTrace, specs.LongTrace.{Holds, GivenMore, set_of}, specs.Texts.open_text, proofs.Rising.{RisesFrom, open-front}}
 use Rattle.trace_work.{specs.TraceOutcomes.{settled_before, words_traced}, specs.TracePieces.{WroteLast, CutLast, WritesLast, both_ended}, proofs.TraceTexts.{settled-adds, settled-rises, history-rest, history-rises}}
 use Rattle.command_work.{specs.Once.{tells_writing, OutOnce}, proofs.Once.stays-same}

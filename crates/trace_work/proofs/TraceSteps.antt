@@ -4,9 +4,9 @@ use Rattle.std.{proofs.lemmas.List.length-map, specs.declared.option.Option.Opti
 use Rattle.tally_base.{specs.declared.event.Event.Event, specs.declared.event.EventKind.EventKind, specs.declared.event.EventKind.TheVariants.{Photon, Marker}, specs.declared.header.Mode.Mode, specs.declared.header.Mode.TheVariants.{T2, T3}, specs.Events.{is_photon, is_photon_kind, is_ordered}, specs.Tally.History, specs.Floors.{floor_after, InOrder}, proofs.Lower.order-looser}
 use Rattle.bench_io.{specs.Sinks.{AppendsShort, PassesOn}, proofs.Bytes.{PassesOn-trans, AppendsShort-passed}}
 use Rattle.ptu_definitions.{specs.Kept.Marked, specs.Settled.not_marked, proofs.DeliveredLaws.{not_marked-append, not_marked-false}}
-use Rattle.record_stream.{specs.Blocks.{orders_markers, on_time}, proofs.Floors.moved_floor-push}
-use Rattle.gate_plan.{specs.Shifting.{Sorting, shifted, shifted_kind}, specs.Taking.groups_in}
-use Rattle.tally_engine.{specs.Histories.with_groups, proofs.Takes.with_groups-more, proofs.Behind.{length-on_time, floor_of-block}, proofs.Shifts.{order-shifted, floor-shifted}}
+use Rattle.abs_time.{specs.Floors.orders_markers, proofs.Floors.moved_floor-push}
+use Rattle.record_stream.{specs.Blocks.on_time, proofs.Given.length-on_time, proofs.Eaches.floor_of-block}
+use Rattle.gate_plan.{specs.Shifting.{Sorting, shifted, shifted_kind}, specs.Taking.groups_in, specs.Histories.with_groups, proofs.Histories.with_groups-more, proofs.Shifted.{order-shifted, floor-shifted}}
 use Rattle.long_trace.{specs.declared.trace.LongTrace.LongTrace, specs.LongTrace.GivenMore, proofs.Given.GivenMore-trans}
 use Rattle.trace_work.specs.TraceLines.{Traced, TracedShort}
 

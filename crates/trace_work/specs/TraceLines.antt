@@ -5,8 +5,7 @@ use Rattle.std.specs.declared.option.Option.{Option}
 use Rattle.tally_base.{specs.declared.header.Mode.Mode, specs.Settings.trace_view, specs.Tally.History}
 use Rattle.bench_io.{specs.Sinks.{AppendsShort, PassesOn}, proofs.Bytes.PassesOn-held}
 use Rattle.ptu_definitions.{specs.Kept.{Marked, floor_of}, specs.Settled.not_marked}
-use Rattle.gate_plan.specs.Shifting.{Sorting}
-use Rattle.tally_engine.specs.Histories.{with_groups}
+use Rattle.gate_plan.{specs.Shifting.Sorting, specs.Histories.with_groups}
 use Rattle.long_trace.{specs.declared.trace.LongTrace.LongTrace, specs.LongTrace.{Holds, GivenMore, set_of}, specs.Texts.open_text, proofs.Given.GivenMore-nil}
 
 -- The trace was given those of the events that aren't marked late, each with its groups, and the lines of the bins that they closed were put behind what a block held, for a sink of which no write failed.

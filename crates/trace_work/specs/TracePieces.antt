@@ -5,10 +5,9 @@ use Rattle.tally_base.{specs.declared.fault.Fault.Fault, specs.declared.fault.Fa
 use Rattle.bench_io.{specs.Sinks.AppendsShort, specs.declared.sink.Sink.Ghosts}
 use Rattle.told_text.specs.Texts.{WritesText}
 use Rattle.ptu_definitions.{specs.Words.words_of, specs.Streams.{Reading, record_refusal, streamed}}
-use Rattle.gate_plan.specs.Shifting.{Sorting}
+use Rattle.gate_plan.{specs.Shifting.Sorting, specs.Histories.history}
 use Rattle.record_stream.{specs.declared.stream.RecordStream.RecordStream, specs.Standing.{how_of, given_by, greatest_of, refused_with, HasStreamed}}
 use Rattle.long_trace.{specs.declared.trace.LongTrace.LongTrace, specs.LongTrace.{Holds, set_of, taken_of, floor_of}, specs.Texts.open_text}
-use Rattle.tally_engine.specs.Histories.{history}
 use Rattle.command_work.specs.Once.{OutOnce}
 use Rattle.trace_work.specs.TraceOutcomes.{settled_before, words_traced}
 

@@ -13,12 +13,12 @@ ghost use Rattle.trace_work.{specs.TraceOutcomes.{trace_of, words_traced, record
 use arrayvec::ArrayVec;
 use bench_io::{Block, Inputs, Sink};
 use command_work::{PIECE, READ_FAULT, read_header};
-use gate_plan::Gates;
+use gate_plan::{Gates, sort_events};
 use long_trace::{LINES_SIZE, LongTrace};
 use plan_text::Plan;
-use record_stream::{EventTaker, RecordStream, Summary, moved_floor, orders_markers};
+use abs_time::{moved_floor, orders_markers};
+use record_stream::{EventTaker, RecordStream, Summary};
 use tally_base::{Event, Failed, Fault, Mode, Slot, TraceSet};
-use tally_engine::sort_events;
 
 /// Gives each event that isn't late to a trace, with its groups, and writes the lines of the bins that it closes,
 /// through a block. It lives for one piece, or for the end.

@@ -1,6 +1,6 @@
 use Rattle.std.proofs.Common.{◌≡◌, length, rules, ◌++◌, [], take, refl, sym, ap, ◌∙◌, append-nil, arith, inr}
 use Rattle.bench_io.{proofs.Bytes.{Appends-nil, Appends-same, Consumes-nil, Consumes-kept, Consumes-trans}, proofs.States.{OnlyReads-refl, OnlyReads-trans}}
-use Rattle.table_out.{specs.HeaderText.header_text, proofs.StepTexts.header_text-nil}
+use Rattle.list_out.{specs.HeaderText.header_text, proofs.StepTexts.header_text-nil}
 use Rattle.command_work.{proofs.Pieces.IsCut-nil, specs.Outcomes.IsCut, proofs.Told.{some_left, Says-at_end, Says-shown}, proofs.Few.{few-none, few-piece}, proofs.Once.{stays-same, once-refl, once-read, once-unread, Rose-kept}}
 use Rattle.file_work.{proofs.HeaderEnds.{text-appended, text-cut, outcome-done, outcome-refused, outcome-ended}, specs.FileOutcomes.header_outcome}
 use Rattle.tally_base.specs.declared.slot.Slot.TheVariants.{Data}

@@ -3,7 +3,7 @@ use Rattle.std.specs.Io.KnownBytes.{Appends, Consumes}
 use Rattle.tally_base.specs.declared.slot.Slot.TheVariants.{Data}
 use Rattle.bench_io.specs.Inputs.{OnlyReads}
 use Rattle.ptu_header.specs.Reading.{bytes_taken, is_open}
-use Rattle.table_out.specs.HeaderText.{header_text}
+use Rattle.list_out.specs.HeaderText.{header_text}
 use Rattle.command_work.{specs.Outcomes.IsCut, specs.Once.InputsOnce}
 use Rattle.file_work.specs.HeaderPrints.{Prints}
 use Rattle.file_work.proofs.data.print_data.Given as goal

@@ -1,6 +1,6 @@
 use Rattle.std.proofs.Common.{◌≡◌, ◌++◌, List, ℕ, take}
 use Rattle.ptu_tag.specs.declared.kind.TagKind.{TagKind}
-use Rattle.table_out.specs.Body.{HasPut}
+use Rattle.list_out.specs.Body.{HasPut}
 use Rattle.file_work.specs.BodyPieces.{PutsBody}
 use Rattle.file_work.proofs.print.put_body.Given as goal
 

@@ -3,9 +3,8 @@ use Rattle.std.{proofs.lemmas.Result.{IfErr-weaker, err_from_is_err_and}, specs.
 use Rattle.tally_base.proofs.Reasons.{HasReason-follows, HasReason-with, HasReason-inside}
 use Rattle.bench_io.proofs.Rises.{Rose-behind}
 use Rattle.plan_text.specs.Reading.{plan_view}
-use Rattle.tally_engine.specs.Plans.{reading_by}
+use Rattle.gate_plan.{specs.Plans.reading_by, specs.Groups.sorting_of, specs.Shifting.sorting}
 use Rattle.ptu_definitions.{specs.Streams.Reading, specs.Words.words_of}
-use Rattle.gate_plan.{specs.Groups.sorting_of, specs.Shifting.sorting}
 use Rattle.record_stream.specs.Standing.{how_of}
 use Rattle.photon_pick.proofs.Stays.{has-none}
 use Rattle.command_work.{specs.Outcomes.IsCut, specs.Endings.span, proofs.Few.{few-map, few-behind}, proofs.Once.{stays-same, stays-behind, once-none, once-behind, Rose-kept}, proofs.TextEnds.{writes-reason, writes-once}, proofs.Plans.misfit-inside}

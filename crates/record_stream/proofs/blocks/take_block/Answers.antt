@@ -1,9 +1,9 @@
 use Rattle.std.proofs.Common.{◌≡◌, ◌+◌, ◌++◌, ℕ, true, length, map, refl, ap, sym, inr, ◌∙◌, arith, rules}
 use Rattle.ptu_definitions.{specs.Fours.numbers, specs.Kinds.counts_of}
-use Rattle.abs_time.specs.Placing.{placed_by}
-use Rattle.tally_base.{specs.Columns.{event_at, gathered, written}, proofs.BlockRows.length-rows, proofs.Lower.order-lower}
-use Rattle.record_stream.{specs.OneMore.with_block, specs.Blocks.{orders_markers, BrokeAmong}, specs.Summing.summed, specs.Walking.{how_of, greatest_of, clock_in}, proofs.Gathering.gathers-all, proofs.Given.{ok_of, err_of, block_at, block_fed, block_broke, floors_below}}
+use Rattle.abs_time.{specs.Placing.placed_by, specs.Floors.orders_markers}
+use Rattle.record_stream.{specs.OneMore.with_block, specs.Blocks.BrokeAmong, specs.Summing.summed, specs.Walking.{how_of, greatest_of, clock_in}, proofs.Gathering.gathers-all, proofs.Given.{ok_of, err_of, block_at, block_fed, block_broke, floors_below}}
 use Rattle.record_stream.proofs.blocks.take_block.Goals as goal
+use Rattle.tally_base.{specs.Columns.{event_at, gathered, written}, proofs.BlockRows.length-rows, proofs.Lower.order-lower}
 
 pub take_block-requires-clause-room : goal.take_block-requires-clause-room
 take_block-requires-clause-room g c =

@@ -1,10 +1,10 @@
 use Rattle.std.proofs.Common.{◌≡◌, ◌+◌, ◌<◌, ◌++◌, [], ◌∷◌, true, map, ap, sym, subst, ◌∙◌, arith, rules}
 use Rattle.tally_base.{specs.declared.event.Event.Event, specs.Events.is_ordered, specs.Columns.{event_at, gathered, rows}, proofs.Floors.order-at, proofs.BlockRows.{length-rows, more_rows}}
 use Rattle.ptu_definitions.{specs.Fitting.KindFits, specs.Kept.greatest, specs.Settled.{not_marked, ordered}, specs.Streams.events_in, specs.Times.events}
-use Rattle.abs_time.specs.Placing.{IsSmall, placed_by}
-use Rattle.settle.specs.Passing.{place_after}
-use Rattle.record_stream.{specs.Blocks.orders_markers, specs.LettingGo.{LetsGo, IsDelivered}, specs.Walking.{how_of, greatest_of, clock_in}, proofs.Eaches.{all-rows, each-rows}, proofs.LettingGo.{early-row, places-at, lets_on, delivers_on}}
+use Rattle.abs_time.{specs.Placing.{IsSmall, placed_by}, specs.Floors.orders_markers}
+use Rattle.record_stream.{specs.LettingGo.{LetsGo, IsDelivered}, specs.Walking.{how_of, greatest_of, clock_in}, proofs.Eaches.{all-rows, each-rows}, proofs.LettingGo.{early-row, places-at, lets_on, delivers_on}}
 use Rattle.record_stream.proofs.letting_go.push_block.Goals as goal
+use Rattle.settle.specs.Passing.{place_after}
 
 pub push-settled-requires-clause-behind : goal.push-settled-requires-clause-behind
 push-settled-requires-clause-behind c =

@@ -1,10 +1,10 @@
 use Rattle.std.proofs.Common.{◌≡◌, ◌+◌, ◌≤◌, ◌++◌, ℕ, true, length, map, refl, ap, sym, subst, inr, ◌∙◌, arith, rules}
 use Rattle.ptu_definitions.{specs.Fours.numbers, specs.Kinds.counts_of}
-use Rattle.abs_time.specs.Placing.{placed_by}
+use Rattle.abs_time.{specs.Placing.placed_by, specs.Floors.orders_markers}
+use Rattle.record_stream.{specs.Blocks.BrokeAmong, specs.LettingGo.IsDelivered, specs.Summing.summed, specs.Walking.{how_of, clock_in}, proofs.Given.{ok_of, err_of, block_at, block_fed, block_broke, floors_below}, proofs.LettingGo.{block_delivers, come_block}, proofs.Ordered.{comes-ordered, delivers-ordered, place-ordered, those_ordered}}
+use Rattle.record_stream.proofs.settled_blocks.settle_block.Goals as goal
 use Rattle.tally_base.{specs.Columns.{event_at, gathered}, proofs.BlockRows.length-rows, proofs.Lower.order-lower}
 use Rattle.settle.{specs.Passing.place_after, specs.Standing.last_time}
-use Rattle.record_stream.{specs.Blocks.{orders_markers, BrokeAmong}, specs.LettingGo.IsDelivered, specs.Summing.summed, specs.Walking.{how_of, clock_in}, proofs.Given.{ok_of, err_of, block_at, block_fed, block_broke, floors_below}, proofs.LettingGo.{block_delivers, come_block}, proofs.Ordered.{comes-ordered, delivers-ordered, place-ordered, those_ordered}}
-use Rattle.record_stream.proofs.settled_blocks.settle_block.Goals as goal
 
 pub let_go-requires-clause-comes : goal.let_go-requires-clause-comes
 let_go-requires-clause-comes g c =

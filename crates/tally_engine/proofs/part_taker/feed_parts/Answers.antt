@@ -2,8 +2,10 @@ use Rattle.std.proofs.Common.{rules, arith, All, OnOk, ◌≡◌, ◌<◌, ◌++
 use Rattle.tally_base.{specs.Columns.gathered, specs.Tally.History}
 use Rattle.ptu_definitions.{specs.Words.words_of, specs.Streams.Reading}
 use Rattle.record_stream.specs.Standing.{how_of, given_by, greatest_of}
-use Rattle.gate_plan.{specs.Groups.sorting_of, specs.Shifting.Sorting}
-use Rattle.tally_engine.{specs.contracts.part.PartTally.TheImpl.ghosts, specs.declared.part.Part.Part, specs.Histories.{settled_history, with_groups}, specs.Pieces.TablesFollow, specs.Taker.gave_none, proofs.Feeds.{fed_whole, counts_on, at_same, both_on_ok}, proofs.Takes.{holding_none, holding_all, standing_took}, specs.Tables.HasTaken}
+use Rattle.gate_plan.{specs.Groups.sorting_of, specs.Shifting.Sorting, specs.Histories.{settled_history, with_groups}}
+use Rattle.plan_parts.{specs.contracts.part.PartTally.TheImpl.ghosts, specs.declared.part.Part.Part}
+use Rattle.tally_engine.{specs.Pieces.TablesFollow, proofs.Feeds.{fed_whole, counts_on, at_same, both_on_ok}}
+use Rattle.fed_parts.{specs.Taker.gave_none, proofs.Takes.{holding_none, holding_all, standing_took}, specs.Tables.HasTaken}
 use Rattle.tally_engine.proofs.part_taker.feed_parts.Goals as goal
 
 pub returns-clause-answers : goal.returns-clause-answers

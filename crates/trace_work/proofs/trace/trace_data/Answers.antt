@@ -4,8 +4,7 @@ use Rattle.tally_base.{proofs.Reasons.{HasReason-follows, HasReason-with, HasRea
 use Rattle.bench_io.proofs.Rises.{Rose-behind}
 use Rattle.plan_text.specs.Reading.{plan_view}
 use Rattle.long_trace.specs.LongTrace.{set_of}
-use Rattle.gate_plan.specs.Shifting.{sorting}
-use Rattle.tally_engine.specs.Plans.{reading_by}
+use Rattle.gate_plan.{specs.Shifting.sorting, specs.Plans.reading_by}
 use Rattle.command_work.{specs.Outcomes.IsCut, proofs.Streams.streamed-open, proofs.Few.{few-map, few-behind}, proofs.Once.{stays-same, stays-behind, once-none, once-behind, Rose-kept}, proofs.TextEnds.writes-reason, proofs.Plans.misfit-inside}
 use Rattle.trace_work.{specs.TraceOutcomes.tracing, proofs.TraceTexts.{text-front, refused-ends, is-text}, proofs.TraceComposed.{settled-none, first-text, first-cut, first-front, ends-may, unheaded-answers, cut-reads, misfit-answers, traced-answers, traced-reads, traced-cuts, suited-may, first-answers, first-cuts}}
 use Rattle.trace_work.proofs.trace.trace_data.Goals as goal

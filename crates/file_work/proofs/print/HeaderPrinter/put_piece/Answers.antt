@@ -1,7 +1,7 @@
 use Rattle.std.proofs.Common.{◌≡◌, ◌^◌, ◌≤◌, ◌++◌, List, ℕ, length, take, sym, ap, ◌∙◌, subst, append_assoc, arith, length-append}
 use Rattle.std.{proofs.lemmas.List.length-take, proofs.lemmas.Result.err_from_is_err_and}
 use Rattle.ptu_definitions.{specs.TagFields.code_in, specs.Headers.header_answer}
-use Rattle.table_out.specs.HeaderText.{kind_with}
+use Rattle.list_out.specs.HeaderText.{kind_with}
 use Rattle.command_work.{specs.Outcomes.IsCut, proofs.Pieces.whole-piece}
 use Rattle.file_work.{specs.HeaderPrints.Prints, specs.BodyPieces.end_line, proofs.PrintSteps.{printer, parts, PutsHeader-next, CutsHeader-next, PutsHeader-end, text-preamble, text-tag, text-body, text-more, text-done, text-refused, Prints-preamble, Prints-tag, Prints-body, Prints-more, PassesOn-body, AppendsShort-body, AppendsShort-end}}
 use Rattle.file_work.proofs.print.HeaderPrinter.put_piece.Goals as goal

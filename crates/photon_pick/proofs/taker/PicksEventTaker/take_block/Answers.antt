@@ -3,7 +3,7 @@ use Rattle.std.proofs.lemmas.List.Elements.{All-weaker, All-filter, filter_passe
 use Rattle.tally_base.{specs.Events.is_photon, specs.Columns.gathered, specs.Floors.InOrder}
 use Rattle.ptu_definitions.specs.Fitting.{KindFits}
 use Rattle.gate_plan.specs.Groups.{sorting_of}
-use Rattle.record_stream.specs.Blocks.{orders_markers}
+use Rattle.abs_time.specs.Floors.{orders_markers}
 use Rattle.record_write.specs.Picker.{mode_of, last_by}
 use Rattle.photon_pick.{specs.Chosen.is_chosen, specs.Giving.{pen, Gave, Stopped}, proofs.Wanted.chosen-photon, proofs.BlockTakes.{order-chosen, last-chosen, up_to, Took-block, Refused-block}}
 use Rattle.photon_pick.proofs.taker.PicksEventTaker.take_block.Goals as goal

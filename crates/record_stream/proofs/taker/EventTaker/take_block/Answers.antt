@@ -2,7 +2,8 @@ use Rattle.std.proofs.Common.{◌+◌, ◌<◌, ◌≤◌, subst, ◌∙◌, ari
 use Rattle.std.proofs.lemmas.Result.{err_from_is_err_and}
 use Rattle.ptu_definitions.specs.Fitting.{KindFits}
 use Rattle.tally_base.{specs.Columns.{event_at, rows}, proofs.Floors.order-at, proofs.BlockRows.{length-rows, rows-split}}
-use Rattle.record_stream.{specs.Blocks.orders_markers, proofs.Eaches.{all-rows, on_time-rows, ordered-moves, floor-step}}
+use Rattle.abs_time.specs.Floors.{orders_markers}
+use Rattle.record_stream.proofs.Eaches.{all-rows, on_time-rows, ordered-moves, floor-step}
 use Rattle.record_stream.proofs.taker.EventTaker.take_block.Goals as goal
 
 pub take-requires-clause-in_time : goal.take-requires-clause-in_time

@@ -1,6 +1,6 @@
 use Rattle.std.proofs.Common.{◌+◌, ◌∷◌, [], ◌∙◌, arith, length-append}
 use Rattle.ptu_definitions.specs.Kept.{Marked}
-use Rattle.record_stream.proofs.Floors.{moved_floor-push}
+use Rattle.abs_time.proofs.Floors.{moved_floor-push}
 use Rattle.stream_rows.proofs.refused.CounterEventTaker.take.Goals as goal
 
 pub returns-clause-follows : goal.returns-clause-follows

@@ -1,7 +1,8 @@
 use Rattle.std.proofs.Common.{rules, ◌≡◌, refl, sym, ap, ◌∙◌, length, None, Some}
 use Rattle.tally_base.proofs.Slices.{whole_slice}
 use Rattle.record_stream.{specs.Standing.refused_with, proofs.Lasts.streamed-refused}
-use Rattle.tally_engine.{specs.contracts.part.PartTally.TheImpl.ghosts, proofs.Slices.same_map, proofs.Opens.part_worked, proofs.Refusals.no_write}
+use Rattle.plan_parts.{specs.contracts.part.PartTally.TheImpl.ghosts, proofs.Tables.part_worked}
+use Rattle.tally_engine.{proofs.Slices.same_map, proofs.Refusals.no_write}
 use Rattle.tally_engine.proofs.engine.Engine.finish.Goals as goal
 
 pub returns-clause-answer : goal.returns-clause-answer

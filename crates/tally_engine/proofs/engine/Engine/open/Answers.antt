@@ -2,7 +2,9 @@ use Rattle.std.proofs.Common.{[], ◌≡◌, Ok, ◌≤◌, length, rules, arith
 use Rattle.tally_base.specs.RecordTypes.{mode_of}
 use Rattle.plan_text.{specs.Fits.fits, specs.Reading.plan_view}
 use Rattle.record_stream.specs.Standing.{carried_by}
-use Rattle.tally_engine.{proofs.Opens.{kept_within, history-none, none_taken, standing_first}, proofs.Suits.suits_T2}
+use Rattle.tally_engine.proofs.Opens.{kept_within, none_taken}
+use Rattle.gate_plan.proofs.Histories.{history-none}
+use Rattle.fed_parts.{proofs.Opens.standing_first, proofs.Suits.suits_T2}
 use Rattle.tally_engine.proofs.engine.Engine.open.Goals as goal
 
 pub invariant_of-result-clause-standing : goal.invariant_of-result-clause-standing

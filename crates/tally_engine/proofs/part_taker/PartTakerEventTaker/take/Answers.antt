@@ -1,7 +1,8 @@
 use Rattle.std.proofs.Common.{rules, arith, ◌≡◌, ◌<◌, length}
 use Rattle.tally_base.specs.Columns.{gathered}
 use Rattle.gate_plan.specs.Groups.{sorting_of}
-use Rattle.tally_engine.{specs.Ahead.{taken_with, floor_with}, specs.contracts.part.PartTally.TheImpl.ghosts, proofs.Takes.{can_take, waits_on, gave_more}}
+use Rattle.fed_parts.{specs.Ahead.{taken_with, floor_with}, proofs.Takes.{can_take, waits_on, gave_more}}
+use Rattle.plan_parts.specs.contracts.part.PartTally.TheImpl.{ghosts}
 use Rattle.tally_engine.proofs.part_taker.PartTakerEventTaker.take.Goals as goal
 
 pub gather-requires : goal.gather-requires

@@ -1,7 +1,9 @@
 use Rattle.std.proofs.Common.{rules, arith, ◌≡◌, ◌<◌, length}
 use Rattle.tally_base.specs.Columns.{gathered}
 use Rattle.gate_plan.specs.Groups.{sorting_of}
-use Rattle.tally_engine.{specs.Ahead.{taken_with, floor_with}, specs.contracts.part.PartTally.TheImpl.ghosts, proofs.Aheads.at_none, proofs.Behind.{can_block, waits_block, gave_block}}
+use Rattle.fed_parts.{specs.Ahead.{taken_with, floor_with}, proofs.Aheads.at_none}
+use Rattle.plan_parts.specs.contracts.part.PartTally.TheImpl.{ghosts}
+use Rattle.tally_engine.proofs.Behind.{can_block, waits_block, gave_block}
 use Rattle.tally_engine.proofs.part_taker.PartTakerEventTaker.take_block.Goals as goal
 
 pub give_behind-requires : goal.give_behind-requires

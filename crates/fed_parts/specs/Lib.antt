@@ -1,0 +1,4 @@
+pub mod Ahead
+pub mod Give
+pub mod Taker
+pub mod Tables

@@ -1,0 +1,7 @@
+pub mod Bodies
+pub mod Growing
+pub mod Final
+pub mod StepTexts
+pub mod Rows
+pub mod EventRows
+pub mod BlockTexts

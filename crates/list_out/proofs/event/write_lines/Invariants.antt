@@ -1,0 +1,15 @@
+use Rattle.std.proofs.Common.{◌≡◌, ◌*◌, ◌≤◌, ◌++◌, drop}
+use Rattle.tally_base.specs.Columns.{event_at, rows, count, gathered}
+use Rattle.list_out.proofs.BlockTexts.{lines}
+use Rattle.list_out.proofs.event.write_lines.Given as goal
+
+abbrev pub invariant-back : goal.invariant-back
+invariant-back l = record {
+  few : l.at ≤ count l.block;
+  room : 96 * l.at ≤ l.start;
+  inside : l.start ≤ 6144;
+  whole : lines (rows (event_at l.block) l.at) ++ drop l.start l.text ≡ lines (gathered l.block);
+}
+
+abbrev pub decreases-back : goal.decreases-back
+decreases-back l = l.at

@@ -1,0 +1,4 @@
+pub mod HeaderText
+pub mod Body
+pub mod EventText
+pub mod Lines
