@@ -49,7 +49,13 @@ fn are_plain<R: RecordLayout>() -> bool {
 #[test]
 fn blocks(_rt: HostRuntime) -> Result<(), Fail> {
     holds(are_plain::<PicoT2>() && are_plain::<PicoT3>(), 1)?;
-    holds(are_plain::<HydraT2<true>>() && are_plain::<HydraT2<false>>(), 2)?;
-    holds(are_plain::<HydraT3<true>>() && are_plain::<HydraT3<false>>(), 3)?;
+    holds(
+        are_plain::<HydraT2<true>>() && are_plain::<HydraT2<false>>(),
+        2,
+    )?;
+    holds(
+        are_plain::<HydraT3<true>>() && are_plain::<HydraT3<false>>(),
+        3,
+    )?;
     Ok(())
 }

@@ -48,12 +48,21 @@ const THIRD: Raw = Raw::Photon {
 #[test]
 fn layouts(_rt: HostRuntime) -> Result<(), Fail> {
     holds(decode(RecordType::PicoHarpT3, 0x1007_0003) == SECOND, 1)?;
-    holds(takes::<PicoT2>(Mode::T2, 0x1000_1002, fields(1, 0, 4098), FIRST)
-            && takes::<PicoT3>(Mode::T3, 0x1007_0003, fields(1, 7, 3), SECOND), 2)?;
-    holds(takes::<HydraT2<true>>(Mode::T2, 0xFE00_0005, fields(127, 0, 5), OLD_WRAP)
-            && takes::<HydraT2<false>>(Mode::T2, 0xFE00_0005, fields(127, 0, 5), FIVE_WRAPS), 3)?;
-    holds(takes::<HydraT3<true>>(Mode::T3, 0xFE00_0005, fields(127, 0, 5), OLD_T3_WRAP)
-            && takes::<HydraT3<false>>(Mode::T3, 0x0001_9006, fields(0, 100, 6), THIRD), 4)?;
+    holds(
+        takes::<PicoT2>(Mode::T2, 0x1000_1002, fields(1, 0, 4098), FIRST)
+            && takes::<PicoT3>(Mode::T3, 0x1007_0003, fields(1, 7, 3), SECOND),
+        2,
+    )?;
+    holds(
+        takes::<HydraT2<true>>(Mode::T2, 0xFE00_0005, fields(127, 0, 5), OLD_WRAP)
+            && takes::<HydraT2<false>>(Mode::T2, 0xFE00_0005, fields(127, 0, 5), FIVE_WRAPS),
+        3,
+    )?;
+    holds(
+        takes::<HydraT3<true>>(Mode::T3, 0xFE00_0005, fields(127, 0, 5), OLD_T3_WRAP)
+            && takes::<HydraT3<false>>(Mode::T3, 0x0001_9006, fields(0, 100, 6), THIRD),
+        4,
+    )?;
     Ok(())
 }
 
@@ -122,7 +131,10 @@ fn pieces(_rt: HostRuntime) -> Result<(), Fail> {
             reserved,
         };
         for size in [1usize, 3, 7, 20] {
-            holds(counted(record_type, bytes.as_slice(), size) == Ok(counts), size)?;
+            holds(
+                counted(record_type, bytes.as_slice(), size) == Ok(counts),
+                size,
+            )?;
         }
         let _ = bytes.pop();
         let cut = Err(Fault::TruncatedRecord { bytes: 3 });

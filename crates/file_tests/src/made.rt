@@ -146,7 +146,10 @@ fn each_slot_is_read_by_itself(_rt: HostRuntime) -> Result<(), Fail> {
     let first: [u8; 116] = next(&mut made, Slot::Plan)?;
     holds(first.ends_with(&[0xD6, 1, 0, 2]), 3)?;
     holds(next(&mut made, Slot::Data)? == *b"PQTTTR", 4)?;
-    holds(next(&mut made, Slot::Plan)? == [0x2F, 3, 0, 2, 0xFB, 3, 0, 0], 5)?;
+    holds(
+        next(&mut made, Slot::Plan)? == [0x2F, 3, 0, 2, 0xFB, 3, 0, 0],
+        5,
+    )?;
     holds(next(&mut made, Slot::Data)? == [0, 0, b'1', b'.'], 6)?;
     Ok(())
 }

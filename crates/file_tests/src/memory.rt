@@ -43,7 +43,10 @@ fn reads_go_by_the_pieces(rt: HostRuntime) -> Result<(), Fail> {
         next_read(&mut inputs),
         next_read(&mut inputs),
     ];
-    holds(read == [Some(4), None, Some(2), Some(4), Some(1), Some(0)], 1)?;
+    holds(
+        read == [Some(4), None, Some(2), Some(4), Some(1), Some(0)],
+        1,
+    )?;
     Ok(())
 }
 
@@ -51,10 +54,19 @@ fn reads_go_by_the_pieces(rt: HostRuntime) -> Result<(), Fail> {
 fn a_sink_takes_what_it_has_room_for(rt: HostRuntime) -> Result<(), Fail> {
     let alloc = rt.alloc();
     let mut sink = MemorySink::new(alloc, 7, vec![in alloc; 2u64]?)?;
-    holds(write_all(&mut sink, b"abc").is_ok() && sink.write(b"d").is_err(), 1)?;
+    holds(
+        write_all(&mut sink, b"abc").is_ok() && sink.write(b"d").is_err(),
+        1,
+    )?;
     let mut block = Block::new();
-    holds(block.put(&mut sink, b"de").is_ok() && block.put(&mut sink, b"fgh").is_ok(), 2)?;
+    holds(
+        block.put(&mut sink, b"de").is_ok() && block.put(&mut sink, b"fgh").is_ok(),
+        2,
+    )?;
     holds(sink.bytes() == b"abc".as_slice(), 3)?;
-    holds(block.flush(&mut sink).is_err() && sink.bytes() == b"abcdefg".as_slice(), 4)?;
+    holds(
+        block.flush(&mut sink).is_err() && sink.bytes() == b"abcdefg".as_slice(),
+        4,
+    )?;
     Ok(())
 }

@@ -63,7 +63,12 @@ fn a_trace_of_the_greatest_time(rt: HostRuntime) -> Result<(), Fail> {
         bins: 1,
     });
     holds(trace.start(&mut sink).is_ok(), 1)?;
-    holds(trace.event(&photon(1, 1, 0, u64::MAX), 1, &mut sink).is_ok(), 2)?;
+    holds(
+        trace
+            .event(&photon(1, 1, 0, u64::MAX), 1, &mut sink)
+            .is_ok(),
+        2,
+    )?;
     holds(trace.finish(&mut sink).is_ok(), 3)?;
     let written = b"trace 1 origin 0 width 1\n18446744073709551615 1\nbefore 0\n\
         frequency 0 18446744073709551615\nfrequency 1 1\nabove 0\n";

@@ -123,6 +123,22 @@ pub(crate) fn plan_of(alloc: Global, text: &str) -> Result<Plan, Fail> {
     Ok(read_plan(alloc, &bytes)?)
 }
 
+/// Refuses a row of which another text was found than the one that is wanted.
+pub(crate) fn same(name: &str, found: &str, wanted: &str) -> Result<(), Fail> {
+    if found == wanted {
+        return Ok(());
+    }
+    Err(Fail::new(format_args!("{name}: {found}")))
+}
+
+/// Refuses what is not right.
+pub(crate) fn holds(right: bool, what: &str) -> Result<(), Fail> {
+    if right {
+        return Ok(());
+    }
+    Err(Fail::new(what))
+}
+
 /// The four parts of a line, which have bars between.
 pub(crate) fn parts_of(line: &str) -> Result<(&str, &str, &str, &str), Fail> {
     let mut parts = line.split(" | ");

@@ -1,5 +1,5 @@
 // Places of photons behind known markers: the test of `marker_map`.
-use crate::given::{Given, events_of, parts_of, plan_of};
+use crate::given::{Given, events_of, parts_of, plan_of, same};
 use crate::rows::PLACES;
 use marker_map::Lines;
 use std::alloc::Global;
@@ -50,7 +50,7 @@ fn each_photon_has_its_place(rt: HostRuntime) -> Result<(), Fail> {
                 return Err(Fail::new(name));
             };
             let found = place(set, &markers, time.parse::<u64>()?)?;
-            assert_eq!(rt; told(alloc, found)?.as_str(), wanted, "{name} at {time}");
+            same(name, &told(alloc, found)?, wanted)?;
         }
     }
     Ok(())

@@ -1,4 +1,5 @@
 // What plans say: the test of `plan_text`.
+use crate::given::same;
 use crate::rows::PLANS;
 use plan_text::{Plan, read_plan};
 use std::alloc::Global;
@@ -59,7 +60,7 @@ fn plans_say_what_is_written(rt: HostRuntime) -> Result<(), Fail> {
             return Err(Fail::new("a line has too few parts"));
         };
         let plan = plan_in(rt.alloc(), text)?;
-        assert_eq!(rt; told(rt.alloc(), &plan)?.as_str(), wanted);
+        same(text, &told(rt.alloc(), &plan)?, wanted)?;
     }
     Ok(())
 }

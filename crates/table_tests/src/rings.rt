@@ -2,12 +2,12 @@
 ghost use Rattle.std.specs.Prelude.{◌≡◌, ◌<◌, IfOk, length};
 ghost use Rattle.std.specs.List.{AllByRecursion};
 
+use crate::given::holds;
 use lag_ring::{
     Entry, LagRing, PairCells, Side, few_lag_sums, lag_sums, put_weights, total_weight,
 };
 use std::alloc::Global;
 use std::marker::Brand;
-use std::process::Abort;
 use std::sync::ledger::{Blank, Ledger};
 use std::test::Fail;
 use tally_base::Steps;
@@ -25,14 +25,10 @@ fn weighted(e: &Entry) -> Weighted {
 }
 
 /// The entries of a ring, one at a time and in its slices.
-fn agrees(rt: &impl Abort, alloc: Global, ring: &LagRing, wanted: &[Weighted]) -> Result<(), Fail> {
-    assert_eq!(rt; ring.len() as usize, wanted.len());
+fn agrees(alloc: Global, ring: &LagRing, wanted: &[Weighted]) -> Result<(), Fail> {
+    let mut visited = Vec::new(alloc);
     for i in 0..ring.len() {
-        assert_eq!(rt;
-            Some(&weighted(&ring.visit(i))),
-            wanted.get(i as usize),
-            "{i}"
-        );
+        visited.push(weighted(&ring.visit(i)))?;
     }
     let (front, back) = ring.slices();
     let mut entries = Vec::new(alloc);
@@ -42,8 +38,10 @@ fn agrees(rt: &impl Abort, alloc: Global, ring: &LagRing, wanted: &[Weighted]) -
     for e in back {
         entries.push(weighted(e))?;
     }
-    assert_eq!(rt; entries.as_slice(), wanted);
-    Ok(())
+    holds(
+        visited.as_slice() == wanted && entries.as_slice() == wanted,
+        "entries",
+    )
 }
 
 /// Removes what is before an index, and appends an entry. The answer is an index above all that are kept.
@@ -76,11 +74,11 @@ fn the_last_entries_are_kept(rt: HostRuntime) -> Result<(), Fail> {
         (100, (1 << 62, 7, 8), &[(1 << 62, 7, 8)]),
     ];
     let mut ring = LagRing::open(rt.alloc(), REACH)?;
-    agrees(&rt, rt.alloc(), &ring, &[])?;
+    agrees(rt.alloc(), &ring, &[])?;
     let mut next = 0;
     for (before, (index, a, b), wanted) in rows {
         next = turn(&mut ring, next, before, index, a, b)?;
-        agrees(&rt, rt.alloc(), &ring, wanted)?;
+        agrees(rt.alloc(), &ring, wanted)?;
     }
     Ok(())
 }
@@ -91,15 +89,15 @@ fn a_ring_begins_anew(rt: HostRuntime) -> Result<(), Fail> {
     ring.push(4, 1, 0);
     ring.push(5, 0, 1);
     ring.restart(9, 1, 2);
-    agrees(&rt, rt.alloc(), &ring, &[(9, 1, 2)])?;
-    assert_eq!(rt; ring.newest(), 9);
+    agrees(rt.alloc(), &ring, &[(9, 1, 2)])?;
+    holds(ring.newest() == 9, "newest")?;
     ring.push(10, 3, 0);
-    agrees(&rt, rt.alloc(), &ring, &[(9, 1, 2), (10, 3, 0)])?;
+    agrees(rt.alloc(), &ring, &[(9, 1, 2), (10, 3, 0)])?;
     ring.restart(12, 0, 7);
     ring.retire(12);
-    agrees(&rt, rt.alloc(), &ring, &[(12, 0, 7)])?;
+    agrees(rt.alloc(), &ring, &[(12, 0, 7)])?;
     ring.retire(13);
-    agrees(&rt, rt.alloc(), &ring, &[])?;
+    agrees(rt.alloc(), &ring, &[])?;
     let entries = [
         Entry {
             index: 14,
@@ -113,10 +111,10 @@ fn a_ring_begins_anew(rt: HostRuntime) -> Result<(), Fail> {
         },
     ];
     ring.refill(&entries);
-    agrees(&rt, rt.alloc(), &ring, &[(14, 1, 2), (17, 0, 4)])?;
-    assert_eq!(rt; ring.newest(), 17);
+    agrees(rt.alloc(), &ring, &[(14, 1, 2), (17, 0, 4)])?;
+    holds(ring.newest() == 17, "newest")?;
     ring.refill(&[]);
-    agrees(&rt, rt.alloc(), &ring, &[])
+    agrees(rt.alloc(), &ring, &[])
 }
 
 /// Replaces the second weight of an entry, where there is one at the place.
@@ -138,12 +136,12 @@ fn one_weight_is_replaced(rt: HostRuntime) -> Result<(), Fail> {
     // From here on the entries go round.
     ring.push(8, 7, 0);
     replaced(&mut ring, 2, 9)?;
-    agrees(&rt, rt.alloc(), &ring, &[(5, 3, 4), (7, 5, 6), (8, 7, 9)])?;
+    agrees(rt.alloc(), &ring, &[(5, 3, 4), (7, 5, 6), (8, 7, 9)])?;
     replaced(&mut ring, 0, 11)?;
-    agrees(&rt, rt.alloc(), &ring, &[(5, 3, 11), (7, 5, 6), (8, 7, 9)])?;
+    agrees(rt.alloc(), &ring, &[(5, 3, 11), (7, 5, 6), (8, 7, 9)])?;
     ring.restart(9, 1, 1);
     replaced(&mut ring, 0, 3)?;
-    agrees(&rt, rt.alloc(), &ring, &[(9, 1, 3)])
+    agrees(rt.alloc(), &ring, &[(9, 1, 3)])
 }
 
 /// Cells to which some pairs were added.
@@ -179,18 +177,17 @@ fn rowed<L: Ledger>(alloc: Global, blank: Blank) -> Result<PairCells, Fail>
 #[test]
 fn pairs_are_added(rt: HostRuntime) -> Result<(), Fail> {
     let cells = filled::<Brand>(rt.alloc(), Blank::new(1))?;
-    assert_eq!(rt; [cells.get(0), cells.get(1), cells.get(2)], [1 << 80, 0, 5]);
-    Ok(())
+    holds(
+        [cells.get(0), cells.get(1), cells.get(2)] == [1 << 80, 0, 5],
+        "pairs",
+    )
 }
 
 #[test]
 fn rows_are_added(rt: HostRuntime) -> Result<(), Fail> {
     let cells = rowed::<Brand>(rt.alloc(), Blank::new(1))?;
-    assert_eq!(rt;
-        [cells.get(0), cells.get(1), cells.get(2), cells.get(3)],
-        [70000, 6003, 540, 0]
-    );
-    Ok(())
+    let all = [cells.get(0), cells.get(1), cells.get(2), cells.get(3)];
+    holds(all == [70000, 6003, 540, 0], "rows")
 }
 
 fn entry(index: u64, a: u64, b: u64) -> Entry {
@@ -198,13 +195,12 @@ fn entry(index: u64, a: u64, b: u64) -> Entry {
 }
 
 #[test]
-fn weights_are_taken_together(rt: HostRuntime) -> Result<(), Fail> {
+fn weights_are_taken_together(_rt: HostRuntime) -> Result<(), Fail> {
     let entries = [entry(7, 3, 0), entry(10, 2, 1), entry(103, 7, 2)];
-    assert_eq!(rt; total_weight(Side::First, &entries), 12);
-    assert_eq!(rt; total_weight(Side::Second, &entries), 3);
+    holds(total_weight(Side::First, &entries) == 12, "first")?;
+    holds(total_weight(Side::Second, &entries) == 3, "second")?;
     let many = [entry(1, u64::MAX, 0), entry(2, 5, 0)];
-    assert_eq!(rt; total_weight(Side::First, &many), u64::MAX);
-    Ok(())
+    holds(total_weight(Side::First, &many) == u64::MAX, "many")
 }
 
 /// The products at the lags 1, 4, 10, 13 and 14 of two later entries with two earlier ones: summed for many
@@ -245,7 +241,6 @@ fn sums_of_two() -> [[u32; 5]; 2] {
 }
 
 #[test]
-fn lags_are_summed_together(rt: HostRuntime) -> Result<(), Fail> {
-    assert_eq!(rt; sums_of_two(), [[1, 2, 2, 4, 0]; 2]);
-    Ok(())
+fn lags_are_summed_together(_rt: HostRuntime) -> Result<(), Fail> {
+    holds(sums_of_two() == [[1, 2, 2, 4, 0]; 2], "sums")
 }

@@ -1,7 +1,8 @@
 // Rows of tests, a line each.
 
 /// A plan, and all that it says.
-pub(crate) const PLANS: &str = " | Policy { order: Drop, reserved: Skip, records: 1099511627776, settle: 0 } period 1
+pub(crate) const PLANS: &str =
+    " | Policy { order: Drop, reserved: Skip, records: 1099511627776, settle: 0 } period 1
 version = 1; order = 'drop'; reserved = \"skip\" | Policy { order: Drop, reserved: Skip, records: 1099511627776, settle: 0 } period 1
 limits = {} | Policy { order: Drop, reserved: Skip, records: 1099511627776, settle: 0 } period 1
 [limits]; records = 1_099_511_627_776 | Policy { order: Drop, reserved: Skip, records: 1099511627776, settle: 0 } period 1
@@ -22,7 +23,8 @@ version = 2; order = 'stop'; settle = 7; period = 3 | Policy { order: Stop, rese
 ";
 
 /// A name, a plan, events, and the bits of the groups that each of them is in.
-pub(crate) const GROUPS: &str = "groups 1 | [[group]]; inputs = [0, 3]; [[group]]; inputs = [1, 3]; gate = [10, 20] | 0:0 0:10 3:9 3:20 | 1
+pub(crate) const GROUPS: &str =
+    "groups 1 | [[group]]; inputs = [0, 3]; [[group]]; inputs = [1, 3]; gate = [10, 20] | 0:0 0:10 3:9 3:20 | 1
 groups 3 | [[group]]; inputs = [0, 3]; [[group]]; inputs = [1, 3]; gate = [10, 20] | 3:10 3:19 | 3
 groups 0 | [[group]]; inputs = [0, 3]; [[group]]; inputs = [1, 3]; gate = [10, 20] | 1:9 2:10 255:10 m3 | 0
 groups 2 | [[group]]; inputs = [0, 3]; [[group]]; inputs = [1, 3]; gate = [10, 20] | 1:10 | 2
@@ -33,7 +35,8 @@ groups 4 | [[group]]; inputs = [0, 3, 64]; [[group]]; inputs = [3]; gate = [10, 
 ";
 
 /// A name, a table, events, and how many counts the table has, with those that aren't 0 and their places.
-pub(crate) const ROWS: &str = "each photon is in its bin | cube = [{ group = 1, width = 2, height = 2, dwell = 10, line = 1, frame = 2, dwidth = 5, dbins = 2 }] | 50:1:0 m100:3 100:1:4 109:3:5 109:2:9 110:1:10 110:1:9 120:1:0 m130:1 135:1:0 | 10: 0=1 1=1 3=1 4=1 8=2 9=1
+pub(crate) const ROWS: &str =
+    "each photon is in its bin | cube = [{ group = 1, width = 2, height = 2, dwell = 10, line = 1, frame = 2, dwidth = 5, dbins = 2 }] | 50:1:0 m100:3 100:1:4 109:3:5 109:2:9 110:1:10 110:1:9 120:1:0 m130:1 135:1:0 | 10: 0=1 1=1 3=1 4=1 8=2 9=1
 counts of a cell need one byte, two and three, each beside cells that need fewer | cube = [{ group = 1, width = 2, height = 2, dwell = 10, line = 1, frame = 2, dwidth = 5, dbins = 2 }] | m100:3 255*100:1:0 256*100:1:5 257*110:1:0 65537*110:1:5 | 10: 0=255 1=256 2=257 3=65537
 the same in fewer cells than are kept together | cube = [{ group = 1, width = 1, height = 1, dwell = 10, line = 1, frame = 2, dwidth = 5, dbins = 3 }] | m100:3 255*100:1:0 256*100:1:5 65537*100:1:10 | 5: 0=255 1=256 2=65537
 groups of a window | fold = [{ groups = [1, 2, 3], window = 3 }] | 0 3:2 5:4 5 | 8: 3=1 5=2 7=1
@@ -82,7 +85,8 @@ the greatest correlation: each pair is in its cells | correlation = [{ first = 1
 ";
 
 /// A name, an image, markers, and the column and the row of photons behind them.
-pub(crate) const PLACES: &str = "before any line | image = [{ group = 1, width = 2, height = 2, dwell = 10, line = 1 }] | m0:2 m0:4 m0:8 | 0=- 5=-
+pub(crate) const PLACES: &str =
+    "before any line | image = [{ group = 1, width = 2, height = 2, dwell = 10, line = 1 }] | m0:2 m0:4 m0:8 | 0=- 5=-
 a line before any frame | image = [{ group = 1, width = 2, height = 2, dwell = 10, line = 1, frame = 2 }] | m0:1 | 0=- 5=-
 the ends of the columns | image = [{ group = 1, width = 3, height = 1, dwell = 10, line = 1 }] | m5:1 | 5=0,0 14=0,0 15=1,0 25=2,0 34=2,0 35=-
 a frame and a line in one marker | image = [{ group = 1, width = 2, height = 2, dwell = 10, line = 1, frame = 2 }] | m0:1 m50:1 m100:3 | 100=0,0 119=1,0 120=-

@@ -1,5 +1,5 @@
 // What tables of each kind count of known events, where memory is had.
-use crate::given::{Given, close, events_of, give, parts_of, plan_of};
+use crate::given::{Given, close, events_of, give, parts_of, plan_of, same};
 use crate::rows::ROWS;
 use coincidence::{Coincidence, StartStop};
 use count_trace::Trace;
@@ -164,7 +164,7 @@ fn tables_count_known_events(rt: HostRuntime) -> Result<(), Fail> {
         let (name, text, events, wanted) = parts_of(line)?;
         let plan = plan_of(alloc, text)?;
         let counts = counts_of(alloc, &plan, &events_of(alloc, events)?)?;
-        assert_eq!(rt; told(alloc, &counts)?.as_str(), wanted, "{name}");
+        same(name, &told(alloc, &counts)?, wanted)?;
     }
     Ok(())
 }
@@ -193,8 +193,7 @@ fn photons_wait_in_the_open_bins(rt: HostRuntime) -> Result<(), Fail> {
     };
     let mut table = Cascade::open(alloc, *set)?;
     give(&mut table, &events_of(alloc, "0 1 2 3 8")?)?;
-    assert_eq!(rt; open_bins(alloc, &table)?.as_str(), "8 1 1;1 2 2;0 2 2;");
+    same("open", &open_bins(alloc, &table)?, "8 1 1;1 2 2;0 2 2;")?;
     close(&mut table);
-    assert_eq!(rt; open_bins(alloc, &table)?.as_str(), "");
-    Ok(())
+    same("closed", &open_bins(alloc, &table)?, "")
 }

@@ -133,8 +133,14 @@ impl Progress {
     /// Says whether the adapters to files and streams make no call again that failed.
     fn judge_adapters(&mut self, rt: &HostRuntime) -> Taken {
         for (name, right) in [
-            ("an opening and a read are not tried again", reads_once(rt.alloc())?),
-            ("a write and its flush are not tried again", writes_once(rt.alloc())?),
+            (
+                "an opening and a read are not tried again",
+                reads_once(rt.alloc())?,
+            ),
+            (
+                "a write and its flush are not tried again",
+                writes_once(rt.alloc())?,
+            ),
         ] {
             self.all_right = self.all_right && right;
             let went = if right { "ok" } else { "WRONG" };

@@ -55,12 +55,7 @@ fn files_of(alloc: Global, row: &Row) -> Result<Vec<MemoryFile>, AllocError> {
 }
 
 /// What the run of a row leaves, its bytes in such pieces and with such a room of standard output.
-fn left_of(
-    rt: &HostRuntime,
-    row: &Row,
-    pieces: &[usize],
-    room: usize,
-) -> Result<Left, AllocError> {
+fn left_of(rt: &HostRuntime, row: &Row, pieces: &[usize], room: usize) -> Result<Left, AllocError> {
     let alloc = rt.alloc();
     let files = files_of(alloc, row)?;
     let failing = row.failing.as_slice().to_vec(alloc)?;
@@ -99,7 +94,10 @@ fn is_right(row: &Row, left: &Left) -> bool {
             && out == first
             && err == b"ptu: cannot write\n".as_slice();
     }
-    reads && left.status == row.must.status && out == row.must.out.as_slice() && err == row.must.err.as_slice()
+    reads
+        && left.status == row.must.status
+        && out == row.must.out.as_slice()
+        && err == row.must.err.as_slice()
 }
 
 /// The first run of a row that left something else, if any. The runs are counted.
