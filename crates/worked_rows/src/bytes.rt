@@ -81,16 +81,23 @@ pub(crate) fn words_in(alloc: Global, line: &str) -> Result<Vec<String>, Refused
     if quoted { Ok(words) } else { Err(Refused) }
 }
 
+/// Appends a text, in which each `\n` is the end of a line.
+pub(crate) fn put_begun(into: &mut Vec<u8>, text: &str) -> Taken {
+    let text = text.replace(*into.allocator(), "\\n", "\n")?;
+    into.extend_from_slice(text.as_bytes())?;
+    Ok(())
+}
+
 /// Appends a text and the end of its line, which a `\` behind the text leaves out.
-fn put_text(into: &mut Vec<u8>, text: &str) -> Taken {
+pub(crate) fn put_text(into: &mut Vec<u8>, text: &str) -> Taken {
     match text.strip_suffix('\\') {
-        Some(begun) => into.extend_from_slice(begun.as_bytes())?,
+        Some(begun) => put_begun(into, begun),
         None => {
-            into.extend_from_slice(text.as_bytes())?;
+            put_begun(into, text)?;
             into.extend_from_slice(b"\n")?;
+            Ok(())
         }
     }
-    Ok(())
 }
 
 /// Appends words of 32 bits, each with its lowest byte first.
@@ -157,6 +164,19 @@ fn put_short(into: &mut Vec<u8>, file: &str) -> Taken {
     put_words(into, words)
 }
 
+/// What a report tells first, each in a line.
+const SUMMARY: &str =
+    "type announced global resolution records photons markers wraps reserved late first last";
+
+/// Appends the lines of a report that come before its tables, of their values.
+fn put_summary(into: &mut Vec<u8>, values: &str) -> Taken {
+    for (key, value) in SUMMARY.split(' ').zip(values.split(' ')) {
+        let line = format!(in *into.allocator(); "{key} {value}\n")?;
+        into.extend_from_slice(line.as_bytes())?;
+    }
+    Ok(())
+}
+
 /// Appends the bytes of a name, which begins with `the`.
 fn put_shared(into: &mut Vec<u8>, shared: &[Shared], name: &str) -> Taken {
     for one in shared {
@@ -178,6 +198,7 @@ fn put_once(into: &mut Vec<u8>, shared: &[Shared], made: &str) -> Taken {
         "tag" => put_told_tag(into, rest),
         "short" => put_short(into, rest),
         "text" => put_text(into, rest),
+        "summary" => put_summary(into, rest),
         "preamble" => Ok(into.extend_from_slice(PREAMBLE)?),
         _ => Err(Refused),
     }
@@ -204,15 +225,21 @@ fn keep_first(bytes: &mut Vec<u8>, count: &str) -> Taken {
     Ok(())
 }
 
+/// Appends what a kind of bytes makes, once or repeated, or keeps the first bytes.
+pub(crate) fn put_made(into: &mut Vec<u8>, shared: &[Shared], made: &str) -> Taken {
+    match halves(made) {
+        ("repeat", repeated) => put_repeated(into, shared, repeated),
+        ("first", count) => keep_first(into, count),
+        _ => put_once(into, shared, made),
+    }
+}
+
 /// Appends what a line tells: a text behind its key, and behind a key that ends in `:` what a kind of bytes makes.
 pub(crate) fn put_line(into: &mut Vec<u8>, shared: &[Shared], line: &str) -> Taken {
     let (key, rest) = halves(line);
-    if !key.ends_with(':') {
-        return put_text(into, rest);
-    }
-    match halves(rest) {
-        ("repeat", repeated) => put_repeated(into, shared, repeated),
-        ("first", count) => keep_first(into, count),
-        _ => put_once(into, shared, rest),
+    if key.ends_with(':') {
+        put_made(into, shared, rest)
+    } else {
+        put_text(into, rest)
     }
 }

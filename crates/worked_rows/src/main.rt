@@ -2,13 +2,15 @@
 //! row that it left what the row tells, or what it left. `docs/rows.md` says how rows are written.
 #![tactic(auto)]
 
+mod adapters;
 mod bytes;
 mod rows;
 mod run;
 
+use adapters::{reads_once, writes_once};
 use bytes::{Refused, Shared, Taken, halves, put_line};
 use rows::Row;
-use run::first_wrong;
+use run::{Left, first_wrong};
 use std::process::ExitCode;
 use std::{env, fs, mem};
 
@@ -37,14 +39,10 @@ struct Progress {
 }
 
 impl Progress {
-    /// Runs a row, and says how it went.
-    fn judge(&mut self, rt: &HostRuntime, row: &mut Row) -> Taken {
-        let Some(left) = first_wrong(rt.alloc(), row, &mut self.runs)? else {
-            println!(rt; "ok {}", row.name)?;
-            return Ok(());
-        };
+    /// Says what a row left in place of what it must.
+    fn tell(&mut self, rt: &HostRuntime, row: &str, left: &Left) -> Taken {
         self.all_right = false;
-        println!(rt; "WRONG {}, which left", row.name)?;
+        println!(rt; "WRONG {row}, which left")?;
         println!(rt;
             "pieces {:?} room {} status {}",
             left.pieces, left.room, left.status
@@ -52,6 +50,28 @@ impl Progress {
         println!(rt; "reads {}", left.reads)?;
         print_bytes(rt, "out", left.out.as_slice())?;
         print_bytes(rt, "err", left.err.as_slice())
+    }
+
+    /// Runs a row, and says how it went.
+    fn judge(&mut self, rt: &HostRuntime, row: &mut Row) -> Taken {
+        match first_wrong(rt, row, &mut self.runs)? {
+            Some(left) => self.tell(rt, &row.name, &left),
+            None => Ok(println!(rt; "ok {}", row.name)?),
+        }
+    }
+
+    /// Runs a row with more behind its plan, and tells only what is wrong.
+    fn judge_with(&mut self, rt: &HostRuntime, row: &mut Row, line: &str) -> Taken {
+        let front = row.plan.len();
+        let must = row.put_with(self.shared.as_slice(), line)?;
+        let own = mem::replace(&mut row.must, must);
+        let wrong = first_wrong(rt, row, &mut self.runs)?;
+        row.must = own;
+        row.plan.truncate(front);
+        match wrong {
+            Some(left) => self.tell(rt, line, &left),
+            None => Ok(()),
+        }
     }
 
     fn end(&mut self, rt: &HostRuntime, block: Block) -> Taken {
@@ -70,6 +90,7 @@ impl Progress {
                 self.judge(rt, row)?;
                 row.begin_again(rt.alloc(), name)
             }
+            (Block::Row(row), ("with" | "with:", _)) => self.judge_with(rt, row, line),
             (Block::Row(row), _) => row.take(rt.alloc(), shared, line),
             (Block::Shared(one), ("is" | "is:", _)) => put_line(&mut one.bytes, shared, line),
             _ => Err(Refused),
@@ -109,6 +130,25 @@ impl Progress {
         self.end(rt, block)
     }
 
+    /// Says whether the adapters to files and streams make no call again that failed.
+    fn judge_adapters(&mut self, rt: &HostRuntime) -> Taken {
+        for (name, right) in [
+            (
+                "an opening and a read are not tried again",
+                reads_once(rt.alloc())?,
+            ),
+            (
+                "a write and its flush are not tried again",
+                writes_once(rt.alloc())?,
+            ),
+        ] {
+            self.all_right = self.all_right && right;
+            let went = if right { "ok" } else { "WRONG" };
+            println!(rt; "{went} {name}")?;
+        }
+        Ok(())
+    }
+
     /// Runs the rows of all files.
     fn judge_all(&mut self, rt: &HostRuntime) -> Taken {
         let mut names = env::args(rt)?;
@@ -119,6 +159,7 @@ impl Progress {
                 Err(_) => self.refuse(rt, name.as_str())?,
             }
         }
+        self.judge_adapters(rt)?;
         println!(rt; "{} runs", self.runs)?;
         Ok(())
     }

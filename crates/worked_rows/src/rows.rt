@@ -1,5 +1,7 @@
 // Rows, and the lines that tell them.
-use crate::bytes::{Refused, Shared, Taken, halves, put_line, words_in};
+use crate::bytes::{
+    Refused, Shared, Taken, halves, put_begun, put_line, put_made, put_text, words_in,
+};
 use std::alloc::Global;
 
 /// The room of standard output: so many bytes, or each number of bytes up to those that must be left.
@@ -7,6 +9,45 @@ use std::alloc::Global;
 pub(crate) enum Room {
     Of(usize),
     Each,
+}
+
+/// What a run must leave.
+#[derive(Drop)]
+pub(crate) struct Must {
+    pub(crate) status: u8,
+    pub(crate) out: Vec<u8>,
+    pub(crate) err: Vec<u8>,
+    pub(crate) reads: Option<u64>,
+}
+
+impl Must {
+    fn leave_nothing(alloc: Global) -> Must {
+        Must {
+            status: 0,
+            out: Vec::new(alloc),
+            err: Vec::new(alloc),
+            reads: None,
+        }
+    }
+
+    fn copied(&self, alloc: Global) -> Result<Must, Refused> {
+        Ok(Must {
+            status: self.status,
+            out: self.out.as_slice().to_vec(alloc)?,
+            err: self.err.as_slice().to_vec(alloc)?,
+            reads: self.reads,
+        })
+    }
+
+    /// A status and the line of a fault, as `9 gate 2 does not suit T2`.
+    fn refuse(alloc: Global, told: &str) -> Result<Must, Refused> {
+        let (status, line) = halves(told);
+        let mut must = Must::leave_nothing(alloc);
+        must.status = status.parse::<u8>()?;
+        put_text(&mut must.err, "ptu: \\")?;
+        put_text(&mut must.err, line)?;
+        Ok(must)
+    }
 }
 
 /// A run, and what it must leave.
@@ -19,13 +60,12 @@ pub(crate) struct Row {
     /// The sizes of the pieces in which the bytes come, of each time that it is run.
     pub(crate) cuttings: Vec<Vec<usize>>,
     pub(crate) failing: Vec<u64>,
+    /// Whether the files are those of the folder in which the rows are run.
+    pub(crate) on_disk: bool,
     pub(crate) failing_writes: Vec<u64>,
     pub(crate) room: Room,
     pub(crate) err_room: usize,
-    pub(crate) status: u8,
-    pub(crate) out: Vec<u8>,
-    pub(crate) err: Vec<u8>,
-    pub(crate) reads: Option<u64>,
+    pub(crate) must: Must,
     /// Whether what the first cutting leaves on standard output is what each must leave.
     pub(crate) alike: bool,
 }
@@ -73,13 +113,11 @@ impl Row {
             file: Vec::new(alloc),
             cuttings: cuttings_in(alloc, "whole, 1, 3, 47 5")?,
             failing: Vec::new(alloc),
+            on_disk: false,
             failing_writes: Vec::new(alloc),
             room: Room::Of(65_536),
             err_room: 96,
-            status: 0,
-            out: Vec::new(alloc),
-            err: Vec::new(alloc),
-            reads: None,
+            must: Must::leave_nothing(alloc),
             alike: false,
         })
     }
@@ -87,11 +125,25 @@ impl Row {
     /// Makes it the row of another name with the same words, plan, file and faults, which must leave nothing yet.
     pub(crate) fn begin_again(&mut self, alloc: Global, name: &str) -> Taken {
         self.name = String::from_str(alloc, name)?;
-        self.status = 0;
-        self.out.clear();
-        self.err.clear();
-        self.reads = None;
+        self.must = Must::leave_nothing(alloc);
         Ok(())
+    }
+
+    /// Puts what a line `with` tells behind the plan, and answers what the run must leave then.
+    pub(crate) fn put_with(&mut self, shared: &[Shared], line: &str) -> Result<Must, Refused> {
+        let alloc = *self.plan.allocator();
+        let (key, rest) = halves(line);
+        let Some((told, more)) = rest.split_once(": ") else {
+            return Err(Refused);
+        };
+        match key {
+            "with" => put_begun(&mut self.plan, more)?,
+            _ => put_made(&mut self.plan, shared, more)?,
+        }
+        match told {
+            "same" => self.must.copied(alloc),
+            _ => Must::refuse(alloc, told),
+        }
     }
 
     fn take_pieces(&mut self, alloc: Global, rest: &str) -> Taken {
@@ -126,13 +178,14 @@ impl Row {
             "words" => self.words = words_in(alloc, rest)?,
             "pieces" => self.take_pieces(alloc, rest)?,
             "failing" => self.take_failing(alloc, rest)?,
+            "disk" => self.on_disk = true,
             "room" => self.take_room(rest)?,
-            "status" => self.status = rest.parse::<u8>()?,
-            "reads" => self.reads = Some(rest.parse::<u64>()?),
+            "status" => self.must.status = rest.parse::<u8>()?,
+            "reads" => self.must.reads = Some(rest.parse::<u64>()?),
             "plan" | "plan:" => put_line(&mut self.plan, shared, line)?,
             "file" | "file:" => put_line(&mut self.file, shared, line)?,
-            "out" | "out:" => put_line(&mut self.out, shared, line)?,
-            "err" | "err:" => put_line(&mut self.err, shared, line)?,
+            "out" | "out:" => put_line(&mut self.must.out, shared, line)?,
+            "err" | "err:" => put_line(&mut self.must.err, shared, line)?,
             _ => return Err(Refused),
         }
         Ok(())

@@ -1,4 +1,0 @@
-use Rattle.ring_rows.proofs.rings.pairs_are_added.Given as goal
-
-abbrev pub ghosts-filled : goal.ghosts-filled
-ghosts-filled g a = record { name = a.blank.name; parts = a.blank.parts }

@@ -1,4 +1,0 @@
-use Rattle.ring_rows.proofs.rings.rows_are_added.Given as goal
-
-abbrev pub ghosts-rowed : goal.ghosts-rowed
-ghosts-rowed g a = record { name = a.blank.name; parts = a.blank.parts }

@@ -1,9 +1,0 @@
-use Rattle.std.proofs.Common.{◌≡◌, ◌<◌}
-use Rattle.std.specs.List.{AllByRecursion}
-use Rattle.ring_rows.proofs.rings.the_last_entries_are_kept.Given as goal
-
-abbrev pub invariant-loop-before : goal.invariant-loop-before
-invariant-loop-before g l = record {
-  reach : l.ring.reach ≡ 3;
-  below : AllByRecursion (λ e. e.index < l.next) l.ring.entries;
-}

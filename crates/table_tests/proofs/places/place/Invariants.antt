@@ -1,0 +1,9 @@
+use Rattle.std.proofs.Common.{◌≡◌, ◌≤◌}
+use Rattle.marker_map.specs.Lines.{line_start, markers_given}
+use Rattle.table_tests.proofs.places.place.Given as goal
+
+abbrev pub invariant-loop-time : goal.invariant-loop-time
+invariant-loop-time l = record {
+  count : markers_given l.lines ≡ l.time-index;
+  early : line_start l.lines ≤ l.latest;
+}
