@@ -1,5 +1,5 @@
 -- What is shown of a command for the cases of its shape, and that its outcome then is what they call for.
-use Rattle.std.proofs.Common.{◌≡◌, ℕ, List, None, Some, Ok, Err, refl, sym, ap, ◌∙◌, subst, inl, inr, ◌⊎◌, Result}
+use Rattle.std.proofs.Common.{◌≡◌, ℕ, List, None, Some, Ok, Err, refl, sym, ap, ◌∙◌, subst, inl, inr, Result}
 use Rattle.std.specs.declared.option.Option.{Option}
 use Rattle.toml.specs.Data.{table}
 use Rattle.tally_base.{specs.declared.fault.Fault.Fault, specs.declared.header.Header.Header, specs.Faults.status_of, specs.RecordTypes.mode_of}

@@ -1,17 +1,17 @@
 -- Each fault that the words and files of a command call for has its cause, by the phase of the run that it falls in.
-use Rattle.std.proofs.Common.{◌≡◌, ℕ, List, [], None, Some, Ok, Err, refl, sym, ap, ◌∙◌, subst, inl, inr, ◌<◌, append-nil, arith, length, false, ◌≤◌, ◌⊎◌, ◌↔◌, Result, map}
+use Rattle.std.proofs.Common.{◌≡◌, ℕ, List, [], None, Some, Ok, Err, refl, sym, ap, ◌∙◌, subst, inl, inr, append-nil, arith, length, false, ◌≤◌, ◌⊎◌, ◌↔◌, Result, map}
 use Rattle.std.specs.declared.option.Option.{Option}
 use Rattle.toml.specs.Data.{table}
 use Rattle.tally_base.{specs.declared.fault.Fault.Fault, specs.declared.header.Header.Header, specs.Faults.{fault_in, status_of}, specs.RecordTypes.mode_of, specs.declared.slot.Slot.Slot, specs.declared.slot.Slot.TheVariants.{Plan, Data}, specs.declared.fault.Fault.TheVariants.{Usage, OpenFault, NoGroup, PickTime}}
 use Rattle.bench_io.specs.Inputs.{File}
-use Rattle.ptu_definitions.{specs.Words.words_of, proofs.Sound.one_answer, specs.Headers.HasAnswer, specs.Streams.refusal, specs.Counted.record_limit}
+use Rattle.ptu_definitions.{specs.Words.words_of, proofs.Sound.one_answer, specs.Headers.HasAnswer, specs.Counted.record_limit}
 use Rattle.plan_text.{specs.Plan.{PlanView, plan}, proofs.Called.valid, specs.Reading.IsCalledFor, specs.Fits.IsMisfit}
 use Rattle.photon_pick.{specs.Late.too_late, proofs.CanBeWritten.written-can}
-use Rattle.command_work.{specs.Endings.outcome, specs.Outcomes.{Outcome, refused, written}, specs.Behaviours.{Work, Behaviour, NoCommand, Alone, OnFile, ByPlan}}
+use Rattle.command_work.{specs.Endings.outcome, specs.Outcomes.{Outcome, refused, written}, specs.Behaviours.{Behaviour, NoCommand, Alone, OnFile, ByPlan}}
 use Rattle.file_work.specs.FileOutcomes.{header_outcome}
 use Rattle.ptu_cli.{specs.Behaviours.behaviour, specs.Commands.{Request, Pick, Events}}
 use Rattle.pick_work.specs.PickOutcomes.{records_picked}
-use Rattle.command_laws.{specs.Causes.{OfRecords, IsValidPlan, Headed, Unheaded, IsPlanWith, Absent, NoPlan, Misfits, NoHeader, Cut, Refused, Lacking, TooLate, IsPickable, EndsWithFault, StatusIn, MayCallFor}, specs.Cases.{FileCase, HeaderCase, PrintCase, HasGroup, settled_photons, kept_photons, FirstLate, LateAtEnd, AllPicked, PickedCase}, specs.CommandCases.{RecordCases, Need, CommandCases, NamesLate, pick_cases, cases, Lacks, Has, Suits, SuitCase, NeedCase, PlanCase, ShapeCase, IsOutcome, Needs, BadWords, Writes, ReadsHeader, ReadsRecords, ReadsByPlan}, proofs.FaultStatuses.{some-same, of-refused, of-written, range-as, wider, called-status, misfit-status, unheaded-status, cut_behind-status}, proofs.CaseShapes.{Call, IsCut, IsRefused, IsLate, CallsBy, RecordsMeet, MeetsCases}, proofs.Prints.print-holds, proofs.PickPhotons.none-or-late, proofs.PickCases.{first-settled, picked-holds}, proofs.Proved.{told, one-outcome}, proofs.PickedFiles.listed-picked, specs.Written.photons_written}
+use Rattle.command_laws.{specs.Causes.{OfRecords, IsValidPlan, Headed, Unheaded, IsPlanWith, Absent, NoPlan, Misfits, NoHeader, Lacking, TooLate, IsPickable, EndsWithFault, StatusIn, MayCallFor}, specs.Cases.{FileCase, HeaderCase, PrintCase, HasGroup, settled_photons, kept_photons, FirstLate, LateAtEnd, AllPicked, PickedCase}, specs.CommandCases.{RecordCases, Need, CommandCases, NamesLate, pick_cases, cases, Lacks, Has, Suits, SuitCase, NeedCase, PlanCase, ShapeCase, Needs, BadWords, Writes, ReadsHeader, ReadsRecords, ReadsByPlan}, proofs.FaultStatuses.{some-same, of-refused, of-written, range-as, wider, called-status, misfit-status, unheaded-status, cut_behind-status}, proofs.CaseShapes.{Call, IsCut, IsRefused, IsLate, CallsBy, RecordsMeet, MeetsCases}, proofs.Prints.print-holds, proofs.PickPhotons.none-or-late, proofs.PickCases.{first-settled, picked-holds}, proofs.Proved.{told, one-outcome}, proofs.PickedFiles.listed-picked, specs.Written.photons_written}
 use Rattle.gate_plan.specs.Shifting.{sorting}
 use Rattle.table_out.specs.EventText.{events_text}
 use Rattle.short_file.specs.ShortFiles.{short_file}

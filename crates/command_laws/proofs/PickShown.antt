@@ -1,13 +1,13 @@
 -- The ends that bytes of FILE show by themselves to `pick`.
-use Rattle.std.proofs.Common.{◌≡◌, ◌≢◌, ◌∙◌, ℕ, List, [], ◌++◌, Bool, true, None, Some, Ok, Err, refl, sym, ap, inl, inr, append-nil, ◌⊎◌, Result}
+use Rattle.std.proofs.Common.{◌≡◌, ◌∙◌, ℕ, List, [], ◌++◌, Bool, None, Some, Ok, Err, refl, sym, ap, inl, inr, append-nil, ◌⊎◌, Result}
 use Rattle.std.specs.declared.option.Option.{Option}
-use Rattle.tally_base.{specs.declared.event.Event.Event, specs.declared.fault.Fault.Fault, specs.declared.fault.Fault.TheVariants.TruncatedHeader, specs.declared.header.Header.Header, specs.RecordTypes.mode_of}
-use Rattle.ptu_definitions.{specs.Headers.header_answer, specs.Prefixes.first, specs.Streams.{Reading, record_refusal}, specs.Words.{words_of, rest_of}, proofs.Stays.{refused-stays, headed-stays}, proofs.WordsLemmas.words_of-append}
+use Rattle.tally_base.{specs.declared.event.Event.Event, specs.declared.fault.Fault.Fault, specs.declared.header.Header.Header, specs.RecordTypes.mode_of}
+use Rattle.ptu_definitions.{specs.Prefixes.first, specs.Streams.{Reading, record_refusal}, specs.Words.{words_of, rest_of}, proofs.WordsLemmas.words_of-append}
 use Rattle.record_stream.proofs.Lasts.{streamed-shown}
 use Rattle.plan_text.{specs.Plan.PlanView, specs.Fits.fits}
 use Rattle.tally_engine.specs.Plans.{reading_by}
 use Rattle.photon_pick.{specs.Late.too_late, specs.Texts.{photons_in, late_or, refusal_in}}
-use Rattle.command_work.specs.Outcomes.{Outcome, ends_early}
+use Rattle.command_work.specs.Outcomes.{Outcome}
 use Rattle.pick_work.specs.PickOutcomes.{chosen_by, records_picked, picked_if_fits, picked_behind, goes_on_behind, picking}
 use Rattle.command_laws.{specs.Stays.GoesOnOrShows, specs.Cases.FirstLate, proofs.CaseSteps.fit, proofs.Shown.{OrStays, headed, suited}, proofs.PickPhotons.{none-or-late, all_end, late-ends, picked_end, all-end, in-stays}}
 

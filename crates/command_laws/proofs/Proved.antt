@@ -1,5 +1,5 @@
 -- What the laws show of each command, told once.
-use Rattle.std.proofs.Common.{None, Some, refl, sym, ap, subst, ◌≡◌, ◌↔◌}
+use Rattle.std.proofs.Common.{None, Some, refl, ap, subst, ◌≡◌, ◌↔◌}
 use Rattle.std.specs.declared.option.Option.{Option}
 use Rattle.bench_io.specs.Inputs.{File}
 use Rattle.command_work.{specs.Endings.outcome, specs.Outcomes.{Outcome, written}}

@@ -2,13 +2,13 @@
 use Rattle.std.proofs.Common.{◌≡◌, ◌≢◌, ◌^◌, ℕ, List, ◌++◌, length, Bool, true, false, None, Some, Ok, Err, refl, sym, ap, ◌∙◌, subst, inl, inr, arith, ◌⊎◌, ◌==◌, Result, nat_lt, if◌then◌else◌}
 use Rattle.std.{specs.declared.option.Option.Option, proofs.lemmas.Bool.Decides.nat_tests, proofs.lemmas.List.length-take}
 use Rattle.tally_base.{specs.declared.fault.Fault.Fault, specs.declared.fault.Fault.TheVariants.{TruncatedHeader, TruncatedRecord, RecordLimit}, specs.declared.header.Header.Header, specs.declared.header.RecordType.RecordType, specs.Faults.fault_in, specs.RecordTypes.mode_of}
-use Rattle.ptu_definitions.{specs.declared.records.KindCounts.KindCounts, specs.declared.records.Summary.Summary, specs.Headers.header_answer, specs.Words.{words_of, rest_of}, specs.Kinds.counts_of, specs.Counted.{record_limit, records_of, counted}, specs.Shown.Shows, specs.Streams.{Reading, record_refusal, streamed}, proofs.WordsLemmas.{words_of-append, length-words_of-append}, proofs.StreamLemmas.given-stays, proofs.SeenLaws.cut-size, proofs.Stays.{refused-stays, headed-stays}}
+use Rattle.ptu_definitions.{specs.declared.records.Summary.Summary, specs.Headers.header_answer, specs.Words.{words_of, rest_of}, specs.Kinds.counts_of, specs.Counted.{record_limit, records_of, counted}, specs.Shown.Shows, specs.Streams.{Reading, record_refusal, streamed}, proofs.WordsLemmas.{words_of-append, length-words_of-append}, proofs.StreamLemmas.given-stays, proofs.SeenLaws.cut-size, proofs.Stays.{refused-stays, headed-stays}}
 use Rattle.record_stream.proofs.Lasts.{streamed-refused, streamed-shown}
 use Rattle.plan_text.{specs.Plan.PlanView, specs.Fits.fits}
 use Rattle.tally_engine.specs.Plans.{reading_by}
 use Rattle.table_out.{specs.HeaderText.header_text, specs.EventText.{events_text, lines_of}}
 use Rattle.report_work.specs.Reports.{report_of, if_fits, report_behind, report_outcome, reporting}
-use Rattle.command_work.{specs.Outcomes.{Outcome, refused, MayChange, ends_early}, proofs.Streams.streamed-open}
+use Rattle.command_work.{specs.Outcomes.{Outcome, MayChange, ends_early}, proofs.Streams.streamed-open}
 use Rattle.file_work.{specs.FileOutcomes.{with_counts, counts_behind, count_outcome, listing, listed, events_behind, counting, printing, listing_all}, proofs.HeaderEnds.{outcome-done, outcome-refused}}
 use Rattle.trace_work.{specs.TraceOutcomes.{tracing, trace_of, traced, traced_if_fits, traced_behind}, proofs.TraceTexts.refused-ends}
 use Rattle.command_laws.{specs.Stays.GoesOnOrShows, proofs.CaseSteps.{Answer, end_with, same-end}}
