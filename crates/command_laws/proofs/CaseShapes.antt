@@ -1,25 +1,32 @@
 -- What is shown of a command for the cases of its shape, and that its outcome then is what they call for.
-use Rattle.std.proofs.Common.{◌≡◌, ℕ, List, None, Some, Ok, Err, refl, sym, ap, ◌∙◌, subst, inl, inr, ◌⊎◌, Result}
+use Rattle.std.proofs.Common.{◌≡◌, ℕ, List, None, Some, Ok, Err, refl, sym, ap, ◌∙◌, subst, inl, inr, Result}
 use Rattle.std.specs.declared.option.Option.{Option}
 use Rattle.toml.specs.Data.{table}
 use Rattle.tally_base.{specs.declared.fault.Fault.Fault, specs.declared.header.Header.Header, specs.Faults.status_of, specs.RecordTypes.mode_of}
 use Rattle.bench_io.specs.Inputs.{File}
 use Rattle.ptu_definitions.specs.Headers.{header_answer}
 use Rattle.plan_text.{specs.Plan.{PlanView, plan}, specs.Reading.plan_answer, specs.Fits.fits, proofs.Called.{called, valid, answers, plans}, proofs.Misfits.{misfit_named, is_first}}
-use Rattle.command_work.{specs.Outcomes.{Outcome, refused, written}, specs.Behaviours.{Work, Behaviour, Alone, OnFile, ByPlan}, specs.Endings.{on_file, unless, by_plan, outcome}}
+use Rattle.command_work.{specs.Outcomes.{Outcome, refused, written}, specs.Behaviours.{Work, Behaviour, NoCommand, Alone, OnFile, ByPlan}, specs.Endings.{on_file, unless, by_plan, outcome}}
 use Rattle.file_work.specs.FileOutcomes.{header_outcome}
-use Rattle.command_laws.{specs.Cases.{FileCase, HeaderCase, PrintCase}, specs.CommandCases.{RecordCases, Need, CommandCases, Writes, ReadsHeader, ReadsRecords, ReadsByPlan, Has, Lacks, SuitCase, NeedCase, PlanCase, ShapeCase}, specs.Causes.{EndsCut, StatusIn}, proofs.CaseSteps.{Answer, file-holds, file-only, header-holds, header-only, not_fit}, proofs.Prints.{print-holds, print-only}}
+use Rattle.command_laws.{specs.Cases.{FileCase, HeaderCase, PrintCase}, specs.CommandCases.{RecordCases, Need, CommandCases, BadWords, Writes, ReadsHeader, ReadsRecords, ReadsByPlan, Has, Lacks, SuitCase, NeedCase, PlanCase, ShapeCase}, specs.Causes.{EndsCut, StatusIn}, proofs.CaseSteps.{Answer, file-holds, file-only, header-holds, header-only, not_fit}, proofs.Prints.{print-holds, print-only}}
 
--- why records end a run with a fault
-abbrev pub RecordCause : RecordCases → Header → List ℕ → Fault → Type 0
-RecordCause records header behind fault = EndsCut records header behind fault ⊎ (records.refuses header behind fault ⊎ records.too_late_for header behind fault)
+-- what records end a run with a fault for
+pub data Call : Type 0 where
+  IsCut : Call
+  IsRefused : Call
+  IsLate : Call
+
+abbrev pub CallsBy : Call → RecordCases → Header → List ℕ → Fault → Type 0
+CallsBy IsCut = EndsCut
+CallsBy IsRefused = λ records. records.refuses
+CallsBy IsLate = λ records. records.too_late_for
 
 -- what is shown of the cases of some records, where this is what they end with
 pub record RecordsMeet (further : ℕ → Type 0) (records : RecordCases) (end_of : Header → List ℕ → Outcome) : Type 0 where
   pub holds : (header : Header) (behind : List ℕ) → records.ends header behind (end_of header behind)
   pub only : (header : Header) (behind : List ℕ) (end : Outcome) → records.ends header behind end → end_of header behind ≡ end
-  pub cause : (header : Header) (behind : List ℕ) (end : Outcome) (fault : Fault) → records.ends header behind end → end.fault ≡ Some fault → RecordCause records header behind fault
-  pub ends : (header : Header) (behind : List ℕ) (fault : Fault) → RecordCause records header behind fault → (end : Outcome) × records.ends header behind end × (end.fault ≡ Some fault)
+  pub cause : (header : Header) (behind : List ℕ) (end : Outcome) (fault : Fault) → records.ends header behind end → end.fault ≡ Some fault → (call : Call) × CallsBy call records header behind fault
+  pub ends : (call : Call) (header : Header) (behind : List ℕ) (fault : Fault) → CallsBy call records header behind fault → (end : Outcome) × records.ends header behind end × (end.fault ≡ Some fault)
   pub refuses_status : (header : Header) (behind : List ℕ) (fault : Fault) → records.refuses header behind fault → StatusIn 18 21 fault × further (status_of fault)
   pub late_status : (header : Header) (behind : List ℕ) (fault : Fault) → records.too_late_for header behind fault → StatusIn 24 24 fault × further (status_of fault)
 
@@ -54,6 +61,7 @@ pub record PlanMeets (further : ℕ → Type 0) (need : Need) (records : PlanVie
 
 -- what is shown of a command
 abbrev pub MeetsCases : Behaviour → CommandCases → Type 0
+MeetsCases NoCommand BadWords = Unit {0}
 MeetsCases (Alone end) (Writes text) = end ≡ written text
 MeetsCases (OnFile file writing work) ReadsHeader = (bytes : List ℕ) → work.outcome bytes ≡ header_outcome bytes
 MeetsCases (OnFile file writing work) (ReadsRecords further records) = FileMeets further records work
@@ -139,6 +147,7 @@ module _ (further : ℕ → Type 0) (need : Need) (records : PlanView → Record
 
 pub told-holds : (does : Behaviour) (shape : CommandCases) → MeetsCases does shape → (plan_file data_file : File) → ShapeCase shape plan_file data_file (outcome does plan_file data_file)
 unfolding outcome
+told-holds NoCommand BadWords told plan_file data_file = refl
 told-holds (Alone end) (Writes text) told plan_file data_file = told
 told-holds (OnFile file writing work) ReadsHeader told plan_file data_file = printed-holds work told data_file
 told-holds (OnFile file writing work) (ReadsRecords further records) told plan_file data_file = records-hold further records work told data_file
@@ -148,7 +157,8 @@ told-holds does other told plan_file data_file = absurd told
 
 pub told-only : (does : Behaviour) (shape : CommandCases) → MeetsCases does shape → (plan_file data_file : File) (end : Outcome) → ShapeCase shape plan_file data_file end → outcome does plan_file data_file ≡ end
 unfolding outcome
-told-only (Alone end) (Writes text) told plan_file data_file other h = told ∙ sym h
+told-only NoCommand BadWords told plan_file data_file end h = sym h
+told-only (Alone whole) (Writes text) told plan_file data_file end h = told ∙ sym h
 told-only (OnFile file writing work) ReadsHeader told plan_file data_file end h = printed-only work told data_file end h
 told-only (OnFile file writing work) (ReadsRecords further records) told plan_file data_file end h = records-only further records work told data_file end h
 told-only (ByPlan plan_name file writing memory lacks work) (ReadsByPlan further need records) told None data_file end h = sym h

@@ -1,21 +1,21 @@
 -- What `count`, `events`, `run`, `trace` and `demo` end with is what the table of cases calls for.
 use Rattle.std.proofs.Common.{◌≡◌, ℕ, zero, suc, List, [], ◌∷◌, ◌++◌, length, Bool, true, false, None, Some, Ok, Err, refl, sym, ap, ◌∙◌, subst, inl, inr, arith, ◌==◌, ◌/◌, Result, nat_lt, nat_le, codes, decimal, map, if◌then◌else◌}
 use Rattle.std.specs.declared.option.Option.{Option}
-use Rattle.tally_base.{specs.declared.fault.Fault.Fault, specs.declared.fault.Fault.TheVariants.{RecordLimit, TruncatedRecord, NoTrace}, specs.declared.header.Header.Header, specs.Faults.fault_in, specs.Settings.{PartSettings, StartStopView, TraceView}, specs.Settings.PartSettings.StartStopSettings, specs.Tally.History}
-use Rattle.ptu_definitions.{specs.declared.records.Summary.Summary, specs.Words.{words_of, rest_of}, specs.Layouts.meaning_of, specs.Kinds.counts_of, specs.Counted.{record_limit, records_of, counted}, specs.Prefixes.each_after, specs.Firsts.IsFirst, specs.Times.events, specs.Streams.{Reading, record_refusal, summary, summary_of, streamed, events_in}, proofs.Firsts.{first-refusal, refused-first, none-refused, given-before, given-all}}
+use Rattle.tally_base.{specs.declared.fault.Fault.Fault, specs.declared.fault.Fault.TheVariants.{RecordLimit, TruncatedRecord, NoTrace}, specs.declared.header.Header.Header, specs.Faults.{fault_in, status_of}, specs.Settings.{PartSettings, StartStopView, TraceView}, specs.Settings.PartSettings.StartStopSettings, specs.Tally.History}
+use Rattle.ptu_definitions.{specs.declared.records.Summary.Summary, specs.Words.{words_of, rest_of}, specs.Layouts.meaning_of, specs.Kinds.counts_of, specs.Counted.{record_limit, records_of, counted}, specs.Prefixes.each_after, specs.Firsts.IsFirst, specs.Times.events, specs.Streams.{Reading, record_refusal, summary, summary_of, streamed}, proofs.Firsts.{first-refusal, refused-first, none-refused, given-before, given-all}}
 use Rattle.record_stream.proofs.Lasts.{streamed-refused}
 use Rattle.plan_text.specs.Plan.{PlanView, parts_of}
 use Rattle.coincidence.proofs.Places.{intervals-are-pairs}
-use Rattle.gate_plan.{specs.Shifting.sorting, specs.Histories.{history, settled_history}, specs.Plans.reading_by}
-use Rattle.list_out.{specs.EventText.events_text, specs.Lines.line}
+use Rattle.gate_plan.{specs.Shifting.sorting, specs.Histories.{history}, specs.Plans.reading_by}
+use Rattle.list_out.{specs.EventText.{events_text, lines_of}, specs.Lines.line}
 use Rattle.table_out.{specs.Printed.{texts, cell_line, cell_lines, first_line, table_lines}, specs.StartStop.startstop_printed, specs.Report.{head_text, printed, Table, table_text, report, with_events}}
 use Rattle.ptu_made.{specs.Generator.made_words, specs.Records.made_header}
-use Rattle.long_trace.specs.Texts.{open_text}
+use Rattle.long_trace.specs.Texts.{open_text, whole_text}
 use Rattle.report_work.{specs.Reports.{report_of, if_fits, report_behind, report_outcome, any_plan, reporting}, specs.Demo.{demo_plan, demo_report}}
-use Rattle.file_work.{specs.CountText.counts_text, specs.FileOutcomes.{with_counts, counts_behind, count_outcome, listing, listed, events_behind, counting, listing_all}}
+use Rattle.file_work.{specs.CountText.counts_text, specs.FileOutcomes.{with_counts, counts_behind, count_outcome, listing, events_behind, counting, listing_all}}
 use Rattle.trace_work.{specs.TraceOutcomes.{trace_of, unless_traced, no_trace, traced, records_traced, traced_if_fits, traced_behind, tracing}, proofs.TraceTexts.{settled-whole, settled-first}}
 use Rattle.command_work.specs.Outcomes.{Outcome, refused, written}
-use Rattle.command_laws.{specs.Cases.{WholeCase, NoneRefused, CountCase, LeftOver, ListCase, startstop_by_places, by_places, placed_text, report_by_places, words_report, StreamCase, WholeTrace, TraceCase, HasTrace, TracedCase}, specs.CommandCases.{IsIn, count_cases, events_cases, run_cases, trace_cases, Lacks, NeedsNothing, Needs}, proofs.FaultStatuses.{some-same, of-refused, of-written, of-end, whole-cause, range-as, wider, least-status, listed-status}, proofs.CaseSteps.{end_with, same-end, lt-true, lt-false, true-lt, false-lt, empty-true, empty-false, true-empty, false-empty, whole_answer, streamed-clear}, proofs.CaseShapes.{RecordCause, FileMeets, NeedMeets, PlanMeets}}
+use Rattle.command_laws.{specs.Cases.{WholeCase, CountCase, StreamCase, list_text, startstop_by_places, by_places, placed_text, report_by_places, words_report, trace_text, TraceCase, HasTrace, TracedCase}, specs.CommandCases.{IsIn, RefusedIn, count_cases, stream_cases, events_cases, run_cases, trace_cases, Lacks, NeedsNothing, Needs}, proofs.FaultStatuses.{some-same, of-refused, of-written, of-end, whole-cause, range-as, wider, least-status, listed-status}, proofs.CaseSteps.{end_with, same-end, lt-true, lt-false, true-lt, false-lt, empty-true, empty-false, true-empty, false-empty, whole_answer, streamed-clear}, proofs.CaseShapes.{Call, IsCut, IsRefused, IsLate, CallsBy, RecordsMeet, FileMeets, NeedMeets, PlanMeets}}
 
 -- ## A report by places
 
@@ -97,14 +97,14 @@ count-only : (header : Header) (behind : List ℕ) (end : Outcome) → CountCase
 count-only header behind end (inl h) = count-steps header behind ∙ ap (count_end header behind) (true-lt _ _ h.0) ∙ sym h.1
 count-only header behind end (inr h) = count-steps header behind ∙ ap (count_end header behind) (false-lt _ _ h.0) ∙ whole-only behind (count_text header behind) end h.1
 
-count-cause : (header : Header) (behind : List ℕ) (end : Outcome) (fault : Fault) → CountCase header behind end → end.fault ≡ Some fault → RecordCause count_cases header behind fault
-count-cause header behind end fault (inl h) e = inr (inl (h.0, of-refused end _ fault h.1 e))
-count-cause header behind end fault (inr h) e = let cut = whole-cause behind _ end fault h.1 e in inl (h.0, cut.0, cut.1)
+count-cause : (header : Header) (behind : List ℕ) (end : Outcome) (fault : Fault) → CountCase header behind end → end.fault ≡ Some fault → (call : Call) × CallsBy call count_cases header behind fault
+count-cause header behind end fault (inl h) e = (IsRefused, (h.0, of-refused end _ fault h.1 e))
+count-cause header behind end fault (inr h) e = let cut = whole-cause behind _ end fault h.1 e in (IsCut, (h.0, cut.0, cut.1))
 
-count-ends : (header : Header) (behind : List ℕ) (fault : Fault) → RecordCause count_cases header behind fault → (end : Outcome) × CountCase header behind end × (end.fault ≡ Some fault)
-count-ends header behind fault (inl cut) = (refused fault, inr (cut.0, inl (cut.1, ap refused cut.2)), refl)
-count-ends header behind fault (inr (inl many)) = (refused fault, inl (many.0, ap refused many.1), refl)
-count-ends header behind fault (inr (inr never)) = absurd never
+count-ends : (call : Call) (header : Header) (behind : List ℕ) (fault : Fault) → CallsBy call count_cases header behind fault → (end : Outcome) × CountCase header behind end × (end.fault ≡ Some fault)
+count-ends IsCut header behind fault cut = (refused fault, inr (cut.0, inl (cut.1, ap refused cut.2)), refl)
+count-ends IsRefused header behind fault many = (refused fault, inl (many.0, ap refused many.1), refl)
+count-ends IsLate header behind fault never = absurd never
 
 pub count-told : FileMeets (IsIn 20 20) count_cases counting
 count-told = record {
@@ -121,113 +121,80 @@ count-told = record {
   };
 }
 
+-- ## Streams
+
+-- what a command makes of a stream that is read so
+record Streams (how : Reading) (text_of : List ℕ → List ℕ) (whole_text behind : List ℕ) (out : Result Summary Fault → Outcome) : Type 0 where
+  refused_is : (fault : Fault) (least : IsFirst how fault [] (words_of behind)) → out (Err fault) ≡ end_with (text_of least.front) (Some fault)
+  cut_is : record_refusal how (words_of behind) ≡ None → (fault : Fault) → out (Err fault) ≡ end_with (text_of (words_of behind)) (Some fault)
+  whole_is : record_refusal how (words_of behind) ≡ None → out (Ok (summary how (words_of behind))) ≡ written whole_text
+
+module _ (how : Reading) (text_of : List ℕ → List ℕ) (whole_text behind : List ℕ) (out : Result Summary Fault → Outcome) (told : Streams how text_of whole_text behind out) where
+  first-end : (fault : Fault) (least : IsFirst how fault [] (words_of behind)) → out (streamed how behind) ≡ end_with (text_of least.front) (Some fault)
+  first-end fault least = ap out (sym (streamed-refused how behind fault (refused-first how (words_of behind) fault least))) ∙ told.refused_is fault least
+
+  clear-end : record_refusal how (words_of behind) ≡ None → (whole : Bool) → (length (rest_of behind) == 0) ≡ whole → out (streamed how behind) ≡ out (whole_answer how behind whole)
+  clear-end none whole is = ap out (streamed-clear how behind none ∙ ap (whole_answer how behind) is)
+
+  stream-holds : StreamCase how text_of whole_text behind (out (streamed how behind))
+  stream-holds = by (record_refusal how (words_of behind)) refl
+    where
+      clear : record_refusal how (words_of behind) ≡ None → (whole : Bool) → (length (rest_of behind) == 0) ≡ whole → StreamCase how text_of whole_text behind (out (streamed how behind))
+      clear none true is = inr (inr ((none-refused how (words_of behind)).0 none, empty-true (rest_of behind) is, clear-end none true is ∙ told.whole_is none))
+      clear none false is = inr (inl ((none-refused how (words_of behind)).0 none, empty-false (rest_of behind) is, clear-end none false is ∙ told.cut_is none _))
+
+      by : (o : Option Fault) → record_refusal how (words_of behind) ≡ o → StreamCase how text_of whole_text behind (out (streamed how behind))
+      by (Some fault) e = let least = first-refusal how (words_of behind) fault e in inl (fault, least, first-end fault least)
+      by None e = clear e _ refl
+
+  stream-only : (end : Outcome) → StreamCase how text_of whole_text behind end → out (streamed how behind) ≡ end
+  stream-only end (inl h) = first-end h.0 h.1 ∙ sym h.2
+  stream-only end (inr (inl h)) = let none = (none-refused how (words_of behind)).1 h.0 in clear-end none false (false-empty (rest_of behind) h.1) ∙ told.cut_is none _ ∙ sym h.2
+  stream-only end (inr (inr h)) = let none = (none-refused how (words_of behind)).1 h.0 in clear-end none true (true-empty (rest_of behind) h.1) ∙ told.whole_is none ∙ sym h.2
+
+module _ (how : Header → Reading) (ends : Header → List ℕ → Outcome → Type 0) (header : Header) (text_of : List ℕ → List ℕ) (whole_text behind : List ℕ) where
+  stream-cause : (end : Outcome) (fault : Fault) → StreamCase (how header) text_of whole_text behind end → end.fault ≡ Some fault → (call : Call) × CallsBy call (stream_cases how ends) header behind fault
+  stream-cause end fault (inl h) e = (IsRefused, subst (λ (f : Fault). IsFirst (how header) f [] (words_of behind)) (sym (of-end end _ h.0 fault h.2 e)) h.1)
+  stream-cause end fault (inr (inl h)) e = (IsCut, (h.0, h.1, of-end end _ _ fault h.2 e))
+  stream-cause end fault (inr (inr h)) e = absurd (of-written end _ fault h.2 e)
+
+  stream-ends : (call : Call) (fault : Fault) → CallsBy call (stream_cases how ends) header behind fault → (end : Outcome) × StreamCase (how header) text_of whole_text behind end × (end.fault ≡ Some fault)
+  stream-ends IsCut fault cut = (end_with (text_of (words_of behind)) (Some fault), inr (inl (cut.0, cut.1, ap (λ f. end_with (text_of (words_of behind)) (Some f)) cut.2)), refl)
+  stream-ends IsRefused fault least = (end_with (text_of least.front) (Some fault), inl (fault, least, refl), refl)
+  stream-ends IsLate fault never = absurd never
+
+-- what is shown of a command that ends by such a stream alone
+stream-meets : (further : ℕ → Type 0) (how : Header → Reading) (text_of whole_text : Header → List ℕ → List ℕ) (out : Header → List ℕ → Result Summary Fault → Outcome)
+    → ((header : Header) (behind : List ℕ) → Streams (how header) (text_of header) (whole_text header (words_of behind)) behind (out header behind))
+    → ((header : Header) (behind : List ℕ) (fault : Fault) → RefusedIn (how header) behind fault → further (status_of fault))
+    → RecordsMeet further (stream_cases how (λ header behind. StreamCase (how header) (text_of header) (whole_text header (words_of behind)) behind)) (λ header behind. out header behind (streamed (how header) behind))
+stream-meets further how text_of whole_text out told status = record {
+  holds = λ header behind. stream-holds (how header) (text_of header) _ behind (out header behind) (told header behind);
+  only = λ header behind. stream-only (how header) (text_of header) _ behind (out header behind) (told header behind);
+  cause = λ header behind. stream-cause how _ header (text_of header) (whole_text header (words_of behind)) behind;
+  ends = λ call header behind. stream-ends how _ header (text_of header) (whole_text header (words_of behind)) behind call;
+  refuses_status = λ header behind fault h. (least-status (how header) behind fault h, status header behind fault h);
+  late_status = λ header behind fault never. absurd never;
+}
+
 -- ## events
 
-left-holds : (how : Reading) (behind : List ℕ) (whole : Bool) → (length (rest_of behind) == 0) ≡ whole → LeftOver (rest_of behind) (fault_in (whole_answer how behind whole))
-left-holds how behind true h = inr (empty-true (rest_of behind) h, refl)
-left-holds how behind false h = inl (empty-false (rest_of behind) h, refl)
-
-left-only : (how : Reading) (behind : List ℕ) (fault : Option Fault) → LeftOver (rest_of behind) fault → fault_in (whole_answer how behind (length (rest_of behind) == 0)) ≡ fault
-left-only how behind fault (inl h) = ap (λ whole. fault_in (whole_answer how behind whole)) (false-empty (rest_of behind) h.0) ∙ sym h.1
-left-only how behind fault (inr h) = ap (λ whole. fault_in (whole_answer how behind whole)) (true-empty (rest_of behind) h.0) ∙ sym h.1
-
-list-holds : (header : Header) (behind : List ℕ) → ListCase header behind (listed (listing header) behind)
-list-holds header behind = by (record_refusal (listing header) (words_of behind)) refl
-  where
-    by : (o : Option Fault) → record_refusal (listing header) (words_of behind) ≡ o → ListCase header behind (listed (listing header) behind)
-    by (Some fault) e =
-        let least = first-refusal (listing header) (words_of behind) fault e in
-        inl (record {
-          fault = fault;
-          least = least;
-          end_is = same-end _ _ _ _ (ap events_text (given-before (listing header) (words_of behind) fault least)) (ap fault_in (sym (streamed-refused (listing header) behind fault e)));
-        })
-    by None e = inr (
-      (none-refused (listing header) (words_of behind)).0 e,
-      ap events_text (given-all (listing header) (words_of behind) e),
-      subst (λ r. LeftOver (rest_of behind) (fault_in r)) (sym (streamed-clear (listing header) behind e)) (left-holds (listing header) behind _ refl),
-    )
-
-list-only : (header : Header) (behind : List ℕ) (end : Outcome) → ListCase header behind end → listed (listing header) behind ≡ end
-list-only header behind end (inl h) =
-    let refusal = refused-first (listing header) (words_of behind) h.fault h.least in
-    same-end _ _ _ _ (ap events_text (given-before (listing header) (words_of behind) h.fault h.least)) (ap fault_in (sym (streamed-refused (listing header) behind h.fault refusal))) ∙ sym h.end_is
-list-only header behind end (inr h) =
-    let none = (none-refused (listing header) (words_of behind)).1 h.0 in
-    same-end _ end.text _ end.fault (ap events_text (given-all (listing header) (words_of behind) none) ∙ sym h.1)
-    (ap fault_in (streamed-clear (listing header) behind none) ∙ left-only (listing header) behind end.fault h.2)
-
-list-cause : (header : Header) (behind : List ℕ) (end : Outcome) (fault : Fault) → ListCase header behind end → end.fault ≡ Some fault → RecordCause events_cases header behind fault
-list-cause header behind end fault (inl h) e =
-    inr (inl (subst (λ (f : Fault). IsFirst (listing header) f [] (words_of behind)) (some-same h.fault fault (sym (ap (λ (o : Outcome). o.fault) h.end_is) ∙ e)) h.least))
-list-cause header behind end fault (inr h) e = by h.2
-  where
-    by : LeftOver (rest_of behind) end.fault → RecordCause events_cases header behind fault
-    by (inl left) = inl (h.0, left.0, some-same fault _ (sym e ∙ left.1))
-    by (inr left) = let none = left.1 in absurd cc
-
-list-ends : (header : Header) (behind : List ℕ) (fault : Fault) → RecordCause events_cases header behind fault → (end : Outcome) × ListCase header behind end × (end.fault ≡ Some fault)
-list-ends header behind fault (inl cut) = (end_with (events_text (events_in (listing header) (words_of behind))) (Some fault), inr (cut.0, refl, inl (cut.1, ap Some cut.2)), refl)
-list-ends header behind fault (inr (inl least)) =
-    (end_with (events_text (events_in (listing header) least.front)) (Some fault), inl (record { fault = fault; least = least; end_is = refl }), refl)
-list-ends header behind fault (inr (inr never)) = absurd never
+list-streams : (header : Header) (behind : List ℕ) → Streams (listing header) (list_text header) (list_text header (words_of behind)) behind (λ r. end_with (lines_of (listing header) (words_of behind)) (fault_in r))
+list-streams header behind = record {
+  refused_is = λ fault least. ap (λ l. end_with (events_text l) (Some fault)) (given-before (listing header) (words_of behind) fault least);
+  cut_is = λ none fault. ap (λ l. end_with (events_text l) (Some fault)) (given-all (listing header) (words_of behind) none);
+  whole_is = λ none. ap (λ l. written (events_text l)) (given-all (listing header) (words_of behind) none);
+}
 
 pub events-told : FileMeets (IsIn 20 21) events_cases listing_all
 events-told = record {
   end_of = events_behind;
   is = λ bytes. refl;
   fails = λ fault. refl;
-  told = record {
-    holds = list-holds;
-    only = list-only;
-    cause = list-cause;
-    ends = list-ends;
-    refuses_status = λ header behind fault h. (least-status (listing header) behind fault h, listed-status header behind fault h);
-    late_status = λ header behind fault never. absurd never;
-  };
+  told = stream-meets (IsIn 20 21) listing list_text list_text _ list-streams listed-status;
 }
 
 -- ## run
-
-abbrev stream_end : PlanView → Header → List ℕ → Result Summary Fault → Outcome
-stream_end view header behind r = report_outcome (report_of view header behind r)
-
-stream-steps : (view : PlanView) (header : Header) (behind : List ℕ) → record_refusal (reading_by view header) (words_of behind) ≡ None
-    → stream_end view header behind (streamed (reading_by view header) behind) ≡ whole_end behind (words_report view header (words_of behind)) (length (rest_of behind) == 0)
-stream-steps view header behind none = ap (stream_end view header behind) (streamed-clear (reading_by view header) behind none) ∙ by (length (rest_of behind) == 0)
-  where
-    by : (whole : Bool) → stream_end view header behind (whole_answer (reading_by view header) behind whole) ≡ whole_end behind (words_report view header (words_of behind)) whole
-    by true = ap written (words-same view header (words_of behind))
-    by false = refl
-
-stream-holds : (view : PlanView) (header : Header) (behind : List ℕ) → StreamCase view header behind (stream_end view header behind (streamed (reading_by view header) behind))
-stream-holds view header behind = by (record_refusal (reading_by view header) (words_of behind)) refl
-  where
-    by : (o : Option Fault) → record_refusal (reading_by view header) (words_of behind) ≡ o → StreamCase view header behind (stream_end view header behind (streamed (reading_by view header) behind))
-    by (Some fault) e = inl (
-      fault,
-      first-refusal (reading_by view header) (words_of behind) fault e,
-      ap (stream_end view header behind) (sym (streamed-refused (reading_by view header) behind fault e)),
-    )
-    by None e = inr (
-      (none-refused (reading_by view header) (words_of behind)).0 e,
-      subst (WholeCase behind (words_report view header (words_of behind))) (sym (stream-steps view header behind e)) (whole-holds behind (words_report view header (words_of behind)) _ refl),
-    )
-
-stream-only : (view : PlanView) (header : Header) (behind : List ℕ) (end : Outcome) → StreamCase view header behind end → stream_end view header behind (streamed (reading_by view header) behind) ≡ end
-stream-only view header behind end (inl h) =
-    ap (stream_end view header behind) (sym (streamed-refused (reading_by view header) behind h.0 (refused-first (reading_by view header) (words_of behind) h.0 h.1))) ∙ sym h.2
-stream-only view header behind end (inr h) =
-    stream-steps view header behind ((none-refused (reading_by view header) (words_of behind)).1 h.0) ∙ whole-only behind (words_report view header (words_of behind)) end h.1
-
-stream-cause : (view : PlanView) (header : Header) (behind : List ℕ) (end : Outcome) (fault : Fault) → StreamCase view header behind end → end.fault ≡ Some fault → RecordCause (run_cases view) header behind fault
-stream-cause view header behind end fault (inl h) e = inr (inl (subst (λ (f : Fault). IsFirst (reading_by view header) f [] (words_of behind)) (sym (of-refused end h.0 fault h.2 e)) h.1))
-stream-cause view header behind end fault (inr h) e = let cut = whole-cause behind (words_report view header (words_of behind)) end fault h.1 e in inl (h.0, cut.0, cut.1)
-
-stream-ends : (view : PlanView) (header : Header) (behind : List ℕ) (fault : Fault) → RecordCause (run_cases view) header behind fault → (end : Outcome) × StreamCase view header behind end × (end.fault ≡ Some fault)
-stream-ends view header behind fault (inl cut) = (refused fault, inr (cut.0, inl (cut.1, ap refused cut.2)), refl)
-stream-ends view header behind fault (inr (inl least)) = (refused fault, inl (fault, least, refl), refl)
-stream-ends view header behind fault (inr (inr never)) = absurd never
 
 pub run-told : PlanMeets (IsIn 18 21) NeedsNothing run_cases any_plan reporting
 run-told = record {
@@ -245,87 +212,40 @@ run-told = record {
     fails = λ fault. refl;
     headed = λ header behind. refl;
     misfit = λ header behind fault. refl;
-    told = record {
-      holds = stream-holds view;
-      only = stream-only view;
-      cause = stream-cause view;
-      ends = stream-ends view;
-      refuses_status = λ header behind fault h. let s = least-status (reading_by view header) behind fault h in (s, s);
-      late_status = λ header behind fault never. absurd never;
-    };
+    told = stream-meets (IsIn 18 21) (reading_by view) (λ header words. []) (words_report view) (λ header behind r. report_outcome (report_of view header behind r)) (report-streams view) (λ header. least-status (reading_by view header));
   };
 }
+  where
+    report-streams : (view : PlanView) (header : Header) (behind : List ℕ) → Streams (reading_by view header) (λ words. []) (words_report view header (words_of behind)) behind (λ r. report_outcome (report_of view header behind r))
+    report-streams view header behind = record { refused_is = λ fault least. refl; cut_is = λ none fault. refl; whole_is = λ none. ap written (words-same view header (words_of behind)) }
 
 -- ## trace
 
 module _ (set : TraceView) (view : PlanView) (header : Header) (behind : List ℕ) where
-  abbrev trace_end : Result Summary Fault → Outcome
-  trace_end = traced (Some set) (sorting view) (reading_by view header) behind
+  abbrev trace_whole : List ℕ
+  trace_whole = whole_text set (history (sorting view) (reading_by view header) (words_of behind))
 
-  abbrev whole_trace : Bool → Outcome
-  whole_trace whole = trace_end (whole_answer (reading_by view header) behind whole)
+  trace-streams : Streams (reading_by view header) (trace_text set view header) trace_whole behind (traced (Some set) (sorting view) (reading_by view header) behind)
+  trace-streams = record {
+    refused_is = λ fault least. same-end _ _ _ _ (ap (open_text set) (settled-first (sorting view) (reading_by view header) (words_of behind) fault least)) refl;
+    cut_is = λ none fault. same-end _ _ _ _ (ap (open_text set) (settled-whole (sorting view) (reading_by view header) (words_of behind) none)) refl;
+    whole_is = λ none. refl;
+  }
 
-  left-trace : record_refusal (reading_by view header) (words_of behind) ≡ None → (whole : Bool) → (length (rest_of behind) == 0) ≡ whole → WholeTrace set view header behind (whole_trace whole)
-  left-trace none true h = inr (empty-true (rest_of behind) h, refl)
-  left-trace none false h = inl (empty-false (rest_of behind) h, same-end _ _ _ _ (ap (open_text set) (settled-whole (sorting view) (reading_by view header) (words_of behind) none)) refl)
+  abbrev trace_end : Option TraceView → Outcome
+  trace_end o = records_traced o (sorting view) (reading_by view header) behind
 
-  left-end : record_refusal (reading_by view header) (words_of behind) ≡ None → (end : Outcome) → WholeTrace set view header behind end → whole_trace (length (rest_of behind) == 0) ≡ end
-  left-end none end (inl h) = ap whole_trace (false-empty (rest_of behind) h.0) ∙ same-end _ _ _ _ (ap (open_text set) (settled-whole (sorting view) (reading_by view header) (words_of behind) none)) refl ∙ sym h.1
-  left-end none end (inr h) = ap whole_trace (true-empty (rest_of behind) h.0) ∙ sym h.1
+  abbrev trace_out : Result Summary Fault → Outcome
+  trace_out = traced (Some set) (sorting view) (reading_by view header) behind
 
-  refused-trace : (fault : Fault) → record_refusal (reading_by view header) (words_of behind) ≡ Some fault → (least : IsFirst (reading_by view header) fault [] (words_of behind))
-      → trace_end (streamed (reading_by view header) behind) ≡ end_with (open_text set (settled_history (sorting view) (reading_by view header) least.front)) (Some fault)
-  refused-trace fault e least =
-      ap trace_end (sym (streamed-refused (reading_by view header) behind fault e))
-      ∙ same-end _ _ _ _ (ap (open_text set) (settled-first (sorting view) (reading_by view header) (words_of behind) fault least)) refl
+  traced-holds : trace_of view ≡ Some set → TracedCase view header behind (trace_end (trace_of view))
+  traced-holds is = (set, is, subst (λ (o : Option TraceView). TraceCase set view header behind (trace_end o)) (sym is) (stream-holds (reading_by view header) (trace_text set view header) trace_whole behind trace_out trace-streams))
 
-  records-hold : TraceCase set view header behind (trace_end (streamed (reading_by view header) behind))
-  records-hold = by (record_refusal (reading_by view header) (words_of behind)) refl
-    where
-      by : (o : Option Fault) → record_refusal (reading_by view header) (words_of behind) ≡ o → TraceCase set view header behind (trace_end (streamed (reading_by view header) behind))
-      by (Some fault) e =
-          let least = first-refusal (reading_by view header) (words_of behind) fault e in
-          inl (record { fault = fault; least = least; end_is = refused-trace fault e least })
-      by None e = inr (
-        (none-refused (reading_by view header) (words_of behind)).0 e,
-        subst (λ r. WholeTrace set view header behind (trace_end r)) (sym (streamed-clear (reading_by view header) behind e)) (left-trace e _ refl),
-      )
+  traced-only : (end : Outcome) → trace_of view ≡ Some set → TraceCase set view header behind end → trace_end (trace_of view) ≡ end
+  traced-only end is h = ap trace_end is ∙ stream-only (reading_by view header) (trace_text set view header) trace_whole behind trace_out trace-streams end h
 
-  records-only : (end : Outcome) → TraceCase set view header behind end → trace_end (streamed (reading_by view header) behind) ≡ end
-  records-only end (inl h) = refused-trace h.fault (refused-first (reading_by view header) (words_of behind) h.fault h.least) h.least ∙ sym h.end_is
-  records-only end (inr h) =
-      let none = (none-refused (reading_by view header) (words_of behind)).1 h.0 in
-      ap trace_end (streamed-clear (reading_by view header) behind none) ∙ left-end none end h.1
-
-module _ (set : TraceView) (view : PlanView) (is : trace_of view ≡ Some set) where
-  same-trace : (header : Header) (behind : List ℕ) → records_traced (trace_of view) (sorting view) (reading_by view header) behind ≡ records_traced (Some set) (sorting view) (reading_by view header) behind
-  same-trace header behind = ap (λ o. records_traced o (sorting view) (reading_by view header) behind) is
-
-traced-holds : (view : PlanView) → HasTrace view → (header : Header) (behind : List ℕ) → TracedCase view header behind (records_traced (trace_of view) (sorting view) (reading_by view header) behind)
-traced-holds view has header behind = (has.0, has.1, subst (TraceCase has.0 view header behind) (sym (same-trace has.0 view has.1 header behind)) (records-hold has.0 view header behind))
-
-traced-only : (view : PlanView) (header : Header) (behind : List ℕ) (end : Outcome) → TracedCase view header behind end → records_traced (trace_of view) (sorting view) (reading_by view header) behind ≡ end
-traced-only view header behind end h = same-trace h.0 view h.1 header behind ∙ records-only h.0 view header behind end h.2
-
-records-cause : (view : PlanView) (header : Header) (behind : List ℕ) (end : Outcome) (fault : Fault) → TracedCase view header behind end → end.fault ≡ Some fault → RecordCause (trace_cases view) header behind fault
-records-cause view header behind end fault traced e = by traced.2
-  where
-    left : NoneRefused (reading_by view header) (words_of behind) → WholeTrace traced.0 view header behind end → RecordCause (trace_cases view) header behind fault
-    left none (inl h) = inl (none, h.0, of-end end _ _ fault h.1 e)
-    left none (inr h) = absurd (of-written end _ fault h.1 e)
-
-    by : TraceCase traced.0 view header behind end → RecordCause (trace_cases view) header behind fault
-    by (inl h) = inr (inl (subst (λ (f : Fault). IsFirst (reading_by view header) f [] (words_of behind)) (sym (of-end end _ h.fault fault h.end_is e)) h.least))
-    by (inr h) = left h.0 h.1
-
-traced-ends : (view : PlanView) → HasTrace view → (header : Header) (behind : List ℕ) (fault : Fault) → RecordCause (trace_cases view) header behind fault → (end : Outcome) × TracedCase view header behind end × (end.fault ≡ Some fault)
-traced-ends view has header behind fault (inl cut) =
-    let text = open_text has.0 (settled_history (sorting view) (reading_by view header) (words_of behind)) in
-    (end_with text (Some fault), (has.0, has.1, inr (cut.0, inl (cut.1, ap (λ f. end_with text (Some f)) cut.2))), refl)
-traced-ends view has header behind fault (inr (inl least)) =
-    let text = open_text has.0 (settled_history (sorting view) (reading_by view header) least.front) in
-    (end_with text (Some fault), (has.0, has.1, inl (record { fault = fault; least = least; end_is = refl })), refl)
-traced-ends view has header behind fault (inr (inr never)) = absurd never
+  traced-ends : (call : Call) (fault : Fault) → trace_of view ≡ Some set → CallsBy call (trace_cases view) header behind fault → (end : Outcome) × TracedCase view header behind end × (end.fault ≡ Some fault)
+  traced-ends call fault is h = let end = stream-ends (reading_by view) (TracedCase view) header (trace_text set view header) trace_whole behind call fault h in (end.0, (set, is, end.1), end.2)
 
 trace-needs : NeedMeets (IsIn 18 22) (Needs HasTrace NoTrace) no_trace
 trace-needs = record {
@@ -359,10 +279,10 @@ trace-told = record {
     headed = λ header behind. refl;
     misfit = λ header behind fault. refl;
     told = record {
-      holds = traced-holds view has;
-      only = traced-only view;
-      cause = records-cause view;
-      ends = traced-ends view has;
+      holds = λ header behind. traced-holds has.0 view header behind has.1;
+      only = λ header behind end h. traced-only h.0 view header behind end h.1 h.2;
+      cause = λ header behind end fault h. stream-cause (reading_by view) (TracedCase view) header (trace_text h.0 view header) (trace_whole h.0 view header behind) behind end fault h.2;
+      ends = λ call header behind fault. traced-ends has.0 view header behind call fault has.1;
       refuses_status = λ header behind fault h. let s = least-status (reading_by view header) behind fault h in (s, wider 18 21 18 22 fault s (omega arith) (omega arith));
       late_status = λ header behind fault never. absurd never;
     };

@@ -9,7 +9,7 @@ use Rattle.gate_plan.specs.Plans.{reading_by}
 use Rattle.photon_pick.{specs.Late.too_late, specs.Ends.photons_by, specs.Texts.photons_in}
 use Rattle.pick_work.specs.PickOutcomes.{no_group, chosen_by, records_picked, picked_if_fits, picked_behind, picking}
 use Rattle.command_work.specs.Outcomes.{Outcome}
-use Rattle.command_laws.{specs.Causes.StatusIn, specs.Cases.{NoneRefused, HasGroup, settled_photons, kept_photons, FirstLate, LateAtRecord, LateAtEnd, RefusedInTime, SettledInTime, AllPicked, pick_end, PickedCase}, specs.CommandCases.{pick_statuses, NamesLate, pick_cases, Lacks, Needs}, proofs.FaultStatuses.{some-same, of-written, of-end, range-as, wider, least-status}, proofs.CaseShapes.{RecordCause, NeedMeets, PlanMeets}, proofs.PickPhotons.{late-ends, none-or-late, late-more, picked_end, end-late, end-in_time, in-settled, in-before, least-late, clear-front, all-end}, proofs.CaseSteps.{empty-true, empty-false, true-empty, false-empty, whole_answer, streamed-clear}}
+use Rattle.command_laws.{specs.Causes.StatusIn, specs.Cases.{NoneRefused, HasGroup, settled_photons, kept_photons, FirstLate, LateAtRecord, LateAtEnd, RefusedInTime, SettledInTime, AllPicked, pick_end, PickedCase}, specs.CommandCases.{pick_statuses, NamesLate, pick_cases, Lacks, Needs}, proofs.FaultStatuses.{some-same, of-written, of-end, range-as, wider, least-status}, proofs.CaseShapes.{Call, IsCut, IsRefused, IsLate, CallsBy, NeedMeets, PlanMeets}, proofs.PickPhotons.{late-ends, none-or-late, late-more, picked_end, end-late, end-in_time, in-settled, in-before, least-late, clear-front, all-end}, proofs.CaseSteps.{empty-true, empty-false, true-empty, false-empty, whole_answer, streamed-clear}}
 
 -- ## The records
 
@@ -137,30 +137,25 @@ no-some group view never = ap (unless_has group) (false-has group (length view.g
 
 -- ## What is told
 
-picked-cause : (group : ℕ) (view : PlanView) (header : Header) (behind : List ℕ) (end : Outcome) (fault : Fault) → PickedCase view group header behind end → end.fault ≡ Some fault → RecordCause (pick_cases group view) header behind fault
-picked-cause group view header behind end fault (inl h) e = inr (inr (inl (h.0, of-end end _ _ fault h.1 e)))
-picked-cause group view header behind end fault (inr (inl h)) e = inr (inl (subst (RefusedInTime view group header (words_of behind)) (sym (of-end end _ h.0 fault h.2 e)) h.1))
-picked-cause group view header behind end fault (inr (inr (inl h))) e = inl (h.0, h.1, of-end end _ _ fault h.2 e)
-picked-cause group view header behind end fault (inr (inr (inr (inl h)))) e = inr (inr (inr (h.0, of-end end _ _ fault h.1 e)))
+picked-cause : (group : ℕ) (view : PlanView) (header : Header) (behind : List ℕ) (end : Outcome) (fault : Fault) → PickedCase view group header behind end → end.fault ≡ Some fault
+    → (call : Call) × CallsBy call (pick_cases group view) header behind fault
+picked-cause group view header behind end fault (inl h) e = (IsLate, inl (h.0, of-end end _ _ fault h.1 e))
+picked-cause group view header behind end fault (inr (inl h)) e = (IsRefused, subst (RefusedInTime view group header (words_of behind)) (sym (of-end end _ h.0 fault h.2 e)) h.1)
+picked-cause group view header behind end fault (inr (inr (inl h))) e = (IsCut, (h.0, h.1, of-end end _ _ fault h.2 e))
+picked-cause group view header behind end fault (inr (inr (inr (inl h)))) e = (IsLate, inr (h.0, of-end end _ _ fault h.1 e))
 picked-cause group view header behind end fault (inr (inr (inr (inr h)))) e = absurd (of-written end _ fault h.1 e)
 
-module _ (group : ℕ) (view : PlanView) (header : Header) (behind : List ℕ) (fault : Fault) where
-  abbrev Ends : Type 0
-  Ends = (end : Outcome) × PickedCase view group header behind end × (end.fault ≡ Some fault)
+abbrev with_photons : Header → List Event → Fault → Outcome
+with_photons header photons further = pick_end header photons (Some further)
 
-  abbrev with_photons : List Event → Fault → Outcome
-  with_photons photons further = pick_end header photons (Some further)
-
-  names-ends : NamesLate group view header behind fault → Ends
-  names-ends (inl late) = (with_photons late.0.first.before fault, inl (late.0, ap (with_photons late.0.first.before) late.1), refl)
-  names-ends (inr late) = (with_photons late.0.first.before fault, inr (inr (inr (inl (late.0, ap (with_photons late.0.first.before) late.1)))), refl)
-
-  picked-ends : RecordCause (pick_cases group view) header behind fault → Ends
-  picked-ends (inl cut) =
-      let photons = settled_photons view group header (words_of behind) in
-      (with_photons photons fault, inr (inr (inl (cut.0, cut.1, ap (with_photons photons) cut.2))), refl)
-  picked-ends (inr (inl refusal)) = (with_photons (settled_photons view group header refusal.least.front) fault, inr (inl (fault, refusal, refl)), refl)
-  picked-ends (inr (inr late)) = names-ends late
+picked-ends : (group : ℕ) (view : PlanView) (call : Call) (header : Header) (behind : List ℕ) (fault : Fault) → CallsBy call (pick_cases group view) header behind fault
+    → (end : Outcome) × PickedCase view group header behind end × (end.fault ≡ Some fault)
+picked-ends group view IsCut header behind fault cut =
+    let photons = settled_photons view group header (words_of behind) in
+    (with_photons header photons fault, inr (inr (inl (cut.0, cut.1, ap (with_photons header photons) cut.2))), refl)
+picked-ends group view IsRefused header behind fault refusal = (with_photons header (settled_photons view group header refusal.least.front) fault, inr (inl (fault, refusal, refl)), refl)
+picked-ends group view IsLate header behind fault (inl late) = (with_photons header late.0.first.before fault, inl (late.0, ap (with_photons header late.0.first.before) late.1), refl)
+picked-ends group view IsLate header behind fault (inr late) = (with_photons header late.0.first.before fault, inr (inr (inr (inl (late.0, ap (with_photons header late.0.first.before) late.1)))), refl)
 
 names-status : (group : ℕ) (view : PlanView) (header : Header) (behind : List ℕ) (fault : Fault) → NamesLate group view header behind fault → StatusIn 24 24 fault
 names-status group view header behind fault (inl late) = range-as 24 24 fault (PickTime late.0.first.photon.place) late.1 (omega arith, omega arith)

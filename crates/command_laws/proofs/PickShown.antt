@@ -1,15 +1,15 @@
 -- The ends that bytes of FILE show by themselves to `pick`.
-use Rattle.std.proofs.Common.{◌≡◌, ◌≢◌, ◌∙◌, ℕ, List, [], ◌++◌, Bool, true, None, Some, Ok, Err, refl, sym, ap, inl, inr, append-nil, ◌⊎◌, Result}
+use Rattle.std.proofs.Common.{◌≡◌, ◌∙◌, ℕ, List, [], ◌++◌, Bool, None, Some, Ok, Err, refl, sym, ap, inl, inr, append-nil, ◌⊎◌, Result}
 use Rattle.std.specs.declared.option.Option.{Option}
-use Rattle.tally_base.{specs.declared.event.Event.Event, specs.declared.fault.Fault.Fault, specs.declared.fault.Fault.TheVariants.TruncatedHeader, specs.declared.header.Header.Header, specs.RecordTypes.mode_of}
-use Rattle.ptu_definitions.{specs.Headers.header_answer, specs.Prefixes.first, specs.Streams.{Reading, record_refusal}, specs.Words.{words_of, rest_of}, proofs.Stays.{refused-stays, headed-stays}, proofs.WordsLemmas.words_of-append}
+use Rattle.tally_base.{specs.declared.event.Event.Event, specs.declared.fault.Fault.Fault, specs.declared.header.Header.Header, specs.RecordTypes.mode_of}
+use Rattle.ptu_definitions.{specs.Prefixes.first, specs.Streams.{Reading, record_refusal}, specs.Words.{words_of, rest_of}, proofs.WordsLemmas.words_of-append}
 use Rattle.record_stream.proofs.Lasts.{streamed-shown}
 use Rattle.plan_text.{specs.Plan.PlanView, specs.Fits.fits}
 use Rattle.gate_plan.specs.Plans.{reading_by}
 use Rattle.photon_pick.{specs.Late.too_late, specs.Texts.{photons_in, late_or, refusal_in}}
-use Rattle.command_work.specs.Outcomes.{Outcome, ends_early}
+use Rattle.command_work.specs.Outcomes.{Outcome}
 use Rattle.pick_work.specs.PickOutcomes.{chosen_by, records_picked, picked_if_fits, picked_behind, goes_on_behind, picking}
-use Rattle.command_laws.{specs.Stays.GoesOnOrShows, specs.Cases.FirstLate, proofs.PickPhotons.{none-or-late, all_end, late-ends, picked_end, all-end, in-stays}}
+use Rattle.command_laws.{specs.Stays.GoesOnOrShows, specs.Cases.FirstLate, proofs.CaseSteps.fit, proofs.Shown.{OrStays, headed, suited}, proofs.PickPhotons.{none-or-late, all_end, late-ends, picked_end, all-end, in-stays}}
 
 module _ (chooses : Event → Bool) (how : Reading) (bytes : List ℕ) where
   abbrev photons : List Event
@@ -30,55 +30,28 @@ module _ (chooses : Event → Bool) (how : Reading) (bytes : List ℕ) where
           )
 
 module _ (group : ℕ) (view : PlanView) where
-  -- A fault is that of a header that is cut, or it isn't.
-  cut-or : (fault : Fault) → (ends_early fault ≡ true) ⊎ ((count : ℕ) → fault ≢ TruncatedHeader count)
-  cut-or (TruncatedHeader count) = inl refl
-  cut-or _ = inr (λ count e. cc)
-
   abbrev ends : Header → List ℕ → Result (Unit {0}) Fault → Outcome
   ends = picked_if_fits view group
 
-  -- behind a header
-  pick-goes : (header : Header) (behind : List ℕ)
-      → ((fits (mode_of header.record_type) view ≡ Ok tt) × (refusal_in (chosen_by view group) (reading_by view header) (words_of behind) ≡ None))
-      ⊎ ((more : List ℕ) → ends header (behind ++ more) (fits (mode_of header.record_type) view) ≡ ends header behind (fits (mode_of header.record_type) view))
-  pick-goes header behind = by (fits (mode_of header.record_type) view) refl
+  -- no photon is too late and no record is refused
+  abbrev Clear : Header → List ℕ → Type 0
+  Clear header behind = refusal_in (chosen_by view group) (reading_by view header) (words_of behind) ≡ None
+
+  clear-or : (header : Header) (behind : List ℕ) → OrStays (Clear header behind) (records_picked view group header) behind
+  clear-or header behind = by (refusal_in (chosen_by view group) (reading_by view header) (words_of behind)) refl
     where
-      fed : (o : Option Fault) → refusal_in (chosen_by view group) (reading_by view header) (words_of behind) ≡ o
-          → (refusal_in (chosen_by view group) (reading_by view header) (words_of behind) ≡ None) ⊎ ((more : List ℕ) → records_picked view group header (behind ++ more) ≡ records_picked view group header behind)
-      fed None e = inl e
-      fed (Some fault) e =
+      by : (o : Option Fault) → refusal_in (chosen_by view group) (reading_by view header) (words_of behind) ≡ o → OrStays (Clear header behind) (records_picked view group header) behind
+      by None e = inl e
+      by (Some fault) e =
           let stays = refusal-stays (chosen_by view group) (reading_by view header) behind fault e in
           inr (λ more. stays.1 more ∙ sym (ap (records_picked view group header) (sym (append-nil behind)) ∙ stays.1 []))
 
-      whole : fits (mode_of header.record_type) view ≡ Ok tt
-          → (refusal_in (chosen_by view group) (reading_by view header) (words_of behind) ≡ None) ⊎ ((more : List ℕ) → records_picked view group header (behind ++ more) ≡ records_picked view group header behind)
-          → ((fits (mode_of header.record_type) view ≡ Ok tt) × (refusal_in (chosen_by view group) (reading_by view header) (words_of behind) ≡ None))
-          ⊎ ((more : List ℕ) → ends header (behind ++ more) (fits (mode_of header.record_type) view) ≡ ends header behind (fits (mode_of header.record_type) view))
-      whole suits (inl none) = inl (suits, none)
-      whole suits (inr stays) = inr (λ more. ap (ends header (behind ++ more)) suits ∙ stays more ∙ sym (ap (ends header behind) suits))
+  fitting : (header : Header) (behind : List ℕ) → OrStays (Clear header behind) (records_picked view group header) behind → OrStays ((fit ≡ fit) × Clear header behind) (records_picked view group header) behind
+  fitting header behind (inl clear) = inl (refl, clear)
+  fitting header behind (inr stays) = inr stays
 
-      by : (r : Result (Unit {0}) Fault) → fits (mode_of header.record_type) view ≡ r
-          → ((fits (mode_of header.record_type) view ≡ Ok tt) × (refusal_in (chosen_by view group) (reading_by view header) (words_of behind) ≡ None))
-          ⊎ ((more : List ℕ) → ends header (behind ++ more) (fits (mode_of header.record_type) view) ≡ ends header behind (fits (mode_of header.record_type) view))
-      by (Err fault) e = inr (λ more. ap (ends header (behind ++ more)) e ∙ sym (ap (ends header behind) e))
-      by (Ok done) e = whole e (fed (refusal_in (chosen_by view group) (reading_by view header) (words_of behind)) refl)
+  pick-goes : (header : Header) (behind : List ℕ) → OrStays (goes_on_behind view group (Ok (header, behind))) (λ b. ends header b (fits (mode_of header.record_type) view)) behind
+  pick-goes header behind = suited (λ r. (r ≡ Ok tt) × Clear header behind) (ends header) behind (λ fault more. refl) (fitting header behind (clear-or header behind)) (fits (mode_of header.record_type) view)
 
   pub pick-shows : (bytes : List ℕ) → GoesOnOrShows (picking group view) bytes
-  pick-shows bytes = by (header_answer bytes) refl
-    where
-      found : (header : Header) (behind : List ℕ) → header_answer bytes ≡ Ok (header, behind)
-          → ((fits (mode_of header.record_type) view ≡ Ok tt) × (refusal_in (chosen_by view group) (reading_by view header) (words_of behind) ≡ None))
-          ⊎ ((more : List ℕ) → ends header (behind ++ more) (fits (mode_of header.record_type) view) ≡ ends header behind (fits (mode_of header.record_type) view))
-          → goes_on_behind view group (Ok (header, behind)) ⊎ ((more : List ℕ) → picked_behind view group (header_answer (bytes ++ more)) ≡ picked_behind view group (Ok (header, behind)))
-      found header behind e (inl goes) = inl goes
-      found header behind e (inr stays) = inr (λ more. ap (picked_behind view group) (headed-stays bytes more behind header e) ∙ stays more)
-
-      failed : (fault : Fault) → header_answer bytes ≡ Err fault → (ends_early fault ≡ true) ⊎ ((count : ℕ) → fault ≢ TruncatedHeader count)
-          → goes_on_behind view group (Err fault) ⊎ ((more : List ℕ) → picked_behind view group (header_answer (bytes ++ more)) ≡ picked_behind view group (Err fault))
-      failed fault e (inl cut) = inl cut
-      failed fault e (inr other) = inr (λ more. ap (picked_behind view group) (refused-stays bytes more fault e other))
-
-      by : (r : Result (Header × List ℕ) Fault) → header_answer bytes ≡ r → goes_on_behind view group r ⊎ ((more : List ℕ) → picked_behind view group (header_answer (bytes ++ more)) ≡ picked_behind view group r)
-      by (Ok it) e = found it.0 it.1 e (pick-goes it.0 it.1)
-      by (Err fault) e = failed fault e (cut-or fault)
+  pick-shows = headed (goes_on_behind view group) (picked_behind view group) (λ fault early. early) pick-goes

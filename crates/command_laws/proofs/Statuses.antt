@@ -4,8 +4,8 @@ use Rattle.std.{specs.declared.option.Option.Option, proofs.lemmas.Bool.{cases_l
 use Rattle.tally_base.{specs.declared.fault.Fault.Fault, specs.declared.slot.Slot.Slot, specs.Faults.status_of}
 use Rattle.bench_io.specs.Inputs.{File}
 use Rattle.ptu_cli.{specs.Runs.{Around, Runs}, specs.Behaviours.behaviour, specs.Commands.Request}
-use Rattle.command_work.{specs.Endings.{outcome, Reaches, RunsOut}, specs.Outcomes.status, specs.Behaviours.{Behaviour, Alone, OnFile, ByPlan}}
-use Rattle.command_laws.{specs.Causes.{MayCallFor, MayEndWith}, specs.CommandCases.{CommandCases, IsIn, cases, BadWords, Writes, ReadsHeader, ReadsRecords, ReadsByPlan}, proofs.CaseShapes.MeetsCases, proofs.Causes.may-call, proofs.Proved.told}
+use Rattle.command_work.{specs.Endings.{outcome, Reaches, RunsOut}, specs.Outcomes.status, specs.Behaviours.{Behaviour, NoCommand, Alone, OnFile, ByPlan}}
+use Rattle.command_laws.{specs.Causes.{MayCallFor, MayEndWith}, specs.CommandCases.{CommandCases, IsIn, cases, BadWords, Writes, ReadsHeader, ReadsRecords, ReadsByPlan}, proofs.CaseShapes.MeetsCases, proofs.Causes.{IsNoCommand, no-command, may-call}, proofs.Proved.told}
 
 abbrev OfFiles : Option Request → ℕ → Type 0
 OfFiles request result = (plan_file : File) × (data_file : File) × (result ≡ status (outcome (behaviour request) plan_file data_file).fault)
@@ -39,25 +39,27 @@ pub record Outside (does : Behaviour) (run : Around) (result : ℕ) : Type 0 whe
   pub unread : result ≡ 3 → (slot : Slot) × Reaches does run.before slot
   pub memory : result ≡ 5 → RunsOut does run.before run.after run.out_before run.out_after
 
-outside-in : (does : Behaviour) (shape : CommandCases) (run : Around) (result : ℕ) → MeetsCases does shape → Outside does run result → IsIn 2 5 result → MayEndWith shape result
-outside-in (Alone end) (Writes text) run result told h few = elim (cases_eq result 2) [
+outside-in : (does : Behaviour) (shape : CommandCases) (run : Around) (result : ℕ) → MeetsCases does shape → (IsNoCommand shape → ⊥) → Outside does run result → IsIn 2 5 result → MayEndWith shape result
+outside-in NoCommand BadWords run result told real h few = absurd (real tt)
+outside-in (Alone end) (Writes text) run result told real h few = elim (cases_eq result 2) [
   | inl two ↦ absurd (h.unopened two).1
   | inr not_two ↦ elim (cases_eq result 3) [
     | inl three ↦ absurd (h.unread three).1
     | inr not_three ↦ inr (omega (arith, few.0, not_two, not_three), few.1)
   ]
 ]
-outside-in (OnFile file writing work) ReadsHeader run result told h few = inr (inl (no-memory result few (λ five. h.memory five)))
-outside-in (OnFile file writing work) (ReadsRecords further records) run result told h few = inr (inl (no-memory result few (λ five. h.memory five)))
-outside-in (ByPlan plan_name file writing memory lacks work) (ReadsByPlan further need records) run result told h few = inr (inl (few.0, omega (arith, few.1)))
-outside-in does other run result told h few = absurd told
+outside-in (OnFile file writing work) ReadsHeader run result told real h few = inr (inl (no-memory result few (λ five. h.memory five)))
+outside-in (OnFile file writing work) (ReadsRecords further records) run result told real h few = inr (inl (no-memory result few (λ five. h.memory five)))
+outside-in (ByPlan plan_name file writing memory lacks work) (ReadsByPlan further need records) run result told real h few = inr (inl (few.0, omega (arith, few.1)))
+outside-in does other run result told real h few = absurd told
 
-no-fault : (does : Behaviour) (shape : CommandCases) → MeetsCases does shape → MayEndWith shape 0
-no-fault (Alone end) (Writes text) told = inl refl
-no-fault (OnFile file writing work) ReadsHeader told = inl refl
-no-fault (OnFile file writing work) (ReadsRecords further records) told = inl refl
-no-fault (ByPlan plan_name file writing memory lacks work) (ReadsByPlan further need records) told = inl refl
-no-fault does other told = absurd told
+no-fault : (does : Behaviour) (shape : CommandCases) → MeetsCases does shape → (IsNoCommand shape → ⊥) → MayEndWith shape 0
+no-fault NoCommand BadWords told real = absurd (real tt)
+no-fault (Alone end) (Writes text) told real = inl refl
+no-fault (OnFile file writing work) ReadsHeader told real = inl refl
+no-fault (OnFile file writing work) (ReadsRecords further records) told real = inl refl
+no-fault (ByPlan plan_name file writing memory lacks work) (ReadsByPlan further need records) told real = inl refl
+no-fault does other told real = absurd told
 
 called-end : (shape : CommandCases) (fault : Fault) → MayCallFor shape fault → MayEndWith shape (status_of fault)
 called-end BadWords fault h = ap status_of h
@@ -71,11 +73,14 @@ called-end (ReadsByPlan further need records) fault (inl s) = inr (inl (s.0, ome
 called-end (ReadsByPlan further need records) fault (inr (inl s)) = inr (inl (omega (arith, s.0), s.1))
 called-end (ReadsByPlan further need records) fault (inr (inr s)) = inr (inr s)
 
+a-command : (request : Request) → IsNoCommand (cases (Some request)) → ⊥
+a-command request none = let e = no-command (Some request) none in cc
+
 of-files : (request : Request) (result : ℕ) → OfFiles (Some request) result → MayEndWith (cases (Some request)) result
 of-files request result it = subst (MayEndWith (cases (Some request))) (sym it.2) (by (outcome (behaviour (Some request)) it.0 it.1).fault refl)
   where
     by : (o : Option Fault) → (outcome (behaviour (Some request)) it.0 it.1).fault ≡ o → MayEndWith (cases (Some request)) (status o)
-    by None none = no-fault (behaviour (Some request)) (cases (Some request)) (told request)
+    by None none = no-fault (behaviour (Some request)) (cases (Some request)) (told (Some request)) (a-command request)
     by (Some fault) is = called-end (cases (Some request)) fault (may-call (Some request) it.0 it.1 fault is)
 
 pub run-ends : (request : Option Request) (run : Around) (result : ℕ) → Runs request run result → MayEndWith (cases request) result
@@ -90,5 +95,5 @@ run-ends (Some request) run result h = by (ends-in (Some request) run result h)
     }
 
     by : IsIn 2 5 result ⊎ OfFiles (Some request) result → MayEndWith (cases (Some request)) result
-    by (inl few) = outside-in (behaviour (Some request)) (cases (Some request)) run result (told request) outside few
+    by (inl few) = outside-in (behaviour (Some request)) (cases (Some request)) run result (told (Some request)) (a-command request) outside few
     by (inr it) = of-files request result it

@@ -82,20 +82,19 @@ pub record PrintCase (bytes : List ℕ) (end : Outcome) : Type 0 where
 
 -- ## events
 
--- The lines are those of the events before the least record that is refused.
-pub record RefusedLines (how : Reading) (words : List ℕ) (end : Outcome) : Type 0 where
-  pub fault : Fault
-  pub least : IsFirst how fault [] words
-  pub end_is : end ≡ record { text = events_text (events_in how least.front); fault = Some fault }
+-- The end of a stream that is read so: at the least record that is refused, with the text of those before it; at one that is cut, with that of all whole ones; or well, with the whole text.
+abbrev pub StreamCase : Reading → (List ℕ → List ℕ) → List ℕ → List ℕ → Outcome → Type 0
+StreamCase how text_of whole_text behind end =
+    ((fault : Fault) × (least : IsFirst how fault [] (words_of behind)) × (end ≡ record { text = text_of least.front; fault = Some fault }))
+    ⊎ ((NoneRefused how (words_of behind) × (rest_of behind ≢ []) × (end ≡ record { text = text_of (words_of behind); fault = Some (TruncatedRecord (length (rest_of behind))) }))
+    ⊎ (NoneRefused how (words_of behind) × (rest_of behind ≡ []) × (end ≡ written whole_text)))
 
--- the fault of bytes that are left over
-abbrev pub LeftOver : List ℕ → Option Fault → Type 0
-LeftOver rest fault = ((rest ≢ []) × (fault ≡ Some (TruncatedRecord (length rest)))) ⊎ ((rest ≡ []) × (fault ≡ None))
+-- the lines of the events of these words
+abbrev pub list_text : Header → List ℕ → List ℕ
+list_text header words = events_text (events_in (listing header) words)
 
 abbrev pub ListCase : Header → List ℕ → Outcome → Type 0
-ListCase header behind end =
-    RefusedLines (listing header) (words_of behind) end
-    ⊎ (NoneRefused (listing header) (words_of behind) × (end.text ≡ events_text (events_in (listing header) (words_of behind))) × LeftOver (rest_of behind) end.fault)
+ListCase header behind = StreamCase (listing header) (list_text header) (list_text header (words_of behind)) behind
 
 -- ## run
 
@@ -128,30 +127,19 @@ words_report view header words =
     let how = reading_by view header in
     report_by_places header (summary_of how.policy.settle how.mode (map how.meaning words) (events (map how.meaning words))) (with_events (parts_of view) (history (sorting view) how words))
 
--- The least record that is refused ends the run. Where none is the report is written, unless a record is cut.
-abbrev pub StreamCase : PlanView → Header → List ℕ → Outcome → Type 0
-StreamCase view header behind end =
-    ((fault : Fault) × IsFirst (reading_by view header) fault [] (words_of behind) × (end ≡ refused fault))
-    ⊎ (NoneRefused (reading_by view header) (words_of behind) × WholeCase behind (words_report view header (words_of behind)) end)
+-- The report is written at a good end only.
+abbrev pub ReportCase : PlanView → Header → List ℕ → Outcome → Type 0
+ReportCase view header behind = StreamCase (reading_by view header) (λ words. []) (words_report view header (words_of behind)) behind
 
 -- ## trace
 
--- The trace ends at the least record that is refused, with what the records before it have settled.
-pub record RefusedTrace (set : TraceView) (view : PlanView) (header : Header) (words : List ℕ) (end : Outcome) : Type 0 where
-  pub fault : Fault
-  pub least : IsFirst (reading_by view header) fault [] words
-  pub end_is : end ≡ record { text = open_text set (settled_history (sorting view) (reading_by view header) least.front); fault = Some fault }
-
--- The same of bytes of a record that is cut. Where there are none the whole trace is written.
-abbrev pub WholeTrace : TraceView → PlanView → Header → List ℕ → Outcome → Type 0
-WholeTrace set view header behind end =
-    ((rest_of behind ≢ []) × (end ≡ record { text = open_text set (settled_history (sorting view) (reading_by view header) (words_of behind)); fault = Some (TruncatedRecord (length (rest_of behind))) }))
-    ⊎ ((rest_of behind ≡ []) × (end ≡ written (whole_text set (history (sorting view) (reading_by view header) (words_of behind)))))
+-- the lines of what these words have settled
+abbrev pub trace_text : TraceView → PlanView → Header → List ℕ → List ℕ
+trace_text set view header words = open_text set (settled_history (sorting view) (reading_by view header) words)
 
 abbrev pub TraceCase : TraceView → PlanView → Header → List ℕ → Outcome → Type 0
-TraceCase set view header behind end =
-    RefusedTrace set view header (words_of behind) end
-    ⊎ (NoneRefused (reading_by view header) (words_of behind) × WholeTrace set view header behind end)
+TraceCase set view header behind =
+    StreamCase (reading_by view header) (trace_text set view header) (whole_text set (history (sorting view) (reading_by view header) (words_of behind))) behind
 
 -- A plan has a trace.
 abbrev pub HasTrace : PlanView → Type 0

@@ -75,17 +75,19 @@ NoHeader ReadsHeader plan_file data_file fault = Unheaded data_file fault
 NoHeader (ReadsRecords further records) plan_file data_file fault = Unheaded data_file fault
 NoHeader (ReadsByPlan further need records) plan_file data_file fault = (view : PlanView) × IsPlanWith need plan_file view × Unheaded data_file fault
 
+-- The records of FILE call for this, of a command that reads them: by a plan that suits FILE, where there is one.
+abbrev pub OfRecords : (RecordCases → Header → List ℕ → Fault → Type 0) → CommandCases → File → File → Fault → Type 0
+OfRecords calls (ReadsRecords further records) plan_file data_file fault = InRecords (λ header behind. calls records header behind fault) data_file
+OfRecords calls (ReadsByPlan further need records) plan_file data_file fault = ByPlanIn need (λ view header behind. Suits view header × calls (records view) header behind fault) plan_file data_file
+OfRecords calls other plan_file data_file fault = ⊥
+
 -- 17: FILE ends within a record, and no whole record ends the run
 abbrev pub Cut : CommandCases → File → File → Fault → Type 0
-Cut (ReadsRecords further records) plan_file data_file fault = InRecords (λ header behind. EndsCut records header behind fault) data_file
-Cut (ReadsByPlan further need records) plan_file data_file fault = ByPlanIn need (λ view header behind. Suits view header × EndsCut (records view) header behind fault) plan_file data_file
-Cut other plan_file data_file fault = ⊥
+Cut = OfRecords EndsCut
 
 -- 18 to 21: a record of FILE is refused, and nothing before it ends the run
 abbrev pub Refused : CommandCases → File → File → Fault → Type 0
-Refused (ReadsRecords further records) plan_file data_file fault = InRecords (λ header behind. records.refuses header behind fault) data_file
-Refused (ReadsByPlan further need records) plan_file data_file fault = ByPlanIn need (λ view header behind. Suits view header × (records view).refuses header behind fault) plan_file data_file
-Refused other plan_file data_file fault = ⊥
+Refused = OfRecords (λ records. records.refuses)
 
 -- 22 and 23: the plan lacks what the command needs
 abbrev pub Lacking : CommandCases → File → Fault → Type 0
@@ -94,9 +96,7 @@ Lacking other plan_file fault = ⊥
 
 -- 24: a photon is too late to be written
 abbrev pub TooLate : CommandCases → File → File → Fault → Type 0
-TooLate (ReadsRecords further records) plan_file data_file fault = InRecords (λ header behind. records.too_late_for header behind fault) data_file
-TooLate (ReadsByPlan further need records) plan_file data_file fault = ByPlanIn need (λ view header behind. Suits view header × (records view).too_late_for header behind fault) plan_file data_file
-TooLate other plan_file data_file fault = ⊥
+TooLate = OfRecords (λ records. records.too_late_for)
 
 -- The plan has the group and suits FILE, whose records are whole and of which none is refused.
 abbrev pub IsPickable : ℕ → File → File → Type 0

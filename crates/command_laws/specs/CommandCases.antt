@@ -12,7 +12,7 @@ use Rattle.ptu_cli.{specs.Commands.{Request, Count, Events, Run, Trace, Pick, De
 use Rattle.report_work.specs.Demo.{demo_plan}
 use Rattle.command_work.specs.Outcomes.{Outcome, refused, written}
 use Rattle.file_work.specs.FileOutcomes.{listing}
-use Rattle.command_laws.specs.Cases.{FileCase, HeaderCase, NoneRefused, CountCase, PrintCase, ListCase, words_report, StreamCase, HasTrace, TracedCase, HasGroup, LateAtRecord, LateAtEnd, SettledInTime, RefusedInTime, PickedCase}
+use Rattle.command_laws.specs.Cases.{FileCase, HeaderCase, NoneRefused, CountCase, PrintCase, ListCase, words_report, ReportCase, HasTrace, TracedCase, HasGroup, LateAtRecord, LateAtEnd, SettledInTime, RefusedInTime, PickedCase}
 
 -- How a command ends by the records behind a header that suits it. That the four agree is what the laws `one_outcome` and `exactly_where` say.
 pub record RecordCases : Type 1 where
@@ -78,7 +78,7 @@ abbrev pub events_cases : RecordCases
 events_cases = stream_cases listing ListCase
 
 abbrev pub run_cases : PlanView → RecordCases
-run_cases view = stream_cases (reading_by view) (StreamCase view)
+run_cases view = stream_cases (reading_by view) (ReportCase view)
 
 abbrev pub trace_cases : PlanView → RecordCases
 trace_cases view = stream_cases (reading_by view) (TracedCase view)
