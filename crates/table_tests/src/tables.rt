@@ -1,5 +1,5 @@
 // What tables of each kind count of known events, where memory is had.
-use crate::given::{Given, close, events_of, give, parts_of, plan_of, same};
+use crate::given::{Given, close, events_of, give, halves, plan_of, same};
 use crate::rows::ROWS;
 use coincidence::{Coincidence, StartStop};
 use count_trace::Trace;
@@ -161,7 +161,9 @@ fn told(alloc: Global, counts: &[u128]) -> Result<String, Fail> {
 fn tables_count_known_events(rt: HostRuntime) -> Result<(), Fail> {
     let alloc = rt.alloc();
     for line in ROWS.lines() {
-        let (name, text, events, wanted) = parts_of(line)?;
+        let (name, rest) = halves(line);
+        let (text, rest) = halves(rest);
+        let (events, wanted) = halves(rest);
         let plan = plan_of(alloc, text)?;
         let counts = counts_of(alloc, &plan, &events_of(alloc, events)?)?;
         same(name, &told(alloc, &counts)?, wanted)?;
