@@ -133,7 +133,14 @@ fn counts_of(alloc: Global, plan: &Plan, events: &[Given]) -> Counts {
         startstop(alloc, *set, events)
     } else if let Some(set) = plan.coincidences.first() {
         coincidence(alloc, *set, events)
-    } else if let Some(set) = plan.images.first() {
+    } else {
+        other_counts_of(alloc, plan, events)
+    }
+}
+
+/// What the image, the correlation, the cube or the fold of a plan counts of events.
+fn other_counts_of(alloc: Global, plan: &Plan, events: &[Given]) -> Counts {
+    if let Some(set) = plan.images.first() {
         image(alloc, *set, events)
     } else if let Some(set) = plan.correlations.first() {
         correlation(alloc, *set, events)
