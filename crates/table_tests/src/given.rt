@@ -22,17 +22,26 @@ pub(crate) fn number(word: &str, at: usize, default: u64) -> Result<u64, Fail> {
     }
 }
 
+/// What a photon's word tells behind its time: its dtime and its groups.
+fn photon_of(word: &str) -> Result<(EventKind, u64), Fail> {
+    let dtime = u16::try_from(number(word, 2, 9)?)?;
+    Ok((EventKind::Photon { input: 1, dtime }, number(word, 1, 1)?))
+}
+
+/// What a marker's word tells behind its time: its bits, and its groups.
+fn marker_of(word: &str) -> Result<(EventKind, u64), Fail> {
+    let bits = u8::try_from(number(word, 1, 0)?)?;
+    Ok((EventKind::Marker { bits }, number(word, 2, u64::MAX)?))
+}
+
 /// The event of a word: `5:3:9` is a photon at 5 of the groups 1 and 2 with the dtime 9, and `m5:3` a marker with the
 /// bits 1 and 2, were it in all groups.
 fn event_of(word: &str) -> Result<Given, Fail> {
-    if let Some(marker) = word.strip_prefix('m') {
-        let bits = u8::try_from(number(marker, 1, 0)?)?;
-        let groups = number(marker, 2, u64::MAX)?;
-        return Ok((number(marker, 0, 0)?, EventKind::Marker { bits }, groups));
-    }
-    let dtime = u16::try_from(number(word, 2, 9)?)?;
-    let kind = EventKind::Photon { input: 1, dtime };
-    Ok((number(word, 0, 0)?, kind, number(word, 1, 1)?))
+    let (word, (kind, groups)) = match word.strip_prefix('m') {
+        Some(marker) => (marker, marker_of(marker)?),
+        None => (word, photon_of(word)?),
+    };
+    Ok((number(word, 0, 0)?, kind, groups))
 }
 
 /// Puts the event of a word behind others, as `3*5` three times.
@@ -139,11 +148,7 @@ pub(crate) fn holds(right: bool, what: &str) -> Result<(), Fail> {
     Err(Fail::new(what))
 }
 
-/// The four parts of a line, which have bars between.
-pub(crate) fn parts_of(line: &str) -> Result<(&str, &str, &str, &str), Fail> {
-    let mut parts = line.split(" | ");
-    match (parts.next(), parts.next(), parts.next(), parts.next()) {
-        (Some(name), Some(plan), Some(events), Some(wanted)) => Ok((name, plan, events, wanted)),
-        _ => Err(Fail::new("a line has too few parts")),
-    }
+/// What stands before the first bar of a line, and behind it.
+pub(crate) fn halves(line: &str) -> (&str, &str) {
+    line.split_once(" | ").unwrap_or((line, ""))
 }

@@ -1,5 +1,5 @@
 // The groups of known events: the tests of `gate_plan`.
-use crate::given::{holds, number, parts_of, plan_of};
+use crate::given::{halves, holds, number, plan_of};
 use crate::plans::plan_in;
 use crate::rows::GROUPS;
 use gate_plan::Gates;
@@ -30,11 +30,14 @@ fn groups_of(gates: &Gates, word: &str) -> Result<u64, Fail> {
 #[test]
 fn groups_of_events(rt: HostRuntime) -> Result<(), Fail> {
     for line in GROUPS.lines() {
-        let (name, text, events, groups) = parts_of(line)?;
+        let (name, rest) = halves(line);
+        let (text, rest) = halves(rest);
+        let (events, groups) = halves(rest);
+        let wanted = groups.parse::<u64>()?;
         let plan = plan_in(rt.alloc(), text)?;
         let gates = Gates::of(&plan);
         for word in events.split_whitespace() {
-            holds(groups_of(&gates, word)? == groups.parse::<u64>()?, name)?;
+            holds(groups_of(&gates, word)? == wanted, name)?;
         }
     }
     Ok(())

@@ -1,5 +1,5 @@
 // Places of photons behind known markers: the test of `marker_map`.
-use crate::given::{Given, events_of, parts_of, plan_of, same};
+use crate::given::{Given, events_of, halves, holds, plan_of, same};
 use crate::rows::PLACES;
 use marker_map::Lines;
 use std::alloc::Global;
@@ -41,7 +41,10 @@ fn told(alloc: Global, place: Option<(u32, u32)>) -> Result<String, Fail> {
 fn each_photon_has_its_place(rt: HostRuntime) -> Result<(), Fail> {
     let alloc = rt.alloc();
     for line in PLACES.lines() {
-        let (name, text, markers, photons) = parts_of(line)?;
+        let (name, rest) = halves(line);
+        let (text, rest) = halves(rest);
+        let (markers, photons) = halves(rest);
+        holds(photons.contains('='), name)?;
         let plan = plan_of(alloc, text)?;
         let markers = events_of(alloc, markers)?;
         for photon in photons.split_whitespace() {

@@ -1,5 +1,5 @@
 // What plans say: the test of `plan_text`.
-use crate::given::same;
+use crate::given::{halves, same};
 use crate::rows::PLANS;
 use plan_text::{Plan, read_plan};
 use std::alloc::Global;
@@ -56,9 +56,7 @@ fn told(alloc: Global, plan: &Plan) -> Result<String, Fail> {
 #[test]
 fn plans_say_what_is_written(rt: HostRuntime) -> Result<(), Fail> {
     for line in PLANS.lines() {
-        let Some((text, wanted)) = line.split_once(" | ") else {
-            return Err(Fail::new("a line has too few parts"));
-        };
+        let (text, wanted) = halves(line);
         let plan = plan_in(rt.alloc(), text)?;
         same(text, &told(rt.alloc(), &plan)?, wanted)?;
     }

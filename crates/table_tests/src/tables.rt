@@ -1,5 +1,5 @@
 // What tables of each kind count of known events, where memory is had.
-use crate::given::{Given, close, events_of, give, parts_of, plan_of, same};
+use crate::given::{Given, close, events_of, give, halves, plan_of, same};
 use crate::rows::ROWS;
 use coincidence::{Coincidence, StartStop};
 use count_trace::Trace;
@@ -133,7 +133,14 @@ fn counts_of(alloc: Global, plan: &Plan, events: &[Given]) -> Counts {
         startstop(alloc, *set, events)
     } else if let Some(set) = plan.coincidences.first() {
         coincidence(alloc, *set, events)
-    } else if let Some(set) = plan.images.first() {
+    } else {
+        other_counts_of(alloc, plan, events)
+    }
+}
+
+/// What the image, the correlation, the cube or the fold of a plan counts of events.
+fn other_counts_of(alloc: Global, plan: &Plan, events: &[Given]) -> Counts {
+    if let Some(set) = plan.images.first() {
         image(alloc, *set, events)
     } else if let Some(set) = plan.correlations.first() {
         correlation(alloc, *set, events)
@@ -161,7 +168,9 @@ fn told(alloc: Global, counts: &[u128]) -> Result<String, Fail> {
 fn tables_count_known_events(rt: HostRuntime) -> Result<(), Fail> {
     let alloc = rt.alloc();
     for line in ROWS.lines() {
-        let (name, text, events, wanted) = parts_of(line)?;
+        let (name, rest) = halves(line);
+        let (text, rest) = halves(rest);
+        let (events, wanted) = halves(rest);
         let plan = plan_of(alloc, text)?;
         let counts = counts_of(alloc, &plan, &events_of(alloc, events)?)?;
         same(name, &told(alloc, &counts)?, wanted)?;
