@@ -9,7 +9,8 @@ use Rattle.plan_text.{specs.Plan.{PlanView, plan}, proofs.Called.valid, specs.Re
 use Rattle.photon_pick.{specs.Late.too_late, proofs.CanBeWritten.written-can}
 use Rattle.command_work.{specs.Endings.outcome, specs.Outcomes.{Outcome, refused, written}, specs.Behaviours.{Behaviour, NoCommand, Alone, OnFile, ByPlan}}
 use Rattle.file_work.specs.FileOutcomes.{header_outcome}
-use Rattle.ptu_cli.{specs.Behaviours.behaviour, specs.Commands.{Request, Pick, Events}}
+use Rattle.ptu_cli.specs.Behaviours.{behaviour}
+use Rattle.command_words.specs.Commands.{Request, Pick, Events}
 use Rattle.pick_work.specs.PickOutcomes.{records_picked}
 use Rattle.command_laws.{specs.Causes.{OfRecords, IsValidPlan, Headed, Unheaded, IsPlanWith, Absent, NoPlan, Misfits, NoHeader, Lacking, TooLate, IsPickable, EndsWithFault, StatusIn, MayCallFor}, specs.Cases.{FileCase, HeaderCase, PrintCase, HasGroup, settled_photons, kept_photons, FirstLate, LateAtEnd, AllPicked, PickedCase}, specs.CommandCases.{RecordCases, Need, CommandCases, NamesLate, pick_cases, cases, Lacks, Has, Suits, SuitCase, NeedCase, PlanCase, ShapeCase, Needs, BadWords, Writes, ReadsHeader, ReadsRecords, ReadsByPlan}, proofs.FaultStatuses.{some-same, of-refused, of-written, range-as, wider, called-status, misfit-status, unheaded-status, cut_behind-status}, proofs.CaseShapes.{Call, IsCut, IsRefused, IsLate, CallsBy, RecordsMeet, MeetsCases}, proofs.Prints.print-holds, proofs.PickPhotons.none-or-late, proofs.PickCases.{first-settled, picked-holds}, proofs.Proved.{told, one-outcome}, proofs.PickedFiles.listed-picked, specs.Written.photons_written}
 use Rattle.gate_plan.specs.Shifting.{sorting}

@@ -1,7 +1,8 @@
 -- `demo` as a run of its files.
 use Rattle.std.proofs.Common.{◌≡◌, ◌≤◌, ℕ, List, None, Some, refl}
 use Rattle.ptu_made.{specs.Generator.photon_limit, specs.MadeFile.made_file}
-use Rattle.ptu_cli.{specs.Commands.{Run, Demo}, specs.Behaviours.behaviour}
+use Rattle.command_words.specs.Commands.{Run, Demo}
+use Rattle.ptu_cli.specs.Behaviours.{behaviour}
 use Rattle.report_work.{specs.Demo.demo_text, proofs.Demos.{demo-plan, made-report}}
 use Rattle.command_work.specs.Endings.{outcome}
 

@@ -5,7 +5,8 @@ use Rattle.ptu_definitions.{specs.Counted.record_limit, specs.Streams.streamed}
 use Rattle.short_file.{specs.ShortFiles.{short_file, bytes_in}, proofs.ShortHeaders.short-answer, proofs.WordBytes.{words_of-bytes_in, rest_of-bytes_in}}
 use Rattle.record_write.{specs.Picked.{CanBePicked, picked_words, picked_file, picked_events}, proofs.ReadBack.{small-words, unrefused, given-events}}
 use Rattle.list_out.specs.EventText.{events_text}
-use Rattle.ptu_cli.{specs.Commands.Events, specs.Behaviours.behaviour}
+use Rattle.command_words.specs.Commands.{Events}
+use Rattle.ptu_cli.specs.Behaviours.{behaviour}
 use Rattle.command_work.{specs.Outcomes.written, specs.Endings.outcome}
 use Rattle.file_work.specs.FileOutcomes.{listing_policy}
 

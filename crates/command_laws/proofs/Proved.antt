@@ -3,7 +3,8 @@ use Rattle.std.proofs.Common.{None, Some, refl, ap, subst, ◌≡◌, ◌↔◌}
 use Rattle.std.specs.declared.option.Option.{Option}
 use Rattle.bench_io.specs.Inputs.{File}
 use Rattle.command_work.{specs.Endings.outcome, specs.Outcomes.{Outcome, written}}
-use Rattle.ptu_cli.{specs.Behaviours.behaviour, specs.Commands.{Request, Count, Events, Run, Trace, Pick, Demo}, specs.Commands.Header as HeaderOf}
+use Rattle.ptu_cli.specs.Behaviours.{behaviour}
+use Rattle.command_words.specs.Commands.{Request, Count, Events, Run, Trace, Pick, Demo, Header as HeaderOf}
 use Rattle.command_laws.{specs.Stays.EndsStay, specs.CommandCases.{cases, IsOutcome}, proofs.CaseShapes.{MeetsCases, told-holds, told-only}, proofs.Shown.{count-shows, print-shows, list-shows, report-shows, trace-shows}, proofs.PickShown.pick-shows, proofs.PickCases.pick-told, proofs.Cases.{count-told, events-told, run-told, trace-told, demo-same}}
 
 -- It ends as the cases of its shape call for.

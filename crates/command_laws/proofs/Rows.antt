@@ -4,7 +4,8 @@ use Rattle.tally_base.{specs.declared.slot.Slot.TheVariants.Data, specs.declared
 use Rattle.ptu_definitions.{specs.TagFields.{name_in, code_in, value_in, has_body, is_known}, specs.Endings.{walk, ending}, specs.Fields.{value_under, found_in, header_of}, specs.Headers.header_answer, specs.Layouts.hydra_t3, specs.Counted.{counted, records_of}, specs.Seen.{seen, seen_preamble}}
 use Rattle.list_out.specs.HeaderText.{shown_text, header_text}
 use Rattle.file_work.specs.CountText.{counts_text}
-use Rattle.ptu_cli.{specs.Commands.{Count, Header, Events, Run, Trace, Pick, Demo, number_in, request_of}, specs.Behaviours.behaviour}
+use Rattle.command_words.specs.Commands.{Count, Header, Events, Run, Trace, Pick, Demo, number_in, request_of}
+use Rattle.ptu_cli.specs.Behaviours.{behaviour}
 use Rattle.command_work.specs.Endings.{outcome}
 
 abbrev known : List ℕ

@@ -3,7 +3,8 @@ use Rattle.std.proofs.Common.{◌≡◌, ℕ, None, Some, refl, sym, ap, subst, 
 use Rattle.std.{specs.declared.option.Option.Option, proofs.lemmas.Bool.{cases_lt, cases_eq}}
 use Rattle.tally_base.{specs.declared.fault.Fault.Fault, specs.declared.slot.Slot.Slot, specs.Faults.status_of}
 use Rattle.bench_io.specs.Inputs.{File}
-use Rattle.ptu_cli.{specs.Runs.{Around, Runs}, specs.Behaviours.behaviour, specs.Commands.Request}
+use Rattle.ptu_cli.{specs.Runs.{Around, Runs}, specs.Behaviours.behaviour}
+use Rattle.command_words.specs.Commands.{Request}
 use Rattle.command_work.{specs.Endings.{outcome, Reaches, RunsOut}, specs.Outcomes.status, specs.Behaviours.{Behaviour, NoCommand, Alone, OnFile, ByPlan}}
 use Rattle.command_laws.{specs.Causes.{MayCallFor, MayEndWith}, specs.CommandCases.{CommandCases, IsIn, cases, BadWords, Writes, ReadsHeader, ReadsRecords, ReadsByPlan}, proofs.CaseShapes.MeetsCases, proofs.Causes.{IsNoCommand, no-command, may-call}, proofs.Proved.told}
 

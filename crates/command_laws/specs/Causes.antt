@@ -7,7 +7,8 @@ use Rattle.bench_io.specs.Inputs.{File}
 use Rattle.ptu_definitions.{specs.Headers.HasAnswer, specs.Words.{words_of, rest_of}}
 use Rattle.plan_text.{specs.Plan.{PlanView, plan}, specs.Reading.{document, IsValid, IsCalledFor}, specs.Fits.IsMisfit}
 use Rattle.gate_plan.specs.Plans.{reading_by}
-use Rattle.ptu_cli.{specs.Commands.Request, specs.Behaviours.behaviour}
+use Rattle.command_words.specs.Commands.{Request}
+use Rattle.ptu_cli.specs.Behaviours.{behaviour}
 use Rattle.command_work.specs.Endings.{outcome}
 use Rattle.command_laws.{specs.Cases.{NoneRefused, HasGroup}, specs.CommandCases.{RecordCases, Need, CommandCases, BadWords, Writes, ReadsHeader, ReadsRecords, ReadsByPlan, IsIn, Has, Lacks, Suits}}
 

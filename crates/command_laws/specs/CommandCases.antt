@@ -8,7 +8,7 @@ use Rattle.ptu_definitions.{specs.Words.words_of, specs.Counted.record_limit, sp
 use Rattle.plan_text.{specs.Plan.{PlanView, plan}, specs.Reading.{document, IsValid, IsCalledFor}, specs.Fits.IsMisfit}
 use Rattle.gate_plan.specs.Plans.{reading_by}
 use Rattle.ptu_made.{specs.Generator.made_words, specs.Records.made_header}
-use Rattle.ptu_cli.{specs.Commands.{Request, Count, Events, Run, Trace, Pick, Demo}, specs.Commands.Header as HeaderOf}
+use Rattle.command_words.specs.Commands.{Request, Count, Events, Run, Trace, Pick, Demo, Header as HeaderOf}
 use Rattle.report_work.specs.Demo.{demo_plan}
 use Rattle.command_work.specs.Outcomes.{Outcome, refused, written}
 use Rattle.file_work.specs.FileOutcomes.{listing}

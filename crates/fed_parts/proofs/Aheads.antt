@@ -1,5 +1,5 @@
 -- How far a stream is with one event more, and with none that waits.
-use Rattle.std.proofs.Common.{◌≡◌, ◌∙◌, ◌+◌, ℕ, List, [], ◌∷◌, ◌++◌, Bool, true, false, ap, refl, length, arith, ◌&&◌, not, if◌then◌else◌}
+use Rattle.std.proofs.Common.{◌≡◌, ◌∙◌, ℕ, List, [], ◌∷◌, ◌++◌, Bool, true, false, ap, refl, length, arith, ◌&&◌, not, if◌then◌else◌}
 use Rattle.tally_base.{specs.declared.event.Event.Event, specs.declared.header.Mode.Mode, specs.Events.is_ordered, specs.declared.block.Block.Block, specs.Floors.floor_after, proofs.Floors.floor-push}
 use Rattle.fed_parts.{specs.declared.reached.Reached.Reached, specs.Ahead.{floor_with, IsAt, NoneWaits}}
 use Rattle.abs_time.{specs.Floors.orders_markers, proofs.Floors.moves_by}

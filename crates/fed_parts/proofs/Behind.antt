@@ -1,5 +1,5 @@
 -- A block more for all tables, behind events that wait.
-use Rattle.std.proofs.Common.{◌≡◌, ◌+◌, List, [], ◌++◌, sym, ◌∙◌, append-nil, arith, length-append}
+use Rattle.std.proofs.Common.{◌≡◌, List, [], ◌++◌, sym, ◌∙◌, append-nil, arith, length-append}
 use Rattle.tally_base.{specs.declared.event.Event.Event, specs.declared.tally.Tally.Ghosts, specs.Settings.is_strict, proofs.Floors.{floor-append, order-parts}}
 use Rattle.gate_plan.{specs.Shifting.Sorting, specs.Histories.with_groups}
 use Rattle.fed_parts.{specs.Give.Moves, specs.Tables.{MayTake, HasTaken}}

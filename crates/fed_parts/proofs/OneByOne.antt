@@ -1,5 +1,5 @@
 -- Tables that are given something one by one.
-use Rattle.std.proofs.Common.{◌≡◌, ◌+◌, ◌≤◌, ◌<◌, ℕ, zero, suc, List, [], ◌∷◌, refl, arith, length, get_or, set, ◌⊎◌, ⊎_elim}
+use Rattle.std.proofs.Common.{◌≡◌, ◌+◌, ◌≤◌, ◌<◌, ℕ, zero, suc, List, [], ◌∷◌, refl, arith, length, get_or, set, ⊎_elim}
 use Rattle.std.{proofs.lemmas.Grind.common_steps, proofs.lemmas.List.get_or-set_same}
 use Rattle.gate_plan.proofs.Sorts.{other, last_or}
 

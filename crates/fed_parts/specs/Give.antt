@@ -1,5 +1,5 @@
 -- What events, and the end, do to a table of any kind.
-use Rattle.std.specs.Prelude.{◌≡◌, ℕ, ◌+◌, ◌<◌, ◌≤◌, Bool, true, false, List, [], ◌∷◌, ◌++◌, length, slice_index_or}
+use Rattle.std.specs.Prelude.{◌≡◌, ℕ, ◌+◌, ◌<◌, Bool, true, false, List, [], ◌∷◌, ◌++◌, length, slice_index_or}
 use Rattle.tally_base.{specs.declared.event.Event.Event, specs.declared.tally.Tally.Ghosts, specs.Settings.is_strict, specs.Tally.History, specs.Floors.{floor_after, InOrder}}
 use Rattle.gate_plan.{specs.Shifting.Sorting, specs.Histories.with_groups}
 

@@ -6,8 +6,8 @@ ghost use Rattle.file_work.specs.CountText.{counts_text};
 
 use arrayvec::ArrayVec;
 use bench_io::{Sink, write_all};
-use record_layout::KindCounts;
 use list_out::{put_announced, put_count, put_line};
+use record_layout::KindCounts;
 use tally_base::{Fault, Header};
 
 /// Leaves the seven lines of `count` in `into`.

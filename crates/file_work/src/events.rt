@@ -7,11 +7,11 @@ ghost use Rattle.file_work.{specs.EventLines.ListsNone, specs.EventPieces.{IsOpe
 ghost use Rattle.bench_io.specs.Inputs.{OnlyReads};
 ghost use Rattle.ptu_definitions.specs.Streams.{streamed};
 
+use abs_time::{moved_floor, orders_markers};
 use bench_io::{Block, Inputs, Sink};
 use command_work::READ_FAULT;
-use abs_time::{moved_floor, orders_markers};
-use record_stream::{EventTaker, RecordStream, Summary};
 use list_out::{LINE_SIZE, LINES_SIZE, format_block, format_event};
+use record_stream::{EventTaker, RecordStream, Summary};
 use tally_base::{Event, Failed, Fault, Mode, Slot};
 
 /// Writes the line of each event that it is given, through a block. It lives for one piece, or for the end.

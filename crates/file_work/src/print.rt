@@ -10,9 +10,9 @@ ghost use Rattle.file_work.specs.BodyPieces.{PutsBody, CutsBody, end_line};
 
 use arrayvec::ArrayVec;
 use bench_io::{Block, Sink};
+use list_out::{BodyText, header_line, preamble_lines};
 use ptu_header::{HeaderReader, HeaderStep};
 use ptu_tag::{TagHead, TagKind};
-use list_out::{BodyText, header_line, preamble_lines};
 use tally_base::{Failed, Fault};
 
 /// A header that is printed as far as it was read.

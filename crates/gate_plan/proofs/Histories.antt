@@ -1,5 +1,5 @@
 -- The list that tables count over, of more events, of none, and at the end.
-use Rattle.std.proofs.Common.{◌≡◌, ◌+◌, ℕ, List, [], ◌∷◌, ◌++◌, Bool, true, false, refl, sym, ap, ◌∙◌, map, if◌then◌else◌, ◌-◌, ◌==◌}
+use Rattle.std.proofs.Common.{◌≡◌, ℕ, List, [], ◌∷◌, ◌++◌, Bool, true, false, refl, sym, ap, ◌∙◌, map, if◌then◌else◌, ◌-◌, ◌==◌}
 use Rattle.std.{proofs.lemmas.List.map-append, proofs.lemmas.List.Elements.filter-append, proofs.Math.Seq.take-nil}
 use Rattle.tally_base.{specs.declared.event.Event.Event, specs.declared.header.Mode.Mode}
 use Rattle.ptu_definitions.{specs.Kept.{Marked, kept, marked}, specs.Settled.{not_marked, delivered, delivered_last, in_time, not_overtaken, ordered}, specs.Times.events, specs.Streams.{Reading, last_in}, proofs.DeliveredLaws.{delivered-settled, delivered-kept}}

@@ -7,9 +7,9 @@ ghost use Rattle.photon_pick.specs.Chosen.{is_chosen};
 
 use crate::choosing::choose;
 use crate::giving::give_photons;
+use abs_time::{moved_floor, orders_markers};
 use bench_io::{Block, Sink};
 use gate_plan::Gates;
-use abs_time::{moved_floor, orders_markers};
 use record_stream::EventTaker;
 use record_write::Picker;
 use tally_base::{BLOCK_SIZE, Event, Failed, Fault, Mode, is_in};

@@ -2,7 +2,8 @@
 use Rattle.std.proofs.Common.{◌≡◌, ℕ, List, Some, subst, Result}
 use Rattle.std.specs.declared.option.Option.{Option}
 use Rattle.tally_base.specs.declared.fault.Fault.{Fault}
-use Rattle.ptu_cli.{specs.Commands.Request, specs.Behaviours.behaviour}
+use Rattle.command_words.specs.Commands.{Request}
+use Rattle.ptu_cli.specs.Behaviours.{behaviour}
 use Rattle.command_work.specs.Endings.{Span, Does, TellsFault}
 
 pub does_as : (r : Result (Unit {0}) Fault) (a b : Option Request) (span : Span) → a ≡ b → Does (behaviour a) span r → Does (behaviour b) span r

@@ -4,7 +4,8 @@ use Rattle.std.specs.declared.option.Option.{Option}
 use Rattle.tally_base.{specs.declared.slot.Slot.Slot, specs.declared.fault.Fault.Fault, specs.declared.fault.Fault.TheVariants.{Usage, OpenFault, ReadFault, WriteFault, OutOfMemory}, specs.Faults.{is_outside, status_of, HasReason}, specs.FaultCounts.Rose}
 use Rattle.bench_io.{specs.Inputs.{File, InputState}, proofs.Bytes.{Appends-nil, Keeps-from_none}}
 use Rattle.plan_text.{specs.Plan.PlanView, specs.Reading.plan_answer}
-use Rattle.ptu_cli.{specs.Commands.Request, specs.Behaviours.behaviour, proofs.ByteFaults.IsOfBytes, proofs.RunFaults.plan_answer-bytes, proofs.Sound.{WorkIsSound, IsSound, sound}}
+use Rattle.command_words.specs.Commands.{Request}
+use Rattle.ptu_cli.{specs.Behaviours.behaviour, proofs.ByteFaults.IsOfBytes, proofs.RunFaults.plan_answer-bytes, proofs.Sound.{WorkIsSound, IsSound, sound}}
 use Rattle.command_work.{specs.Outcomes.{Outcome, status}, specs.Behaviours.{Work, Behaviour, NoCommand, Alone, OnFile, ByPlan}, specs.Endings.{on_file, unless, by_plan, outcome, Span, HasCauses, NoneRose, IsGood, IsGoodFor, ForSomeFiles, Answers, Tells, TellsFault, EndsBy, RunsOut, LacksMemory}, proofs.PlanTold.outcome-planned, proofs.Answers.{files-map, holds-told}}
 
 -- ## Good files

@@ -4,6 +4,5 @@ pub mod Complete
 pub mod ByteFaults
 pub mod RunFaults
 pub mod Sound
-pub mod Numbers
 pub mod PickFaults
 pub mod TraceFaults

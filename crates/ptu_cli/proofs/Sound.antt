@@ -8,7 +8,8 @@ use Rattle.gate_plan.specs.Plans.{reading_by}
 use Rattle.command_work.{specs.Outcomes.status, specs.Behaviours.{Work, Behaviour, AreWhole, AreRead, NoCommand, Alone, OnFile, ByPlan}}
 use Rattle.file_work.specs.FileOutcomes.{file_counts, listing, counting, printing, listing_all}
 use Rattle.trace_work.specs.TraceOutcomes.{trace_of, tracing}
-use Rattle.ptu_cli.{specs.Commands.{Request, Count, Events, Run, Trace, Pick, Demo}, specs.Commands.Header as HeaderOf, specs.Behaviours.behaviour, proofs.PickFaults.{pick-bytes, ungrouped-status}, proofs.TraceFaults.{trace-fault, untraced-status}, proofs.ByteFaults.{header_answer-bytes, counts_behind-bytes, count_outcome-bytes, fault_in-bytes, events_behind-bytes}, proofs.RunFaults.report-bytes}
+use Rattle.command_words.specs.Commands.{Request, Count, Events, Run, Trace, Pick, Demo, Header as HeaderOf}
+use Rattle.ptu_cli.{specs.Behaviours.behaviour, proofs.PickFaults.{pick-bytes, ungrouped-status}, proofs.TraceFaults.{trace-fault, untraced-status}, proofs.ByteFaults.{header_answer-bytes, counts_behind-bytes, count_outcome-bytes, fault_in-bytes, events_behind-bytes}, proofs.RunFaults.report-bytes}
 use Rattle.report_work.specs.Reports.{reporting}
 use Rattle.pick_work.specs.PickOutcomes.{picking}
 

@@ -4,9 +4,9 @@ ghost use Rattle.tally_base.specs.declared.slot.Slot.{Slot};
 ghost use Rattle.command_work.specs.Endings.{IsMeant, TellsFault, Does, span};
 ghost use Rattle.ptu_cli.{specs.Requests.{request_in, behaviour_of}, specs.Runs.{Runs, around}};
 
-use crate::words::{Command, read_words};
 use arrayvec::ArrayVec;
 use bench_io::{Inputs, Sink, write_all};
+use command_words::{Command, read_words};
 use command_work::{by_plan, on_file};
 use file_work::{Counting, Listing, Printing};
 use pick_work::Picking;

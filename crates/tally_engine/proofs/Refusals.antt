@@ -1,8 +1,7 @@
 -- What a stream refused, before and behind a piece.
-use Rattle.std.proofs.Common.{◌≡◌, ◌≢◌, ℕ, List, true, false, None, Some, Ok, Err, OnOk, refl, sym, ap, ◌∙◌, IfErr}
+use Rattle.std.proofs.Common.{◌≡◌, ◌≢◌, true, false, None, Some, Ok, Err, OnOk, refl, sym, ap, ◌∙◌, IfErr}
 use Rattle.std.{specs.declared.option.Option.Option, specs.declared.result.Result.Result}
 use Rattle.tally_base.{specs.declared.fault.Fault.Fault, specs.declared.fault.Fault.TheVariants.WriteFault, specs.Faults.{is_outside, fault_in}}
-use Rattle.ptu_definitions.{specs.Streams.{Reading, record_refusal}, proofs.Firsts.record_refusal-inside}
 
 -- what holds behind a piece that was taken
 pub where_taken : {X A : Type 0} (r : Result X Fault) (refused : Option Fault) → refused ≡ fault_in r → OnOk r A → refused ≡ None → A

@@ -10,13 +10,13 @@ ghost use Rattle.long_trace.specs.LongTrace.{set_of, taken_of, floor_of};
 ghost use Rattle.command_work.{specs.StreamPieces.{TakesOn, StaysOpen}, specs.Once.OutOnce, specs.Endings.{Once, span}, specs.Pieces.{IsReady, MayChangeBehind}, specs.Behaviours.AsItReads, specs.TextRuns.{WritesEnd, AnswersText, TextReason}, specs.Works.{AnswersWork, TakesFew, WantsNone, WorkReason}};
 ghost use Rattle.trace_work.{specs.TraceOutcomes.{trace_of, words_traced, records_traced, trace_so_far, tracing}, specs.TracePieces.{IsBehindStream, TracesBytes, TracesPiece, TracesOnce, WritesLast, both_ended}};
 
+use abs_time::{moved_floor, orders_markers};
 use arrayvec::ArrayVec;
 use bench_io::{Block, Inputs, Sink};
 use command_work::{PIECE, READ_FAULT, read_header};
 use gate_plan::{Gates, sort_events};
 use long_trace::{LINES_SIZE, LongTrace};
 use plan_text::Plan;
-use abs_time::{moved_floor, orders_markers};
 use record_stream::{EventTaker, RecordStream, Summary};
 use tally_base::{Event, Failed, Fault, Mode, Slot, TraceSet};
 

@@ -1,4 +1,4 @@
-use Rattle.std.proofs.Common.{◌≡◌, ◌∙◌, ◌+◌, ap, arith, map, length}
+use Rattle.std.proofs.Common.{◌≡◌, ◌∙◌, ap, arith, map, length}
 use Rattle.std.proofs.lemmas.List.{length-map}
 use Rattle.tally_base.{specs.Columns.{gathered, events_in}, specs.Floors.floor_after}
 use Rattle.gate_plan.{specs.Groups.sorting_of, specs.Shifting.shifted, specs.Histories.with_groups, proofs.Shifted.floor-shifted}

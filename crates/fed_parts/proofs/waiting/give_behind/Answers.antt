@@ -1,8 +1,8 @@
-use Rattle.std.proofs.Common.{◌≡◌, ◌∙◌, ap, arith, length, [], ◌<◌, rules}
+use Rattle.std.proofs.Common.{◌≡◌, ◌∙◌, ap, arith, length, ◌<◌, rules}
 use Rattle.tally_base.{specs.Columns.gathered, specs.Floors.floor_after}
 use Rattle.gate_plan.specs.Groups.{sorting_of}
 use Rattle.abs_time.specs.Floors.{orders_markers}
-use Rattle.fed_parts.{specs.Ahead.floor_with, proofs.Behind.{can_parts, can_rest, moves_two}}
+use Rattle.fed_parts.{proofs.Behind.{can_parts, can_rest, moves_two}}
 use Rattle.plan_parts.specs.contracts.part.PartTally.TheImpl.{ghosts}
 use Rattle.fed_parts.proofs.waiting.give_behind.Goals as goal
 

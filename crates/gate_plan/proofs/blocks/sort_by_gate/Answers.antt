@@ -1,5 +1,5 @@
-use Rattle.std.proofs.Common.{◌≡◌, ◌<◌, ◌≤◌, ℕ, length, rules, arith, refl, sym, subst}
-use Rattle.tally_base.specs.Columns.{event_at, code_at, dtime_at, item, rows}
+use Rattle.std.proofs.Common.{◌≡◌, ◌<◌, ◌≤◌, length, rules, arith, refl, sym, subst}
+use Rattle.tally_base.specs.Columns.{event_at, code_at, item, rows}
 use Rattle.gate_plan.{specs.Taking.groups_by, specs.Histories.grouped, proofs.Sorts.{sorted_rows, set_more}}
 use Rattle.gate_plan.proofs.blocks.sort_by_gate.Goals as goal
 

@@ -1,9 +1,9 @@
-use Rattle.std.proofs.Common.{rules, arith, All, false, ◌≡◌, ◌<◌, ◌++◌, List, length, subst, get_or}
+use Rattle.std.proofs.Common.{rules, arith, All, false, ◌≡◌, ◌<◌, length, subst, get_or}
 use Rattle.tally_base.specs.Columns.{gathered}
 use Rattle.ptu_definitions.specs.Words.{words_of}
 use Rattle.record_stream.specs.Standing.{how_of}
 use Rattle.gate_plan.{specs.Groups.sorting_of, specs.Shifting.Sorting, specs.Histories.{settled_history, with_groups}, proofs.Histories.history-ends}
-use Rattle.plan_parts.{specs.contracts.part.PartTally.TheImpl.ghosts, specs.declared.part.Part.Part}
+use Rattle.plan_parts.{specs.contracts.part.PartTally.TheImpl.ghosts}
 use Rattle.tally_engine.{specs.Pieces.Ends, proofs.Feeds.{at_same, ends_by, inside_of}}
 use Rattle.fed_parts.{specs.Taker.gave_none, proofs.Takes.{holding_none, holding_all}, specs.Tables.HasTaken}
 use Rattle.tally_engine.proofs.part_taker.finish_parts.Goals as goal

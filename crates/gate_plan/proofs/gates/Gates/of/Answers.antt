@@ -1,6 +1,6 @@
-use Rattle.std.proofs.Common.{◌≡◌, ◌+◌, ◌<◌, ◌^◌, ℕ, map, get_or, rules, arith, ap, refl, sym, ◌∙◌}
+use Rattle.std.proofs.Common.{◌≡◌, ◌+◌, map, get_or, refl, ◌∙◌}
 use Rattle.tally_base.specs.Settings.{group_view}
-use Rattle.gate_plan.{specs.Parting.{plain_bits, gated_bits, gated_sum, groups_behind}, proofs.Parts.{parted_fits, few_groups}}
+use Rattle.gate_plan.{specs.Parting.{plain_bits, gated_bits, gated_sum}, proofs.Parts.{parted_fits, few_groups}}
 use Rattle.gate_plan.proofs.gates.Gates.of.Goals as goal
 
 pub invariant_of-result-clause-shifts_are : goal.invariant_of-result-clause-shifts_are

@@ -1,4 +1,4 @@
-use Rattle.std.proofs.Common.{rules, ◌≡◌, refl, sym, ap, ◌∙◌, length, None, Some}
+use Rattle.std.proofs.Common.{rules, ◌≡◌, refl, sym, ◌∙◌, length, None, Some}
 use Rattle.tally_base.proofs.Slices.{whole_slice}
 use Rattle.record_stream.{specs.Standing.refused_with, proofs.Lasts.streamed-refused}
 use Rattle.plan_parts.{specs.contracts.part.PartTally.TheImpl.ghosts, proofs.Tables.part_worked}

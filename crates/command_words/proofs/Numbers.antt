@@ -1,7 +1,7 @@
 -- The number that a word writes.
 use Rattle.std.proofs.Common.{◌≡◌, ◌≤◌, ◌<◌, ◌^◌, ℕ, Bool, true, false, None, Some, Ok, Err, List, length, refl, sym, ap, ◌∙◌, arith, inl, inr, ◌&&◌, nat_le, if◌then◌else◌}
 use Rattle.std.{specs.Str.all_ascii_digits, specs.Str.Parse.{ParsesUnsigned, digits_value}, proofs.lemmas.Bool.cases_lt, proofs.lemmas.Bool.Decides.nat_tests, proofs.lemmas.Str.Parse.{IsNumeralModel, numerals_by_value, tells_all_ascii_digits, parse_digits}}
-use Rattle.ptu_cli.specs.Commands.{is_numeral, number_in}
+use Rattle.command_words.specs.Commands.{is_numeral, number_in}
 
 own : IsNumeralModel (λ ds. all_ascii_digits ds ≡ true) (digits_value 10)
 own = numerals_by_value _ tells_all_ascii_digits

@@ -1,7 +1,7 @@
 use Rattle.std.proofs.Common.{◌<◌, ℕ, length, sym, ap, ◌∙◌, arith}
 use Rattle.std.{specs.Str.all_ascii_digits, proofs.lemmas.Bool.Decides.nat_tests}
-use Rattle.ptu_cli.{proofs.Numbers.{number-empty, number-long, number-other, number-parsed, number-great, number-unparsed}, proofs.words.number.Goals.{then-is_empty-via-then-is_empty, then-is_empty-via-else-is_empty+then-word-gt20, then-is_empty-via-else-is_empty+else-word-gt20+then-not-are_digits}}
-use Rattle.ptu_cli.proofs.words.number.Goals as goal
+use Rattle.command_words.{proofs.Numbers.{number-empty, number-long, number-other, number-parsed, number-great, number-unparsed}, proofs.words.number.Goals.{then-is_empty-via-then-is_empty, then-is_empty-via-else-is_empty+then-word-gt20, then-is_empty-via-else-is_empty+else-word-gt20+then-not-are_digits}}
+use Rattle.command_words.proofs.words.number.Goals as goal
 
 pub returns-then-is_empty-clause-value : goal.returns-then-is_empty-clause-value
 returns-then-is_empty-clause-value c =
