@@ -1,5 +1,5 @@
 -- The lines of the events of a block, from the last one on.
-use Rattle.std.proofs.Common.{◌≡◌, ◌∙◌, ◌+◌, ◌-◌, ◌<◌, ◌≤◌, ℕ, List, [], ◌∷◌, ◌++◌, false, map, drop, ap, sym, arith, append_assoc, append-nil}
+use Rattle.std.proofs.Common.{◌≡◌, ◌∙◌, ◌-◌, ◌<◌, ℕ, List, [], ◌∷◌, ◌++◌, false, map, ap, sym, append_assoc, append-nil}
 use Rattle.tally_base.{specs.declared.event.Event.Event, specs.Columns.rows, proofs.BlockRows.rows-last}
 use Rattle.list_out.specs.EventText.{event_text, events_text}
 

@@ -1,5 +1,5 @@
 -- What a stream of bytes answers.
-use Rattle.std.proofs.Common.{◌≡◌, ℕ, List, [], None, Some, Ok, Err, length, refl, Result, ◌==◌, Bool, true, false, if◌then◌else◌}
+use Rattle.std.proofs.Common.{◌≡◌, ℕ, List, [], None, Some, Ok, Err, length, refl, ◌==◌, Bool, true, false, if◌then◌else◌}
 use Rattle.std.specs.declared.option.Option.{Option}
 use Rattle.tally_base.{specs.declared.fault.Fault.Fault, specs.declared.fault.Fault.TheVariants.TruncatedRecord, specs.Faults.{is_outside, fault_in}}
 use Rattle.ptu_definitions.{specs.declared.records.Summary.Summary, specs.Words.{words_of, rest_of}, specs.Streams.{Reading, or_refusal, record_refusal, summary, given, streamed}, specs.Times.events, proofs.DeliveredLaws.delivered-none, proofs.Firsts.record_refusal-inside}

@@ -1,5 +1,5 @@
 -- The events of a block, one by one.
-use Rattle.std.proofs.Common.{◌≡◌, ◌+◌, ◌<◌, ℕ, zero, suc, List, [], ◌∷◌, ◌++◌, Bool, true, false, All, length, refl, sym, ap, subst, ◌∙◌, append_assoc, arith, length-append, ◌⊎◌, ⊎_elim, ◌&&◌, not, IsTrue, if◌then◌else◌, max, append-nil, ◌≤◌}
+use Rattle.std.proofs.Common.{◌≡◌, ◌+◌, ◌<◌, ℕ, zero, suc, List, [], ◌∷◌, ◌++◌, Bool, true, false, All, length, refl, sym, ap, subst, ◌∙◌, append_assoc, arith, length-append, ◌⊎◌, ⊎_elim, ◌&&◌, not, IsTrue, if◌then◌else◌, max, append-nil}
 use Rattle.std.{specs.List.AllByRecursion, proofs.lemmas.List.Elements.All-from_recursion, proofs.lemmas.Grind.get_or_at_push, proofs.lemmas.List.{map-append, get_or_append_left}}
 use Rattle.tally_base.{specs.declared.event.Event.Event, specs.declared.header.Mode.Mode, specs.Events.is_ordered, specs.Tally.moves_floor, specs.Columns.rows, specs.Floors.{floor_after, InOrder}, proofs.BlockRows.more_rows, proofs.Floors.floor-more}
 use Rattle.ptu_definitions.specs.Kept.{Marked, floor_of}
