@@ -350,27 +350,32 @@ def g2(
     """Pairs normalised so that they are 1 without correlation, and their Poisson bars: both of shape (cells,).
 
     ``pairs``: a coincidence or a correlation of a report, or ``Coincidences``. The photons of the two groups of a report's
-    table are told by its plan (``read_report``), or given. A bar is the root of the pairs over what is expected, of one
-    pair where there was none. nan where none is expected. Raises ``NotKnown`` for another table, and where photons or
-    the length of the measurement aren't known.
+    table are told by its plan (``read_report``), or given. A bar is the root of ``Coincidences.variances`` over what is
+    expected, in cells of any width; groups of a report that share some photons but not all count as different. nan where
+    no pair is expected. Raises ``NotKnown`` for another table, and where photons or the length of the measurement aren't
+    known.
     """
-    expected = pairs.expected() if isinstance(pairs, Coincidences) else _expected(pairs, first_photons, second_photons)
     counts = (pairs.pairs if isinstance(pairs, Coincidences) else pairs.counts).astype(np.float64)
+    if isinstance(pairs, Table) and pairs.kind != "coincidence":
+        expected, variances = pairs.expected(first_photons, second_photons), np.maximum(counts, 1)
+    else:
+        each = [pairs] if isinstance(pairs, Coincidences) else _coincidences(pairs, first_photons, second_photons)
+        expected = sum((one.expected() for one in each), np.zeros(len(counts)))
+        variances = each[0].variances() if each else counts
     values, bars = np.full(len(counts), np.nan), np.full(len(counts), np.nan)
     np.divide(counts, expected, out=values, where=expected > 0)
-    np.divide(np.sqrt(np.maximum(counts, 1)), expected, out=bars, where=expected > 0)
+    np.divide(np.sqrt(variances), expected, out=bars, where=expected > 0)
     return values, bars
 
 
-def _expected(table: Table, first_photons: int | None, second_photons: int | None) -> Numbers:
-    """How many pairs a coincidence or a correlation would have without correlation, added up over its measurements."""
-    if table.kind != "coincidence":
-        return table.expected(first_photons, second_photons)
-    whole = np.zeros(len(table.counts))
+def _coincidences(table: Table, first_photons: int | None, second_photons: int | None) -> list[Coincidences]:
+    """A coincidence of a report with the photons and the length of each measurement in it."""
+    found = []
+    same = table.groups is not None and len(set(table.groups)) == 1
     for length, photons in table.measurements:
         known = photons if first_photons is None or second_photons is None else (first_photons, second_photons)
         if length is None or known is None or len(known) != 2:
             raise NotKnown("the photons of the two groups are not known: give them, or read the report with its plan")
-        one = Coincidences(table.counts, table.settings["reach"], table.settings["width"], known[0], known[1], length)
-        whole += one.expected()
-    return whole
+        reach, width = table.settings["reach"], table.settings["width"]
+        found.append(Coincidences(table.counts, reach, width, *known, length + 1, None, min(known) if same else 0))
+    return found
