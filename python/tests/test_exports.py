@@ -12,10 +12,10 @@ from hypothesis import strategies as st
 
 import ptulab
 from ptulab import exports, picked
-from ptulab.fits import mean_arrival
+from ptulab.fits import mean_delays
 from ptulab.scans import Cube, Scan, cube, image
 from ptulab.segments import correlation_by_segments
-from ptulab.whole import whole_path, written_whole
+from ptulab._whole import whole_path, written_whole
 
 h5py = pytest.importorskip("h5py")
 tifffile = pytest.importorskip("tifffile")
@@ -139,7 +139,7 @@ def scanned(make_file, frames=2):
 def test_ome_tiff_of_images_cubes_and_lifetimes(program, make_file, tmp_path):
     events = ptulab.read_events(scanned(make_file))
     one, whole = image(events, SCAN), cube(events, SCAN, 8, 8)
-    means = mean_arrival(whole.counts, whole.ticks, threshold=2).astype(np.float32)
+    means = mean_delays(whole.counts, whole.ticks, threshold=2).astype(np.float32)
     plan = tmp_path / "plan.toml"
     plan.write_text("version = 2\ngroup = [{ inputs = [0] }]\ncube = [{ group = 1, width = 4, height = 3, dwell = 10, line = 1, dwidth = 8, dbins = 8 }]\n")
     table = ptulab.run(plan, scanned(make_file), program=program).table("cube")

@@ -126,10 +126,10 @@ def test_residuals_are_those_of_the_likelihood(count, expected):
 def test_mean_arrivals_of_pixels(make_file):
     events = [(0, made.Bits(1)), (1, 0, 0), (2, 0, 9), (12, 0, 20), (13, 0, 25), (14, 0, 26), (100, 0, 3)]
     found = cube(make_file("HydraHarp2T3", events), Scan(2, 1, 1, time=20), 5, 6)
-    means = fits.mean_arrival(found.counts, found.ticks, offset=2.5)
+    means = fits.mean_delays(found.counts, found.ticks, offset=2.5)
     assert means.tolist() == [[2.5, (22.5 + 27.5 + 27.5) / 3 - 2.5]]
-    assert np.isnan(fits.mean_arrival(found.counts, found.ticks, threshold=3)).tolist() == [[True, False]]
-    assert fits.mean_arrival(found.counts[0, 1], found.ticks) == pytest.approx((22.5 + 55) / 3)
+    assert np.isnan(fits.mean_delays(found.counts, found.ticks, threshold=3)).tolist() == [[True, False]]
+    assert fits.mean_delays(found.counts[0, 1], found.ticks) == pytest.approx((22.5 + 55) / 3)
 
 
 def test_phasors_of_single_decays_are_on_the_half_circle():
@@ -225,8 +225,8 @@ def test_pairs_that_are_expected_are_those_of_all_places():
     full = uncorrelated(0, 4000, 1.1)
     full["marker"] = False
     pairs = coincidences(full, 1, 2, 4300, width=301)
-    assert pairs.length == pairs.first_photons == 4000 and pairs.pairs.sum() == 4000**2 and (pairs.pairs == 0).any()
-    assert pairs.expected() == pytest.approx(pairs.pairs.astype(float), rel=1e-12, abs=1e-6)
+    assert pairs.length == pairs.first_photons == 4000 and pairs.counts.sum() == 4000**2 and (pairs.counts == 0).any()
+    assert pairs.expected() == pytest.approx(pairs.counts.astype(float), rel=1e-12, abs=1e-6)
 
 
 @pytest.mark.parametrize("group", [1, 2])

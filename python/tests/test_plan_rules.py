@@ -8,8 +8,8 @@ from hypothesis import HealthCheck, given, settings
 from hypothesis import strategies as st
 
 from conftest import EXAMPLES
-from ptulab.documents import read_plan
-from ptulab.plan_rules import KINDS, SHAPES, broken_rules
+from ptulab._documents import read_plan
+from ptulab._plan_rules import KINDS, SHAPES, broken_rules
 
 EDGES = [-1, 0, 1, 2, 3, 4, 5, 40, 41, 64, 65, 128, 129, 2048, 2049, 32768, 32769, 1 << 20, (1 << 20) + 1, 1 << 21,
          (1 << 21) + 1, 1 << 40, (1 << 40) + 1, 1 << 62, (1 << 62) + 1]

@@ -16,7 +16,7 @@ from hypothesis import strategies as st
 import ptulab
 from ptulab import BadReport, NotKnown, NoTable, Report, Unlike
 from ptulab import report as module
-from ptulab.digits import whole_numbers
+from ptulab._digits import whole_numbers
 from ptulab.tables import KINDS, lags_of
 
 WHOLE = 2**62  # the width of a trace that has all photons in one bin
@@ -59,7 +59,7 @@ def pairs(make_plan: Runner, make_file: Runner, program: str) -> Callable[..., R
 def test_tables_of_pairs(pairs: Callable[..., Report]) -> None:
     report = pairs([0, 1], [3, 4, 6, 7, 8])
     head = report.head
-    assert (head.type, head.mode, head.records, head.announced) == ("HydraHarp2T2", "T2", 7, 7)
+    assert (head.record_type, head.mode, head.records, head.announced) == ("HydraHarp2T2", "T2", 7, 7)
     assert (head.global_seconds, head.resolution_seconds, head.first, head.last) == (1e-12, None, 0, 8)
     assert dict(head.items())["global"] == head["global"] == 1e-12 and head["photons"] == 7
     with pytest.raises(KeyError):
@@ -363,5 +363,5 @@ def test_all_record_types(make_file: Runner, make_plan: Runner, program: str, re
     photons = [(time, 1, 5) if record_type.endswith("T3") else (time, 1) for time in (5, 6, 3 * made.unit(record_type))]
     plan = make_plan(f"group = [{{ inputs = [1] }}]\ntrace = [{{ group = 1, width = {WHOLE}, bins = 1 }}]\n")
     report = ptulab.run(plan, make_file(record_type, photons, tick=2e-9), program=program)
-    assert report.head.type == record_type and report.table("trace").counts.tolist() == [3]
+    assert report.head.record_type == record_type and report.table("trace").counts.tolist() == [3]
     assert report.head.last == 3 * made.unit(record_type)

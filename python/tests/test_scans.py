@@ -222,7 +222,7 @@ def test_pieces_of_a_file_are_put_together(folder, events, piece, by_path):
     def counted(source):
         pairs, found = coincidences(source, 0, (1, 2), 9), cube(source, scan, 9, 3, (0, 1))
         whole = [image(source, scan).counts, image(source, scan).outside, found.counts, found.outside, found.over]
-        return [*whole, pairs.pairs, pairs.length, photons_of(source, 1), window(source, 20, 300), lines_of(source, scan)]
+        return [*whole, pairs.counts, pairs.length, photons_of(source, 1), window(source, 20, 300), lines_of(source, scan)]
 
     with pytest.MonkeyPatch.context() as patch:
         patch.setattr(groups, "PIECE", piece)

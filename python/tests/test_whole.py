@@ -5,7 +5,7 @@ import stat
 
 import pytest
 
-from ptulab.whole import written_whole
+from ptulab._whole import written_whole
 
 
 def test_a_file_appears_when_it_is_whole(tmp_path):

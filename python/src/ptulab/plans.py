@@ -11,9 +11,9 @@ import math
 import os
 from collections.abc import Iterator
 
-from .looks import Look, look
-from .plan_checks import check_plan
-from .plan_rules import BINS_OF_CUBE, Finding
+from ._looks import Look, look
+from ._plan_checks import check_plan
+from ._plan_rules import BINS_OF_CUBE, Finding
 
 __all__ = ["Finding", "check_plan", "plan_for"]
 BINS = 512  # of a trace over the whole file, at most

@@ -10,7 +10,9 @@ from numpy.typing import NDArray
 
 from .errors import NotKnown
 from .events import Events
-from .groups import GroupLike, Source, group_of, pieces_of
+from .groups import EventsLike, GroupLike, group_of, pieces_of
+
+__all__ = ["Coincidences", "StartStops", "coincidences", "start_stops"]
 
 DENSE = 8  # where so few units of time come to each time that has photons, all of them are gone through
 BLOCK = 1 << 15  # units of time that are taken together then
@@ -22,7 +24,7 @@ Weights = tuple[NDArray[np.int64], NDArray[np.int64], NDArray[np.int64], NDArray
 class Coincidences:
     """Pairs of photons by their difference of time, the second's less the first's.
 
-    - ``pairs``: shape (cells,); cell c has the differences c * width - reach up to (c + 1) * width - reach - 1, the last
+    - ``counts``: shape (cells,); cell c has the differences c * width - reach up to (c + 1) * width - reach - 1, the last
       one up to reach, as in a report.
     - ``reach``, ``width``: in sync periods, or in ticks where a period was given.
     - ``first_photons``, ``second_photons``: of the two groups; ``both_photons``: that are in both. ``length``: the unit
@@ -30,7 +32,7 @@ class Coincidences:
     - ``unit_seconds``: of a sync period or a tick, None where the file doesn't tell.
     """
 
-    pairs: NDArray[np.uint64]
+    counts: NDArray[np.uint64]
     reach: int
     width: int
     first_photons: int
@@ -42,22 +44,22 @@ class Coincidences:
     @property
     def _edges(self) -> NDArray[np.int64]:
         """The first difference of each cell, and the one behind the last: shape (cells + 1,)."""
-        return np.minimum(np.arange(len(self.pairs) + 1, dtype=np.int64) * self.width - self.reach, self.reach + 1)
+        return np.minimum(np.arange(len(self.counts) + 1, dtype=np.int64) * self.width - self.reach, self.reach + 1)
 
     @property
-    def differences(self) -> NDArray[np.int64]:
+    def widths(self) -> NDArray[np.int64]:
         """How many differences each cell has: shape (cells,). All have ``width``, but perhaps the last."""
         return np.diff(self._edges)
 
     @property
-    def lags(self) -> NDArray[np.float64]:
-        """The middle of each cell's differences: shape (cells,), in the unit of ``width``."""
+    def ticks(self) -> NDArray[np.float64]:
+        """The middle of each cell's differences: shape (cells,), in sync periods, or in ticks where a period was given."""
         return np.asarray((self._edges[:-1] + self._edges[1:] - 1) / 2)
 
     @property
     def seconds(self) -> NDArray[np.float64] | None:
         """The same in seconds, None where the file doesn't tell."""
-        return None if self.unit_seconds is None else self.lags * self.unit_seconds
+        return None if self.unit_seconds is None else self.ticks * self.unit_seconds
 
     def expected(self) -> NDArray[np.float64]:
         """How many pairs each cell would have without correlation: shape (cells,).
@@ -82,7 +84,7 @@ class Coincidences:
         begin, end = self._edges[:-1], self._edges[1:] - 1
         mirrored = np.where((begin <= 0) & (end >= 0), 2 * np.minimum(-begin, end) + 1, 0)
         part = float(self.both_photons) ** 2 / max(float(self.first_photons) * float(self.second_photons), 1.0)
-        return np.asarray(np.maximum(self.pairs.astype(np.float64), 1.0) * (1 + part * mirrored / self.differences))
+        return np.asarray(np.maximum(self.counts.astype(np.float64), 1.0) * (1 + part * mirrored / self.widths))
 
     def central_ratio(self) -> tuple[float, float]:
         """The pairs of lag 0 over the mean of the other cells, with its Poisson error: g2(0) of a pulsed source.
@@ -91,16 +93,16 @@ class Coincidences:
         deviation; without a pair at lag 0 it is that of one pair. Raises ``NotKnown`` where all other cells are 0.
         """
         at = self.reach // self.width
-        centre, others = int(self.pairs[at]), int(self.pairs.sum()) - int(self.pairs[at])
+        centre, others = int(self.counts[at]), int(self.counts.sum()) - int(self.counts[at])
         if not others:
             raise NotKnown("no pairs at other lags to compare with")
-        mean = others / (len(self.pairs) - 1)
+        mean = others / (len(self.counts) - 1)
         ratio = centre / mean
         return ratio, float(np.sqrt(max(centre, 1) / mean**2 + ratio**2 / others))
 
 
 def coincidences(
-    source: Source, first: GroupLike, second: GroupLike, reach: int, *, width: int = 1, period: float | None = None
+    source: EventsLike, first: GroupLike, second: GroupLike, reach: int, *, width: int = 1, period: float | None = None
 ) -> Coincidences:
     """All pairs of a photon of the first group and another of the second, at most ``reach`` apart.
 
@@ -123,7 +125,7 @@ def coincidences(
     return Coincidences(pairs, reach, width, one, two, length, _unit(source, period), in_both)
 
 
-def _unit(source: Source, period: float | None) -> float | None:
+def _unit(source: EventsLike, period: float | None) -> float | None:
     if not isinstance(source, Events):
         return None
     return source.header.global_seconds if period is None else source.header.resolution_seconds
@@ -140,7 +142,7 @@ def in_ticks(photons: NDArray[np.void], period: float | None) -> NDArray[np.int6
 
 
 def _occupied(
-    source: Source, first: GroupLike, second: GroupLike, period: float | None
+    source: EventsLike, first: GroupLike, second: GroupLike, period: float | None
 ) -> tuple[Weights, tuple[int, int] | None]:
     """The times that have photons of either group, how many of each and of both, and the first and last time of all."""
     groups, parts, ends = (group_of(first), group_of(second)), [], []
@@ -190,11 +192,11 @@ def _pairs_of_sparse(
     cells, so that the seconds go with the times and the pairs that are found."""
     counts = np.zeros(reach + 1, np.int64)
     start, two = np.flatnonzero(firsts), np.flatnonzero(seconds)
-    stop = (np.cumsum(seconds > 0) - (seconds > 0))[start]
+    stop = np.cumsum(seconds > 0)[start] - np.minimum(seconds[start], 1)
     found: list[tuple[NDArray[np.int64], NDArray[np.int64]]] = []
     waiting = 0
     while len(start):
-        end = np.searchsorted(stop, len(two))
+        end = int(np.searchsorted(stop, len(two)))
         start, stop = start[:end], stop[:end]
         behind = two[stop]
         differences = times[behind] - times[start]
@@ -247,7 +249,7 @@ class StartStops:
 
 
 def start_stops(
-    source: Source, start: GroupLike, stop: GroupLike, width: int, bins: int, *, period: float | None = None
+    source: EventsLike, start: GroupLike, stop: GroupLike, width: int, bins: int, *, period: float | None = None
 ) -> StartStops:
     """Of the photons in either group, the times between each two neighbours of which the first starts and the second stops.
 

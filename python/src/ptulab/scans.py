@@ -14,8 +14,10 @@ from numpy.typing import NDArray
 
 from .errors import NotKnown
 from .events import Events
-from .groups import GroupLike, Source, group_of, pieces_of
+from .groups import EventsLike, GroupLike, group_of, pieces_of
 from .headers import Header
+
+__all__ = ["LINE", "Cube", "Image", "Scan", "best_phase", "cube", "image", "lines_of", "scan_of"]
 
 LINE = np.dtype([("record", "<i8"), ("until", "<i8"), ("start", "<i8"), ("length", "<i8"), ("row", "<i8"), ("frame", "<i8")])
 FOREVER = np.iinfo(np.int64).max
@@ -130,7 +132,7 @@ class Cube:
         return np.asarray(self.counts.sum(axis=-1, dtype=np.uint64))
 
 
-def lines_of(source: Source, scan: Scan) -> NDArray[np.void]:
+def lines_of(source: EventsLike, scan: Scan) -> NDArray[np.void]:
     """The lines of a scan, one element each, with the fields
 
     - ``record`` and ``until``: the numbers of the records between which its photons stand (without both);
@@ -173,7 +175,7 @@ def _rows(frames_so_far: NDArray[np.int64], scan: Scan) -> tuple[NDArray[np.int6
     return number - np.searchsorted(frames_so_far, frames_so_far), frames_so_far - 1
 
 
-def image(source: Source, scan: Scan, group: GroupLike = None) -> Image:
+def image(source: EventsLike, scan: Scan, group: GroupLike = None) -> Image:
     """The photons of a group by their place in a scan of a T3 file.
 
     The column is floor(t * width / T), where t is the time since the line's marker and T how long the line lasts,
@@ -195,7 +197,7 @@ def image(source: Source, scan: Scan, group: GroupLike = None) -> Image:
     return Image(scan, counts.astype(np.uint64).reshape(shape), outside, seconds)
 
 
-def cube(source: Source, scan: Scan, dwidth: int, dbins: int, group: GroupLike = None) -> Cube:
+def cube(source: EventsLike, scan: Scan, dwidth: int, dbins: int, group: GroupLike = None) -> Cube:
     """The photons of a group by their place, as of ``image``, and by their dtime in ``dbins`` bins of ``dwidth`` ticks.
 
     Raises ``ValueError`` as ``image`` does, and where there is no bin.
@@ -218,7 +220,7 @@ def cube(source: Source, scan: Scan, dwidth: int, dbins: int, group: GroupLike =
     return Cube(scan, counts.astype(np.uint64).reshape(shape), dwidth, outside, over, seconds)
 
 
-def best_phase(source: Source, scan: Scan, phases: NDArray[np.float64], group: GroupLike = None) -> float:
+def best_phase(source: EventsLike, scan: Scan, phases: NDArray[np.float64], group: GroupLike = None) -> float:
     """Of these phases, in sync periods, the one with which neighbouring rows are most alike.
 
     Alike is the sum of products of the pixels of each two rows that follow one another, over the root of the sums of

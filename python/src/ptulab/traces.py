@@ -8,8 +8,10 @@ from pathlib import Path
 import numpy as np
 from numpy.typing import NDArray
 
-from .digits import MOST_DIGITS, whole_numbers
+from ._digits import MOST_DIGITS, whole_numbers
 from .errors import BadReport
+
+__all__ = ["LongTrace", "read_trace"]
 
 COUNTS = 1024  # of which the text tells how often each came
 WHOLE = re.compile(
