@@ -16,6 +16,7 @@ from numpy.typing import NDArray
 
 from ._digits import whole_numbers
 from ._documents import read_plan
+from ._plan_rules import MOST
 from .errors import BadReport, NoTable, Unlike
 from .headers import RECORD_TYPES
 from ._scratch import keep_scratch
@@ -28,6 +29,7 @@ HEAD = ("type", "announced", "global", "resolution", "records", "photons", "mark
 FIELDS = {"type": "record_type", "global": "global_seconds", "resolution": "resolution_seconds"}  # of a Head
 ADDED = ("announced", "records", "photons", "markers", "wraps", "reserved", "late")
 OR_NONE = ("announced", "global", "resolution", "first", "last")  # may be -
+ORDER = tuple(KINDS)  # of the tables of a report
 HEAD_LINE = re.compile(rb"([a-z]+) ([!-~]+)\n")
 NUMBER = re.compile(r"[0-9]{1,39}")  # a count of pairs can have 128 bits
 LONGEST_LINE = 1 << 10  # bytes, more than any line of a report has
@@ -305,6 +307,8 @@ class _Reader:
         if tuple(words[2::2]) != kind.settings or not all(map(NUMBER.fullmatch, words[1::2])):
             raise self.bad(f"no beginning of a {words[0]}")
         number, *values = map(int, words[1::2])
+        if not self.follows(words[0], number):
+            raise self.bad(f"{words[0]} {number} has no place here")
         settings = dict(zip(kind.settings, values))
         if self.whole is None:
             try:
@@ -315,6 +319,13 @@ class _Reader:
         if [(one.kind, one.number, one.settings) for one in more] != [(words[0], number, settings)]:
             raise Unlike(f"{self.name}other tables")
         return more[0]
+
+    def follows(self, kind: str, number: int) -> bool:
+        """Whether a table comes in its place: kinds in their order, those of a kind by their numbers, not more than a plan may have."""
+        before = self.tables[-1] if self.tables else None
+        if before is not None and before.kind == kind:
+            return number == before.number + 1 <= MOST[kind]
+        return number == 1 and (before is None or ORDER.index(kind) > ORDER.index(before.kind))
 
     def ended(self) -> None:
         """A table has come to its end."""
