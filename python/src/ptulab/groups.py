@@ -3,11 +3,13 @@
 import os
 from collections.abc import Collection, Iterable, Iterator, Mapping
 from dataclasses import dataclass
+from typing import NamedTuple
 
 import numpy as np
 from numpy.typing import NDArray
 
 from .events import EVENT, Events, iter_events
+from .headers import read_header
 from ._scratch import keep_scratch
 
 __all__ = ["EventsLike", "Group", "GroupLike", "photons_of", "shifted"]
@@ -70,6 +72,21 @@ def pieces_of(source: EventsLike) -> Iterator[NDArray[np.void]]:
             yield array[at : at + PIECE]
     else:
         yield from iter_events(source, records=PIECE)
+
+
+class Ticks(NamedTuple):
+    """What the header of a source tells of ticks, None where it doesn't, and of an array, which has no header."""
+
+    global_seconds: float | None = None
+    resolution_seconds: float | None = None
+
+
+def ticks_of(source: EventsLike) -> Ticks:
+    """How long the ticks of a source are."""
+    if isinstance(source, np.ndarray):
+        return Ticks()
+    header = source.header if isinstance(source, Events) else read_header(source)
+    return Ticks(header.global_seconds, header.resolution_seconds)
 
 
 def photons_of(source: EventsLike, group: GroupLike = None) -> NDArray[np.void]:

@@ -9,8 +9,7 @@ import numpy as np
 from numpy.typing import NDArray
 
 from .errors import NotKnown
-from .events import Events
-from .groups import EventsLike, GroupLike, group_of, pieces_of
+from .groups import EventsLike, GroupLike, group_of, pieces_of, ticks_of
 
 __all__ = ["Coincidences", "StartStops", "coincidences", "start_stops"]
 
@@ -126,9 +125,8 @@ def coincidences(
 
 
 def _unit(source: EventsLike, period: float | None) -> float | None:
-    if not isinstance(source, Events):
-        return None
-    return source.header.global_seconds if period is None else source.header.resolution_seconds
+    ticks = ticks_of(source)
+    return ticks.global_seconds if period is None else ticks.resolution_seconds
 
 
 def in_ticks(photons: NDArray[np.void], period: float | None) -> NDArray[np.int64]:

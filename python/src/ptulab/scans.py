@@ -13,8 +13,7 @@ import numpy as np
 from numpy.typing import NDArray
 
 from .errors import NotKnown
-from .events import Events
-from .groups import EventsLike, GroupLike, group_of, pieces_of
+from .groups import EventsLike, GroupLike, group_of, pieces_of, ticks_of
 from .headers import Header
 
 __all__ = ["LINE", "Cube", "Image", "Scan", "best_phase", "cube", "image", "lines_of", "scan_of"]
@@ -193,8 +192,7 @@ def image(source: EventsLike, scan: Scan, group: GroupLike = None) -> Image:
         cells, placed = places.of(piece["record"][photons], piece["time"][photons])
         outside += len(placed) - int(np.count_nonzero(placed))
         _add(counts, cells[placed])
-    seconds = source.header.global_seconds if isinstance(source, Events) else None
-    return Image(scan, counts.astype(np.uint64).reshape(shape), outside, seconds)
+    return Image(scan, counts.astype(np.uint64).reshape(shape), outside, ticks_of(source).global_seconds)
 
 
 def cube(source: EventsLike, scan: Scan, dwidth: int, dbins: int, group: GroupLike = None) -> Cube:
@@ -216,8 +214,7 @@ def cube(source: EventsLike, scan: Scan, dwidth: int, dbins: int, group: GroupLi
         outside += len(placed) - int(np.count_nonzero(placed))
         over += int(np.count_nonzero(placed)) - int(np.count_nonzero(kept))
         _add(counts, cells[kept] * dbins + bins[kept])
-    seconds = source.header.resolution_seconds if isinstance(source, Events) else None
-    return Cube(scan, counts.astype(np.uint64).reshape(shape), dwidth, outside, over, seconds)
+    return Cube(scan, counts.astype(np.uint64).reshape(shape), dwidth, outside, over, ticks_of(source).resolution_seconds)
 
 
 def best_phase(source: EventsLike, scan: Scan, phases: NDArray[np.float64], group: GroupLike = None) -> float:

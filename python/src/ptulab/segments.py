@@ -11,7 +11,7 @@ import numpy as np
 from numpy.typing import NDArray
 
 from .events import EVENT, Events
-from .groups import EventsLike, GroupLike, group_of, pieces_of
+from .groups import EventsLike, GroupLike, group_of, pieces_of, ticks_of
 from .pulsed import occupied, pair_counts
 from .tables import lags_of
 
@@ -146,7 +146,7 @@ def correlation_by_segments(
         expected = float(one[part].sum()) * float(two[part].sum()) * 2.0**level * np.maximum(length - ticks, 0) / length**2
         curves.append(np.divide(pairs, expected, out=np.full(len(pairs), np.nan), where=expected > 0))
     values, errors = _mean(np.array(curves))
-    unit = source.header.global_seconds if isinstance(source, Events) else None
+    unit = ticks_of(source).global_seconds
     rates = (float(one.sum()) / (segments * length), float(two.sum()) / (segments * length))
     return Curve(ticks, level, values, errors, np.array(curves), unit, rates)
 
