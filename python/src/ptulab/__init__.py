@@ -9,7 +9,7 @@ from .events import EVENT, Events, iter_events, read_events
 from .headers import Header, read_header
 from .many import Left, Sum, count_files, sum_files
 from .page import write_page
-from .plans import Finding, check_plan, plan_for
+from .plans import Finding, check_plan, plan_for, read_plan
 from .program import find_program, run
 from .report import Head, Report, read_report, sum_reports
 from .tables import Table
@@ -45,6 +45,7 @@ __all__ = [
     "plan_for",
     "read_events",
     "read_header",
+    "read_plan",
     "read_report",
     "read_trace",
     "run",

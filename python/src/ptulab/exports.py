@@ -20,7 +20,7 @@ from .segments import Curve
 from .tables import Table
 from ._whole import whole_path, written_whole
 
-__all__ = ["write_npz", "write_ome_tiff", "write_photon_hdf5", "write_pycorrfit"]
+__all__ = ["write_npz", "write_ome_tiff", "write_photon_hdf5", "write_pycorrfit", "written_whole"]
 
 PathLike = str | os.PathLike[str]
 

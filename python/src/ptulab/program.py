@@ -17,7 +17,7 @@ from .errors import BadPlan, BadReport, NoProgram, Refusal
 from ._optional import want
 from .report import Report, groups_of, read_stream
 
-__all__ = ["find_program", "run"]
+__all__ = ["find_program", "refusal", "run"]
 
 LOOKS = 0.1  # seconds between two looks at how far the program is
 
