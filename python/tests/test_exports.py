@@ -91,7 +91,7 @@ def test_points_that_are_not_known_are_left_out(tmp_path, make_file, monkeypatch
 
 def test_curves_that_cannot_be_exported(curves, tmp_path):
     report, path = curves
-    unknown = correlation_by_segments(path, 1, 2, segments=5, lags=8, levels=4)
+    unknown = correlation_by_segments(ptulab.read_events(path).array, 1, 2, segments=5, lags=8, levels=4)
     for call in (
         lambda: exports.write_pycorrfit(unknown, tmp_path / "no.csv"),
         lambda: exports.write_pycorrfit(report.table("correlation"), tmp_path / "no.csv", traces=[report.table("correlation")]),
@@ -161,7 +161,7 @@ def test_ome_tiff_of_images_cubes_and_lifetimes(program, make_file, tmp_path):
             assert (lifetimes in file.ome_metadata) == ("H" in axes)
 
 
-@settings(max_examples=60, deadline=None)
+@settings(max_examples=25, deadline=None)
 @given(st.integers(1, 300), st.floats(1e-12, 1e-9), st.integers(1, 500))
 def test_bins_of_any_time_are_axes_that_are_read_back(folder, bins, resolution, dwidth):
     counts = np.arange(6 * bins, dtype=np.uint64).reshape(2, 3, bins)

@@ -65,7 +65,7 @@ def plans(draw: st.DrawFn) -> dict[str, Any]:
     return plan
 
 
-@settings(max_examples=150, deadline=None, suppress_health_check=[HealthCheck.function_scoped_fixture])
+@settings(max_examples=100, deadline=None, suppress_health_check=[HealthCheck.function_scoped_fixture])
 @given(plan=plans())
 def test_the_least_broken_rule_is_the_programs(tmp_path, ptu, plan):
     (tmp_path / "plan.toml").write_text("\n".join(f"{key} = {toml(value)}" for key, value in plan.items()))

@@ -1,6 +1,8 @@
 """Every worked row: what this package decodes beside what the row says, and what the program says of each row's file."""
 
+import functools
 import subprocess
+import tempfile
 from pathlib import Path
 
 import pytest
@@ -17,6 +19,14 @@ REPORTS = [row for row in WHOLE if row.words[:1] in (("run",), ("demo",)) and ro
 FILES = list({row.holds["file"]: row for row in reversed(ROWS)}.values())  # of each file the first row that has it
 
 
+@functools.cache
+def decoded(data: bytes) -> tuple[list[str], int, str]:
+    """What this package decodes, record by record: the events up to the end or a fault, and the status and line of that."""
+    with tempfile.TemporaryDirectory() as folder:
+        Path(folder, "f").write_bytes(data)
+        return ended(Path(folder, "f"), records=1)
+
+
 def named(row: Row) -> str:
     return row.name
 
@@ -31,17 +41,16 @@ def test_the_rows_that_are_compared(capsys: pytest.CaptureFixture[str]) -> None:
 
 
 @pytest.mark.parametrize("row", EVENTS, ids=named)
-def test_events_are_those_that_a_row_says(tmp_path: Path, row: Row) -> None:
-    (tmp_path / "f").write_bytes(row.holds["file"])
+def test_events_are_those_that_a_row_says(row: Row) -> None:
     told = row.holds["out"].decode().splitlines(), row.status, row.holds["err"].decode()
-    assert ended(tmp_path / "f", records=1) == told
+    assert decoded(row.holds["file"]) == told
 
 
 @pytest.mark.parametrize("row", FILES, ids=named)
 def test_events_are_those_of_the_program(tmp_path: Path, program: str, row: Row) -> None:
     (tmp_path / "f").write_bytes(row.holds["file"])
     run = subprocess.run([program, "events", str(tmp_path / "f")], capture_output=True, text=True)
-    said, status, line = ended(tmp_path / "f", records=1)
+    said, status, line = decoded(row.holds["file"])
     assert (said, status, line) == (run.stdout.splitlines(), run.returncode, run.stderr)
     if status == 0:
         assert lines(ptulab.read_events(tmp_path / "f").array) == said

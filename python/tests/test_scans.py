@@ -37,7 +37,7 @@ def keys(width, height, dwell, line, frame, stop, serpentine):
     return ", ".join([*told, f"serpentine = {str(serpentine).lower()}"])
 
 
-@settings(max_examples=60, deadline=None)
+@settings(max_examples=40, deadline=None)
 @given(
     random_events.scans, st.integers(1, 6), st.integers(1, 4), st.integers(1, 9), st.integers(1, 4), BITS, BITS, st.booleans()
 )
@@ -88,7 +88,7 @@ def place(events, at, scan):
     return frame, row, scan.width - 1 - column if back else column
 
 
-@settings(max_examples=80, deadline=None)
+@settings(max_examples=50, deadline=None)
 @given(
     random_events.scans.map(lambda events: sorted(events, key=lambda event: event[0])),
     st.integers(1, 4),
@@ -211,7 +211,7 @@ def test_shifts_are_those_of_a_plan(program, folder):
         shifted(events.array, {}, 0)
 
 
-@settings(max_examples=40, deadline=None)
+@settings(max_examples=20, deadline=None)
 @given(random_events.scans, st.integers(1, 20), st.booleans())
 def test_pieces_of_a_file_are_put_together(folder, events, piece, by_path):
     """Images, pairs, windows and groups are the same however the file falls into pieces."""
