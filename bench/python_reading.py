@@ -78,6 +78,41 @@ def iter_events(path: str) -> None:
     assert sum(len(piece) for piece in ptulab.iter_events(path))
 
 
+@task
+def image(path: str) -> None:
+    from ptulab import scans
+
+    assert scans.image(path, scans.Scan(512, 512, line=1, frame=2, stop=3)).counts.any()
+
+
+@task
+def cube(path: str) -> None:
+    from ptulab import scans
+
+    assert scans.cube(path, scans.Scan(512, 512, line=1, frame=2, stop=3), 64, 64).counts.any()
+
+
+@task
+def coincidences(path: str) -> None:
+    from ptulab import pulsed
+
+    assert pulsed.coincidences(path, 0, 1, 10).counts.any()
+
+
+@task
+def correlation_by_segments(path: str) -> None:
+    from ptulab import segments
+
+    assert len(segments.correlation_by_segments(path, 0, 1, levels=14).values)
+
+
+@task
+def find_bursts(path: str) -> None:
+    from ptulab import bursts, groups
+
+    assert bursts.find_bursts(groups.photons_of(path)["time"], 1.0, minimum=20).dtype == bursts.BURST
+
+
 class Measured:
     """The least seconds, and the most memory, of some runs of a command."""
 
@@ -158,6 +193,12 @@ class Bench:
             self.python(name, self.given.n, "iter_events", path)
             self.made.pop(Path(path).name).unlink()
 
+    def beyond(self) -> None:
+        """What a plan can't ask, by the path of a scan."""
+        records, path = self.given.n, self.file("scan", self.given.n)
+        for what in ("image", "cube", "coincidences", "correlation_by_segments", "find_bursts"):
+            self.python(f"beyond the plan, {records / 1e6:g} M", records, what, path)
+
 
 def options() -> argparse.Namespace:
     built = BENCH.parent / "out" / "ptu"
@@ -165,7 +206,7 @@ def options() -> argparse.Namespace:
     parser = argparse.ArgumentParser(description="Measures how long the Python package reads, beside the program.")
     parser.add_argument("-n", type=int, default=20_000_000, metavar="RECORDS")
     parser.add_argument("-t", type=int, default=3, metavar="TIMES")
-    parser.add_argument("-o", default="", metavar="REGEX", help="of import_alone, lifetimes, sums, events")
+    parser.add_argument("-o", default="", metavar="REGEX", help="of import_alone, lifetimes, sums, events, beyond")
     parser.add_argument("-p", default=program, metavar="PROGRAM")
     parser.add_argument("-d", default="/tmp", metavar="FOLDER")
     return parser.parse_args()
@@ -183,7 +224,7 @@ def main() -> None:
         print(f"load {os.getloadavg()[0]:.1f}, least of {given.t}")
         print("| task, records                      | by             | seconds | processor | M/s      |    MiB | before |")
         print("|---|---|---|---|---|---|---|")
-        for measure in (bench.import_alone, bench.lifetimes, bench.sums, bench.events):
+        for measure in (bench.import_alone, bench.lifetimes, bench.sums, bench.events, bench.beyond):
             if re.search(given.o, measure.__name__):
                 measure()
         print(f"load {os.getloadavg()[0]:.1f}")
