@@ -21,6 +21,7 @@ from ._optional import want
 from ._plan_rules import broken_rules
 from .program import find_program, run
 from .report import Report, first_lines, read_report
+from .texts import summed_head
 
 __all__ = ["Left", "Sum", "count_files", "megabytes_of", "sum_files"]
 
@@ -268,7 +269,7 @@ def _sum_of(whole: _Share, paths: Sequence[str]) -> Sum:
         why = "; ".join(f"{word} {one}, not {wanted}" for word, one, wanted in both if one != wanted) or "other tables"
         whole.left |= {place: Left(paths[place], None, why) for place in others}
     if len(places) == 1:
-        report = replace(report, head=replace(report.head, first=None, last=None))
+        report = replace(report, head=summed_head(report.head))
     return Sum(report, tuple(paths[place] for place in sorted(places)), tuple(whole.left[place] for place in sorted(whole.left)))
 
 

@@ -15,7 +15,7 @@ from .report import Head, Report
 from .tables import Table, lags_of
 from ._whole import written_whole
 
-__all__ = ["report_lines", "write_report"]
+__all__ = ["report_lines", "summed_head", "write_report"]
 
 CELLS = 1 << 16  # whose lines are put together
 
