@@ -8,8 +8,8 @@
     -d FOLDER     where the files stand for that time, /tmp by default; they take some 1.3 GB
 
 Each task is a process of its own. A row has its seconds by the clock and those of the processor, how many million
-records that is a second of the processor, and the most memory that it held at a time, the mapped file with it. The
-files are made by make.cpp and make_shaped.cpp. With other work on the machine the seconds of the processor count; the
+records that is a second of the processor, the most memory that it held at a time, the mapped file with it, and what the
+scripts took before the package was there. The files are made by make.cpp and make_shaped.cpp. With other work on the machine the seconds of the processor count; the
 load is printed. It needs NumPy and g++.
 """
 
@@ -78,6 +78,41 @@ def iter_events(path: str) -> None:
     assert sum(len(piece) for piece in ptulab.iter_events(path))
 
 
+@task
+def image(path: str) -> None:
+    from ptulab import scans
+
+    assert scans.image(path, scans.Scan(512, 512, line=1, frame=2, stop=3)).counts.any()
+
+
+@task
+def cube(path: str) -> None:
+    from ptulab import scans
+
+    assert scans.cube(path, scans.Scan(512, 512, line=1, frame=2, stop=3), 64, 64).counts.any()
+
+
+@task
+def coincidences(path: str) -> None:
+    from ptulab import pulsed
+
+    assert pulsed.coincidences(path, 0, 1, 10).counts.any()
+
+
+@task
+def correlation_by_segments(path: str) -> None:
+    from ptulab import segments
+
+    assert len(segments.correlation_by_segments(path, 0, 1, levels=14).values)
+
+
+@task
+def find_bursts(path: str) -> None:
+    from ptulab import bursts, groups
+
+    assert bursts.find_bursts(groups.photons_of(path)["time"], 1.0, minimum=20).dtype == bursts.BURST
+
+
 class Measured:
     """The least seconds, and the most memory, of some runs of a command."""
 
@@ -98,9 +133,10 @@ class Measured:
             self.memory = max(self.memory, used.ru_maxrss / 1024)
 
 
-def show(name: str, what: str, one: Measured, records: int) -> None:
+def show(name: str, what: str, one: Measured, records: int, before: str = "") -> None:
     rate = f"{records / one.processor / 1e6:8.1f}" if records else "       -"
-    print(f"| {name:<34} | {what:<14} | {one.wall:7.2f} | {one.processor:9.2f} | {rate} | {one.memory:6.0f} |", flush=True)
+    told = f"{one.wall:7.2f} | {one.processor:9.2f} | {rate} | {one.memory:6.0f} | {before}"
+    print(f"| {name:<34} | {what:<14} | {told} |", flush=True)
 
 
 class Bench:
@@ -126,9 +162,9 @@ class Bench:
         one.wall, one.processor = many * one.wall, many * one.processor
         show(name, f"ptu {words[0]}", one, many * records)
 
-    def python(self, name: str, records: int, what: str, *paths: str) -> None:
+    def python(self, name: str, records: int, what: str, *paths: str, before: str = "") -> None:
         one = Measured([sys.executable, __file__, "--task", what, *paths], self.given.t)
-        show(name, what, one, records)
+        show(name, what, one, records, before)
 
     def import_alone(self) -> None:
         self.python("the package alone", 0, "only_import")
@@ -138,7 +174,7 @@ class Bench:
         path, report = self.file("scan", records), str(self.folder / "report.txt")
         name = f"image with lifetimes, {records / 1e6:g} M"
         self.program(name, records, ["run", plan, path], report)
-        self.python(name, records, "read_report", report)
+        self.python(name, records, "read_report", report, before="20.8 s, 2.0 GB")
         self.python(name, records, "run", plan, path)
         self.python(f"four of them, {4 * records / 1e6:g} M", 4 * records, "sum_reports", *[report] * 4)
 
@@ -147,15 +183,21 @@ class Bench:
         path, report = self.file("scan", records), str(self.folder / "report.txt")
         name = f"{FILES} files, {FILES * records / 1e6:g} M"
         self.program(name, records, ["run", plan, path], report, FILES)
-        self.python(name, FILES * records, "sum_reports", *[report] * FILES)
+        self.python(name, FILES * records, "sum_reports", *[report] * FILES, before="21 to 24 s, 1.27 GB")
 
     def events(self) -> None:
         for kind in EVENTS:
             path, name = self.file(kind, self.given.n), f"events of {kind}, {self.given.n / 1e6:g} M"
             self.program(name, self.given.n, ["events", path])
-            self.python(name, self.given.n, "read_events", path)
+            self.python(name, self.given.n, "read_events", path, before="3.8 M photons 8.2 s, 1.19 GB")
             self.python(name, self.given.n, "iter_events", path)
             self.made.pop(Path(path).name).unlink()
+
+    def beyond(self) -> None:
+        """What a plan can't ask, by the path of a scan."""
+        records, path = self.given.n, self.file("scan", self.given.n)
+        for what in ("image", "cube", "coincidences", "correlation_by_segments", "find_bursts"):
+            self.python(f"beyond the plan, {records / 1e6:g} M", records, what, path)
 
 
 def options() -> argparse.Namespace:
@@ -164,7 +206,7 @@ def options() -> argparse.Namespace:
     parser = argparse.ArgumentParser(description="Measures how long the Python package reads, beside the program.")
     parser.add_argument("-n", type=int, default=20_000_000, metavar="RECORDS")
     parser.add_argument("-t", type=int, default=3, metavar="TIMES")
-    parser.add_argument("-o", default="", metavar="REGEX", help="of import_alone, lifetimes, sums, events")
+    parser.add_argument("-o", default="", metavar="REGEX", help="of import_alone, lifetimes, sums, events, beyond")
     parser.add_argument("-p", default=program, metavar="PROGRAM")
     parser.add_argument("-d", default="/tmp", metavar="FOLDER")
     return parser.parse_args()
@@ -180,9 +222,9 @@ def main() -> None:
             subprocess.run(["g++", "-std=c++17", "-O2", "-o", Path(name, maker), BENCH / f"{maker}.cpp"], check=True)
         bench = Bench(given, Path(name))
         print(f"load {os.getloadavg()[0]:.1f}, least of {given.t}")
-        print("| task, records                      | by             | seconds | processor | M/s      |    MiB |")
-        print("|---|---|---|---|---|---|")
-        for measure in (bench.import_alone, bench.lifetimes, bench.sums, bench.events):
+        print("| task, records                      | by             | seconds | processor | M/s      |    MiB | before |")
+        print("|---|---|---|---|---|---|---|")
+        for measure in (bench.import_alone, bench.lifetimes, bench.sums, bench.events, bench.beyond):
             if re.search(given.o, measure.__name__):
                 measure()
         print(f"load {os.getloadavg()[0]:.1f}")

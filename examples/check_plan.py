@@ -18,9 +18,7 @@ import sys
 ROOT = os.path.dirname(os.path.dirname(os.path.abspath(__file__)))
 sys.path.insert(0, os.path.join(os.path.dirname(os.path.dirname(os.path.realpath(__file__))), "python", "src"))
 
-from ptulab.documents import read_plan  # noqa: E402
-from ptulab.errors import BadFile, BadPlan  # noqa: E402
-from ptulab.plans import check_plan  # noqa: E402
+from ptulab import BadFile, BadPlan, check_plan, read_plan  # noqa: E402
 from ptulab.program import refusal  # noqa: E402
 
 OF_SEVERAL = (5, 12, 14, 16, 18, 20, 22, 25, 28, 29, 31)  # rules that speak of the values of several keys

@@ -22,7 +22,7 @@ import numpy as np
 
 sys.path.append(str(Path(__file__).resolve().parents[1] / "python" / "src"))  # where ptulab isn't installed
 from ptulab import PtulabError, Report, Table, read_report  # noqa: E402
-from ptulab.whole import written_whole  # noqa: E402
+from ptulab.exports import written_whole  # noqa: E402
 
 LEADING = {"image": ("row",), "cube": ("row", "column")}  # axes before the last one
 

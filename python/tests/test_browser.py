@@ -180,9 +180,12 @@ def luminance(colour):
 def test_without_scripts_there_are_plain_pictures(browser, pages):
     browser.execute_cdp_cmd("Emulation.setScriptExecutionDisabled", {"value": True})
     try:
-        browser.get(pages["scan"][0].as_uri())
-        pictures = browser.find_elements("css selector", "img.plain")
-        assert len(pictures) == 3 and all(picture.is_displayed() and picture.size["width"] > 300 for picture in pictures)
-        assert not any(plot.is_displayed() for plot in browser.find_elements("css selector", ".plot"))
+        for width in (390, 1000):
+            emulate(browser, False, width)
+            browser.get(pages["scan"][0].as_uri())
+            pictures = browser.find_elements("css selector", "img.plain")
+            assert len(pictures) == 3 and all(picture.is_displayed() and picture.size["width"] > 300 for picture in pictures)
+            assert all(picture.rect["x"] >= 0 and picture.rect["x"] + picture.rect["width"] <= width for picture in pictures)
+            assert not any(plot.is_displayed() for plot in browser.find_elements("css selector", ".plot"))
     finally:
         browser.execute_cdp_cmd("Emulation.setScriptExecutionDisabled", {"value": False})

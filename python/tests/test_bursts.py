@@ -23,7 +23,7 @@ def searched(times, minimum, m, longest):
     return [(a, b, times[a], times[b]) for a, b in bursts if b - a + 1 >= minimum]
 
 
-@settings(max_examples=150, deadline=None)
+@settings(max_examples=80, deadline=None)
 @given(random_events.times, st.integers(1, 30), st.integers(2, 8), st.floats(0.05, 3), st.sampled_from([-1, 0]))
 def test_bursts_are_those_of_the_plain_search(times, minimum, m, rate, c):
     ours = find_bursts(times, rate, minimum=minimum, m=m, c=c)

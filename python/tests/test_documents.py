@@ -2,7 +2,7 @@
 
 import pytest
 
-from ptulab.documents import LONGEST, older, read_plan
+from ptulab._documents import LONGEST, older, read_plan
 from ptulab.errors import BadPlan
 
 GOOD = [

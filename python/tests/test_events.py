@@ -74,7 +74,7 @@ HYDRA = st.builds(
 WORDS = st.lists(st.one_of(st.integers(0, 2**32 - 1), PICO, LOW, HYDRA), max_size=60)
 
 
-@settings(max_examples=40, deadline=None)
+@settings(max_examples=25, deadline=None)
 @given(words=WORDS, left=st.binary(max_size=3))
 @example(words=[], left=b"")
 @example(words=[0xFE000000], left=b"\0")
@@ -98,7 +98,7 @@ VALUES = st.one_of(st.integers(-3, 70), st.sampled_from(sorted(made.CODES.values
 TAGS = st.lists(st.tuples(NAMES, st.integers(-(2**31), 2**31 - 1), CODES, VALUES, st.binary(max_size=70)), max_size=5)
 
 
-@settings(max_examples=150, deadline=None)
+@settings(max_examples=100, deadline=None)
 @given(tags=TAGS, magic=st.sampled_from([b"PQTTTR\0\0", b"PQTTTRxy", b"PQHISTO\0", b"PQT"]), good=st.booleans(), cut=st.integers(0, 400))
 def test_random_headers(program: str, tags: list[tuple[bytes, int, int, int, bytes]], magic: bytes, good: bool, cut: int) -> None:
     data = magic + b"1.0.00\0\0"

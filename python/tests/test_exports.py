@@ -12,10 +12,10 @@ from hypothesis import strategies as st
 
 import ptulab
 from ptulab import exports, picked
-from ptulab.fits import mean_arrival
+from ptulab.fits import mean_delays
 from ptulab.scans import Cube, Scan, cube, image
 from ptulab.segments import correlation_by_segments
-from ptulab.whole import whole_path, written_whole
+from ptulab._whole import whole_path, written_whole
 
 h5py = pytest.importorskip("h5py")
 tifffile = pytest.importorskip("tifffile")
@@ -91,7 +91,7 @@ def test_points_that_are_not_known_are_left_out(tmp_path, make_file, monkeypatch
 
 def test_curves_that_cannot_be_exported(curves, tmp_path):
     report, path = curves
-    unknown = correlation_by_segments(path, 1, 2, segments=5, lags=8, levels=4)
+    unknown = correlation_by_segments(ptulab.read_events(path).array, 1, 2, segments=5, lags=8, levels=4)
     for call in (
         lambda: exports.write_pycorrfit(unknown, tmp_path / "no.csv"),
         lambda: exports.write_pycorrfit(report.table("correlation"), tmp_path / "no.csv", traces=[report.table("correlation")]),
@@ -139,7 +139,7 @@ def scanned(make_file, frames=2):
 def test_ome_tiff_of_images_cubes_and_lifetimes(program, make_file, tmp_path):
     events = ptulab.read_events(scanned(make_file))
     one, whole = image(events, SCAN), cube(events, SCAN, 8, 8)
-    means = mean_arrival(whole.counts, whole.ticks, threshold=2).astype(np.float32)
+    means = mean_delays(whole.counts, whole.ticks, threshold=2).astype(np.float32)
     plan = tmp_path / "plan.toml"
     plan.write_text("version = 2\ngroup = [{ inputs = [0] }]\ncube = [{ group = 1, width = 4, height = 3, dwell = 10, line = 1, dwidth = 8, dbins = 8 }]\n")
     table = ptulab.run(plan, scanned(make_file), program=program).table("cube")
@@ -161,7 +161,7 @@ def test_ome_tiff_of_images_cubes_and_lifetimes(program, make_file, tmp_path):
             assert (lifetimes in file.ome_metadata) == ("H" in axes)
 
 
-@settings(max_examples=60, deadline=None)
+@settings(max_examples=25, deadline=None)
 @given(st.integers(1, 300), st.floats(1e-12, 1e-9), st.integers(1, 500))
 def test_bins_of_any_time_are_axes_that_are_read_back(folder, bins, resolution, dwidth):
     counts = np.arange(6 * bins, dtype=np.uint64).reshape(2, 3, bins)

@@ -9,9 +9,10 @@ from hypothesis import given, settings
 from hypothesis import strategies as st
 
 import ptulab
-from ptulab import fits
+from ptulab import fits, segments
 from ptulab.pulsed import coincidences
 from ptulab.scans import Scan, cube
+from ptulab.tables import Measurement, empty_table
 
 WIDTH, PERIOD = 0.05, 25.0  # nanoseconds of a bin and of the excitation's period
 BINS = round(PERIOD / WIDTH)
@@ -125,10 +126,10 @@ def test_residuals_are_those_of_the_likelihood(count, expected):
 def test_mean_arrivals_of_pixels(make_file):
     events = [(0, made.Bits(1)), (1, 0, 0), (2, 0, 9), (12, 0, 20), (13, 0, 25), (14, 0, 26), (100, 0, 3)]
     found = cube(make_file("HydraHarp2T3", events), Scan(2, 1, 1, time=20), 5, 6)
-    means = fits.mean_arrival(found.counts, found.ticks, offset=2.5)
+    means = fits.mean_delays(found.counts, found.ticks, offset=2.5)
     assert means.tolist() == [[2.5, (22.5 + 27.5 + 27.5) / 3 - 2.5]]
-    assert np.isnan(fits.mean_arrival(found.counts, found.ticks, threshold=3)).tolist() == [[True, False]]
-    assert fits.mean_arrival(found.counts[0, 1], found.ticks) == pytest.approx((22.5 + 55) / 3)
+    assert np.isnan(fits.mean_delays(found.counts, found.ticks, threshold=3)).tolist() == [[True, False]]
+    assert fits.mean_delays(found.counts[0, 1], found.ticks) == pytest.approx((22.5 + 55) / 3)
 
 
 def test_phasors_of_single_decays_are_on_the_half_circle():
@@ -190,11 +191,58 @@ def test_g2_of_reports_and_of_events(program, tmp_path, make_file):
     values, bars = fits.g2(report.table("coincidence"))
     assert (np.abs(values - 1) < 4.5 * bars).all() and (0.01 < bars).all() and (bars < 0.2).all()
     ours, same = fits.g2(coincidences(path, 1, 2, 52, width=10))
-    assert np.allclose(ours, values, rtol=1e-3) and np.allclose(same, bars, rtol=1e-3)
+    assert np.allclose(ours, values, rtol=1e-12) and np.allclose(same, bars, rtol=1e-12)
     table = report.table("coincidence")
     assert np.allclose(fits.g2(table, 2 * table.photons[0], table.photons[1])[0], values / 2)
     assert np.allclose(fits.g2(report.table("correlation"))[0], report.table("correlation").normalised())
     assert np.allclose(fits.g2((report + report).table("coincidence"))[0], values)
+
+
+CELLS = {"reach": 700, "width": 301}  # five cells, the third around 0, the last of 197 differences
+
+
+def uncorrelated(seed, ticks, rate):
+    """Events of two inputs, each with a photon in a tick with this probability, between markers in the first and the last tick."""
+    there = np.random.default_rng(seed).random(2 * ticks) < rate
+    there[[0, -1]] = True
+    events = np.zeros(int(there.sum()), ptulab.EVENT)
+    events["time"], events["number"] = np.flatnonzero(there) // 2, np.flatnonzero(there) % 2 + 1
+    events["marker"][[0, -1]] = True
+    return events
+
+
+@pytest.mark.parametrize(("first", "second"), [(1, 2), (1, 1), ((1, 2), (1, 2)), ((1, 2), 2)])
+def test_bars_of_wide_cells_are_as_their_scatter(first, second):
+    """Over many measurements the mean of g2 is 1 in each cell, and its scatter is the bar that is told."""
+    found = [fits.g2(coincidences(uncorrelated(seed, 40_000, 0.003), first, second, **CELLS)) for seed in range(150)]
+    values, bars = (np.array(column) for column in zip(*found))
+    assert np.abs(values.mean(axis=0) - 1).max() < 0.02
+    assert (values.std(axis=0) / np.sqrt((bars**2).mean(axis=0))) == pytest.approx(np.ones(5), abs=0.22)
+
+
+def test_pairs_that_are_expected_are_those_of_all_places():
+    """Photons in each tick have all pairs that there are places for, also behind the length of the measurement."""
+    full = uncorrelated(0, 4000, 1.1)
+    full["marker"] = False
+    pairs = coincidences(full, 1, 2, 4300, width=301)
+    assert pairs.length == pairs.first_photons == 4000 and pairs.counts.sum() == 4000**2 and (pairs.counts == 0).any()
+    assert pairs.expected() == pytest.approx(pairs.counts.astype(float), rel=1e-12, abs=1e-6)
+
+
+@pytest.mark.parametrize("group", [1, 2])
+def test_bars_of_levels_are_as_their_scatter(group):
+    """The same of a correlation, whose levels have wide bins."""
+    found = []
+    for seed in range(150):
+        events = uncorrelated(seed, 4000, 0.03)[1:-1]
+        first, second = events["number"] == 1, events["number"] == group
+        table = empty_table("correlation", 1, {"lags": 8, "levels": 5}, None)
+        table.counts = segments.correlation(events["time"], first, second, lags=8, levels=5).astype(np.uint64)
+        table.measurements = (Measurement(4000, (int(first.sum()), int(second.sum()))),)
+        found.append(fits.g2(table))
+    values, bars = (np.array(column) for column in zip(*found))
+    scatter = values.std(axis=0) / np.sqrt((bars**2).mean(axis=0))
+    assert scatter.mean() == pytest.approx(1, abs=0.07) and np.abs(scatter - 1).max() < 0.25
 
 
 def test_g2_of_what_has_none(program, tmp_path, make_file):

@@ -13,8 +13,8 @@ import ptulab
 from conftest import EXAMPLES
 from ptulab.errors import Missing
 from ptulab.fits import g2
-from ptulab.page import checksum, document, figures, page, write_page
-from ptulab.page.figures import Curve, Picture, begin_of, blocks, figures_of, start_of, thinned, unit_of
+from ptulab.page import _document as document, _figures as figures, checksum, page, write_page
+from ptulab.page._figures import Curve, Picture, begin_of, blocks, figures_of, start_of, thinned, unit_of
 from ptulab.report import Head, Report
 from ptulab.tables import Measurement, empty_table
 
@@ -34,7 +34,7 @@ def table(kind, settings, counts, rest=None, head=HEAD, photons=None, groups=Non
 def small(monkeypatch):
     """Pages without the eight megabytes of Plotly."""
     offline = type("Offline", (), {"get_plotlyjs": staticmethod(lambda: "/* plotly */")})
-    whole = ptulab.optional.want
+    whole = ptulab._optional.want
     monkeypatch.setattr("ptulab.page.want", lambda name, feature: offline if name == "plotly.offline" else whole(name, feature))
 
 

@@ -8,8 +8,8 @@ from hypothesis import HealthCheck, given, settings
 from hypothesis import strategies as st
 
 from conftest import EXAMPLES
-from ptulab.documents import read_plan
-from ptulab.plan_rules import KINDS, SHAPES, broken_rules
+from ptulab._documents import read_plan
+from ptulab._plan_rules import KINDS, SHAPES, broken_rules
 
 EDGES = [-1, 0, 1, 2, 3, 4, 5, 40, 41, 64, 65, 128, 129, 2048, 2049, 32768, 32769, 1 << 20, (1 << 20) + 1, 1 << 21,
          (1 << 21) + 1, 1 << 40, (1 << 40) + 1, 1 << 62, (1 << 62) + 1]
@@ -65,7 +65,7 @@ def plans(draw: st.DrawFn) -> dict[str, Any]:
     return plan
 
 
-@settings(max_examples=150, deadline=None, suppress_health_check=[HealthCheck.function_scoped_fixture])
+@settings(max_examples=100, deadline=None, suppress_health_check=[HealthCheck.function_scoped_fixture])
 @given(plan=plans())
 def test_the_least_broken_rule_is_the_programs(tmp_path, ptu, plan):
     (tmp_path / "plan.toml").write_text("\n".join(f"{key} = {toml(value)}" for key, value in plan.items()))

@@ -6,9 +6,9 @@ import pytest
 import made
 from conftest import EXAMPLES
 from made import Bits
-from ptulab.documents import read_plan
+from ptulab._documents import read_plan
 from ptulab.errors import BadFile
-from ptulab.looks import look
+from ptulab._looks import look
 from ptulab.plans import check_plan, plan_for
 from ptulab.program import run
 
@@ -118,7 +118,7 @@ def test_no_plan_for_a_file_that_is_refused(tmp_path):
 
 
 def test_a_look_at_a_file(make_file, monkeypatch):
-    monkeypatch.setattr("ptulab.looks.iter_events", lambda path: __import__("ptulab").iter_events(path, records=3))
+    monkeypatch.setattr("ptulab._looks.iter_events", lambda path: __import__("ptulab").iter_events(path, records=3))
     seen = look(make_file(T3, [*scan(10), (5, 3, 99), (900, 3, 98)]))
     assert seen.inputs == {0: 5, 3: 2} and seen.bits == {1: 2, 2: 2, 3: 1}
     assert (seen.first, seen.last, seen.length, seen.late, seen.deepest) == (200, 900, 700, 1, 98)

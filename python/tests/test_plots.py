@@ -65,7 +65,7 @@ def test_tables_of_a_scan(t3):
     lifetimes = plots.plot_lifetimes(report.table("cube"), threshold=20)
     assert bar(lifetimes) == ["mean delay (ns)"] and lifetimes.images[0].get_array().mask.any()
     table = report.table("cube")
-    means = fits.mean_arrival(table.counts, table.seconds, threshold=20) * 1e9
+    means = fits.mean_delays(table.counts, table.seconds, threshold=20) * 1e9
     assert np.allclose(lifetimes.images[0].get_array().filled(np.nan), means, equal_nan=True)
     curve = plots.plot(report.table("correlation"))
     assert labels(curve) == ("delay (s)", "G (1 without correlation)") and curve.get_xscale() == "log"

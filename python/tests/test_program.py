@@ -16,7 +16,7 @@ from conftest import EXAMPLES
 
 import ptulab
 from ptulab import BadReport, Missing, NoProgram, Refusal, program as module
-from ptulab.optional import want
+from ptulab._optional import want
 
 SCAN = EXAMPLES / "scan.toml", EXAMPLES / "scan.ptu"
 

@@ -39,9 +39,9 @@ def test_coincidences_of_t3_are_those_of_the_same_times_in_t2(program, folder, e
     table = report_of(program, folder, groups_of(first, second) + plan, t2).table("coincidence")
     for path in (t2, t3):
         ours = coincidences(ptulab.read_events(path), first, second, reach, width=width)
-        assert (ours.pairs == table.counts).all() and (ours.lags == table.ticks).all()
+        assert (ours.counts == table.counts).all() and (ours.ticks == table.ticks).all()
         assert np.allclose(ours.seconds, table.seconds, rtol=1e-12)
-        assert ours.differences.sum() == 2 * reach + 1
+        assert ours.widths.sum() == 2 * reach + 1
 
 
 @settings(max_examples=40, deadline=None)
@@ -51,8 +51,8 @@ def test_lags_of_sync_periods_are_those_of_the_first_level(program, folder, even
     plan = "correlation = [{ first = 1, second = 2, lags = 16, levels = 1 }, { first = 2, second = 1, lags = 16, levels = 1 }]\n"
     report = report_of(program, folder, groups_of(first, second) + plan, path)
     ours = coincidences(path, first, second, 16)
-    assert (ours.pairs[17:] == report.table("correlation", 1).counts).all()
-    assert (ours.pairs[15::-1] == report.table("correlation", 2).counts).all()
+    assert (ours.counts[17:] == report.table("correlation", 1).counts).all()
+    assert (ours.counts[15::-1] == report.table("correlation", 2).counts).all()
 
 
 @settings(max_examples=40, deadline=None)
@@ -77,7 +77,7 @@ def test_differences_in_ticks_join_sync_and_dtime(folder, events, first, second,
         t - s for i, (s, m) in enumerate(times) for j, (t, n) in enumerate(times) if i != j and m in first and n in second
     )
     ours = coincidences(path, first, second, reach, period=period)
-    assert ours.pairs.tolist() == [pairs[lag] for lag in range(-reach, reach + 1)]
+    assert ours.counts.tolist() == [pairs[lag] for lag in range(-reach, reach + 1)]
     ordered = [one for one in sorted(times, key=lambda one: one[0]) if one[1] in first + second]
     steps = Counter(t - s for (s, m), (t, n) in zip(ordered, ordered[1:]) if m in first and n in second)
     stops = start_stops(path, first, second, 1, 100, period=period)
@@ -119,11 +119,11 @@ def test_an_emitter_of_single_photons_is_told_by_lag_0(make_file):
     ours = coincidences(ptulab.read_events(laser), 0, 1, 20)
     ratio, error = ours.central_ratio()
     assert abs(ratio - 1) < 4 * error
-    normalised = ours.pairs / ours.expected()
+    normalised = ours.counts / ours.expected()
     assert abs(normalised.mean() - 1) < 0.03 and ours.length <= 60000
     assert ours.seconds[0] == pytest.approx(-2e-6)
     peaks = coincidences(ptulab.read_events(antibunched), 0, 1, 14999, width=10000, period=1e4)
-    assert peaks.pairs.tolist() == coincidences(antibunched, 0, 1, 1).pairs.tolist() and peaks.unit_seconds == 1e-11
+    assert peaks.counts.tolist() == coincidences(antibunched, 0, 1, 1).counts.tolist() and peaks.unit_seconds == 1e-11
 
 
 def test_the_error_of_a_ratio_is_that_of_its_counts():
@@ -136,13 +136,13 @@ def test_the_error_of_a_ratio_is_that_of_its_counts():
 def test_gates_choose_photons(make_file):
     path = make_file("HydraHarp2T3", [(1, 0, 5), (1, 1, 30), (2, 1, 5), (3, made.Bits(1)), (4, 1, 6)])
     ours = coincidences(path, 0, Group((1,), ((0, 10),)), 3)
-    assert ours.pairs.tolist() == [0, 0, 0, 0, 1, 0, 1] and ours.length == 4
+    assert ours.counts.tolist() == [0, 0, 0, 0, 1, 0, 1] and ours.length == 4
 
 
 def test_nothing_to_pair(make_file):
     path = make_file("HydraHarp2T3", [])
     ours = coincidences(path, 0, 1, 3)
-    assert ours.pairs.tolist() == [0] * 7 and ours.expected().tolist() == [0] * 7 and ours.seconds is None
+    assert ours.counts.tolist() == [0] * 7 and ours.expected().tolist() == [0] * 7 and ours.seconds is None
     with pytest.raises(ptulab.NotKnown):
         ours.central_ratio()
     assert start_stops(path, 0, 1, 1, 2).counts.tolist() == [0, 0] and start_stops(path, 0, 1, 1, 2).seconds is None

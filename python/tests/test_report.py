@@ -16,7 +16,7 @@ from hypothesis import strategies as st
 import ptulab
 from ptulab import BadReport, NotKnown, NoTable, Report, Unlike
 from ptulab import report as module
-from ptulab.digits import whole_numbers
+from ptulab._digits import whole_numbers
 from ptulab.tables import KINDS, lags_of
 
 WHOLE = 2**62  # the width of a trace that has all photons in one bin
@@ -59,7 +59,7 @@ def pairs(make_plan: Runner, make_file: Runner, program: str) -> Callable[..., R
 def test_tables_of_pairs(pairs: Callable[..., Report]) -> None:
     report = pairs([0, 1], [3, 4, 6, 7, 8])
     head = report.head
-    assert (head.type, head.mode, head.records, head.announced) == ("HydraHarp2T2", "T2", 7, 7)
+    assert (head.record_type, head.mode, head.records, head.announced) == ("HydraHarp2T2", "T2", 7, 7)
     assert (head.global_seconds, head.resolution_seconds, head.first, head.last) == (1e-12, None, 0, 8)
     assert dict(head.items())["global"] == head["global"] == 1e-12 and head["photons"] == 7
     with pytest.raises(KeyError):
@@ -288,6 +288,10 @@ BAD = [
     HEAD + "correlation 1 lags 4 levels 2\n1 2 1\n",
     HEAD + "correlation 1 lags 4 levels 2\n2 3 1\n",
     HEAD + "nothing 1\n",
+    HEAD + "histogram 2 width 1 bins 2\nover 1\n",
+    HEAD + "histogram 1 width 1 bins 2\nover 1\n" * 2,
+    HEAD + "fold 1 window 1 sets 4\nhistogram 1 width 1 bins 2\nover 1\n",
+    HEAD + "".join(f"cube {n} width 1 height 1 dwell 1 dwidth 1 dbins 1\noutside 0\nover 0\n" for n in (1, 2, 3)),
     HEAD + "coincidence 1 reach 1 width 1\n0 \xe9\n",
 ]
 
@@ -312,9 +316,8 @@ COUNT = st.one_of(st.integers(1, 9999), st.integers(1, 10**18), st.integers(1, 2
 
 
 @st.composite
-def tables(draw: st.DrawFn) -> str:
-    """A table of any kind, with random cells."""
-    kind = draw(st.sampled_from(sorted(KINDS)))
+def tables(draw: st.DrawFn, kind: str, number: int) -> str:
+    """A table of a kind, with random cells."""
     sizes = {word: draw(st.integers(1, 12)) for word in KINDS[kind].settings}
     sizes |= {word: 2 * sizes[word] for word in ("lags",) if word in sizes} | ({"sets": 8} if kind == "fold" else {})
     shape = KINDS[kind].shape(sizes)
@@ -323,11 +326,18 @@ def tables(draw: st.DrawFn) -> str:
     for place in draw(st.sets(st.integers(0, cells - 1), max_size=20)):
         counts[place] = draw(COUNT if kind in ("coincidence", "correlation") else st.integers(1, 10**6))
     rest = {word: draw(st.integers(0, 10**9)) for word in KINDS[kind].rest}
-    return "".join(printed(Report(None, (ptulab.Table(kind, 1, sizes, counts.reshape(shape), counts, None, rest),))))  # type: ignore[arg-type]
+    return "".join(printed(Report(None, (ptulab.Table(kind, number, sizes, counts.reshape(shape), counts, None, rest),))))  # type: ignore[arg-type]
+
+
+@st.composite
+def reports(draw: st.DrawFn) -> str:
+    """Some tables, in the order of a report."""
+    numbers = [draw(st.sampled_from([0, 0, 1, 2])) for _ in KINDS]
+    return "".join(draw(tables(kind, number)) for kind, many in zip(KINDS, numbers) for number in range(1, many + 1))
 
 
 @settings(max_examples=40, deadline=None)
-@given(text=st.lists(tables(), max_size=4).map("".join), piece=st.sampled_from([1, 17, 1 << 16]))
+@given(text=reports(), piece=st.sampled_from([1, 17, 1 << 16]))
 def test_what_is_read_is_what_was_printed(text: str, piece: int) -> None:
     with pytest.MonkeyPatch.context() as patch, tempfile.TemporaryDirectory() as folder:
         patch.setattr(module, "PIECE", piece)
@@ -363,5 +373,5 @@ def test_all_record_types(make_file: Runner, make_plan: Runner, program: str, re
     photons = [(time, 1, 5) if record_type.endswith("T3") else (time, 1) for time in (5, 6, 3 * made.unit(record_type))]
     plan = make_plan(f"group = [{{ inputs = [1] }}]\ntrace = [{{ group = 1, width = {WHOLE}, bins = 1 }}]\n")
     report = ptulab.run(plan, make_file(record_type, photons, tick=2e-9), program=program)
-    assert report.head.type == record_type and report.table("trace").counts.tolist() == [3]
+    assert report.head.record_type == record_type and report.table("trace").counts.tolist() == [3]
     assert report.head.last == 3 * made.unit(record_type)

@@ -46,7 +46,7 @@ def test_the_letter_stands_still(folder):
 
 def test_lifetimes_of_the_letter(folder):
     found = cube(ptulab.read_events(folder / "two_ways.ptu"), Scan(**TWO_WAYS, time=64 * 8.4, phase=12.6), 10, 200)
-    means = fits.mean_arrival(found.counts, found.seconds, offset=5e-9, threshold=15)
+    means = fits.mean_delays(found.counts, found.seconds, offset=5e-9, threshold=15)
     assert np.nanmean(means[10:18]) == pytest.approx(1.5e-9, rel=0.05) and np.nanmean(means[28:36]) == pytest.approx(4e-9, rel=0.05)
 
 
@@ -81,7 +81,7 @@ def test_t3_correlations_of_the_emitter(program, folder):
     photons = photons_of(folder / "emitter.ptu")
     counts = correlation(photons["time"], photons["number"] == 0, photons["number"] == 1, levels=20)
     assert (counts == report.table("correlation").counts).all()
-    assert (coincidences(folder / "emitter.ptu", 0, 1, 16).pairs[17:] == counts[:16]).all()
+    assert (coincidences(folder / "emitter.ptu", 0, 1, 16).counts[17:] == counts[:16]).all()
 
 
 def test_pairs_of_the_diffusing_molecules(program, folder):
@@ -89,7 +89,7 @@ def test_pairs_of_the_diffusing_molecules(program, folder):
     plan += "startstop = [{ start = 1, stop = 2, width = 500, bins = 40 }]\n"
     report = report_of(program, folder, "diffusion", plan)
     ours = coincidences(folder / "diffusion.ptu", 1, 2, 90000, width=999)
-    assert (ours.pairs == report.table("coincidence").counts).all() and (ours.lags == report.table("coincidence").ticks).all()
+    assert (ours.counts == report.table("coincidence").counts).all() and (ours.ticks == report.table("coincidence").ticks).all()
     stops = start_stops(folder / "diffusion.ptu", 1, 2, 500, 40)
     assert (stops.counts == report.table("startstop").counts).all() and stops.over == report.table("startstop").rest["over"]
 

@@ -37,7 +37,7 @@ def keys(width, height, dwell, line, frame, stop, serpentine):
     return ", ".join([*told, f"serpentine = {str(serpentine).lower()}"])
 
 
-@settings(max_examples=60, deadline=None)
+@settings(max_examples=40, deadline=None)
 @given(
     random_events.scans, st.integers(1, 6), st.integers(1, 4), st.integers(1, 9), st.integers(1, 4), BITS, BITS, st.booleans()
 )
@@ -88,7 +88,7 @@ def place(events, at, scan):
     return frame, row, scan.width - 1 - column if back else column
 
 
-@settings(max_examples=80, deadline=None)
+@settings(max_examples=50, deadline=None)
 @given(
     random_events.scans.map(lambda events: sorted(events, key=lambda event: event[0])),
     st.integers(1, 4),
@@ -211,20 +211,22 @@ def test_shifts_are_those_of_a_plan(program, folder):
         shifted(events.array, {}, 0)
 
 
-@settings(max_examples=40, deadline=None)
+@settings(max_examples=20, deadline=None)
 @given(random_events.scans, st.integers(1, 20), st.booleans())
 def test_pieces_of_a_file_are_put_together(folder, events, piece, by_path):
     """Images, pairs, windows and groups are the same however the file falls into pieces."""
-    path = made.write(folder / "pieces.ptu", "HydraHarp2T3", events)
+    path = made.write(folder / "pieces.ptu", "HydraHarp2T3", events, tick=1e-8, resolution=1e-11)
     read = ptulab.read_events(path)
     scan = Scan(5, 4, 1, stop=2, frame=3, serpentine=True, phase=1.5, frames=True)
 
     def counted(source):
         pairs, found = coincidences(source, 0, (1, 2), 9), cube(source, scan, 9, 3, (0, 1))
         whole = [image(source, scan).counts, image(source, scan).outside, found.counts, found.outside, found.over]
-        return [*whole, pairs.pairs, pairs.length, photons_of(source, 1), window(source, 20, 300), lines_of(source, scan)]
+        seconds = [image(source, scan).global_seconds, found.seconds, pairs.seconds]
+        return [*whole, *seconds, pairs.counts, pairs.length, photons_of(source, 1), window(source, 20, 300), lines_of(source, scan)]
 
     with pytest.MonkeyPatch.context() as patch:
         patch.setattr(groups, "PIECE", piece)
         parts = counted(path if by_path else read)
     assert all(np.array_equal(one, other) for one, other in zip(parts, counted(read), strict=True))
+    assert parts[5] == 1e-8 and parts[6][1] == pytest.approx(9e-11) and parts[7][-1] == pytest.approx(9e-8)

@@ -5,7 +5,7 @@ import stat
 
 import pytest
 
-from ptulab.whole import written_whole
+from ptulab._whole import written_whole
 
 
 def test_a_file_appears_when_it_is_whole(tmp_path):
@@ -28,7 +28,7 @@ def test_after_a_fault_the_old_file_stands(tmp_path):
 
 
 def test_no_folder_is_an_error(tmp_path):
-    with pytest.raises(FileNotFoundError), written_whole(tmp_path / "none" / "out.txt"):
+    with pytest.raises(FileNotFoundError, match=r"none/out\.txt'$"), written_whole(tmp_path / "none" / "out.txt"):
         pass
 
 

@@ -7,12 +7,13 @@ Reports and their sums (``read_report``, ``sum_reports``), runs of the program (
 from .errors import BadFile, BadPlan, BadReport, FitFailed, Missing, NoProgram, NotKnown, NoTable, PtulabError, Refusal, Unlike
 from .events import EVENT, Events, iter_events, read_events
 from .headers import Header, read_header
-from .many import count_files
+from .many import Left, Sum, count_files, sum_files
 from .page import write_page
-from .plans import check_plan, plan_for
+from .plans import Finding, check_plan, plan_for, read_plan
 from .program import find_program, run
 from .report import Head, Report, read_report, sum_reports
 from .tables import Table
+from .texts import write_report
 from .traces import LongTrace, read_trace
 
 __all__ = [
@@ -21,9 +22,11 @@ __all__ = [
     "BadPlan",
     "BadReport",
     "Events",
+    "Finding",
     "FitFailed",
     "Head",
     "Header",
+    "Left",
     "LongTrace",
     "Missing",
     "NoProgram",
@@ -32,6 +35,7 @@ __all__ = [
     "PtulabError",
     "Refusal",
     "Report",
+    "Sum",
     "Table",
     "Unlike",
     "check_plan",
@@ -41,9 +45,12 @@ __all__ = [
     "plan_for",
     "read_events",
     "read_header",
+    "read_plan",
     "read_report",
     "read_trace",
     "run",
+    "sum_files",
     "sum_reports",
     "write_page",
+    "write_report",
 ]

@@ -8,12 +8,12 @@ from collections.abc import Callable, Sequence
 
 from .errors import PtulabError, Refusal
 from .many import Sum, count_files, sum_files
-from .optional import want
+from ._optional import want
 from .page import write_page
 from .plans import check_plan, plan_for
 from .report import read_report
 from .texts import report_lines, write_report
-from .whole import written_whole
+from ._whole import written_whole
 
 
 def page(words: Sequence[str]) -> int:

@@ -13,6 +13,8 @@ from numpy.typing import NDArray
 from .errors import NotKnown
 from .groups import GroupLike, group_of
 
+__all__ = ["BURST", "Fret", "find_bursts", "fret", "fused", "photons_in"]
+
 BURST = np.dtype([("first", "<i8"), ("last", "<i8"), ("start", "<i8"), ("stop", "<i8")])
 
 

@@ -3,6 +3,20 @@
 A path that can't be opened or read is Python's own ``OSError``; all else is a ``PtulabError``.
 """
 
+__all__ = [
+    "BadFile",
+    "BadPlan",
+    "BadReport",
+    "FitFailed",
+    "Missing",
+    "NoProgram",
+    "NoTable",
+    "NotKnown",
+    "PtulabError",
+    "Refusal",
+    "Unlike",
+]
+
 
 class PtulabError(Exception):
     """The root of all exceptions of this package."""

@@ -16,8 +16,10 @@ from numpy.typing import NDArray
 
 from .errors import BadFile
 from .headers import Header, read_header
-from .layouts import RESERVED, WRAP, Words, layout_of
-from .scratch import keep_scratch
+from ._layouts import RESERVED, WRAP, Words, layout_of
+from ._scratch import keep_scratch
+
+__all__ = ["EVENT", "Events", "iter_events", "read_events"]
 
 EVENT = np.dtype(
     [("record", "<i8"), ("time", "<i8"), ("dtime", "<i4"), ("number", "u1"), ("marker", "?"), ("late", "?")]
@@ -116,8 +118,8 @@ def _pieces(
 
 
 def _ends_whole(path: str | os.PathLike[str], header: Header) -> None:
-    if header.left_over:
-        raise BadFile(17, f"{header.left_over} bytes of a record at the end", os.fspath(path))
+    if header.left_over_bytes:
+        raise BadFile(17, f"{header.left_over_bytes} bytes of a record at the end", os.fspath(path))
 
 
 class _Walk:
@@ -131,12 +133,12 @@ class _Walk:
         keep_scratch()
         if header.records:
             with open(path, "rb") as file:
-                self.map = mmap.mmap(file.fileno(), header.length + 4 * header.records, access=mmap.ACCESS_READ)
+                self.map = mmap.mmap(file.fileno(), header.length_bytes + 4 * header.records, access=mmap.ACCESS_READ)
 
     def words(self, many: int) -> Words:
         """The next words. What lies far behind them is given back to the system."""
         assert self.map is not None
-        begin = self.header.length + 4 * self.at
+        begin = self.header.length_bytes + 4 * self.at
         if begin - self.seen > GIVEN_BACK and hasattr(self.map, "madvise"):
             end = begin // mmap.PAGESIZE * mmap.PAGESIZE
             self.map.madvise(mmap.MADV_DONTNEED, self.seen, end - self.seen)

@@ -12,20 +12,20 @@ import numpy as np
 from numpy.typing import NDArray
 
 from .errors import NotKnown
-from .optional import want
+from ._optional import want
 from .photon_hdf5 import write_photon_hdf5
 from .report import Report
 from .scans import Cube, Image
 from .segments import Curve
 from .tables import Table
-from .whole import whole_path, written_whole
+from ._whole import whole_path, written_whole
 
-__all__ = ["write_npz", "write_ome_tiff", "write_photon_hdf5", "write_pycorrfit"]
+__all__ = ["write_npz", "write_ome_tiff", "write_photon_hdf5", "write_pycorrfit", "written_whole"]
 
-Target = str | os.PathLike[str]
+PathLike = str | os.PathLike[str]
 
 
-def write_npz(report: Report, path: Target) -> None:
+def write_npz(report: Report, path: PathLike) -> None:
     """All arrays of a report as one ``.npz`` file, which ``numpy.load`` reads without pickles.
 
     A table has the arrays ``KIND_NUMBER`` (its counts), ``KIND_NUMBER_ticks``, where they are known
@@ -54,7 +54,7 @@ def _plain(array: NDArray[Any]) -> NDArray[Any]:
 
 
 def write_pycorrfit(
-    curve: Curve | Table, path: Target, *, kind: Literal["auto", "cross"] | None = None, traces: Sequence[Table] = ()
+    curve: Curve | Table, path: PathLike, *, kind: Literal["auto", "cross"] | None = None, traces: Sequence[Table] = ()
 ) -> None:
     """A correlation as CSV that PyCorrFit opens: delays in seconds, G - 1, and, where they are known, errors as weights.
 
@@ -97,7 +97,7 @@ def _trace_lines(trace: Table) -> list[str]:
 
 
 def write_ome_tiff(
-    pixels: Image | Cube | Table | NDArray[Any], path: Target, *, pixel_micrometres: float | None = None, name: str = ""
+    pixels: Image | Cube | Table | NDArray[Any], path: PathLike, *, pixel_micrometres: float | None = None, name: str = ""
 ) -> None:
     """An image as OME-TIFF: frames as the axis T, the bins of a cube as the axis H (lifetime).
 

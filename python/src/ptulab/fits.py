@@ -13,9 +13,23 @@ import numpy as np
 from numpy.typing import NDArray
 
 from .errors import FitFailed, NotKnown
-from .optional import want
+from ._optional import want
 from .pulsed import Coincidences
 from .tables import Table
+
+__all__ = [
+    "Fit",
+    "fcs_model",
+    "fit_fcs",
+    "fit_reconvolution",
+    "fit_tail",
+    "g2",
+    "lifetimes_of_phasor",
+    "mean_delays",
+    "mean_lifetime",
+    "phasor",
+    "phasor_of_lifetime",
+]
 
 Numbers = NDArray[np.float64]
 
@@ -203,13 +217,13 @@ def mean_lifetime(fit: Fit, *, by: Literal["amplitude", "intensity"] = "amplitud
     return float((weights * times).sum() / weights.sum())
 
 
-def mean_arrival(counts: NDArray[Any], axis: NDArray[Any], *, offset: float = 0.0, threshold: int = 1) -> Numbers:
+def mean_delays(counts: NDArray[Any], axis: NDArray[Any], *, offset: float = 0.0, threshold: int = 1) -> Numbers:
     """The mean delay of the photons of each pixel: a fast picture of lifetimes. Shape of ``counts`` without its last axis.
 
     ``counts``: shape (.., bins), as of a cube or a histogram; ``axis``: shape (bins,), where bins begin, evenly spaced,
     in seconds or ticks. A photon counts in the middle of its bin. ``offset``, in the same unit, is when the pulse comes,
     and is taken off; ``threshold``: with fewer photons a pixel is nan. In seconds the middle of a bin is half a tick
-    later than that of ``mean_delays``, which counts whole ticks.
+    later than that of ``mean_delays`` of a table, which counts whole ticks.
     """
     photons = counts.sum(axis=-1).astype(np.float64)
     middles = axis + _step(axis) / 2
@@ -233,7 +247,7 @@ def phasor(
 ) -> NDArray[np.complex128]:
     """The phasor g + i s of the photons of each pixel: shape of ``counts`` without its last axis.
 
-    ``counts`` and ``axis`` as of ``mean_arrival``; ``frequency``: in cycles per unit of the axis, as one over the sync
+    ``counts`` and ``axis`` as of ``mean_delays``; ``frequency``: in cycles per unit of the axis, as one over the sync
     period. g and s are the means of cos and sin of 2 pi * frequency * t (Digman, Caiolfa, Zamai and Gratton, Biophysical
     Journal 94, L14, 2008). ``reference``: what is divided by, the phasor of the pulse, or that of a dye over
     ``phasor_of_lifetime`` of its lifetime. nan with fewer than ``threshold`` photons.
@@ -350,27 +364,32 @@ def g2(
     """Pairs normalised so that they are 1 without correlation, and their Poisson bars: both of shape (cells,).
 
     ``pairs``: a coincidence or a correlation of a report, or ``Coincidences``. The photons of the two groups of a report's
-    table are told by its plan (``read_report``), or given. A bar is the root of the pairs over what is expected, of one
-    pair where there was none. nan where none is expected. Raises ``NotKnown`` for another table, and where photons or
-    the length of the measurement aren't known.
+    table are told by its plan (``read_report``), or given. A bar is the root of ``Coincidences.variances`` over what is
+    expected, in cells of any width; groups of a report that share some photons but not all count as different. nan where
+    no pair is expected. Raises ``NotKnown`` for another table, and where photons or the length of the measurement aren't
+    known.
     """
-    expected = pairs.expected() if isinstance(pairs, Coincidences) else _expected(pairs, first_photons, second_photons)
-    counts = (pairs.pairs if isinstance(pairs, Coincidences) else pairs.counts).astype(np.float64)
+    counts = pairs.counts.astype(np.float64)
+    if isinstance(pairs, Table) and pairs.kind != "coincidence":
+        expected, variances = pairs.expected(first_photons, second_photons), np.maximum(counts, 1)
+    else:
+        each = [pairs] if isinstance(pairs, Coincidences) else _coincidences(pairs, first_photons, second_photons)
+        expected = sum((one.expected() for one in each), np.zeros(len(counts)))
+        variances = each[0].variances() if each else counts
     values, bars = np.full(len(counts), np.nan), np.full(len(counts), np.nan)
     np.divide(counts, expected, out=values, where=expected > 0)
-    np.divide(np.sqrt(np.maximum(counts, 1)), expected, out=bars, where=expected > 0)
+    np.divide(np.sqrt(variances), expected, out=bars, where=expected > 0)
     return values, bars
 
 
-def _expected(table: Table, first_photons: int | None, second_photons: int | None) -> Numbers:
-    """How many pairs a coincidence or a correlation would have without correlation, added up over its measurements."""
-    if table.kind != "coincidence":
-        return table.expected(first_photons, second_photons)
-    whole = np.zeros(len(table.counts))
+def _coincidences(table: Table, first_photons: int | None, second_photons: int | None) -> list[Coincidences]:
+    """A coincidence of a report with the photons and the length of each measurement in it."""
+    found = []
+    same = table.groups is not None and len(set(table.groups)) == 1
     for length, photons in table.measurements:
         known = photons if first_photons is None or second_photons is None else (first_photons, second_photons)
         if length is None or known is None or len(known) != 2:
             raise NotKnown("the photons of the two groups are not known: give them, or read the report with its plan")
-        one = Coincidences(table.counts, table.settings["reach"], table.settings["width"], known[0], known[1], length)
-        whole += one.expected()
-    return whole
+        reach, width = table.settings["reach"], table.settings["width"]
+        found.append(Coincidences(table.counts, reach, width, known[0], known[1], length + 1, None, min(known) if same else 0))
+    return found

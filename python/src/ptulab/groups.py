@@ -3,14 +3,18 @@
 import os
 from collections.abc import Collection, Iterable, Iterator, Mapping
 from dataclasses import dataclass
+from typing import NamedTuple
 
 import numpy as np
 from numpy.typing import NDArray
 
 from .events import EVENT, Events, iter_events
-from .scratch import keep_scratch
+from .headers import read_header
+from ._scratch import keep_scratch
 
-Source = Events | NDArray[np.void] | str | os.PathLike[str]  # events, or the path of the file that has them
+__all__ = ["EventsLike", "Group", "GroupLike", "photons_of", "shifted"]
+
+EventsLike = Events | NDArray[np.void] | str | os.PathLike[str]  # events, or the path of the file that has them
 PIECE = 1 << 18  # events that are looked at together
 
 
@@ -59,7 +63,7 @@ def group_of(group: GroupLike) -> Group:
     return Group(None if group is None else tuple(group))
 
 
-def pieces_of(source: Source) -> Iterator[NDArray[np.void]]:
+def pieces_of(source: EventsLike) -> Iterator[NDArray[np.void]]:
     """The events of a source in pieces, so that only one piece's arrays are in memory beside them."""
     keep_scratch()
     if isinstance(source, Events | np.ndarray):
@@ -70,7 +74,22 @@ def pieces_of(source: Source) -> Iterator[NDArray[np.void]]:
         yield from iter_events(source, records=PIECE)
 
 
-def photons_of(source: Source, group: GroupLike = None) -> NDArray[np.void]:
+class Ticks(NamedTuple):
+    """What the header of a source tells of ticks, None where it doesn't, and of an array, which has no header."""
+
+    global_seconds: float | None = None
+    resolution_seconds: float | None = None
+
+
+def ticks_of(source: EventsLike) -> Ticks:
+    """How long the ticks of a source are."""
+    if isinstance(source, np.ndarray):
+        return Ticks()
+    header = source.header if isinstance(source, Events) else read_header(source)
+    return Ticks(header.global_seconds, header.resolution_seconds)
+
+
+def photons_of(source: EventsLike, group: GroupLike = None) -> NDArray[np.void]:
     """The photons of a group that aren't late, in the order of the file: events with the fields of ``read_events``."""
     chosen = group_of(group)
     found = [piece[chosen.mask(piece)] for piece in pieces_of(source)]

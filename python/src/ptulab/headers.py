@@ -17,6 +17,8 @@ import numpy as np
 
 from .errors import BadFile
 
+__all__ = ["Header", "read_header"]
+
 RECORD_TYPES = {
     0x00010203: "PicoHarpT2",
     0x00010303: "PicoHarpT3",
@@ -55,9 +57,9 @@ class Header:
     announced: int | None  # how many records the header says there are
     global_seconds: float | None  # of a tick of T2, of a sync period of T3
     resolution_seconds: float | None  # of a tick of a T3 dtime
-    length: int  # bytes up to the first record
+    length_bytes: int  # up to the first record
     records: int  # whole records behind it
-    left_over: int = 0  # bytes behind the last whole record, 0 to 3
+    left_over_bytes: int = 0  # behind the last whole record, 0 to 3
 
     @property
     def mode(self) -> str:

@@ -15,12 +15,15 @@ from concurrent.futures import FIRST_COMPLETED, ProcessPoolExecutor, wait
 from dataclasses import dataclass, replace
 from typing import Any
 
-from .documents import read_plan
+from ._documents import read_plan
 from .errors import BadPlan, BadReport, Refusal, Unlike
-from .optional import want
-from .plan_rules import broken_rules
+from ._optional import want
+from ._plan_rules import broken_rules
 from .program import find_program, run
 from .report import Report, first_lines, read_report
+from .texts import summed_head
+
+__all__ = ["Left", "Sum", "count_files", "megabytes_of", "sum_files"]
 
 PathLike = str | os.PathLike[str]
 OF_FILE = (*range(9, 22), 24)  # statuses by which the program refuses a file, and not the plan or the machine
@@ -232,7 +235,7 @@ def _counted(place: int, path: str, report_of: Callable[[], Report]) -> _Share:
     except (BadReport, Unlike) as error:
         return _Share({}, {place: Left(path, None, str(error).removeprefix(f"{path}: "))})
     head = report.head
-    key = (head.type, repr(head.global_seconds), repr(head.resolution_seconds), repr(first_lines(report)))
+    key = (head.record_type, repr(head.global_seconds), repr(head.resolution_seconds), repr(first_lines(report)))
     return _Share({key: (report, [place])}, {})
 
 
@@ -266,7 +269,7 @@ def _sum_of(whole: _Share, paths: Sequence[str]) -> Sum:
         why = "; ".join(f"{word} {one}, not {wanted}" for word, one, wanted in both if one != wanted) or "other tables"
         whole.left |= {place: Left(paths[place], None, why) for place in others}
     if len(places) == 1:
-        report = replace(report, head=replace(report.head, first=None, last=None))
+        report = replace(report, head=summed_head(report.head))
     return Sum(report, tuple(paths[place] for place in sorted(places)), tuple(whole.left[place] for place in sorted(whole.left)))
 
 

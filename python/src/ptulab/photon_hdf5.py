@@ -12,8 +12,10 @@ from numpy.typing import NDArray
 from .errors import NotKnown
 from .events import Events
 from .groups import GroupLike, photons_of
-from .optional import want
-from .whole import whole_path
+from ._optional import want
+from ._whole import whole_path
+
+__all__ = ["write_photon_hdf5"]
 
 PHOTON_HDF5 = "0.5"  # the version of the specification
 FORMAT_URL = "http://photon-hdf5.org/"

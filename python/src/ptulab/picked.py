@@ -16,13 +16,15 @@ from .errors import NotKnown
 from .events import Events, read_events
 from .headers import FLOAT, INTEGER, TAG, read_header
 from .program import find_program, refusal
-from .whole import written_whole
+from ._whole import written_whole
 
-Target = str | os.PathLike[str]
+__all__ = ["pick", "read_picked", "sidecar_of", "write_sidecar", "write_with_resolutions"]
+
+PathLike = str | os.PathLike[str]
 END = b"Header_End"
 
 
-def pick(plan: Target, group: int, file: Target, picked: Target, *, program: Target | None = None) -> Path:
+def pick(plan: PathLike, group: int, file: PathLike, picked: PathLike, *, program: PathLike | None = None) -> Path:
     """Runs ``ptu pick PLAN GROUP FILE`` into the file ``picked``, and writes its sidecar, whose path it gives.
 
     Both files appear when they are whole. Raises ``Refusal`` where the program refuses, ``NoProgram`` and ``OSError``.
@@ -35,13 +37,13 @@ def pick(plan: Target, group: int, file: Target, picked: Target, *, program: Tar
         return write_sidecar(file, picked, plan=Path(plan).name, group=group)
 
 
-def sidecar_of(picked: Target) -> Path:
+def sidecar_of(picked: PathLike) -> Path:
     """Where the sidecar of a picked file stands."""
     path = Path(picked)
     return path.with_name(path.name + ".json")
 
 
-def write_sidecar(file: Target, picked: Target, **more: Any) -> Path:
+def write_sidecar(file: PathLike, picked: PathLike, **more: Any) -> Path:
     """Writes the sidecar of a file that was picked from ``file``, and gives its path.
 
     It is JSON, with ``picked_from``, ``global_seconds`` and ``resolution_seconds`` (null where the header doesn't tell), in
@@ -55,7 +57,7 @@ def write_sidecar(file: Target, picked: Target, **more: Any) -> Path:
     return sidecar_of(picked)
 
 
-def _sidecar(picked: Target) -> dict[str, Any]:
+def _sidecar(picked: PathLike) -> dict[str, Any]:
     path = sidecar_of(picked)
     try:
         told = json.loads(path.read_text(encoding="utf-8"))
@@ -67,7 +69,7 @@ def _sidecar(picked: Target) -> dict[str, Any]:
     return {name: None if told[name] is None else float(told[name]) for name in names}
 
 
-def read_picked(picked: Target) -> Events:
+def read_picked(picked: PathLike) -> Events:
     """The events of a picked file, in whose header the resolutions are those of its sidecar.
 
     Raises ``NotKnown`` for a sidecar that is none, and ``OSError`` where it isn't there, besides what ``read_events`` does.
@@ -76,7 +78,7 @@ def read_picked(picked: Target) -> Events:
     return replace(events, header=replace(events.header, **_sidecar(picked)))
 
 
-def write_with_resolutions(picked: Target, path: Target) -> None:
+def write_with_resolutions(picked: PathLike, path: PathLike) -> None:
     """Writes a picked file anew, with its resolutions and its number of records in the header, for other programs.
 
     Records and all other tags stay as they are. Raises as ``read_picked`` does.
@@ -87,7 +89,7 @@ def write_with_resolutions(picked: Target, path: Target) -> None:
         if seconds is not None:
             tags.append(_tag(f"MeasDesc_{name}", FLOAT, "d", seconds))
     with open(picked, "rb") as source, written_whole(path) as out:
-        before = source.read(header.length - TAG.size)
+        before = source.read(header.length_bytes - TAG.size)
         end = source.read(TAG.size)
         if not end.startswith(END):
             raise NotKnown(f"{os.fspath(picked)}: this is no header of ptu pick")

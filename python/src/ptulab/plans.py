@@ -11,11 +11,12 @@ import math
 import os
 from collections.abc import Iterator
 
-from .looks import Look, look
-from .plan_checks import check_plan
-from .plan_rules import BINS_OF_CUBE, Finding
+from ._documents import read_plan
+from ._looks import Look, look
+from ._plan_checks import check_plan
+from ._plan_rules import BINS_OF_CUBE, Finding
 
-__all__ = ["Finding", "check_plan", "plan_for"]
+__all__ = ["Finding", "check_plan", "plan_for", "read_plan"]
 BINS = 512  # of a trace over the whole file, at most
 DEPTH = 128  # bins of a pixel of a cube, at most
 WHOLE = 1 << 62  # the width of a bin that has all photons

@@ -7,12 +7,26 @@ import numpy as np
 from numpy.typing import NDArray
 
 from .bursts import Fret
-from .fits import Fit, g2, mean_arrival
-from .optional import want
+from .fits import Fit, g2, mean_delays
+from ._optional import want
 from .pulsed import Coincidences, StartStops
 from .scans import Cube, Image
 from .segments import Curve
 from .tables import Table
+
+__all__ = [
+    "plot",
+    "plot_correlation",
+    "plot_decay",
+    "plot_fit",
+    "plot_fret",
+    "plot_g2",
+    "plot_image",
+    "plot_lifetimes",
+    "plot_phasors",
+    "plot_picture",
+    "plot_start_stops",
+]
 
 UNITS = ((1.0, "s"), (1e3, "ms"), (1e6, "µs"), (1e9, "ns"), (1e12, "ps"))
 DELAY = "delay after the sync"
@@ -123,7 +137,7 @@ def plot_lifetimes(cube: Cube | Table, axes: Any = None, *, offset: float = 0.0,
     taken off, and pixels with fewer photons than ``threshold`` are grey."""
     counts = cube.counts.sum(axis=0) if cube.counts.ndim == 4 else cube.counts
     seconds = cube.seconds
-    means = mean_arrival(counts, cube.ticks if seconds is None else seconds, offset=offset, threshold=threshold)
+    means = mean_delays(counts, cube.ticks if seconds is None else seconds, offset=offset, threshold=threshold)
     known = means[np.isfinite(means)]
     if seconds is None:
         return plot_picture(means, "mean delay (ticks)", axes=axes, cmap="viridis")
@@ -154,8 +168,7 @@ def plot_correlation(curve: Curve | Table, axes: Any = None, *, fit: Fit | None 
 def plot_g2(pairs: Coincidences | Table, axes: Any = None) -> Any:
     """Coincidences over the difference of times, normalised and with Poisson bars; counts where nothing tells the photons."""
     axes = _axes(axes)
-    ticks = pairs.ticks if isinstance(pairs, Table) else pairs.lags
-    axis, unit = in_units(pairs.seconds, ticks, "ticks" if isinstance(pairs, Table) else "sync periods or ticks")
+    axis, unit = in_units(pairs.seconds, pairs.ticks, "ticks" if isinstance(pairs, Table) else "sync periods or ticks")
     if isinstance(pairs, Table) and pairs.photons is None:
         values, bars = pairs.counts.astype(np.float64), np.sqrt(pairs.counts.astype(np.float64))
         label = "pairs a cell"

@@ -12,10 +12,12 @@ from importlib import resources
 from pathlib import Path
 from typing import IO, Any
 
-from .documents import read_plan
+from ._documents import read_plan
 from .errors import BadPlan, BadReport, NoProgram, Refusal
-from .optional import want
+from ._optional import want
 from .report import Report, groups_of, read_stream
+
+__all__ = ["find_program", "refusal", "run"]
 
 LOOKS = 0.1  # seconds between two looks at how far the program is
 

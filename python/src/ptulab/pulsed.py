@@ -9,8 +9,9 @@ import numpy as np
 from numpy.typing import NDArray
 
 from .errors import NotKnown
-from .events import Events
-from .groups import GroupLike, Source, group_of, pieces_of
+from .groups import EventsLike, GroupLike, group_of, pieces_of, ticks_of
+
+__all__ = ["Coincidences", "StartStops", "coincidences", "start_stops"]
 
 DENSE = 8  # where so few units of time come to each time that has photons, all of them are gone through
 BLOCK = 1 << 15  # units of time that are taken together then
@@ -22,44 +23,67 @@ Weights = tuple[NDArray[np.int64], NDArray[np.int64], NDArray[np.int64], NDArray
 class Coincidences:
     """Pairs of photons by their difference of time, the second's less the first's.
 
-    - ``pairs``: shape (cells,); cell c has the differences c * width - reach up to (c + 1) * width - reach - 1, the last
+    - ``counts``: shape (cells,); cell c has the differences c * width - reach up to (c + 1) * width - reach - 1, the last
       one up to reach, as in a report.
     - ``reach``, ``width``: in sync periods, or in ticks where a period was given.
-    - ``first_photons``, ``second_photons``: of the two groups. ``length``: the unit times from the first event to the
-      last, both counted.
+    - ``first_photons``, ``second_photons``: of the two groups; ``both_photons``: that are in both. ``length``: the unit
+      times from the first event to the last, both counted.
     - ``unit_seconds``: of a sync period or a tick, None where the file doesn't tell.
     """
 
-    pairs: NDArray[np.uint64]
+    counts: NDArray[np.uint64]
     reach: int
     width: int
     first_photons: int
     second_photons: int
     length: int
     unit_seconds: float | None = None
+    both_photons: int = 0
 
     @property
-    def differences(self) -> NDArray[np.int64]:
+    def _edges(self) -> NDArray[np.int64]:
+        """The first difference of each cell, and the one behind the last: shape (cells + 1,)."""
+        return np.minimum(np.arange(len(self.counts) + 1, dtype=np.int64) * self.width - self.reach, self.reach + 1)
+
+    @property
+    def widths(self) -> NDArray[np.int64]:
         """How many differences each cell has: shape (cells,). All have ``width``, but perhaps the last."""
-        edges = np.minimum(np.arange(len(self.pairs) + 1, dtype=np.int64) * self.width, 2 * self.reach + 1)
-        return np.diff(edges)
+        return np.diff(self._edges)
 
     @property
-    def lags(self) -> NDArray[np.float64]:
-        """The middle of each cell's differences: shape (cells,), in the unit of ``width``."""
-        begin = np.arange(len(self.pairs)) * self.width - self.reach
-        return np.asarray(begin + (self.differences - 1) / 2, dtype=np.float64)
+    def ticks(self) -> NDArray[np.float64]:
+        """The middle of each cell's differences: shape (cells,), in sync periods, or in ticks where a period was given."""
+        return np.asarray((self._edges[:-1] + self._edges[1:] - 1) / 2)
 
     @property
     def seconds(self) -> NDArray[np.float64] | None:
         """The same in seconds, None where the file doesn't tell."""
-        return None if self.unit_seconds is None else self.lags * self.unit_seconds
+        return None if self.unit_seconds is None else self.ticks * self.unit_seconds
 
     def expected(self) -> NDArray[np.float64]:
-        """How many pairs each cell would have without correlation: FIRST * SECOND * cells * (T - |lag|) / T^2."""
-        free = np.maximum(self.length - np.abs(self.lags), 0)
-        both = float(self.first_photons) * float(self.second_photons)
-        return np.asarray(both * self.differences * free / float(max(self.length, 1)) ** 2)
+        """How many pairs each cell would have without correlation: shape (cells,).
+
+        FIRST * SECOND / T^2 times the sum of T - |d| over the differences d of the cell, where T is ``length``: so many
+        places has a pair of that difference in the measurement.
+        """
+        length, ends = float(self.length), self._edges - 1.0
+        steps = np.minimum(np.where(ends < 0, -1 - ends, ends), length)
+        free = steps * (length - (steps + 1) / 2)  # of the differences 1 up to so many
+        pairs = float(self.first_photons) * float(self.second_photons)
+        return np.asarray(pairs * np.diff(np.where(ends < 0, -free, length + free)) / max(length, 1.0) ** 2)
+
+    def variances(self) -> NDArray[np.float64]:
+        """The variance of the pairs of each cell without correlation: shape (cells,), of one pair where there was none.
+
+        By Poisson's law it is the number of pairs, in cells of any width, where lags are short beside the length. A pair
+        of photons that are both in both groups counts twice, at its difference and at the opposite one: in a cell that
+        has both of these, as one around 0, the variance is twice that. For longer lags it is greater, about 1 + n lag / T
+        times that, where n are the photons of both groups in a cell's width: take segments of the measurement then.
+        """
+        begin, end = self._edges[:-1], self._edges[1:] - 1
+        mirrored = np.where((begin <= 0) & (end >= 0), 2 * np.minimum(-begin, end) + 1, 0)
+        part = float(self.both_photons) ** 2 / max(float(self.first_photons) * float(self.second_photons), 1.0)
+        return np.asarray(np.maximum(self.counts.astype(np.float64), 1.0) * (1 + part * mirrored / self.widths))
 
     def central_ratio(self) -> tuple[float, float]:
         """The pairs of lag 0 over the mean of the other cells, with its Poisson error: g2(0) of a pulsed source.
@@ -68,16 +92,16 @@ class Coincidences:
         deviation; without a pair at lag 0 it is that of one pair. Raises ``NotKnown`` where all other cells are 0.
         """
         at = self.reach // self.width
-        centre, others = int(self.pairs[at]), int(self.pairs.sum()) - int(self.pairs[at])
+        centre, others = int(self.counts[at]), int(self.counts.sum()) - int(self.counts[at])
         if not others:
             raise NotKnown("no pairs at other lags to compare with")
-        mean = others / (len(self.pairs) - 1)
+        mean = others / (len(self.counts) - 1)
         ratio = centre / mean
         return ratio, float(np.sqrt(max(centre, 1) / mean**2 + ratio**2 / others))
 
 
 def coincidences(
-    source: Source, first: GroupLike, second: GroupLike, reach: int, *, width: int = 1, period: float | None = None
+    source: EventsLike, first: GroupLike, second: GroupLike, reach: int, *, width: int = 1, period: float | None = None
 ) -> Coincidences:
     """All pairs of a photon of the first group and another of the second, at most ``reach`` apart.
 
@@ -96,13 +120,13 @@ def coincidences(
     counts = np.concatenate((earlier[:0:-1], later))
     pairs = np.add.reduceat(counts, np.arange(0, 2 * reach + 1, width)).astype(np.uint64)
     length = ends[1] - ends[0] + 1 if ends else 0
-    return Coincidences(pairs, reach, width, int(firsts.sum()), int(seconds.sum()), length, _unit(source, period))
+    one, two, in_both = (int(photons.sum()) for photons in (firsts, seconds, both))
+    return Coincidences(pairs, reach, width, one, two, length, _unit(source, period), in_both)
 
 
-def _unit(source: Source, period: float | None) -> float | None:
-    if not isinstance(source, Events):
-        return None
-    return source.header.global_seconds if period is None else source.header.resolution_seconds
+def _unit(source: EventsLike, period: float | None) -> float | None:
+    ticks = ticks_of(source)
+    return ticks.global_seconds if period is None else ticks.resolution_seconds
 
 
 def in_ticks(photons: NDArray[np.void], period: float | None) -> NDArray[np.int64]:
@@ -116,7 +140,7 @@ def in_ticks(photons: NDArray[np.void], period: float | None) -> NDArray[np.int6
 
 
 def _occupied(
-    source: Source, first: GroupLike, second: GroupLike, period: float | None
+    source: EventsLike, first: GroupLike, second: GroupLike, period: float | None
 ) -> tuple[Weights, tuple[int, int] | None]:
     """The times that have photons of either group, how many of each and of both, and the first and last time of all."""
     groups, parts, ends = (group_of(first), group_of(second)), [], []
@@ -161,19 +185,27 @@ def pair_counts(
 def _pairs_of_sparse(
     times: NDArray[np.int64], firsts: NDArray[np.int64], seconds: NDArray[np.int64], reach: int
 ) -> NDArray[np.int64]:
-    """The k-th neighbours behind all times are taken together, for k = 1, 2, .. until none is in reach."""
+    """Of all times of the first group the k-th times of the second behind them are taken together, for k = 0, 1, .. until
+    none is in reach. Each pair of such times is looked at once, and differences are counted when there are as many as
+    cells, so that the seconds go with the times and the pairs that are found."""
     counts = np.zeros(reach + 1, np.int64)
-    counts[0] = int((firsts * seconds).sum())
-    near = np.arange(len(times))
-    for step in range(1, len(times)):
-        near = near[near < len(times) - step]
-        difference = times[near + step] - times[near]
-        within = difference <= reach
-        near, difference = near[within], difference[within]
-        if not len(near):
-            break
-        products = firsts[near] * seconds[near + step]
-        counts += np.rint(np.bincount(difference, products, reach + 1)).astype(np.int64)
+    start, two = np.flatnonzero(firsts), np.flatnonzero(seconds)
+    stop = np.cumsum(seconds > 0)[start] - np.minimum(seconds[start], 1)
+    found: list[tuple[NDArray[np.int64], NDArray[np.int64]]] = []
+    waiting = 0
+    while len(start):
+        end = int(np.searchsorted(stop, len(two)))
+        start, stop = start[:end], stop[:end]
+        behind = two[stop]
+        differences = times[behind] - times[start]
+        near = differences <= reach
+        start, stop = start[near], stop[near] + 1
+        found.append((differences[near], firsts[start] * seconds[behind[near]]))
+        waiting += len(start)
+        if waiting > reach or not len(start):
+            differences, products = (np.concatenate(column) for column in zip(*found, strict=True))
+            counts += np.rint(np.bincount(differences, products, reach + 1)).astype(np.int64)
+            found, waiting = [], 0
     return counts
 
 
@@ -215,7 +247,7 @@ class StartStops:
 
 
 def start_stops(
-    source: Source, start: GroupLike, stop: GroupLike, width: int, bins: int, *, period: float | None = None
+    source: EventsLike, start: GroupLike, stop: GroupLike, width: int, bins: int, *, period: float | None = None
 ) -> StartStops:
     """Of the photons in either group, the times between each two neighbours of which the first starts and the second stops.
 

@@ -14,17 +14,22 @@ from typing import IO, Any
 import numpy as np
 from numpy.typing import NDArray
 
-from .digits import whole_numbers
-from .documents import read_plan
+from ._digits import whole_numbers
+from ._documents import read_plan
+from ._plan_rules import MOST
 from .errors import BadReport, NoTable, Unlike
 from .headers import RECORD_TYPES
-from .scratch import keep_scratch
+from ._scratch import keep_scratch
 from .tables import BY_DTIME, KINDS, Measurement, Table, empty_table, names_of_groups
 
-Source = str | os.PathLike[str] | bytes
+__all__ = ["Head", "Report", "ReportLike", "read_report", "sum_reports"]
+
+ReportLike = str | os.PathLike[str] | bytes
 HEAD = ("type", "announced", "global", "resolution", "records", "photons", "markers", "wraps", "reserved", "late", "first", "last")
+FIELDS = {"type": "record_type", "global": "global_seconds", "resolution": "resolution_seconds"}  # of a Head
 ADDED = ("announced", "records", "photons", "markers", "wraps", "reserved", "late")
 OR_NONE = ("announced", "global", "resolution", "first", "last")  # may be -
+ORDER = tuple(KINDS)  # of the tables of a report
 HEAD_LINE = re.compile(rb"([a-z]+) ([!-~]+)\n")
 NUMBER = re.compile(r"[0-9]{1,39}")  # a count of pairs can have 128 bits
 LONGEST_LINE = 1 << 10  # bytes, more than any line of a report has
@@ -37,7 +42,7 @@ OF_ONE_GROUP = ("histogram", "trace", "image", "cube")
 class Head:
     """The twelve lines on the file. ``head["global"]`` gives the same by the word of the line."""
 
-    type: str  # the record type
+    record_type: str  # one of the twelve names
     announced: int | None  # records, by the header
     global_seconds: float | None  # of a tick of T2, of a sync period of T3
     resolution_seconds: float | None  # of a tick of a T3 dtime
@@ -53,12 +58,12 @@ class Head:
     @property
     def mode(self) -> str:
         """``"T2"`` or ``"T3"``."""
-        return self.type[-2:]
+        return self.record_type[-2:]
 
     def __getitem__(self, word: str) -> Any:
         if word not in HEAD:
             raise KeyError(word)
-        return getattr(self, word + "_seconds" if word in ("global", "resolution") else word)
+        return getattr(self, FIELDS.get(word, word))
 
     def items(self) -> Iterator[tuple[str, Any]]:
         """The words of the lines with their values, in the order of the report."""
@@ -88,7 +93,7 @@ class Report:
         return _added(self, other)
 
 
-def read_report(source: Source, plan: str | os.PathLike[str] | None = None) -> Report:
+def read_report(source: ReportLike, plan: str | os.PathLike[str] | None = None) -> Report:
     """The report in the file at a path, or in the text of a report itself (bytes, or a text of more than one line).
 
     With the path of its plan the tables know their groups, and the photons of these, where the plan also has a
@@ -98,7 +103,7 @@ def read_report(source: Source, plan: str | os.PathLike[str] | None = None) -> R
     return read_stream(source, None if plan is None else read_plan(plan))
 
 
-def sum_reports(reports: Iterable[Report | Source], plan: str | os.PathLike[str] | None = None) -> Report:
+def sum_reports(reports: Iterable[Report | ReportLike], plan: str | os.PathLike[str] | None = None) -> Report:
     """The sum of reports of one plan, each given as a report, a path or a text; at least one.
 
     Every line of a table is a count, so the counts of several files add up exactly. Paths and texts are read one at a
@@ -119,7 +124,7 @@ def sum_reports(reports: Iterable[Report | Source], plan: str | os.PathLike[str]
     return whole
 
 
-def read_stream(source: Source | IO[bytes], plan: dict[str, Any] | None = None, whole: Report | None = None) -> Report:
+def read_stream(source: ReportLike | IO[bytes], plan: dict[str, Any] | None = None, whole: Report | None = None) -> Report:
     """A report from a path, a text or a stream, with the document of its plan, added into the arrays of ``whole`` where
     that is given."""
     if isinstance(source, str) and "\n" in source:
@@ -302,6 +307,8 @@ class _Reader:
         if tuple(words[2::2]) != kind.settings or not all(map(NUMBER.fullmatch, words[1::2])):
             raise self.bad(f"no beginning of a {words[0]}")
         number, *values = map(int, words[1::2])
+        if not self.follows(words[0], number):
+            raise self.bad(f"{words[0]} {number} has no place here")
         settings = dict(zip(kind.settings, values))
         if self.whole is None:
             try:
@@ -312,6 +319,13 @@ class _Reader:
         if [(one.kind, one.number, one.settings) for one in more] != [(words[0], number, settings)]:
             raise Unlike(f"{self.name}other tables")
         return more[0]
+
+    def follows(self, kind: str, number: int) -> bool:
+        """Whether a table comes in its place: kinds in their order, those of a kind by their numbers, not more than a plan may have."""
+        before = self.tables[-1] if self.tables else None
+        if before is not None and before.kind == kind:
+            return number == before.number + 1 <= MOST[kind]
+        return number == 1 and (before is None or ORDER.index(kind) > ORDER.index(before.kind))
 
     def ended(self) -> None:
         """A table has come to its end."""

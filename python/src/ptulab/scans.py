@@ -13,9 +13,10 @@ import numpy as np
 from numpy.typing import NDArray
 
 from .errors import NotKnown
-from .events import Events
-from .groups import GroupLike, Source, group_of, pieces_of
+from .groups import EventsLike, GroupLike, group_of, pieces_of, ticks_of
 from .headers import Header
+
+__all__ = ["LINE", "Cube", "Image", "Scan", "best_phase", "cube", "image", "lines_of", "scan_of"]
 
 LINE = np.dtype([("record", "<i8"), ("until", "<i8"), ("start", "<i8"), ("length", "<i8"), ("row", "<i8"), ("frame", "<i8")])
 FOREVER = np.iinfo(np.int64).max
@@ -130,7 +131,7 @@ class Cube:
         return np.asarray(self.counts.sum(axis=-1, dtype=np.uint64))
 
 
-def lines_of(source: Source, scan: Scan) -> NDArray[np.void]:
+def lines_of(source: EventsLike, scan: Scan) -> NDArray[np.void]:
     """The lines of a scan, one element each, with the fields
 
     - ``record`` and ``until``: the numbers of the records between which its photons stand (without both);
@@ -173,7 +174,7 @@ def _rows(frames_so_far: NDArray[np.int64], scan: Scan) -> tuple[NDArray[np.int6
     return number - np.searchsorted(frames_so_far, frames_so_far), frames_so_far - 1
 
 
-def image(source: Source, scan: Scan, group: GroupLike = None) -> Image:
+def image(source: EventsLike, scan: Scan, group: GroupLike = None) -> Image:
     """The photons of a group by their place in a scan of a T3 file.
 
     The column is floor(t * width / T), where t is the time since the line's marker and T how long the line lasts,
@@ -191,11 +192,10 @@ def image(source: Source, scan: Scan, group: GroupLike = None) -> Image:
         cells, placed = places.of(piece["record"][photons], piece["time"][photons])
         outside += len(placed) - int(np.count_nonzero(placed))
         _add(counts, cells[placed])
-    seconds = source.header.global_seconds if isinstance(source, Events) else None
-    return Image(scan, counts.astype(np.uint64).reshape(shape), outside, seconds)
+    return Image(scan, counts.astype(np.uint64).reshape(shape), outside, ticks_of(source).global_seconds)
 
 
-def cube(source: Source, scan: Scan, dwidth: int, dbins: int, group: GroupLike = None) -> Cube:
+def cube(source: EventsLike, scan: Scan, dwidth: int, dbins: int, group: GroupLike = None) -> Cube:
     """The photons of a group by their place, as of ``image``, and by their dtime in ``dbins`` bins of ``dwidth`` ticks.
 
     Raises ``ValueError`` as ``image`` does, and where there is no bin.
@@ -214,11 +214,10 @@ def cube(source: Source, scan: Scan, dwidth: int, dbins: int, group: GroupLike =
         outside += len(placed) - int(np.count_nonzero(placed))
         over += int(np.count_nonzero(placed)) - int(np.count_nonzero(kept))
         _add(counts, cells[kept] * dbins + bins[kept])
-    seconds = source.header.resolution_seconds if isinstance(source, Events) else None
-    return Cube(scan, counts.astype(np.uint64).reshape(shape), dwidth, outside, over, seconds)
+    return Cube(scan, counts.astype(np.uint64).reshape(shape), dwidth, outside, over, ticks_of(source).resolution_seconds)
 
 
-def best_phase(source: Source, scan: Scan, phases: NDArray[np.float64], group: GroupLike = None) -> float:
+def best_phase(source: EventsLike, scan: Scan, phases: NDArray[np.float64], group: GroupLike = None) -> float:
     """Of these phases, in sync periods, the one with which neighbouring rows are most alike.
 
     Alike is the sum of products of the pixels of each two rows that follow one another, over the root of the sums of

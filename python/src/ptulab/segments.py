@@ -11,9 +11,11 @@ import numpy as np
 from numpy.typing import NDArray
 
 from .events import EVENT, Events
-from .groups import GroupLike, Source, group_of, pieces_of
+from .groups import EventsLike, GroupLike, group_of, pieces_of, ticks_of
 from .pulsed import occupied, pair_counts
 from .tables import lags_of
+
+__all__ = ["Curve", "correlation", "correlation_by_segments", "delays", "edges", "split", "window"]
 
 
 @dataclass(frozen=True)
@@ -42,26 +44,27 @@ class Curve:
         return None if self.unit_seconds is None else self.ticks * self.unit_seconds
 
 
-def window(source: Source, start: int, stop: int) -> NDArray[np.void]:
+def window(source: EventsLike, start: int, stop: int) -> NDArray[np.void]:
     """The events from the time ``start`` on and before ``stop``, in ticks of T2 or sync periods of T3, late ones too."""
     found = [piece[(piece["time"] >= start) & (piece["time"] < stop)] for piece in pieces_of(source)]
     return np.concatenate(found) if found else np.zeros(0, EVENT)
 
 
-def edges(first: int, last: int, number: int) -> NDArray[np.int64]:
-    """Where ``number`` segments of equal length begin, and where the last one ends: shape (number + 1,).
+def edges(first: int, last: int, segments: int) -> NDArray[np.int64]:
+    """Where ``segments`` segments of equal length begin, and where the last one ends: shape (segments + 1,).
 
-    The length is (last + 1 - first) // number; what is left over at the end is in no segment. Raises ``ValueError``
+    ``first`` and ``last``: times of the first and the last event, in ticks of T2 or sync periods of T3. The length is
+    (last + 1 - first) // segments; what is left over at the end is in no segment. Raises ``ValueError``
     where a segment would have no time.
     """
-    length = (last + 1 - first) // number if number > 0 else 0
+    length = (last + 1 - first) // segments if segments > 0 else 0
     if length < 1:
-        raise ValueError(f"{number} segments from {first} to {last}")
-    return first + length * np.arange(number + 1, dtype=np.int64)
+        raise ValueError(f"{segments} segments from {first} to {last}")
+    return first + length * np.arange(segments + 1, dtype=np.int64)
 
 
-def split(source: Events | NDArray[np.void], number: int) -> Iterator[NDArray[np.void]]:
-    """The events that aren't late in ``number`` segments of equal time, from the first to the last of them.
+def split(source: Events | NDArray[np.void], segments: int) -> Iterator[NDArray[np.void]]:
+    """The events that aren't late in ``segments`` segments of equal time, from the first to the last of them.
 
     Raises ``ValueError`` where there are no events, or a segment would have no time.
     """
@@ -70,7 +73,7 @@ def split(source: Events | NDArray[np.void], number: int) -> Iterator[NDArray[np
     if not len(array):
         raise ValueError("no events to split")
     times = array["time"]
-    for start, stop in zip(*_sides(edges(int(times.min()), int(times.max()), number)), strict=True):
+    for start, stop in zip(*_sides(edges(int(times.min()), int(times.max()), segments)), strict=True):
         yield array[(times >= start) & (times < stop)]
 
 
@@ -120,7 +123,7 @@ def _coarser(
 
 
 def correlation_by_segments(
-    source: Source, first: GroupLike, second: GroupLike, *, segments: int = 10, lags: int = 16, levels: int = 20
+    source: EventsLike, first: GroupLike, second: GroupLike, *, segments: int = 10, lags: int = 16, levels: int = 20
 ) -> Curve:
     """A correlation with error bars: the mean over segments of equal time, and its standard error.
 
@@ -143,7 +146,7 @@ def correlation_by_segments(
         expected = float(one[part].sum()) * float(two[part].sum()) * 2.0**level * np.maximum(length - ticks, 0) / length**2
         curves.append(np.divide(pairs, expected, out=np.full(len(pairs), np.nan), where=expected > 0))
     values, errors = _mean(np.array(curves))
-    unit = source.header.global_seconds if isinstance(source, Events) else None
+    unit = ticks_of(source).global_seconds
     rates = (float(one.sum()) / (segments * length), float(two.sum()) / (segments * length))
     return Curve(ticks, level, values, errors, np.array(curves), unit, rates)
 
@@ -160,7 +163,7 @@ def _mean(curves: NDArray[np.float64]) -> tuple[NDArray[np.float64], NDArray[np.
 
 
 def _photons(
-    source: Source, first: GroupLike, second: GroupLike
+    source: EventsLike, first: GroupLike, second: GroupLike
 ) -> tuple[NDArray[np.int64], NDArray[np.bool_], NDArray[np.bool_], tuple[int, int]]:
     """Times of the photons of either group in order, whether they are of the first and of the second, and the first and
     last time of all events that aren't late."""

@@ -8,7 +8,9 @@ import numpy as np
 from numpy.typing import NDArray
 
 from .errors import BadReport, NotKnown
-from .optional import want
+from ._optional import want
+
+__all__ = ["Measurement", "Table"]
 
 Settings = Mapping[str, int]
 BY_DTIME = ("histogram", "cube")  # whose axis is the delay after the sync

@@ -13,7 +13,9 @@ from numpy.typing import NDArray
 
 from .report import Head, Report
 from .tables import Table, lags_of
-from .whole import written_whole
+from ._whole import written_whole
+
+__all__ = ["report_lines", "summed_head", "write_report"]
 
 CELLS = 1 << 16  # whose lines are put together
 

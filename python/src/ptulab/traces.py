@@ -1,20 +1,27 @@
 """What ``ptu trace`` prints: the photons of each bin that isn't empty, and how often each count came (docs/trace.md)."""
 
+import io
 import os
 import re
-from dataclasses import dataclass
-from pathlib import Path
+from collections.abc import Iterator
+from dataclasses import dataclass, replace
+from typing import IO
 
 import numpy as np
 from numpy.typing import NDArray
 
-from .digits import MOST_DIGITS, whole_numbers
+from ._digits import MOST_DIGITS, whole_numbers
 from .errors import BadReport
 
+__all__ = ["LongTrace", "read_trace"]
+
 COUNTS = 1024  # of which the text tells how often each came
-WHOLE = re.compile(
-    rb"trace 1 origin (\d+) width (\d+)\n((?:\d+ \d+\n)*)(?:before (\d+)\n((?:frequency \d+ \d+\n)*)(?:above (\d+)\n)?)?"
-)
+FIRST = re.compile(rb"trace 1 origin (\d{1,19}) width (\d{1,19})\n")
+LAST = re.compile(rb"before (\d+)\n((?:frequency \d+ \d+\n)*)(?:above (\d+)\n)?")
+PIECE = 1 << 16  # bytes of text that are read together, so that their arrays stay in the processor's cache
+LONGEST_LINE = 1 << 10
+GREATEST = 1 << 62  # of an origin or a width
+LONGEST_END = 1 << 17  # bytes of the lines behind the bins: more than 1026 lines have
 
 
 @dataclass(frozen=True)
@@ -38,25 +45,61 @@ class LongTrace:
 def read_trace(source: str | os.PathLike[str] | bytes) -> LongTrace:
     """What ``ptu trace`` printed into the file at a path, or the text itself, also where it was cut behind a line.
 
-    Raises ``BadReport`` for another text.
+    The text is read in pieces, so the memory is that of the arrays, 16 bytes for each bin that isn't empty. Raises
+    ``BadReport`` for another text.
     """
+    if isinstance(source, str) and "\n" in source:
+        source = source.encode()
     if isinstance(source, bytes):
-        text = source
-    else:
-        text = source.encode() if isinstance(source, str) and "\n" in source else Path(source).read_bytes()
-    found = WHOLE.fullmatch(text)
+        return _trace(io.BytesIO(source))
+    with open(source, "rb") as file:
+        return _trace(file)
+
+
+def _trace(file: IO[bytes]) -> LongTrace:
+    first = FIRST.fullmatch(file.readline(LONGEST_LINE))
+    if not first or max(map(int, first.groups())) > GREATEST:
+        raise BadReport("this is nothing that ptu trace printed")
+    parts = [np.zeros((0, 2), dtype=np.int64)]
+    end = b""
+    for text in _pieces(file):
+        at = text.find(b"before")
+        lines = text if at < 0 else text[:at]
+        parts += [_bins(lines, int(parts[-1][-1, 0]) if len(parts) > 1 else -1)] if lines else []
+        if at >= 0:
+            end = text[at:] + file.read(LONGEST_END)
+            break
+    bins, counts = (np.concatenate([part[:, column] for part in parts]) for column in (0, 1))
+    trace = LongTrace(int(first[1]), int(first[2]), bins, counts)
+    return _with_end(trace, end) if end else trace
+
+
+def _pieces(file: IO[bytes]) -> Iterator[bytes]:
+    """The rest of a text in pieces of whole lines."""
+    while piece := file.read(PIECE):
+        yield piece + file.readline(LONGEST_LINE)
+
+
+def _bins(text: bytes, before: int) -> NDArray[np.int64]:
+    """The bins of some lines and their counts, (n, 2); each bin stands behind the one before."""
+    lines = whole_numbers(text, 2)
+    if lines is None or lines[0, 0] <= before or np.any(lines[1:, 0] <= lines[:-1, 0]):
+        raise BadReport("a bin or a count of this trace is none of a trace")
+    return lines
+
+
+def _with_end(trace: LongTrace, end: bytes) -> LongTrace:
+    """The same trace with what stands behind its bins, of which a text that was cut may have a part."""
+    found = LAST.fullmatch(end)
     if not found:
         raise BadReport("this is nothing that ptu trace printed")
-    lines = found[3].count(b"\n")
-    bins = whole_numbers(found[3], 2) if lines else np.zeros((0, 2), dtype=np.int64)
-    if bins is None:
-        raise BadReport("a bin or a count of this trace is none of a trace")
-    trace = LongTrace(int(found[1]), int(found[2]), bins[:, 0], bins[:, 1])
-    if found[6] is None:
+    if found[3] is None:
         return trace
     frequencies = np.zeros(COUNTS, dtype=np.int64)
-    for _, count, many in (line.split() for line in found[5].splitlines()):
+    for _, count, many in (line.split() for line in found[2].splitlines()):
         if len(count) > 4 or int(count) >= COUNTS or len(many) > MOST_DIGITS:
             raise BadReport("a frequency of this trace is none of a trace")
         frequencies[int(count)] = int(many)
-    return LongTrace(trace.origin, trace.width, trace.bins, trace.counts, int(found[4]), frequencies, int(found[6]))
+    if max(len(found[1]), len(found[3])) > MOST_DIGITS:
+        raise BadReport("a count of this trace is none of a trace")
+    return replace(trace, before=int(found[1]), frequencies=frequencies, above=int(found[3]))

@@ -10,13 +10,13 @@ from __future__ import annotations
 import hashlib
 import os
 
-from ..optional import want
+from .._optional import want
 from ..report import Report
-from ..whole import written_whole
-from .document import whole_page
-from .figures import figures_of
+from .._whole import written_whole
+from ._document import whole_page
+from ._figures import figures_of
 
-__all__ = ["page", "write_page"]
+__all__ = ["checksum", "page", "write_page"]
 PathLike = str | os.PathLike[str]
 
 

@@ -15,8 +15,8 @@ import numpy as np
 from numpy.typing import NDArray
 
 from ..report import Head
-from .figures import ROWS, Curve, Figure, Picture, measured, thinned
-from .plain import plain_picture
+from ._figures import ROWS, Curve, Figure, Picture, measured, thinned
+from ._plain import plain_picture
 
 DIGITS = 9  # that numbers have in the page
 KEYS = "With the keys: arrows go from point to point, Home and End to the first and the last."
@@ -76,7 +76,7 @@ def _lines(told: Iterable[tuple[str, str]]) -> str:
 
 
 def _in_short(head: Head) -> list[tuple[str, str]]:
-    told = [("type", head.type), ("photons", f"{head.photons:,}")]
+    told = [("type", head.record_type), ("photons", f"{head.photons:,}")]
     told += [("markers", f"{head.markers:,}")] if head.markers else []
     tick = head.global_seconds
     if head.first is not None and head.last is not None and tick is not None and math.isfinite(tick) and tick > 0:

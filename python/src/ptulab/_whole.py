@@ -21,7 +21,10 @@ def whole_path(path: str | os.PathLike[str]) -> Iterator[str]:
     target = os.path.realpath(path)
     if os.path.exists(path) and not os.path.isfile(path):
         raise OSError(errno.EINVAL, "no regular file, so none can take its place", os.fspath(path))
-    descriptor, temporary = tempfile.mkstemp(dir=os.path.dirname(target) or ".", prefix=".ptulab-")
+    try:
+        descriptor, temporary = tempfile.mkstemp(dir=os.path.dirname(target) or ".", prefix=".ptulab-")
+    except OSError as error:
+        raise OSError(error.errno, error.strerror, os.fspath(path)) from None  # not of the name that nobody knows
     os.close(descriptor)
     try:
         yield temporary

@@ -8,8 +8,8 @@ from typing import Any
 
 import numpy as np
 
-from ..optional import want
-from .figures import Curve, Figure, thinned
+from .._optional import want
+from ._figures import Curve, Figure, thinned
 
 INCHES, DOTS = (6.4, 3.6), 80
 

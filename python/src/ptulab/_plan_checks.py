@@ -6,10 +6,10 @@ import os
 from collections.abc import Iterator
 from typing import Any
 
-from .documents import read_plan
+from ._documents import read_plan
 from .errors import NoProgram, Refusal
-from .looks import Look, look
-from .plan_rules import Finding, Plan, broken_rules
+from ._looks import Look, look
+from ._plan_rules import Finding, Plan, broken_rules
 from .program import find_program, run
 from .report import Report
 from .tables import Table

@@ -33,11 +33,19 @@ def read_plan(source: str | os.PathLike[str] | bytes) -> dict[str, Any]:
     """The document of a plan: its keys with whole numbers, texts, truth values, lists and tables.
 
     ``source`` is a path, or the plan's bytes. Raises BadPlan where it is longer than 65,536 bytes or no TOML, with
-    the line and the column; whether it keeps the rules is for ``check_plan``.
+    the path, the line and the column; whether it keeps the rules is for ``check_plan``.
     """
-    if not isinstance(source, bytes):
-        with open(source, "rb") as file:
-            source = file.read(LONGEST + 1)
+    if isinstance(source, bytes):
+        return _document(source)
+    with open(source, "rb") as file:
+        text = file.read(LONGEST + 1)
+    try:
+        return _document(text)
+    except BadPlan as error:
+        raise BadPlan(f"{os.fspath(source)}: {error}") from error.__cause__
+
+
+def _document(source: bytes) -> dict[str, Any]:
     if len(source) > LONGEST:
         raise BadPlan(f"the plan is longer than {LONGEST} bytes")
     try:
