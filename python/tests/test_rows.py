@@ -13,7 +13,7 @@ import ptulab
 from ptulab.texts import report_lines
 
 ROWS = list(worked_rows())
-WHOLE = [row for row in ROWS if not (row.faults or row.alike)]  # those that say what a whole run leaves
+WHOLE = [row for row in ROWS if not (row.faults or row.alike or row.disk)]  # those that say what a whole run leaves
 EVENTS = [row for row in WHOLE if row.words == ("events", "f")]
 REPORTS = [row for row in WHOLE if row.words[:1] in (("run",), ("demo",)) and row.status == 0]
 FILES = list({row.holds["file"]: row for row in reversed(ROWS)}.values())  # of each file the first row that has it

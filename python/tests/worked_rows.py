@@ -14,6 +14,7 @@ from conftest import ROOT
 
 HOME = ROOT / "crates" / "worked_rows"
 PREAMBLE = b"PQTTTR\0\0" + b"1.0.00\0\0"
+HEAD = "type announced global resolution records photons markers wraps reserved late first last".split()
 TYPES_OF_TAGS = {
     "tyEmpty8": 0xFFFF0008,
     "tyBool8": 0x00000008,
@@ -37,6 +38,7 @@ class Row:
     words: tuple[str, ...] = ()
     status: int = 0
     faults: bool = False  # calls fail, or an output has less room than it needs
+    disk: bool = False  # it reads files of the folder data
     alike: bool = False  # it doesn't say what standard output has, but that it is the same in pieces of any size
     holds: dict[str, bytes] = field(default_factory=lambda: dict.fromkeys(("plan", "file", "out", "err"), b""))
 
@@ -49,9 +51,11 @@ def worked_rows() -> Iterator[Row]:
 
 
 def names_that_passed() -> list[str]:
-    """The names of all rows, as the program of the rows prints them."""
+    """The names of all rows, as the program of the rows prints them. Two lines on the adapters to files come after them."""
     lines = (HOME / "stdout").read_text().splitlines()
-    return [line.removeprefix("ok ") for line in lines if line.startswith("ok ")]
+    names = [line.removeprefix("ok ") for line in lines if line.startswith("ok ")]
+    assert all(name.endswith(" not tried again") for name in names[-2:])
+    return names[:-2]
 
 
 def _rows_of(text: str, shared: dict[str, bytes]) -> Iterator[Row]:
@@ -90,7 +94,9 @@ def _take(row: Row, key: str, rest: str, shared: dict[str, bytes]) -> None:
             row.faults = True
         case "pieces":
             row.alike = rest.startswith("alike ")
-        case "reads":
+        case "disk":
+            row.disk = True
+        case "reads" | "with" | "with:":  # runs with more behind the plan are the program's alone
             pass
         case _:
             kind = key.removesuffix(":")
@@ -129,12 +135,15 @@ def _once(made_of: str, shared: dict[str, bytes]) -> bytes:
             return PREAMBLE + tags + _words(words)
         case "text":
             return _text(rest)
+        case "summary":
+            return "".join(f"{name} {value}\n" for name, value in zip(HEAD, rest.split(), strict=True)).encode()
         case "preamble":
             return PREAMBLE
     raise ValueError(f"no kind of bytes: {made_of}")
 
 
 def _text(line: str) -> bytes:
+    line = line.replace("\\n", "\n")
     return line.removesuffix("\\").encode() if line.endswith("\\") else f"{line}\n".encode()
 
 
