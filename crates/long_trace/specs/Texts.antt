@@ -1,5 +1,5 @@
 -- What a trace without end prints of the events that it is given.
-use Rattle.std.specs.Prelude.{ℕ, Bool, ◌≡◌, ◌<◌, ◌+◌, ◌-◌, ◌/◌, ◌==◌, ◌&&◌, nat_le, max, List, [], ◌++◌, map, fold, count_by, codes, decimal, slice_index, if◌then◌else◌}
+use Rattle.std.specs.Prelude.{ℕ, Bool, ◌+◌, ◌-◌, ◌/◌, ◌==◌, ◌&&◌, nat_le, max, List, [], ◌++◌, map, fold, count_by, codes, decimal, if◌then◌else◌}
 use Rattle.std.specs.List.{range_with_len, flat_map}
 use Rattle.tally_base.{specs.declared.event.Event.Event, specs.Events.{is_photon, is_in}, specs.Settings.TraceView, specs.Tally.History}
 use Rattle.count_trace.specs.TraceCounts.{in_trace_bin, count_before}
@@ -77,7 +77,3 @@ open_text set h = first_line set ++ closed_lines set h
 -- the whole text: the first line, the lines of all bins, and how often each count came
 abbrev pub whole_text : TraceView → History → List ℕ
 whole_text set h = first_line set ++ bin_lines set (span set h) h ++ summary_text (counts set (span set h) h) (count_before set h)
-
--- how often each count came that has a number of its own
-abbrev pub AreFrequencies : List ℕ → List ℕ → Type 0
-AreFrequencies frequencies all = (c : ℕ) → c < frequency_limit → slice_index frequencies c ≡ frequency all c

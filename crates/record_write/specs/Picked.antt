@@ -80,7 +80,12 @@ picked_events mode photons = events (map (meaning_in mode) (picked_words mode ph
 abbrev pub IsPhotonOrWrap : Mode → ℕ → Type 0
 IsPhotonOrWrap mode word = (is_record_photon (meaning_in mode word) || is_wrap (meaning_in mode word)) ≡ true
 
--- A stream by this policy settles nothing later, and takes as many records as these photons have words.
+-- Photons that can be written, and a policy by which a stream gives them at once and takes as many records as they have words.
 pub record TakesAll (policy : Policy) (mode : Mode) (photons : List Event) : Type 0 where
+  pub can : CanBePicked mode photons
   pub settles_at_once : policy.settle ≡ 0
   pub few : length (picked_words mode photons) ≤ policy.records
+
+-- these events, and none of them late
+abbrev pub events_in_time : Mode → List Event → List (Event × Bool)
+events_in_time mode photons = map (λ e. (e, false)) (picked_events mode photons)

@@ -1,10 +1,10 @@
 // The law of written photons, as the contract of a function that does nothing.
-ghost use Rattle.std.specs.Prelude.{◌≡◌, List, None, Ok, map, false};
+ghost use Rattle.std.specs.Prelude.{◌≡◌, List, None, Ok, map};
 ghost use Rattle.std.specs.List.{All};
 ghost use Rattle.tally_base.{specs.declared.event.Event.Event, specs.declared.event.Policy.Policy, specs.declared.header.Mode.Mode};
 ghost use Rattle.ptu_definitions.{specs.Headers.header_answer, specs.Kept.kept, specs.Streams.{reading, record_refusal, given}, specs.Words.words_of};
 ghost use Rattle.short_file.{specs.ShortFiles.{bytes_in, short_fields, short_type}, specs.TimedEvents.timed};
-ghost use Rattle.record_write.specs.Picked.{picked_words, picked_file, picked_events, CanBePicked, IsPhotonOrWrap, TakesAll};
+ghost use Rattle.record_write.specs.Picked.{picked_words, picked_file, picked_events, CanBePicked, IsPhotonOrWrap, TakesAll, events_in_time};
 
 /// Photons that can be written are read back: from their file come their words, each word is one of
 /// these photons or a wrap, and the events are these photons, at their times. None of them is late, and
@@ -23,10 +23,10 @@ pub fn picked_photons_are_read()
     ensures in_time { (mode : Mode) (photons : List Event) → CanBePicked mode photons
         → kept mode (picked_events mode photons) ≡ picked_events mode photons }
     ensures unrefused { (mode : Mode) (photons : List Event) (policy : Policy)
-        → CanBePicked mode photons → TakesAll policy mode photons
+        → TakesAll policy mode photons
         → record_refusal (reading (short_type mode) policy) (picked_words mode photons) ≡ None }
     ensures given { (mode : Mode) (photons : List Event) (policy : Policy)
-        → CanBePicked mode photons → TakesAll policy mode photons
+        → TakesAll policy mode photons
         → given (reading (short_type mode) policy) (picked_words mode photons)
-        ≡ map (λ e. (e, false)) (picked_events mode photons) }
+        ≡ events_in_time mode photons }
 {}

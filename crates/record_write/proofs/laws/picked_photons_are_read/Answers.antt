@@ -27,7 +27,7 @@ by_mode T2 photons policy can first room = unrefused T2 policy photons can first
 by_mode T3 photons policy can first room = unrefused T3 policy photons can first room
 
 pub returns-clause-unrefused : goal.returns-clause-unrefused
-returns-clause-unrefused c = λ mode photons policy can takes. by_mode mode photons policy can takes.settles_at_once takes.few
+returns-clause-unrefused c = λ mode photons policy takes. by_mode mode photons policy takes.can takes.settles_at_once takes.few
 
 given_by_mode : (mode : Mode) (photons : List Event) (policy : Policy) → CanBePicked mode photons → policy.settle ≡ 0 → length (picked_words mode photons) ≤ policy.records
     → given (reading (short_type mode) policy) (picked_words mode photons) ≡ map (λ e. (e, false)) (picked_events mode photons)
@@ -35,4 +35,4 @@ given_by_mode T2 photons policy can first room = given-events T2 policy photons 
 given_by_mode T3 photons policy can first room = given-events T3 policy photons can first room
 
 pub returns-clause-given : goal.returns-clause-given
-returns-clause-given c = λ mode photons policy can takes. given_by_mode mode photons policy can takes.settles_at_once takes.few
+returns-clause-given c = λ mode photons policy takes. given_by_mode mode photons policy takes.can takes.settles_at_once takes.few
