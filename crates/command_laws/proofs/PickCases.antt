@@ -9,7 +9,7 @@ use Rattle.tally_engine.specs.Plans.{reading_by}
 use Rattle.photon_pick.{specs.Late.too_late, specs.Ends.photons_by, specs.Texts.photons_in}
 use Rattle.pick_work.specs.PickOutcomes.{no_group, chosen_by, records_picked, picked_if_fits, picked_behind, picking}
 use Rattle.command_work.specs.Outcomes.{Outcome}
-use Rattle.command_laws.{specs.Causes.StatusIn, specs.Cases.{NoneRefused, HasGroup, settled_photons, kept_photons, FirstLate, LateAtRecord, LateAtEnd, RefusedInTime, SettledInTime, AllPicked, pick_end, PickedCase}, specs.CommandCases.{pick_statuses, NamesLate, pick_cases, Lacks, Needs}, proofs.FaultStatuses.{some-same, of-written, of-end, range-as, wider, least-status}, proofs.CaseShapes.{Call, IsCut, IsRefused, IsLate, CallsBy, PlanMeets, needs-by}, proofs.PickPhotons.{late-ends, none-or-late, late-more, picked_end, end-late, end-in_time, in-settled, in-before, least-late, clear-front, all-end}, proofs.CaseSteps.{empty-true, empty-false, true-empty, false-empty, whole_answer, streamed-clear}}
+use Rattle.command_laws.{specs.Causes.StatusIn, specs.Cases.{NoneRefused, HasGroup, settled_photons, kept_photons, FirstLate, LateAtRecord, LateAtEnd, RefusedInTime, SettledInTime, AllPicked, pick_end, PickedCase}, specs.CommandCases.{pick_statuses, NamesLate, pick_cases, Needs}, proofs.FaultStatuses.{of-written, of-end, range-as, wider, least-status}, proofs.CaseShapes.{Call, IsCut, IsRefused, IsLate, CallsBy, PlanMeets, needs-by}, proofs.PickPhotons.{late-ends, none-or-late, late-more, picked_end, end-late, end-in_time, in-settled, in-before, least-late, clear-front, all-end}, proofs.CaseSteps.{empty-true, empty-false, true-empty, false-empty, whole_answer, streamed-clear}}
 
 -- ## The records
 
