@@ -87,5 +87,5 @@ pub record TakesAll (policy : Policy) (mode : Mode) (photons : List Event) : Typ
   pub few : length (picked_words mode photons) ≤ policy.records
 
 -- these events, and none of them late
-abbrev pub events_in_time : Mode → List Event → List (Event × Bool)
-events_in_time mode photons = map (λ e. (e, false)) (picked_events mode photons)
+abbrev pub all_given : Mode → List Event → List (Event × Bool)
+all_given mode photons = map (λ e. (e, false)) (picked_events mode photons)

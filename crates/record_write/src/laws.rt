@@ -4,7 +4,7 @@ ghost use Rattle.std.specs.List.{All};
 ghost use Rattle.tally_base.{specs.declared.event.Event.Event, specs.declared.event.Policy.Policy, specs.declared.header.Mode.Mode};
 ghost use Rattle.ptu_definitions.{specs.Headers.header_answer, specs.Kept.kept, specs.Streams.{reading, record_refusal, given}, specs.Words.words_of};
 ghost use Rattle.short_file.{specs.ShortFiles.{bytes_in, short_fields, short_type}, specs.TimedEvents.timed};
-ghost use Rattle.record_write.specs.Picked.{picked_words, picked_file, picked_events, CanBePicked, IsPhotonOrWrap, TakesAll, events_in_time};
+ghost use Rattle.record_write.specs.Picked.{picked_words, picked_file, picked_events, CanBePicked, IsPhotonOrWrap, TakesAll, all_given};
 
 /// Photons that can be written are read back: from their file come their words, each word is one of
 /// these photons or a wrap, and the events are these photons, at their times. None of them is late, and
@@ -28,5 +28,5 @@ pub fn picked_photons_are_read()
     ensures given { (mode : Mode) (photons : List Event) (policy : Policy)
         → TakesAll policy mode photons
         → given (reading (short_type mode) policy) (picked_words mode photons)
-        ≡ events_in_time mode photons }
+        ≡ all_given mode photons }
 {}
