@@ -1,5 +1,5 @@
 -- The intervals over events.
-use Rattle.std.specs.Prelude.{◌≡◌, ℕ, ◌<◌, List, slice_index}
+use Rattle.std.specs.Prelude.{◌≡◌, ℕ, ◌<◌, List, ◌++◌, slice_index}
 use Rattle.tally_base.{specs.Settings.StartStopView, specs.Tally.History}
 use Rattle.coincidence.{specs.declared.start.Start.Start, specs.Intervals.{in_interval, count_over, open_start}, specs.Starts.start_in}
 
@@ -8,3 +8,7 @@ pub record Counted (set : StartStopView) (bins : ℕ) (cells : List ℕ) (over :
   pub each : (b : ℕ) → b < bins → slice_index cells b ≡ in_interval set b h
   pub rest : over ≡ count_over set h
   pub open' : start_in start ≡ open_start set h
+
+-- Where cells are the count over any events, others are over these and more.
+abbrev pub CountsMore : StartStopView → ℕ → List ℕ → List ℕ → ℕ → ℕ → Start → Start → History → Type 0
+CountsMore set bins cells cells' over over' start start' more = (h : History) → Counted set bins cells over start h → Counted set bins cells' over' start' (h ++ more)

@@ -94,9 +94,9 @@ fn shut_together<L: Ledger>(
 )
     requires stands { ∥ ((closed : History) × (xs : History)
         × CanShutAll (coincidence_view set.now) ring.old cells.old bins.now closed xs) ∥₁ }
-    requires rising { IsRising ring.old.entries }
     requires entries { later.now ≡ weights_in bins.now }
-    requires window { FitsWindow (coincidence_view set.now) low ring.old.entries later.now }
+    requires window { IsRising ring.old.entries
+        × FitsWindow (coincidence_view set.now) low ring.old.entries later.now }
     requires some { (0 < length bins.now) × (length bins.now ≤ 64) }
     ensures ring { (closed xs : History)
         → CanShutAll (coincidence_view set.now) ring.old cells.old bins.now closed xs

@@ -1,7 +1,7 @@
 // The intervals that the photons of a block end.
 ghost use Rattle.std.specs.Prelude.{◌≡◌, ◌+◌, ◌/◌, ◌^◌, ◌<◌, ◌≤◌, ◌++◌, ◌==◌, ℕ, false, length, nat_le, slice_index, sum, if◌then◌else◌};
-ghost use Rattle.tally_base.{specs.Settings.startstop_view, specs.Tally.History, specs.Limits.record_limit, specs.Columns.{gathered, events_in, IsSorted}, specs.Floors.{floor_after, InOrder}};
-ghost use Rattle.coincidence.{specs.Counted.Counted, specs.Starts.since_in};
+ghost use Rattle.tally_base.{specs.Settings.startstop_view, specs.Limits.record_limit, specs.Columns.{gathered, events_in, IsSorted}, specs.Floors.{floor_after, InOrder}};
+ghost use Rattle.coincidence.{specs.Counted.CountsMore, specs.Starts.since_in};
 
 use crate::start::{Start, ended, start_behind};
 use tally_base::{BLOCK_SIZE, Block, Divisor, StartStopSet};
@@ -18,10 +18,8 @@ pub(crate) fn count_block(
     requires sized { length cells.old ≡ set.now.bins }
     requires room { sum cells.old + over + length (gathered block.now) ≤ record_limit }
     requires in_order { InOrder false (since_in start.old) (gathered block.now) }
-    ensures follows { (h : History)
-        → Counted (startstop_view set.now) set.now.bins cells.old over start.old h
-        → Counted (startstop_view set.now) set.now.bins cells.new result start.new
-        (h ++ events_in block.now) }
+    ensures follows { CountsMore (startstop_view set.now) set.now.bins cells.old cells.new over result
+        start.old start.new (events_in block.now) }
     ensures few { sum cells.new + result ≤ sum cells.old + over + length (gathered block.now) }
     ensures begun { since_in start.new ≤ floor_after false (since_in start.old) (gathered block.now) }
 {

@@ -1,5 +1,5 @@
 -- What is shown of a command for the cases of its shape, and that its outcome then is what they call for.
-use Rattle.std.proofs.Common.{◌≡◌, ℕ, List, None, Some, Ok, Err, refl, sym, ap, ◌∙◌, subst, inl, inr, Result}
+use Rattle.std.proofs.Common.{◌≡◌, ℕ, List, None, Some, Ok, Err, refl, sym, ap, ◌∙◌, ◌⊎◌, subst, inl, inr, Result}
 use Rattle.std.specs.declared.option.Option.{Option}
 use Rattle.toml.specs.Data.{table}
 use Rattle.tally_base.{specs.declared.fault.Fault.Fault, specs.declared.header.Header.Header, specs.Faults.status_of, specs.RecordTypes.mode_of}
@@ -8,7 +8,7 @@ use Rattle.ptu_definitions.specs.Headers.{header_answer}
 use Rattle.plan_text.{specs.Plan.{PlanView, plan}, specs.Reading.plan_answer, specs.Fits.fits, proofs.Called.{called, valid, answers, plans}, proofs.Misfits.{misfit_named, is_first}}
 use Rattle.command_work.{specs.Outcomes.{Outcome, refused, written}, specs.Behaviours.{Work, Behaviour, NoCommand, Alone, OnFile, ByPlan}, specs.Endings.{on_file, unless, by_plan, outcome}}
 use Rattle.file_work.specs.FileOutcomes.{header_outcome}
-use Rattle.command_laws.{specs.Cases.{FileCase, HeaderCase, PrintCase}, specs.CommandCases.{RecordCases, Need, CommandCases, BadWords, Writes, ReadsHeader, ReadsRecords, ReadsByPlan, Has, Lacks, SuitCase, NeedCase, PlanCase, ShapeCase}, specs.Causes.{EndsCut, StatusIn}, proofs.CaseSteps.{Answer, file-holds, file-only, header-holds, header-only, not_fit}, proofs.Prints.{print-holds, print-only}}
+use Rattle.command_laws.{specs.Cases.{FileCase, HeaderCase, PrintCase}, specs.CommandCases.{RecordCases, Need, Needs, CommandCases, BadWords, Writes, ReadsHeader, ReadsRecords, ReadsByPlan, Has, Lacks, SuitCase, NeedCase, PlanCase, ShapeCase}, specs.Causes.{EndsCut, StatusIn}, proofs.FaultStatuses.some-same, proofs.CaseSteps.{Answer, file-holds, file-only, header-holds, header-only, not_fit}, proofs.Prints.{print-holds, print-only}}
 
 -- what records end a run with a fault for
 pub data Call : Type 0 where
@@ -54,6 +54,17 @@ pub record NeedMeets (further : ℕ → Type 0) (need : Need) (lacks : PlanView 
   pub lack : (view : PlanView) (fault : Fault) → lacks view ≡ Some fault → Lacks need view fault
   pub some : (view : PlanView) (fault : Fault) → Lacks need view fault → lacks view ≡ Some fault
   pub status : (view : PlanView) (fault : Fault) → Lacks need view fault → StatusIn 22 23 fault × further (status_of fault)
+
+-- A plan has what is needed, or its lack is its fault.
+pub needs-by : (further : ℕ → Type 0) (has : PlanView → Type 0) (lack : Fault) (lacks : PlanView → Option Fault)
+    → ((view : PlanView) → (has view × (lacks view ≡ None)) ⊎ ((has view → ⊥) × (lacks view ≡ Some lack))) → StatusIn 22 23 lack × further (status_of lack) → NeedMeets further (Needs has lack) lacks
+needs-by further has lack lacks decides status = record {
+  has = λ view none. elim (decides view) [ inl both ↦ both.0 | inr lacking ↦ (let some = lacking.1 in cc) ];
+  none = λ view it. elim (decides view) [ inl both ↦ both.1 | inr lacking ↦ absurd (lacking.0 it) ];
+  lack = λ view fault some. elim (decides view) [ inl both ↦ (let none = both.1 in cc) | inr lacking ↦ (lacking.0, some-same fault lack (sym some ∙ lacking.1)) ];
+  some = λ view fault h. elim (decides view) [ inl both ↦ absurd (h.0 both.0) | inr lacking ↦ lacking.1 ∙ ap Some (sym h.1) ];
+  status = λ view fault h. subst (λ (f : Fault). StatusIn 22 23 f × further (status_of f)) (sym h.1) status;
+}
 
 pub record PlanMeets (further : ℕ → Type 0) (need : Need) (records : PlanView → RecordCases) (lacks : PlanView → Option Fault) (work : PlanView → Work) : Type 0 where
   pub needs : NeedMeets further need lacks

@@ -1,5 +1,5 @@
 -- What `count`, `events`, `run`, `trace` and `demo` end with is what the table of cases calls for.
-use Rattle.std.proofs.Common.{◌≡◌, ℕ, zero, suc, List, [], ◌∷◌, ◌++◌, length, Bool, true, false, None, Some, Ok, Err, refl, sym, ap, ◌∙◌, subst, inl, inr, arith, ◌==◌, ◌/◌, Result, nat_lt, nat_le, codes, decimal, map, if◌then◌else◌}
+use Rattle.std.proofs.Common.{◌≡◌, ℕ, zero, suc, List, [], ◌∷◌, ◌++◌, length, Bool, true, false, None, Some, Ok, Err, refl, sym, ap, ◌∙◌, ◌⊎◌, subst, inl, inr, arith, ◌==◌, ◌/◌, Result, nat_lt, nat_le, codes, decimal, map, if◌then◌else◌}
 use Rattle.std.specs.declared.option.Option.{Option}
 use Rattle.tally_base.{specs.declared.fault.Fault.Fault, specs.declared.fault.Fault.TheVariants.{RecordLimit, TruncatedRecord, NoTrace}, specs.declared.header.Header.Header, specs.Faults.{fault_in, status_of}, specs.Settings.{PartSettings, StartStopView, TraceView}, specs.Settings.PartSettings.StartStopSettings, specs.Tally.History}
 use Rattle.ptu_definitions.{specs.declared.records.Summary.Summary, specs.Words.{words_of, rest_of}, specs.Layouts.meaning_of, specs.Kinds.counts_of, specs.Counted.{record_limit, records_of, counted}, specs.Prefixes.each_after, specs.Firsts.IsFirst, specs.Times.events, specs.Streams.{Reading, record_refusal, summary, summary_of, streamed}, proofs.Firsts.{first-refusal, refused-first, none-refused, given-before, given-all}}
@@ -15,7 +15,7 @@ use Rattle.report_work.{specs.Reports.{report_of, if_fits, report_behind, report
 use Rattle.file_work.{specs.CountText.counts_text, specs.FileOutcomes.{with_counts, counts_behind, count_outcome, listing, events_behind, counting, listing_all}}
 use Rattle.trace_work.{specs.TraceOutcomes.{trace_of, unless_traced, no_trace, traced, records_traced, traced_if_fits, traced_behind, tracing}, proofs.TraceTexts.{settled-whole, settled-first}}
 use Rattle.command_work.specs.Outcomes.{Outcome, refused, written}
-use Rattle.command_laws.{specs.Cases.{WholeCase, CountCase, StreamCase, list_text, startstop_by_places, by_places, placed_text, report_by_places, words_report, trace_text, TraceCase, HasTrace, TracedCase}, specs.CommandCases.{IsIn, RefusedIn, count_cases, stream_cases, events_cases, run_cases, trace_cases, Lacks, NeedsNothing, Needs}, proofs.FaultStatuses.{some-same, of-refused, of-written, of-end, whole-cause, range-as, wider, least-status, listed-status}, proofs.CaseSteps.{end_with, same-end, lt-true, lt-false, true-lt, false-lt, empty-true, empty-false, true-empty, false-empty, whole_answer, streamed-clear}, proofs.CaseShapes.{Call, IsCut, IsRefused, IsLate, CallsBy, RecordsMeet, FileMeets, NeedMeets, PlanMeets}}
+use Rattle.command_laws.{specs.Cases.{WholeCase, CountCase, StreamCase, list_text, startstop_by_places, by_places, placed_text, report_by_places, words_report, trace_text, TraceCase, HasTrace, TracedCase}, specs.CommandCases.{IsIn, RefusedIn, count_cases, stream_cases, events_cases, run_cases, trace_cases, NeedsNothing, Needs}, proofs.FaultStatuses.{of-refused, of-written, of-end, whole-cause, range-as, wider, least-status, listed-status}, proofs.CaseSteps.{end_with, same-end, lt-true, lt-false, true-lt, false-lt, empty-true, empty-false, true-empty, false-empty, whole_answer, streamed-clear}, proofs.CaseShapes.{Call, IsCut, IsRefused, IsLate, CallsBy, RecordsMeet, FileMeets, PlanMeets, needs-by}}
 
 -- ## A report by places
 
@@ -247,30 +247,16 @@ module _ (set : TraceView) (view : PlanView) (header : Header) (behind : List �
   traced-ends : (call : Call) (fault : Fault) → trace_of view ≡ Some set → CallsBy call (trace_cases view) header behind fault → (end : Outcome) × TracedCase view header behind end × (end.fault ≡ Some fault)
   traced-ends call fault is h = let end = stream-ends (reading_by view) (TracedCase view) header (trace_text set view header) trace_whole behind call fault h in (end.0, (set, is, end.1), end.2)
 
-trace-needs : NeedMeets (IsIn 18 22) (Needs HasTrace NoTrace) no_trace
-trace-needs = record {
-  has = λ view none. found view (trace_of view) refl none;
-  none = λ view has. ap unless_traced has.1;
-  lack = λ view fault e. lacking view fault (trace_of view) refl e;
-  some = λ view fault h. missing view fault h (trace_of view) refl;
-  status = λ view fault h. (range-as 22 23 fault NoTrace h.1 (omega arith, omega arith), range-as 18 22 fault NoTrace h.1 (omega arith, omega arith));
-}
+trace-decides : (view : PlanView) → (HasTrace view × (no_trace view ≡ None)) ⊎ ((HasTrace view → ⊥) × (no_trace view ≡ Some NoTrace))
+trace-decides view = by (trace_of view) refl
   where
-    found : (view : PlanView) (o : Option TraceView) → trace_of view ≡ o → unless_traced o ≡ None → HasTrace view
-    found view None is none = cc
-    found view (Some set) is none = (set, is)
-
-    lacking : (view : PlanView) (fault : Fault) (o : Option TraceView) → trace_of view ≡ o → unless_traced o ≡ Some fault → Lacks (Needs HasTrace NoTrace) view fault
-    lacking view fault None is e = (λ has. let other = has.1 in cc, some-same fault NoTrace (sym e))
-    lacking view fault (Some set) is e = cc
-
-    missing : (view : PlanView) (fault : Fault) → Lacks (Needs HasTrace NoTrace) view fault → (o : Option TraceView) → trace_of view ≡ o → no_trace view ≡ Some fault
-    missing view fault h None is = ap unless_traced is ∙ ap Some (sym h.1)
-    missing view fault h (Some set) is = absurd (h.0 (set, is))
+    by : (o : Option TraceView) → trace_of view ≡ o → (HasTrace view × (no_trace view ≡ None)) ⊎ ((HasTrace view → ⊥) × (no_trace view ≡ Some NoTrace))
+    by (Some set) is = inl ((set, is), ap unless_traced is)
+    by None is = inr (λ has. (let other = has.1 in cc), ap unless_traced is)
 
 pub trace-told : PlanMeets (IsIn 18 22) (Needs HasTrace NoTrace) trace_cases no_trace tracing
 trace-told = record {
-  needs = trace-needs;
+  needs = needs-by (IsIn 18 22) HasTrace NoTrace no_trace trace-decides ((omega arith, omega arith), (omega arith, omega arith));
   works = λ view has. record {
     end_of = traced_behind view;
     fit_of = traced_if_fits view;

@@ -83,58 +83,47 @@ unheaded-status data_file fault h = subst InHeader (sym h.is_refused.2) (answer_
 pub cut_behind-status : (behind : List ℕ) (fault : Fault) → fault ≡ TruncatedRecord (length (rest_of behind)) → StatusIn 17 17 fault
 cut_behind-status behind fault e = range-as 17 17 fault _ e (omega arith, omega arith)
 
--- what a refusal of a record says of its fault
-abbrev InRange : Option Fault → Type 0
-InRange None = Unit {0}
-InRange (Some fault) = StatusIn 18 21 fault
+-- the fault of a refusal, where there is one
+abbrev OfSome : (Fault → Type 0) → Option Fault → Type 0
+OfSome holds None = Unit {0}
+OfSome holds (Some fault) = holds fault
 
-late-in : (b : Bool) (place time before : ℕ) → InRange (if b then Some (BackwardTime place time before) else None)
-late-in true place time before = (omega arith, omega arith)
-late-in false place time before = tt
-
-late_refusal-in : (k : ℕ) (mode : Mode) (before es : List Event) → InRange (late_refusal k mode before es)
+late_refusal-in : (k : ℕ) (mode : Mode) (before es : List Event) → OfSome (StatusIn 18 21) (late_refusal k mode before es)
 late_refusal-in k mode before [] = tt
-late_refusal-in k mode before (e ∷ es) = late-in (is_late_by k mode before e) e.place e.time (greatest mode before)
+late_refusal-in k mode before (e ∷ es) = by (is_late_by k mode before e)
+  where
+    by : (b : Bool) → OfSome (StatusIn 18 21) (if b then Some (BackwardTime e.place e.time (greatest mode before)) else None)
+    by true = (omega arith, omega arith)
+    by false = tt
 
-causes-in : (full reserved passing stops : Bool) (limit place word : ℕ) (late : Option Fault) → InRange late
-    → InRange (if full then Some (RecordLimit limit) else if reserved then Some (ReservedRecord place word) else if passing then Some (TimeLimit place) else if stops then late else None)
-causes-in true reserved passing stops limit place word late h = (omega arith, omega arith)
-causes-in false true passing stops limit place word late h = (omega arith, omega arith)
-causes-in false false true stops limit place word late h = (omega arith, omega arith)
-causes-in false false false true limit place word late h = h
-causes-in false false false false limit place word late h = tt
+causes-in : (least : ℕ) → least ≤ 20 → (full reserved passing stops : Bool) (limit place word : ℕ) (late : Option Fault) → (reserved ≡ true → least ≤ 18) → (stops ≡ true → OfSome (StatusIn least 21) late)
+    → OfSome (StatusIn least 21) (if full then Some (RecordLimit limit) else if reserved then Some (ReservedRecord place word) else if passing then Some (TimeLimit place) else if stops then late else None)
+causes-in least few true reserved passing stops limit place word late own h = (omega (arith, few), omega arith)
+causes-in least few false true passing stops limit place word late own h = (omega (arith, own refl), omega arith)
+causes-in least few false false true stops limit place word late own h = (omega (arith, few), omega arith)
+causes-in least few false false false true limit place word late own h = h refl
+causes-in least few false false false false limit place word late own h = tt
 
-refusal-in : (how : Reading) (before : List ℕ) (word : ℕ) → InRange (refusal how before word)
+refusal-in : (how : Reading) (before : List ℕ) (word least : ℕ) → least ≤ 20 → (stops_reserved how.policy.reserved ≡ true → least ≤ 18) → (stops_late how.policy.order ≡ true → least ≤ 18) → OfSome (StatusIn least 21) (refusal how before word)
 unfolding refusal
-refusal-in how before word =
+refusal-in how before word least few reserved late =
     let records = map how.meaning before in
     let raw = how.meaning word in
-    causes-in (nat_le how.policy.records (length records)) (is_reserved raw && stops_reserved how.policy.reserved) (passes records raw) (stops_late how.policy.order) how.policy.records (length records + 1) word
-    (late_refusal how.policy.settle how.mode (events records) (event_after records raw)) (late_refusal-in how.policy.settle how.mode (events records) (event_after records raw))
+    causes-in least few (nat_le how.policy.records (length records)) (is_reserved raw && stops_reserved how.policy.reserved) (passes records raw) (stops_late how.policy.order) how.policy.records (length records + 1) word
+    (late_refusal how.policy.settle how.mode (events records) (event_after records raw)) (both (is_reserved raw) (stops_reserved how.policy.reserved) reserved)
+    (λ stops. wide (late_refusal how.policy.settle how.mode (events records) (event_after records raw)) (late stops) (late_refusal-in how.policy.settle how.mode (events records) (event_after records raw)))
+  where
+    both : (a b : Bool) → (b ≡ true → least ≤ 18) → (a && b) ≡ true → least ≤ 18
+    both true b stops e = stops e
+    both false b stops e = cc
+
+    wide : (o : Option Fault) → least ≤ 18 → OfSome (StatusIn 18 21) o → OfSome (StatusIn least 21) o
+    wide None few h = tt
+    wide (Some fault) few h = (omega (arith, few, h.0), h.1)
 
 pub least-status : (how : Reading) (behind : List ℕ) (fault : Fault) → RefusedIn how behind fault → StatusIn 18 21 fault
-least-status how behind fault h = subst InRange h.refused (refusal-in how _ h.word)
+least-status how behind fault h = subst (OfSome (StatusIn 18 21)) h.refused (refusal-in how _ h.word 18 (omega arith) (λ stops. omega arith) (λ stops. omega arith))
 
 -- late events and reserved records are refused by no listing
-abbrev InLimits : Option Fault → Type 0
-InLimits None = Unit {0}
-InLimits (Some fault) = StatusIn 20 21 fault
-
-limits-in : (full reserved passing : Bool) (limit place word : ℕ) (late : Option Fault)
-    → InLimits (if full then Some (RecordLimit limit) else if reserved && false then Some (ReservedRecord place word) else if passing then Some (TimeLimit place) else if false then late else None)
-limits-in true reserved passing limit place word late = (omega arith, omega arith)
-limits-in false true true limit place word late = (omega arith, omega arith)
-limits-in false true false limit place word late = tt
-limits-in false false true limit place word late = (omega arith, omega arith)
-limits-in false false false limit place word late = tt
-
-listing-in : (header : Header) (before : List ℕ) (word : ℕ) → InLimits (refusal (listing header) before word)
-unfolding refusal
-listing-in header before word =
-    let how = listing header in
-    let records = map how.meaning before in
-    let raw = how.meaning word in
-    limits-in (nat_le how.policy.records (length records)) (is_reserved raw) (passes records raw) how.policy.records (length records + 1) word (late_refusal how.policy.settle how.mode (events records) (event_after records raw))
-
 pub listed-status : (header : Header) (behind : List ℕ) (fault : Fault) → RefusedIn (listing header) behind fault → StatusIn 20 21 fault
-listed-status header behind fault h = subst InLimits h.refused (listing-in header _ h.word)
+listed-status header behind fault h = subst (OfSome (StatusIn 20 21)) h.refused (refusal-in (listing header) _ h.word 20 (omega arith) (λ stops. cc) (λ stops. cc))

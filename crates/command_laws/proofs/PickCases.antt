@@ -9,7 +9,7 @@ use Rattle.gate_plan.specs.Plans.{reading_by}
 use Rattle.photon_pick.{specs.Late.too_late, specs.Ends.photons_by, specs.Texts.photons_in}
 use Rattle.pick_work.specs.PickOutcomes.{no_group, chosen_by, records_picked, picked_if_fits, picked_behind, picking}
 use Rattle.command_work.specs.Outcomes.{Outcome}
-use Rattle.command_laws.{specs.Causes.StatusIn, specs.Cases.{NoneRefused, HasGroup, settled_photons, kept_photons, FirstLate, LateAtRecord, LateAtEnd, RefusedInTime, SettledInTime, AllPicked, pick_end, PickedCase}, specs.CommandCases.{pick_statuses, NamesLate, pick_cases, Lacks, Needs}, proofs.FaultStatuses.{some-same, of-written, of-end, range-as, wider, least-status}, proofs.CaseShapes.{Call, IsCut, IsRefused, IsLate, CallsBy, NeedMeets, PlanMeets}, proofs.PickPhotons.{late-ends, none-or-late, late-more, picked_end, end-late, end-in_time, in-settled, in-before, least-late, clear-front, all-end}, proofs.CaseSteps.{empty-true, empty-false, true-empty, false-empty, whole_answer, streamed-clear}}
+use Rattle.command_laws.{specs.Causes.StatusIn, specs.Cases.{NoneRefused, HasGroup, settled_photons, kept_photons, FirstLate, LateAtRecord, LateAtEnd, RefusedInTime, SettledInTime, AllPicked, pick_end, PickedCase}, specs.CommandCases.{pick_statuses, NamesLate, pick_cases, Needs}, proofs.FaultStatuses.{of-written, of-end, range-as, wider, least-status}, proofs.CaseShapes.{Call, IsCut, IsRefused, IsLate, CallsBy, PlanMeets, needs-by}, proofs.PickPhotons.{late-ends, none-or-late, late-more, picked_end, end-late, end-in_time, in-settled, in-before, least-late, clear-front, all-end}, proofs.CaseSteps.{empty-true, empty-false, true-empty, false-empty, whole_answer, streamed-clear}}
 
 -- ## The records
 
@@ -115,25 +115,18 @@ unless_has group has = if has then None else Some (NoGroup group)
 abbrev has_group : ℕ → PlanView → Bool
 has_group group view = nat_le 1 group && nat_le group (length view.groups)
 
-pub has-true : (group count : ℕ) → (nat_le 1 group && nat_le group count) ≡ true → (1 ≤ group) × (group ≤ count)
+has-true : (group count : ℕ) → (nat_le 1 group && nat_le group count) ≡ true → (1 ≤ group) × (group ≤ count)
 has-true group count h = (grind (arith, nat_tests), grind (arith, nat_tests))
 
-pub true-has : (group count : ℕ) → (1 ≤ group) × (group ≤ count) → (nat_le 1 group && nat_le group count) ≡ true
+true-has : (group count : ℕ) → (1 ≤ group) × (group ≤ count) → (nat_le 1 group && nat_le group count) ≡ true
 true-has group count h = let low = h.0 in let high = h.1 in grind (arith, nat_tests)
 
-pub false-has : (group count : ℕ) → ((1 ≤ group) × (group ≤ count) → ⊥) → (nat_le 1 group && nat_le group count) ≡ false
-false-has group count never = by (nat_le 1 group && nat_le group count) refl
+group-decides : (group : ℕ) (view : PlanView) → (HasGroup group view × (no_group group view ≡ None)) ⊎ ((HasGroup group view → ⊥) × (no_group group view ≡ Some (NoGroup group)))
+group-decides group view = by (has_group group view) refl
   where
-    by : (b : Bool) → (nat_le 1 group && nat_le group count) ≡ b → b ≡ false
-    by true e = absurd (never (has-true group count e))
-    by false e = refl
-
--- the fault of a plan by its groups
-pub has-none : (group : ℕ) (view : PlanView) → HasGroup group view → no_group group view ≡ None
-has-none group view h = ap (unless_has group) (true-has group (length view.groups) h)
-
-pub no-some : (group : ℕ) (view : PlanView) → (HasGroup group view → ⊥) → no_group group view ≡ Some (NoGroup group)
-no-some group view never = ap (unless_has group) (false-has group (length view.groups) never)
+    by : (b : Bool) → has_group group view ≡ b → (HasGroup group view × (no_group group view ≡ None)) ⊎ ((HasGroup group view → ⊥) × (no_group group view ≡ Some (NoGroup group)))
+    by true e = inl (has-true group (length view.groups) e, ap (unless_has group) e)
+    by false e = inr (λ has. (let is = true-has group (length view.groups) has in cc), ap (unless_has group) e)
 
 -- ## What is told
 
@@ -161,26 +154,9 @@ names-status : (group : ℕ) (view : PlanView) (header : Header) (behind : List 
 names-status group view header behind fault (inl late) = range-as 24 24 fault (PickTime late.0.first.photon.place) late.1 (omega arith, omega arith)
 names-status group view header behind fault (inr late) = range-as 24 24 fault (PickTime late.0.first.photon.place) late.1 (omega arith, omega arith)
 
-group-needs : (group : ℕ) → NeedMeets pick_statuses (Needs (HasGroup group) (NoGroup group)) (no_group group)
-group-needs group = record {
-  has = λ view none. found view (has_group group view) refl none;
-  none = λ view has. has-none group view has;
-  lack = λ view fault e. lacking view fault (has_group group view) refl e;
-  some = λ view fault h. no-some group view h.0 ∙ ap Some (sym h.1);
-  status = λ view fault h. let s = range-as 23 23 fault (NoGroup group) h.1 (omega arith, omega arith) in (wider 23 23 22 23 fault s (omega arith) (omega arith), inr (wider 23 23 23 24 fault s (omega arith) (omega arith)));
-}
-  where
-    found : (view : PlanView) (has : Bool) → has_group group view ≡ has → unless_has group has ≡ None → HasGroup group view
-    found view true e none = has-true group (length view.groups) e
-    found view false e none = cc
-
-    lacking : (view : PlanView) (fault : Fault) (has : Bool) → has_group group view ≡ has → unless_has group has ≡ Some fault → Lacks (Needs (HasGroup group) (NoGroup group)) view fault
-    lacking view fault true e some = cc
-    lacking view fault false e some = (λ has. let is = true-has group (length view.groups) has in cc, some-same fault (NoGroup group) (sym some))
-
 pub pick-told : (group : ℕ) → PlanMeets pick_statuses (Needs (HasGroup group) (NoGroup group)) (pick_cases group) (no_group group) (picking group)
 pick-told group = record {
-  needs = group-needs group;
+  needs = needs-by pick_statuses (HasGroup group) (NoGroup group) (no_group group) (group-decides group) ((omega arith, omega arith), inr (omega arith, omega arith));
   works = λ view has. record {
     end_of = picked_behind view group;
     fit_of = picked_if_fits view group;

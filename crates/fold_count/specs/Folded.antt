@@ -1,7 +1,7 @@
 -- What the numbers that a fold keeps stand for.
-use Rattle.std.specs.Prelude.{◌≡◌, ℕ, ◌-◌, ◌^◌, ◌<◌, ◌≤◌, ⊤, Bool, true, false, ◌&&◌, ◌==◌, nat_le, nat_lt, List, [], ◌∷◌, ◌++◌, length, map, slice_index, count_by, sum_by, bit_or, if◌then◌else◌}
+use Rattle.std.specs.Prelude.{◌≡◌, ℕ, ◌-◌, ◌^◌, ◌<◌, ◌≤◌, ⊤, Bool, true, false, IsTrue, ◌&&◌, ◌==◌, nat_le, nat_lt, List, [], ◌∷◌, ◌++◌, length, map, slice_index, count_by, sum_by, bit_or, if◌then◌else◌}
 use Rattle.std.{specs.Coded.Unit-prop, specs.List.{list_any, AllByRecursion}, proofs.Props.props}
-use Rattle.tally_base.{specs.declared.event.Event.Event, specs.Settings.FoldView, specs.Tally.History, specs.Limits.time_limit}
+use Rattle.tally_base.{specs.declared.event.Event.Event, specs.Events.{is_photon, is_in}, specs.Settings.FoldView, specs.Tally.History, specs.Limits.time_limit}
 use Rattle.lag_ring.{specs.declared.ring.Entry.Entry, specs.Ring.Ring, specs.Kept.weight_where}
 use Rattle.fold_count.specs.FoldCounts.{is_of, is_of_any, number_of, seen_set, in_set}
 
@@ -91,3 +91,13 @@ AreCounts set cells h = (s : ℕ) → s < 2 ^ length set.groups → slice_index 
 abbrev pub Counts : Bool → FoldView → List ℕ → Ring → Entry → History → Type 0
 Counts false set cells ring bin h = Stands set cells ring bin h
 Counts true set cells ring bin h = AreCounts set cells h
+
+-- Where cells and bins stand for any events, others stand for these and a photon at a time in which this set of the groups was met.
+abbrev pub PutsPhoton : FoldView → List ℕ → List ℕ → Ring → Ring → Entry → Entry → ℕ → ℕ → Type 0
+PutsPhoton set cells cells' ring ring' bin bin' time met =
+    (h : History) (x : Event × ℕ) → is_of_any set.groups x ≡ true → x.0.time ≡ time → number_of (λ group. is_in x.1 group) set.groups ≡ met
+    → Stands set cells ring bin h → Stands set cells' ring' bin' (h ++ x ∷ [])
+
+-- its time is in range, and that of a photon is not before the open bin
+abbrev pub IsInTime : Entry → Event → Type 0
+IsInTime bin e = (e.time ≤ time_limit) × (IsTrue (is_photon e) → bin.index ≤ e.time)

@@ -1,7 +1,7 @@
 // The events that a fold is given.
-ghost use Rattle.std.specs.Prelude.{◌≡◌, ◌+◌, ◌<◌, ◌≤◌, ◌++◌, ◌∷◌, [], ℕ, true, false, ◌^◌, IsTrue, length, sum, if◌then◌else◌};
-ghost use Rattle.tally_base.{specs.declared.event.Event.Event, specs.Events.{is_photon, is_in}, specs.Settings.fold_view, specs.Tally.History, specs.Limits.{record_limit, time_limit}, specs.Columns.{gathered, events_in, IsSorted}, specs.Floors.{floor_after, InOrder}};
-ghost use Rattle.fold_count.{specs.FoldCounts.{is_of_any, number_of}, specs.Folded.{IsSound, Stands, AreCounts, waiting, photons_in}};
+ghost use Rattle.std.specs.Prelude.{◌≡◌, ◌+◌, ◌<◌, ◌≤◌, ◌++◌, ◌∷◌, [], ℕ, false, ◌^◌, IsTrue, length, sum, if◌then◌else◌};
+ghost use Rattle.tally_base.{specs.Events.is_photon, specs.Settings.fold_view, specs.Tally.History, specs.Limits.{record_limit, time_limit}, specs.Columns.{gathered, events_in, IsSorted}, specs.Floors.{floor_after, InOrder}};
+ghost use Rattle.fold_count.specs.Folded.{IsSound, IsInTime, Stands, PutsPhoton, AreCounts, waiting, photons_in};
 
 use crate::groups::set_in;
 use crate::waiting::settle;
@@ -53,11 +53,8 @@ fn put(
     ensures sum { sum cells.new + photons_in (waiting ring.new result)
         ≡ sum cells.old + photons_in (waiting ring.old bin) + 1 }
     ensures time { result.index ≡ time }
-    ensures follows { (h : History) (x : Event × ℕ)
-        → is_of_any (fold_view set.now).groups x ≡ true → x.0.time ≡ time
-        → number_of (λ group. is_in x.1 group) (fold_view set.now).groups ≡ met
-        → Stands (fold_view set.now) cells.old ring.old bin h
-        → Stands (fold_view set.now) cells.new ring.new result (h ++ x ∷ []) }
+    ensures follows { PutsPhoton (fold_view set.now) cells.old cells.new ring.old ring.new
+        bin result time met }
 {
     let here = open_at(cells, ring, bin, set, time);
     Entry {
@@ -79,8 +76,7 @@ pub(crate) fn put_event(
 ) -> Entry
     requires sound { IsSound (fold_view set.now) cells.old ring.old bin }
     requires room { sum cells.old + photons_in (waiting ring.old bin) < record_limit }
-    requires in_time { e.now.time ≤ time_limit }
-    requires after { IsTrue (is_photon e.now) → bin.index ≤ e.now.time }
+    requires in_time { IsInTime bin e.now }
     ensures sound { IsSound (fold_view set.now) cells.new ring.new result }
     ensures few { sum cells.new + photons_in (waiting ring.new result)
         ≤ sum cells.old + photons_in (waiting ring.old bin) + 1 }

@@ -35,6 +35,10 @@ gated_bit input dtime group = one_if (slice_index_or group.has input false && pa
 abbrev pub gated_sum : List Gated → ℕ → ℕ → ℕ
 gated_sum gated input dtime = sum_by (gated_bit input dtime) gated
 
+-- the groups of a photon by those of each input that have no gate and by those with gates
+abbrev pub groups_by : List ℕ → List Gated → ℕ → ℕ → ℕ
+groups_by plain gated input dtime = slice_index plain input + gated_sum gated input dtime
+
 -- the groups of a photon behind an only gate
 abbrev pub groups_behind : ℕ → ℕ → OnlyGate → ℕ
 groups_behind input dtime only = slice_index (slice_index_or only.groups (one_if (is_in_gate dtime only.gate)) []) input

@@ -2,7 +2,7 @@
 ghost use Rattle.std.specs.Prelude.{◌≡◌, ◌<◌, ◌≤◌, ◌+◌, ◌-◌, ◌*◌, ◌^◌, ℕ, min, map, length, slice_index, slice_index_or, false};
 ghost use Rattle.std.{specs.Int.bit_at, specs.Option.ForSome};
 ghost use Rattle.tally_base.specs.Settings.{group_view};
-ghost use Rattle.gate_plan.{specs.Taking.{is_among, is_in_gate, one_if}, specs.Parting.{takes_plainly, takes_gated, passes, gates_of, plain_bits, gated_bits, gated_bit, gated_sum, groups_behind}};
+ghost use Rattle.gate_plan.{specs.Taking.{is_among, is_in_gate, one_if}, specs.Parting.{takes_plainly, takes_gated, passes, gates_of, plain_bits, gated_bits, gated_bit, gated_sum, groups_by, groups_behind}};
 
 use crate::copies::gates_again;
 use crate::gated::Gated;
@@ -82,8 +82,8 @@ fn gated_at(group: &Group, place: u64) -> Gated
 /// behind it, where these are the groups that have none.
 pub(crate) fn only_gate(gated: &[Gated], plain: &[u64; 256]) -> Option<OnlyGate>
     ensures { ForSome result (λ gate. (input dtime : ℕ) → input < 256
-        → slice_index plain.now input + gated_sum gated.now input dtime < 2 ^ 64
-        → groups_behind input dtime gate ≡ slice_index plain.now input + gated_sum gated.now input dtime) }
+        → groups_by plain.now gated.now input dtime < 2 ^ 64
+        → groups_behind input dtime gate ≡ groups_by plain.now gated.now input dtime) }
 {
     match gated {
         [group] if group.others.is_empty() => {

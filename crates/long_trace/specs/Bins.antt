@@ -1,6 +1,6 @@
 -- What the numbers that a trace without end keeps say of the events that it was given.
-use Rattle.std.specs.Prelude.{◌≡◌, ℕ, ◌+◌, ◌<◌, ◌==◌, List, ◌++◌, slice_index, if◌then◌else◌}
-use Rattle.tally_base.{specs.Settings.TraceView, specs.Tally.History}
+use Rattle.std.specs.Prelude.{◌≡◌, ℕ, ◌+◌, ◌<◌, ◌==◌, ◌&&◌, Bool, List, [], ◌∷◌, ◌++◌, slice_index, if◌then◌else◌}
+use Rattle.tally_base.{specs.declared.event.Event.Event, specs.Events.{is_photon, is_in}, specs.Settings.TraceView, specs.Tally.History}
 use Rattle.count_trace.specs.TraceCounts.{in_trace_bin}
 use Rattle.long_trace.specs.Texts.{frequency_limit, span, closed_lines, counts, frequency, above}
 
@@ -26,3 +26,8 @@ pub record CountsOn (set : TraceView) (old new : BinState) (more : History) (lin
   pub put : lines' ≡ lines ++ text
   pub counted : (h : History) → CountsBins set old h → CountsBins set new (h ++ more)
   pub closed : (h : History) → CountsBins set old h → closed_lines set (h ++ more) ≡ closed_lines set h ++ text
+
+-- The same of an event at a time, where the test of whether it is a photon of the group says this.
+abbrev pub CountsAt : TraceView → BinState → BinState → ℕ → (Bool → Type 0) → List ℕ → List ℕ → Type 0
+CountsAt set old new time holds lines lines' =
+    (e : Event) (groups : ℕ) → e.time ≡ time → holds (is_photon e && is_in groups set.group) → CountsOn set old new ((e, groups) ∷ []) lines lines'

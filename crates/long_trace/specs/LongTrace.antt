@@ -31,3 +31,7 @@ pub record GivenMore (old new : LongTrace) (more : History) (lines : List ℕ) :
   pub same_set : new.set ≡ old.set
   pub follows : (h : History) → Holds old h → Holds new (h ++ more)
   pub closed : (h : History) → Holds old h → open_text (trace_view old.set) (h ++ more) ≡ open_text (trace_view old.set) h ++ lines
+
+-- what it has printed of these events before the end
+abbrev pub printed_by : LongTrace → History → List ℕ
+printed_by t h = open_text (trace_view t.set) h

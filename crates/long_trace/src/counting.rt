@@ -1,9 +1,9 @@
 // The photons of a trace, counted by their times.
-ghost use Rattle.std.specs.Prelude.{◌≡◌, ℕ, ◌+◌, ◌*◌, ◌^◌, ◌<◌, ◌≤◌, ◌++◌, ◌∷◌, ◌&&◌, [], false, true, max, nat_lt, nat_le, ◌==◌, slice_index, sum, length, if◌then◌else◌};
+ghost use Rattle.std.specs.Prelude.{◌≡◌, ℕ, ◌+◌, ◌*◌, ◌^◌, ◌<◌, ◌≤◌, ◌&&◌, [], false, true, max, nat_lt, nat_le, ◌==◌, slice_index, sum, length, if◌then◌else◌};
 ghost use Rattle.arrayvec.specs.ArrayVec.{array_vec_len};
-ghost use Rattle.tally_base.{specs.Columns.{gathered, events_in, IsSorted}, specs.Floors.{floor_after, InOrder}, specs.declared.event.Event.Event, specs.Events.{is_photon, is_in}, specs.Limits.record_limit, specs.Settings.trace_view};
+ghost use Rattle.tally_base.{specs.Columns.{gathered, events_in, IsSorted}, specs.Floors.{floor_after, InOrder}, specs.Limits.record_limit, specs.Settings.trace_view};
 ghost use Rattle.count_trace.specs.TraceCounts.{count_before};
-ghost use Rattle.long_trace.{specs.Texts.frequency_limit, specs.Bins.CountsOn, specs.States.state_of};
+ghost use Rattle.long_trace.{specs.Texts.frequency_limit, specs.Bins.{CountsOn, CountsAt}, specs.States.{state_of, Fills}};
 
 use crate::closed::Closed;
 use crate::lines::{LINE_SIZE, LINES_SIZE, put_bin};
@@ -37,10 +37,8 @@ fn open_next<const N: usize>(
     ensures filled { result.count + result.bin.index + slice_index closed.old.frequencies 0
         ≤ newest.count + newest.bin.index + 1 + slice_index closed.new.frequencies 0 }
     ensures len { array_vec_len lines.new ≤ array_vec_len lines.old + LINE_SIZE }
-    ensures counts { (e : Event) (groups : ℕ) → e.time ≡ time
-        → is_photon e && is_in groups set.now.group ≡ true
-        → CountsOn (trace_view set.now) (state_of newest closed.old) (state_of result closed.new)
-        ((e, groups) ∷ []) lines.old.items lines.new.items }
+    ensures counts { CountsAt (trace_view set.now) (state_of newest closed.old)
+        (state_of result closed.new) time (λ met. met ≡ true) lines.old.items lines.new.items }
 {
     let bin = Bin::of(set, newest.bin, time);
     put_bin(lines, newest.bin.index, newest.count);
@@ -76,10 +74,9 @@ pub(crate) fn count_at<const N: usize>(
         + slice_index closed.new.frequencies 0 }
     ensures len { array_vec_len lines.new ≤ array_vec_len lines.old + LINE_SIZE }
     ensures before { before.new ≡ before.old + (if nat_lt time set.now.origin then more else 0) }
-    ensures counts { (e : Event) (groups : ℕ) → e.time ≡ time
-        → more ≡ (if is_photon e && is_in groups set.now.group then 1 else 0)
-        → CountsOn (trace_view set.now) (state_of newest.old closed.old)
-        (state_of newest.new closed.new) ((e, groups) ∷ []) lines.old.items lines.new.items }
+    ensures counts { CountsAt (trace_view set.now) (state_of newest.old closed.old)
+        (state_of newest.new closed.new) time (λ met. more ≡ (if met then 1 else 0))
+        lines.old.items lines.new.items }
 {
     if time < set.origin {
         *before += more;
@@ -113,10 +110,8 @@ pub(crate) fn count_block(
     ensures all { sum closed.new.frequencies + closed.new.many ≡ newest.new.bin.index }
     ensures few { before.new + newest.new.count
         ≤ before.old + newest.old.count + length (gathered block.now) }
-    ensures filled { newest.new.count + newest.new.bin.index
-        + slice_index closed.old.frequencies 0
-        ≤ newest.old.count + newest.old.bin.index + length (gathered block.now)
-        + slice_index closed.new.frequencies 0 }
+    ensures filled { Fills (state_of newest.old closed.old) (state_of newest.new closed.new)
+        (length (gathered block.now)) }
     ensures before { before.new
         ≡ before.old + count_before (trace_view set.now) (events_in block.now) }
     ensures counts { CountsOn (trace_view set.now) (state_of newest.old closed.old)

@@ -1,8 +1,8 @@
 // What a trace without end prints at the end.
-ghost use Rattle.std.specs.Prelude.{◌≡◌, ◌+◌, ◌<◌, ◌≤◌, ◌++◌, ℕ, List, length, slice_index, OnOk, OnErr};
+ghost use Rattle.std.specs.Prelude.{◌≡◌, ◌++◌, ℕ, List, OnOk, OnErr};
 ghost use Rattle.std.specs.Io.KnownBytes.{Appends};
 ghost use Rattle.bench_io.{specs.TriesOnce.TriesOnce, specs.Sinks.{AppendsShort, PassesOn}};
-ghost use Rattle.long_trace.specs.Texts.{frequency_limit, bin_line, frequency, frequencies_text, above, before_line, above_line, summary_text};
+ghost use Rattle.long_trace.{specs.Texts.{bin_line, frequencies_text, above, before_line, above_line}, specs.States.{AreFrequencies, end_text}};
 
 use crate::closed::{Closed, FREQUENCIES};
 use crate::counting::OpenBin;
@@ -37,12 +37,10 @@ fn above_line(many: u64) -> ArrayVec<u8, 32>
 
 /// Puts the lines of the frequencies.
 fn put_frequencies<O: Sink>(closed: &Closed, block: &mut Block, out: &mut O) -> Result<(), Failed>
-    ensures all { OnOk result ((all : List ℕ)
-        → ((c : ℕ) → c < frequency_limit → slice_index closed.now.frequencies c ≡ frequency all c)
+    ensures all { OnOk result ((all : List ℕ) → AreFrequencies closed.now all
         → PassesOn (O.written out.old) (O.written out.new)
         (block.old ++ frequencies_text all) block.new) }
-    ensures short { OnErr result ((all : List ℕ)
-        → ((c : ℕ) → c < frequency_limit → slice_index closed.now.frequencies c ≡ frequency all c)
+    ensures short { OnErr result ((all : List ℕ) → AreFrequencies closed.now all
         → AppendsShort (O.written out.old) (O.written out.new)
         (block.old ++ frequencies_text all)) }
     ensures cause { TriesOnce (O.faults out.old) (O.faults out.new) result }
@@ -61,14 +59,12 @@ pub(crate) fn put_end<O: Sink>(
     closed: &Closed,
     out: &mut O,
 ) -> Result<(), Failed>
-    ensures all { OnOk result ((all : List ℕ)
-        → ((c : ℕ) → c < frequency_limit → slice_index closed.now.frequencies c ≡ frequency all c)
+    ensures all { OnOk result ((all : List ℕ) → AreFrequencies closed.now all
         → closed.now.many ≡ above all → Appends (O.written out.old) (O.written out.new)
-        (bin_line newest.now.bin.index newest.now.count ++ summary_text all before)) }
-    ensures short { OnErr result ((all : List ℕ)
-        → ((c : ℕ) → c < frequency_limit → slice_index closed.now.frequencies c ≡ frequency all c)
+        (end_text newest.now all before)) }
+    ensures short { OnErr result ((all : List ℕ) → AreFrequencies closed.now all
         → closed.now.many ≡ above all → AppendsShort (O.written out.old) (O.written out.new)
-        (bin_line newest.now.bin.index newest.now.count ++ summary_text all before)) }
+        (end_text newest.now all before)) }
     ensures cause { TriesOnce (O.faults out.old) (O.faults out.new) result }
 {
     let mut block = Block::new();

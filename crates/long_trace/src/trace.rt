@@ -40,7 +40,7 @@ pub struct LongTrace {
 impl LongTrace {
     ghost use Rattle.std.specs.Prelude.{◌++◌, ◌∷◌, [], IsTrue, false, length};
     ghost use Rattle.tally_base.{specs.Columns.{gathered, events_in, IsSorted}, specs.Floors.{floor_after, InOrder}, specs.Limits.record_limit, specs.Settings.trace_view, specs.Tally.History};
-    ghost use Rattle.long_trace.{specs.Texts.{first_line, open_text, whole_text}, specs.Written.{AppendsRest, CutsRest}, specs.LongTrace.{Holds, GivenMore, set_of, taken_of, floor_of, held}};
+    ghost use Rattle.long_trace.{specs.Texts.{first_line, whole_text}, specs.Written.{AppendsRest, CutsRest}, specs.LongTrace.{Holds, GivenMore, set_of, taken_of, floor_of, held, printed_by}};
 
     /// A trace of no events. It doesn't look at the number of bins.
     pub fn new(set: &TraceSet) -> LongTrace
@@ -143,11 +143,11 @@ impl LongTrace {
         requires room { taken_of self.old < record_limit }
         requires in_order { IsTrue (is_photon e.now) → floor_of self.old ≤ e.now.time }
         ensures text { (h : History) → Holds self.old h → OnOk result (AppendsRest
-            (O.written out.old) (O.written out.new) (open_text (trace_view (set_of self.old)) h)
-            (open_text (trace_view (set_of self.old)) (h ++ (e.now, groups) ∷ []))) }
+            (O.written out.old) (O.written out.new) (printed_by self.old h)
+            (printed_by self.old (h ++ (e.now, groups) ∷ []))) }
         ensures short { (h : History) → Holds self.old h → OnErr result (CutsRest
-            (O.written out.old) (O.written out.new) (open_text (trace_view (set_of self.old)) h)
-            (open_text (trace_view (set_of self.old)) (h ++ (e.now, groups) ∷ []))) }
+            (O.written out.old) (O.written out.new) (printed_by self.old h)
+            (printed_by self.old (h ++ (e.now, groups) ∷ []))) }
         ensures fault { IfErr result (λ fault. fault ≡ Fault.WriteFault) }
         ensures cause { TriesOnce (O.faults out.old) (O.faults out.new) result }
         ensures set { set_of self.new ≡ set_of self.old }
@@ -169,10 +169,10 @@ impl LongTrace {
     /// written.
     pub fn finish<O: Sink>(self, out: &mut O) -> Result<(), Fault>
         ensures text { (h : History) → Holds self h → OnOk result (AppendsRest
-            (O.written out.old) (O.written out.new) (open_text (trace_view (set_of self)) h)
+            (O.written out.old) (O.written out.new) (printed_by self h)
             (whole_text (trace_view (set_of self)) h)) }
         ensures short { (h : History) → Holds self h → OnErr result (CutsRest
-            (O.written out.old) (O.written out.new) (open_text (trace_view (set_of self)) h)
+            (O.written out.old) (O.written out.new) (printed_by self h)
             (whole_text (trace_view (set_of self)) h)) }
         ensures fault { IfErr result (λ fault. fault ≡ Fault.WriteFault) }
         ensures cause { TriesOnce (O.faults out.old) (O.faults out.new) result }

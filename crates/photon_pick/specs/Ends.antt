@@ -1,11 +1,11 @@
 -- What all bytes behind a header write of the photons that are chosen.
-use Rattle.std.specs.Prelude.{ℕ, Bool, List, map, Result, Ok, Err}
+use Rattle.std.specs.Prelude.{ℕ, ◌≡◌, Bool, List, [], map, Result, Ok, Err}
 use Rattle.std.{specs.List.filter, specs.declared.option.Option.Option}
-use Rattle.tally_base.{specs.declared.event.Event.Event, specs.declared.fault.Fault.Fault, specs.Faults.fault_in}
+use Rattle.tally_base.{specs.declared.event.Event.Event, specs.declared.fault.Fault.Fault, specs.declared.header.Mode.Mode, specs.Faults.fault_in}
 use Rattle.ptu_definitions.{specs.declared.records.Summary.Summary, specs.Prefixes.first, specs.Settled.kept_by, specs.Streams.{Reading, streamed}, specs.Times.events, specs.Words.words_of}
 use Rattle.told_text.specs.Texts.{WritesText}
 use Rattle.short_file.specs.ShortFiles.{bytes_in}
-use Rattle.record_write.specs.Picked.{picked_words}
+use Rattle.record_write.specs.Picked.{picked_words, CanBePicked}
 use Rattle.photon_pick.{specs.Late.{too_late, writable}, specs.Texts.{photons_in, text_in, late_or}}
 
 -- the photons that are chosen of the kept list
@@ -32,3 +32,9 @@ end_fault chooses how bytes = late_or (first (too_late how.mode (photons_of choo
 abbrev pub WritesEnd : (Event → Bool) → Reading → Option (List ℕ) → Option (List ℕ) → ℕ → ℕ → List ℕ → Result (Unit {0}) Fault → Type 0
 WritesEnd chooses how old new before after bytes result =
     WritesText (text_in chooses how (words_of bytes)) (end_text chooses how bytes) (end_fault chooses how bytes) old new before after result
+
+-- The photons that are chosen can be written: all of the kept list where none of them is too late, and always those before the first that is, of all bytes behind a header and of what words settle while more may come.
+pub record CanBeWritten (mode : Mode) (chooses : Event → Bool) (how : Reading) : Type 0 where
+  pub kept : (words : List ℕ) → too_late mode (photons_kept chooses how words) ≡ [] → CanBePicked mode (photons_kept chooses how words)
+  pub written : (bytes : List ℕ) → CanBePicked mode (writable mode (photons_of chooses how bytes))
+  pub settled : (words : List ℕ) → CanBePicked mode (writable mode (photons_in chooses how words))

@@ -2,6 +2,7 @@
 use Rattle.std.specs.Prelude.{ℕ, ◌≡◌, ◌⊎◌, true, false, List, [], ◌∷◌, ◌++◌}
 use Rattle.std.specs.declared.option.Option.{Option}
 use Rattle.tally_base.{specs.declared.event.Event.Event, specs.declared.fault.Fault.Fault, specs.declared.fault.Fault.TheVariants.{PickTime, WriteFault}, specs.FaultCounts.Rose, specs.Floors.floor_after}
+use Rattle.bench_io.specs.declared.sink.Sink.{Ghosts}
 use Rattle.ptu_definitions.specs.Prefixes.{each_after}
 use Rattle.record_write.{specs.declared.picker.Picker.Picker, specs.Picked.{is_too_late, photon_words}, specs.Picker.{mode_of, last_by, HasPicked}, specs.Writing.{PutsWords, CutsWords}}
 use Rattle.photon_pick.specs.Late.{too_late}
@@ -51,3 +52,7 @@ pub record Stopped (p q : Pen) (photons : List Event) (fault : Fault) : Type 0 w
   pub are : photons ≡ front ++ e ∷ back
   pub in_time : too_late (mode_of p.picker) front ≡ []
   pub why : TooLate p q front e fault ⊎ WriteFailed p q front e fault
+
+-- a picker with its sink, and what its block holds
+abbrev pub pen_on : {O : Type 0} → Ghosts O → Picker → O → List ℕ → Pen
+pen_on o picker out held = pen picker (o.written out) held (o.faults out)

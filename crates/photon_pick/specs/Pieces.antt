@@ -6,7 +6,7 @@ use Rattle.ptu_definitions.specs.Words.{words_of}
 use Rattle.record_stream.{specs.declared.stream.RecordStream.RecordStream, specs.Standing.{how_of, greatest_of, refused_with, HasStreamed}}
 use Rattle.record_write.{specs.declared.picker.Picker.Picker, specs.Picker.{mode_of, last_by}}
 use Rattle.told_text.specs.Texts.{WritesText}
-use Rattle.photon_pick.specs.Texts.{text_in, refusal_in, HasPickedIn}
+use Rattle.photon_pick.{specs.Texts.{text_in, refusal_in, HasPickedIn}, specs.Ends.WritesEnd}
 
 -- The picker writes in the mode of the stream, and is no further on than it.
 pub record IsNoFurther (stream : RecordStream) (picker : Picker) : Type 0 where
@@ -19,3 +19,9 @@ PicksPiece o chooses stream piece picker now old new result =
     refused_with stream ≡ None → (bytes : List ℕ) → HasStreamed stream bytes → HasPickedIn chooses (how_of stream) picker (words_of bytes)
     → WritesText (text_in chooses (how_of stream) (words_of bytes)) (text_in chooses (how_of stream) (words_of (bytes ++ piece))) (refusal_in chooses (how_of stream) (words_of (bytes ++ piece))) (o.written old) (o.written new) (o.faults old) (o.faults new) result
     × OnOk result (HasPickedIn chooses (how_of stream) now (words_of (bytes ++ piece)))
+
+-- What the end of the bytes wrote, where the picker has picked the photons that their words give, by the answer.
+abbrev pub PicksEnd : {O : Type 0} → Ghosts O → (Event → Bool) → RecordStream → Picker → O → O → Result (Unit {0}) Fault → Type 0
+PicksEnd o chooses stream picker old new result =
+    (bytes : List ℕ) → HasStreamed stream bytes → HasPickedIn chooses (how_of stream) picker (words_of bytes)
+    → WritesEnd chooses (how_of stream) (o.written old) (o.written new) (o.faults old) (o.faults new) bytes result

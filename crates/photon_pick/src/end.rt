@@ -1,9 +1,7 @@
 // What the end of a file writes of the photons of a group.
-ghost use Rattle.std.specs.Prelude.{◌≡◌, ◌<◌, ◌≤◌, List, ℕ, [], None};
-ghost use Rattle.ptu_definitions.specs.Words.{words_of};
-ghost use Rattle.gate_plan.specs.Groups.{sorting_of};
-ghost use Rattle.record_stream.specs.Standing.{how_of, given_by, greatest_of, refused_with, HasStreamed};
-ghost use Rattle.photon_pick.{specs.Chosen.is_chosen, specs.Texts.{answer_by, HasPickedIn}, specs.Pieces.IsNoFurther, specs.Ends.WritesEnd};
+ghost use Rattle.std.specs.Prelude.{◌≡◌, ◌<◌, ◌≤◌, [], None};
+ghost use Rattle.record_stream.specs.Standing.{how_of, given_by, greatest_of, refused_with};
+ghost use Rattle.photon_pick.{specs.Chosen.is_of_group, specs.Texts.answer_by, specs.Pieces.{IsNoFurther, PicksEnd}};
 
 use crate::taker::Picks;
 use bench_io::{Block, Sink};
@@ -33,12 +31,8 @@ fn end_picks<'g, 'p, 'o, O: Sink>(
     requires empty { picks.old.block ≡ [] }
     requires unrefused { picks.old.fault ≡ None }
     requires going { refused_with stream ≡ None }
-    ensures writes { (bytes : List ℕ) → HasStreamed stream bytes
-        → HasPickedIn (is_chosen (sorting_of picks.old.gates.now) picks.old.group) (how_of stream)
-        picks.old.picker.now (words_of bytes)
-        → WritesEnd (is_chosen (sorting_of picks.old.gates.now) picks.old.group) (how_of stream)
-        (O.written picks.old.out.now) (O.written picks.new.out.now)
-        (O.faults picks.old.out.now) (O.faults picks.new.out.now) bytes result }
+    ensures writes { PicksEnd O.Sink (is_of_group picks.old.gates.now picks.old.group) stream
+        picks.old.picker.now picks.old.out.now picks.new.out.now result }
     ensures same { (picks.new.out.ghost_name ≡ picks.old.out.ghost_name)
         × (picks.new.picker.ghost_name ≡ picks.old.picker.ghost_name) }
 {
@@ -64,10 +58,7 @@ pub fn pick_end<O: Sink>(
     requires group { (0 < group) × (group ≤ 64) }
     requires behind { IsNoFurther stream picker }
     requires going { refused_with stream ≡ None }
-    ensures writes { (bytes : List ℕ) → HasStreamed stream bytes
-        → HasPickedIn (is_chosen (sorting_of gates.now) group) (how_of stream) picker (words_of bytes)
-        → WritesEnd (is_chosen (sorting_of gates.now) group) (how_of stream) (O.written out.old)
-        (O.written out.new) (O.faults out.old) (O.faults out.new) bytes result }
+    ensures writes { PicksEnd O.Sink (is_of_group gates.now group) stream picker out.old out.new result }
 {
     let mode = picker.mode();
     let mut picks = Picks {

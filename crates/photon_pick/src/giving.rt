@@ -3,7 +3,7 @@ ghost use Rattle.std.specs.Prelude.{◌≡◌, ◌<◌, ◌≤◌, ℕ, All, tru
 ghost use Rattle.tally_base.{specs.Events.is_photon, specs.Columns.{count, gathered}, specs.Floors.{floor_after, InOrder}};
 ghost use Rattle.record_stream.specs.Blocks.{AllFit};
 ghost use Rattle.record_write.specs.Picker.{mode_of, last_by};
-ghost use Rattle.photon_pick.{specs.Places.events_at, specs.Giving.{pen, Gave, Stopped}};
+ghost use Rattle.photon_pick.{specs.Places.events_at, specs.Giving.{pen_on, Gave, Stopped}};
 
 use bench_io::{Block, Sink};
 use record_write::Picker;
@@ -24,12 +24,10 @@ pub(crate) fn give_photons<O: Sink>(
     requires fit { AllFit (mode_of picker.old) (events_at events.now places.now many) }
     requires in_order { InOrder true (last_by picker.old) (events_at events.now places.now many) }
     ensures gave { OnOk result (Gave
-        (pen picker.old (O.written out.old) block.old (O.faults out.old))
-        (pen picker.new (O.written out.new) block.new (O.faults out.new))
+        (pen_on O.Sink picker.old out.old block.old) (pen_on O.Sink picker.new out.new block.new)
         (events_at events.now places.now many)) }
     ensures stopped { IfErr result (Stopped
-        (pen picker.old (O.written out.old) block.old (O.faults out.old))
-        (pen picker.new (O.written out.new) block.new (O.faults out.new))
+        (pen_on O.Sink picker.old out.old block.old) (pen_on O.Sink picker.new out.new block.new)
         (events_at events.now places.now many)) }
     ensures same_mode { mode_of picker.new ≡ mode_of picker.old }
     ensures last { last_by picker.new

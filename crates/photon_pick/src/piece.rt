@@ -1,9 +1,8 @@
 // What a piece of a file writes of the photons of a group.
 ghost use Rattle.std.specs.Prelude.{◌≡◌, ◌+◌, ◌*◌, ◌<◌, ◌≤◌, ◌++◌, List, ℕ, [], None, length, OnOk};
 ghost use Rattle.ptu_definitions.specs.Counted.{record_limit};
-ghost use Rattle.gate_plan.specs.Groups.{sorting_of};
 ghost use Rattle.record_stream.specs.Standing.{how_of, given_by, greatest_of, refused_with, bytes_in, HasStreamed};
-ghost use Rattle.photon_pick.{specs.Chosen.is_chosen, specs.Texts.answer_by, specs.Pieces.{PicksPiece, IsNoFurther}};
+ghost use Rattle.photon_pick.{specs.Chosen.is_of_group, specs.Texts.answer_by, specs.Pieces.{PicksPiece, IsNoFurther}};
 
 use crate::taker::Picks;
 use bench_io::{Block, Sink};
@@ -38,7 +37,7 @@ fn feed_picks<'g, 'p, 'o, O: Sink>(
     ensures same_how { how_of stream.new ≡ how_of stream.old }
     ensures limit { bytes_in stream.new ≤ 4 * record_limit + 3 }
     ensures writes { PicksPiece O.Sink
-        (is_chosen (sorting_of picks.old.gates.now) picks.old.group) stream.old piece.now
+        (is_of_group picks.old.gates.now picks.old.group) stream.old piece.now
         picks.old.picker.now picks.new.picker.now picks.old.out.now picks.new.out.now result }
     ensures going { OnOk result ((refused_with stream.new ≡ None)
         × (bytes_in stream.new ≡ bytes_in stream.old + length piece.now)) }
@@ -72,7 +71,7 @@ pub fn pick_piece<O: Sink>(
         → HasStreamed stream.new (bytes ++ piece.now) }
     ensures same_how { how_of stream.new ≡ how_of stream.old }
     ensures limit { bytes_in stream.new ≤ 4 * record_limit + 3 }
-    ensures writes { PicksPiece O.Sink (is_chosen (sorting_of gates.now) group) stream.old piece.now
+    ensures writes { PicksPiece O.Sink (is_of_group gates.now group) stream.old piece.now
         picker.old picker.new out.old out.new result }
     ensures going { OnOk result ((refused_with stream.new ≡ None)
         × (bytes_in stream.new ≡ bytes_in stream.old + length piece.now)) }

@@ -3,8 +3,8 @@ ghost use Rattle.std.specs.Prelude.{◌≡◌, ◌+◌, ◌*◌, ◌≤◌, ℕ,
 ghost use Rattle.std.specs.List.{All};
 ghost use Rattle.tally_base.{specs.declared.event.Policy.Policy, specs.Events.stops_late};
 ghost use Rattle.tally_base.specs.declared.header.RecordType.TheVariants as RecordType;
-ghost use Rattle.ptu_definitions.{specs.Headers.header_answer, specs.Layouts.meaning_of, specs.Streams.{reading, record_refusal}, specs.Times.{base, events}, specs.Words.{words_of, rest_of}};
-ghost use Rattle.ptu_made.{specs.Generator.{photon_limit, made_words}, specs.Records.{IsPhotonOrWrap, made_header, made_photons}, specs.MadeFile.made_file};
+ghost use Rattle.ptu_definitions.{specs.Headers.header_answer, specs.Layouts.meaning_of, specs.Times.{base, events}, specs.Words.{words_of, rest_of}};
+ghost use Rattle.ptu_made.{specs.Generator.{photon_limit, made_words}, specs.Records.{IsPhotonOrWrap, made_header, made_photons}, specs.MadeFile.{made_file, made_refusal}};
 ghost use Rattle.short_file.{specs.ShortFiles.bytes_in, specs.TimedEvents.timed};
 
 /// The file has a header of the record type HydraHarp2T2 and 112 bytes, and behind it its words,
@@ -41,5 +41,5 @@ pub fn the_words_are_photons()
 pub fn no_record_is_refused()
     ensures { (seed count : ℕ) (policy : Policy) → count ≤ photon_limit
         → length (made_words seed count) ≤ policy.records → stops_late policy.order ≡ false
-        → record_refusal (reading RecordType.HydraHarp2T2 policy) (made_words seed count) ≡ None }
+        → made_refusal policy seed count ≡ None }
 {}

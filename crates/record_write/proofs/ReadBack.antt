@@ -4,7 +4,7 @@ use Rattle.std.{specs.declared.option.Option.Option, specs.List.{AllByRecursion,
 use Rattle.tally_base.{specs.declared.event.Event.Event, specs.declared.event.EventKind.TheVariants.Photon as PhotonEvent, specs.declared.event.Policy.Policy, specs.declared.fault.Fault.Fault, specs.declared.fault.Fault.TheVariants.{ReservedRecord, TimeLimit}, specs.declared.header.Mode.Mode, specs.declared.header.Mode.TheVariants.{T2, T3}, specs.Events.{is_ordered, stops_late}, specs.Limits.wrap_limit}
 use Rattle.ptu_definitions.{specs.declared.records.Raw.TheVariants.Photon, specs.Kinds.{is_photon, is_wrap}, specs.Kept.{mark, marked, kept, is_late, greatest, ordered_time}, specs.Prefixes.{each_after, listed}, specs.Settled.{Rises, delivered}, specs.Streams.{Reading, late_refusal, refusal, refusals, record_refusal, given}, specs.Times.{base, event_after, events}, proofs.DeliveredLaws.is_late_by-0, proofs.Firsts.given-all, proofs.SettledLemmas.Rises-IsNonDecreasingBy, proofs.StreamLemmas.{later, greatest-push}}
 use Rattle.short_file.{specs.TimedEvents.{Timed, timed}, proofs.WordBytes.IsWord}
-use Rattle.record_write.{specs.Picked.{unit_of, wrap_word, photon_word, picked_words, picked_events, is_too_late, meaning_in, IsPhotonOf, CanBePicked}, proofs.Meanings.{wrap-meaning, photon-meaning, wrap-small, photon-small}, proofs.Walks.{Walks, IsAt, records_of, walk}}
+use Rattle.record_write.{specs.Picked.{unit_of, wrap_word, photon_word, picked_words, picked_events, is_too_late, meaning_in, IsPhotonOf, IsPhotonOrWrap, CanBePicked}, proofs.Meanings.{wrap-meaning, photon-meaning, wrap-small, photon-small}, proofs.Walks.{Walks, IsAt, records_of, walk}}
 
 pub rising : (mode : Mode) (photons : List Event) → CanBePicked mode photons → Rises 0 photons
 rising mode photons can = Rises-IsNonDecreasingBy 0 photons can.in_order (λ d some. omega arith)
@@ -28,9 +28,6 @@ small-words mode = over mode (λ before words photons. AllByRecursion IsWord wor
 })
 
 -- Each is a photon or a wrap.
-abbrev pub IsPhotonOrWrap : Mode → ℕ → Type 0
-IsPhotonOrWrap mode word = (is_photon (meaning_in mode word) || is_wrap (meaning_in mode word)) ≡ true
-
 pub photons-and-wraps : (mode : Mode) (photons : List Event) → CanBePicked mode photons → AllByRecursion (IsPhotonOrWrap mode) (picked_words mode photons)
 photons-and-wraps mode = over mode (λ before words photons. AllByRecursion (IsPhotonOrWrap mode) words) (record {
   none = λ before. tt;

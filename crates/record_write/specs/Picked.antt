@@ -1,8 +1,8 @@
 -- The words of a file of photons.
-use Rattle.std.specs.Prelude.{ℕ, ◌+◌, ◌-◌, ◌*◌, ◌/◌, ◌%◌, ◌^◌, ◌==◌, ◌≡◌, nat_lt, Bool, true, false, List, [], ◌∷◌, ◌++◌, None, Some, map, replicate, if◌then◌else◌}
+use Rattle.std.specs.Prelude.{ℕ, ◌+◌, ◌-◌, ◌*◌, ◌/◌, ◌%◌, ◌^◌, ◌==◌, ◌≡◌, ◌≤◌, ◌||◌, nat_lt, length, Bool, true, false, List, [], ◌∷◌, ◌++◌, None, Some, map, replicate, if◌then◌else◌}
 use Rattle.std.{specs.List.All, specs.List.Sorted.IsNonDecreasingBy, specs.declared.option.Option.Option}
-use Rattle.tally_base.{specs.declared.event.Event.Event, specs.declared.event.EventKind.EventKind, specs.declared.event.EventKind.TheVariants.{Photon, Marker}, specs.declared.header.Mode.Mode, specs.declared.header.Mode.TheVariants.{T2, T3}, specs.Events.is_photon, specs.Limits.wrap_limit}
-use Rattle.ptu_definitions.{specs.declared.records.Raw.Raw, specs.Fitting.KindFits, specs.Layouts.meaning_of, specs.Prefixes.{each, last}, specs.Times.events}
+use Rattle.tally_base.{specs.declared.event.Event.Event, specs.declared.event.Policy.Policy, specs.declared.event.EventKind.EventKind, specs.declared.event.EventKind.TheVariants.{Photon, Marker}, specs.declared.header.Mode.Mode, specs.declared.header.Mode.TheVariants.{T2, T3}, specs.Events.is_photon, specs.Limits.wrap_limit}
+use Rattle.ptu_definitions.{specs.declared.records.Raw.Raw, specs.Fitting.KindFits, specs.Kinds.is_wrap, specs.Kinds.is_photon as is_record_photon, specs.Layouts.meaning_of, specs.Prefixes.{each, last}, specs.Times.events}
 use Rattle.short_file.specs.ShortFiles.{short_file, short_type}
 
 -- how many ticks one unit of a wrap has
@@ -75,3 +75,17 @@ meaning_in mode = meaning_of (short_type mode)
 -- The events that are read from the words of photons.
 abbrev pub picked_events : Mode → List Event → List Event
 picked_events mode photons = events (map (meaning_in mode) (picked_words mode photons))
+
+-- the word is a photon or a wrap
+abbrev pub IsPhotonOrWrap : Mode → ℕ → Type 0
+IsPhotonOrWrap mode word = (is_record_photon (meaning_in mode word) || is_wrap (meaning_in mode word)) ≡ true
+
+-- Photons that can be written, and a policy by which a stream gives them at once and takes as many records as they have words.
+pub record TakesAll (policy : Policy) (mode : Mode) (photons : List Event) : Type 0 where
+  pub can : CanBePicked mode photons
+  pub settles_at_once : policy.settle ≡ 0
+  pub few : length (picked_words mode photons) ≤ policy.records
+
+-- these events, and none of them late
+abbrev pub all_given : Mode → List Event → List (Event × Bool)
+all_given mode photons = map (λ e. (e, false)) (picked_events mode photons)

@@ -1,10 +1,10 @@
 // The law of written photons, as the contract of a function that does nothing.
-ghost use Rattle.std.specs.Prelude.{◌≡◌, ◌≤◌, ◌||◌, List, None, Ok, length, map, true, false};
+ghost use Rattle.std.specs.Prelude.{◌≡◌, List, None, Ok, map};
 ghost use Rattle.std.specs.List.{All};
 ghost use Rattle.tally_base.{specs.declared.event.Event.Event, specs.declared.event.Policy.Policy, specs.declared.header.Mode.Mode};
-ghost use Rattle.ptu_definitions.{specs.Headers.header_answer, specs.Kinds.{is_photon, is_wrap}, specs.Kept.kept, specs.Streams.{reading, record_refusal, given}, specs.Words.words_of};
+ghost use Rattle.ptu_definitions.{specs.Headers.header_answer, specs.Kept.kept, specs.Streams.{reading, record_refusal, given}, specs.Words.words_of};
 ghost use Rattle.short_file.{specs.ShortFiles.{bytes_in, short_fields, short_type}, specs.TimedEvents.timed};
-ghost use Rattle.record_write.specs.Picked.{picked_words, picked_file, picked_events, meaning_in, CanBePicked};
+ghost use Rattle.record_write.specs.Picked.{picked_words, picked_file, picked_events, CanBePicked, IsPhotonOrWrap, TakesAll, all_given};
 
 /// Photons that can be written are read back: from their file come their words, each word is one of
 /// these photons or a wrap, and the events are these photons, at their times. None of them is late, and
@@ -17,19 +17,16 @@ pub fn picked_photons_are_read()
     ensures words { (mode : Mode) (photons : List Event) → CanBePicked mode photons
         → words_of (bytes_in (picked_words mode photons)) ≡ picked_words mode photons }
     ensures records { (mode : Mode) (photons : List Event) → CanBePicked mode photons
-        → All (λ word. (is_photon (meaning_in mode word) || is_wrap (meaning_in mode word)) ≡ true)
-        (picked_words mode photons) }
+        → All (IsPhotonOrWrap mode) (picked_words mode photons) }
     ensures photons { (mode : Mode) (photons : List Event) → CanBePicked mode photons
         → map timed (picked_events mode photons) ≡ map timed photons }
     ensures in_time { (mode : Mode) (photons : List Event) → CanBePicked mode photons
         → kept mode (picked_events mode photons) ≡ picked_events mode photons }
     ensures unrefused { (mode : Mode) (photons : List Event) (policy : Policy)
-        → CanBePicked mode photons → policy.settle ≡ 0
-        → length (picked_words mode photons) ≤ policy.records
+        → TakesAll policy mode photons
         → record_refusal (reading (short_type mode) policy) (picked_words mode photons) ≡ None }
     ensures given { (mode : Mode) (photons : List Event) (policy : Policy)
-        → CanBePicked mode photons → policy.settle ≡ 0
-        → length (picked_words mode photons) ≤ policy.records
+        → TakesAll policy mode photons
         → given (reading (short_type mode) policy) (picked_words mode photons)
-        ≡ map (λ e. (e, false)) (picked_events mode photons) }
+        ≡ all_given mode photons }
 {}

@@ -5,7 +5,7 @@ ghost use Rattle.tally_base.{specs.declared.event.Event.Event, specs.declared.fa
 ghost use Rattle.bench_io.{specs.TriesOnce.TriesOnce, specs.Sinks.AppendsShort};
 ghost use Rattle.ptu_definitions.specs.Fitting.{KindFits};
 ghost use Rattle.short_file.specs.ShortFiles.{bytes_in, short_header};
-ghost use Rattle.record_write.{specs.Picked.{is_too_late, photon_words}, specs.Writing.{PutsWords, CutsWords, PickCause}};
+ghost use Rattle.record_write.{specs.Picked.is_too_late, specs.Writing.{PutsWords, CutsWords, PickCause}};
 
 use crate::words::{is_too_late, put_photon};
 use bench_io::{Block, Sink, write_all};
@@ -23,7 +23,7 @@ pub struct Picker {
 }
 
 impl Picker {
-    ghost use Rattle.record_write.specs.Picker.{mode_of, last_by, HasPicked};
+    ghost use Rattle.record_write.specs.Picker.{mode_of, last_by, HasPicked, OnWordsOf};
 
     /// A picker for a file of this mode, which has picked no photon.
     pub fn new(mode: Mode) -> Picker
@@ -61,17 +61,14 @@ impl Picker {
         requires photon { is_photon e.now ≡ true }
         requires fits { KindFits (mode_of self.now) e.now.kind }
         requires in_order { last_by self.now ≤ e.now.time }
-        ensures words { (photons : List Event) → HasPicked self.now photons → OnOk result
-            (PutsWords (O.written out.old) (O.written out.new) block.old block.new
-            (photon_words (mode_of self.now) photons e.now)) }
+        ensures words { OnWordsOf self.now e.now (λ words. OnOk result
+            (PutsWords (O.written out.old) (O.written out.new) block.old block.new words)) }
         ensures late { (result ≡ Err (PickTime e.now.place))
             ↔ (is_too_late (mode_of self.now) e.now.time ≡ true) }
         ensures untouched { result ≡ Err (PickTime e.now.place)
             → (out.new ≡ out.old) × (block.new ≡ block.old) }
-        ensures cut { (photons : List Event) → HasPicked self.now photons
-            → result ≡ Err WriteFault
-            → CutsWords (O.written out.old) (O.written out.new) block.old block.new
-            (photon_words (mode_of self.now) photons e.now) }
+        ensures cut { OnWordsOf self.now e.now (λ words. result ≡ Err WriteFault
+            → CutsWords (O.written out.old) (O.written out.new) block.old block.new words) }
         ensures cause { PickCause e.now.place (O.faults out.old) (O.faults out.new) result }
     {
         if is_too_late(self.mode, e.time) {
@@ -100,17 +97,14 @@ impl Picker {
         requires in_order { last_by self.old ≤ e.now.time }
         ensures picked { (photons : List Event) → HasPicked self.old photons
             → OnOk result (HasPicked self.new (photons ++ e.now ∷ [])) }
-        ensures words { (photons : List Event) → HasPicked self.old photons → OnOk result
-            (PutsWords (O.written out.old) (O.written out.new) block.old block.new
-            (photon_words (mode_of self.old) photons e.now)) }
+        ensures words { OnWordsOf self.old e.now (λ words. OnOk result
+            (PutsWords (O.written out.old) (O.written out.new) block.old block.new words)) }
         ensures late { (result ≡ Err (PickTime e.now.place))
             ↔ (is_too_late (mode_of self.old) e.now.time ≡ true) }
         ensures untouched { result ≡ Err (PickTime e.now.place)
             → (out.new ≡ out.old) × (block.new ≡ block.old) }
-        ensures cut { (photons : List Event) → HasPicked self.old photons
-            → result ≡ Err WriteFault
-            → CutsWords (O.written out.old) (O.written out.new) block.old block.new
-            (photon_words (mode_of self.old) photons e.now) }
+        ensures cut { OnWordsOf self.old e.now (λ words. result ≡ Err WriteFault
+            → CutsWords (O.written out.old) (O.written out.new) block.old block.new words) }
         ensures cause { PickCause e.now.place (O.faults out.old) (O.faults out.new) result }
         ensures kept { OnErr result (self.new ≡ self.old) }
 
@@ -130,16 +124,13 @@ impl Picker {
         requires in_order { last_by self.old ≤ e.now.time }
         ensures picked { (photons : List Event) → HasPicked self.old photons
             → OnOk result (HasPicked self.new (photons ++ e.now ∷ [])) }
-        ensures words { (photons : List Event) → HasPicked self.old photons → OnOk result
-            (Appends (O.written out.old) (O.written out.new)
-            (bytes_in (photon_words (mode_of self.old) photons e.now))) }
+        ensures words { OnWordsOf self.old e.now (λ words. OnOk result
+            (Appends (O.written out.old) (O.written out.new) (bytes_in words))) }
         ensures late { (result ≡ Err (PickTime e.now.place))
             ↔ (is_too_late (mode_of self.old) e.now.time ≡ true) }
         ensures untouched { result ≡ Err (PickTime e.now.place) → out.new ≡ out.old }
-        ensures short { (photons : List Event) → HasPicked self.old photons
-            → result ≡ Err WriteFault
-            → AppendsShort (O.written out.old) (O.written out.new)
-            (bytes_in (photon_words (mode_of self.old) photons e.now)) }
+        ensures short { OnWordsOf self.old e.now (λ words. result ≡ Err WriteFault
+            → AppendsShort (O.written out.old) (O.written out.new) (bytes_in words)) }
         ensures cause { PickCause e.now.place (O.faults out.old) (O.faults out.new) result }
         ensures kept { OnErr result (self.new ≡ self.old) }
 

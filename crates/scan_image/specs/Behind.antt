@@ -1,6 +1,6 @@
 -- Counts and lines behind the events of a block.
-use Rattle.std.specs.Prelude.{◌≡◌, ℕ, ◌++◌, List}
-use Rattle.tally_base.{specs.declared.settings.ImageSet.ImageSet, specs.Settings.ImageView, specs.Tally.History, specs.declared.block.Block.Block, specs.Columns.{item, rows}}
+use Rattle.std.specs.Prelude.{◌≡◌, ℕ, ◌<◌, ◌≤◌, ◌++◌, List}
+use Rattle.tally_base.{specs.declared.settings.ImageSet.ImageSet, specs.Settings.ImageView, specs.Tally.History, specs.declared.block.Block.Block, specs.Columns.{count, code_at, time_at, item, rows, IsSorted}}
 use Rattle.marker_map.{specs.declared.lines.Lines.Lines, specs.declared.strip.Strip.Strip, specs.Lines.{Saw, image_of}, specs.Marks.Mark, specs.Places.place_of, specs.Strips.{place_on, width_of, height_of}}
 use Rattle.scan_image.{specs.Counted.HowMany, specs.ImageCounts.{markers, count_met}}
 
@@ -21,3 +21,19 @@ IsStripOf lines strip = (ms : List Mark) → Saw lines ms → (time : ℕ) → p
 pub record IsOfSize (set : ImageSet) (strip : Strip) : Type 0 where
   pub width : width_of strip ≡ set.width
   pub height : height_of strip ≡ set.height
+
+-- Where some counts and lines are behind any events, others are behind these and more.
+abbrev pub CountsMore : (HowMany → Type 0) → (HowMany → Type 0) → ImageView → Lines → Lines → History → Type 0
+CountsMore before after set lines lines' more = (h : History) → IsBehind before set lines h → IsBehind after set lines' (h ++ more)
+
+-- The same up to another place of a block, for all lines that the strip tells the places of.
+abbrev pub CountsOnStrip : (HowMany → Type 0) → (HowMany → Type 0) → ImageView → Strip → Block → ℕ → ℕ → Type 0
+CountsOnStrip before after set strip block from at = (lines : Lines) → IsStripOf lines strip → image_of lines ≡ set → CountsOn before after set lines block from at
+
+-- The events of a block from a place in it on come in order, and not before this time.
+abbrev pub ComesFrom : Block → ℕ → ℕ → Type 0
+ComesFrom block from start = IsSorted block × (from ≤ count block) × ((i : ℕ) → from ≤ i → i < count block → start ≤ time_at block i)
+
+-- the place of the next marker from a place on, or the end of the block
+abbrev pub StopsAt : Block → ℕ → ℕ → Type 0
+StopsAt block from at = (from ≤ at) × (at ≤ count block) × (at < count block → 256 ≤ code_at block at)

@@ -1,8 +1,8 @@
 // The photons of a block, counted by their places.
-ghost use Rattle.std.specs.Prelude.{◌≡◌, ◌+◌, ◌<◌, ◌≤◌, ◌++◌, ℕ, true, length};
-ghost use Rattle.tally_base.{specs.Settings.image_view, specs.Tally.History, specs.Limits.record_limit, specs.Columns.{count, code_at, time_at, gathered, events_in, IsSorted}, specs.Floors.{floor_after, InOrder}};
-ghost use Rattle.marker_map.{specs.Lines.{image_of, markers_given, line_start}, specs.declared.lines.Lines.Lines, specs.Strips.start_of};
-ghost use Rattle.scan_image.specs.Behind.{IsBehind, CountsOn, IsStripOf, IsOfSize};
+ghost use Rattle.std.specs.Prelude.{◌≡◌, ◌+◌, ◌≤◌, true, length};
+ghost use Rattle.tally_base.{specs.Settings.image_view, specs.Limits.record_limit, specs.Columns.{count, gathered, events_in, IsSorted}, specs.Floors.{floor_after, InOrder}};
+ghost use Rattle.marker_map.{specs.Lines.{image_of, markers_given, line_start}, specs.Strips.start_of};
+ghost use Rattle.scan_image.specs.Behind.{CountsMore, CountsOn, CountsOnStrip, IsOfSize, ComesFrom, StopsAt};
 
 use crate::pixels::Pixels;
 use marker_map::{Lines, Strip, Way};
@@ -18,10 +18,8 @@ pub fn count_block<P: Pixels>(pixels: &P, lines: &mut Lines, counts: &mut P::Cou
     requires of_set { image_of lines.old ≡ image_view (P.image pixels.now) }
     requires few { markers_given lines.old + length (gathered block.now) ≤ record_limit }
     requires in_order { InOrder true (line_start lines.old) (gathered block.now) }
-    ensures follows { (h : History)
-        → IsBehind (P.over pixels.now counts.old) (image_view (P.image pixels.now)) lines.old h
-        → IsBehind (P.over pixels.now counts.new) (image_view (P.image pixels.now)) lines.new
-        (h ++ events_in block.now) }
+    ensures follows { CountsMore (P.over pixels.now counts.old) (P.over pixels.now counts.new)
+        (image_view (P.image pixels.now)) lines.old lines.new (events_in block.now) }
     ensures fit { P.fits pixels.now counts.new }
     ensures few { P.total counts.new ≤ P.total counts.old + length (gathered block.now) }
     ensures of_set { image_of lines.new ≡ image_of lines.old }
@@ -52,19 +50,14 @@ fn count_run<P: Pixels>(
     block: &Block,
     from: usize,
 ) -> usize
-    requires sorted { IsSorted block.now }
-    requires within { from ≤ count block.now }
-    requires fit { P.fits pixels.now counts.old }
-    requires room { P.total counts.old + count block.now ≤ record_limit + from }
+    requires places { ComesFrom block.now from (line_start lines.now) }
+    requires room { P.fits pixels.now counts.old
+        × (P.total counts.old + count block.now ≤ record_limit + from) }
     requires of_set { image_of lines.now ≡ image_view (P.image pixels.now) }
-    requires in_time { (i : ℕ) → from ≤ i → i < count block.now
-        → line_start lines.now ≤ time_at block.now i }
     ensures follows { CountsOn (P.over pixels.now counts.old) (P.over pixels.now counts.new)
         (image_view (P.image pixels.now)) lines.now block.now from result }
     ensures fit { P.fits pixels.now counts.new }
-    ensures onward { from ≤ result }
-    ensures inside { result ≤ count block.now }
-    ensures marker { result < count block.now → 256 ≤ code_at block.now result }
+    ensures stops { StopsAt block.now from result }
     ensures few { P.total counts.new + from ≤ P.total counts.old + result }
 {
     let strip = lines.strip();
@@ -84,20 +77,14 @@ fn count_on<P: Pixels>(
     block: &Block,
     from: usize,
 ) -> usize
-    requires sorted { IsSorted block.now }
-    requires within { from ≤ count block.now }
-    requires fit { P.fits pixels.now counts.old }
-    requires room { P.total counts.old + count block.now ≤ record_limit + from }
+    requires places { ComesFrom block.now from (start_of strip.now) }
+    requires room { P.fits pixels.now counts.old
+        × (P.total counts.old + count block.now ≤ record_limit + from) }
     requires of_set { IsOfSize (P.image pixels.now) strip.now }
-    requires in_time { (i : ℕ) → from ≤ i → i < count block.now
-        → start_of strip.now ≤ time_at block.now i }
-    ensures follows { (lines : Lines) → IsStripOf lines strip.now
-        → image_of lines ≡ image_view (P.image pixels.now) → CountsOn (P.over pixels.now counts.old)
-        (P.over pixels.now counts.new) (image_view (P.image pixels.now)) lines block.now from result }
+    ensures follows { CountsOnStrip (P.over pixels.now counts.old) (P.over pixels.now counts.new)
+        (image_view (P.image pixels.now)) strip.now block.now from result }
     ensures fit { P.fits pixels.now counts.new }
-    ensures onward { from ≤ result }
-    ensures inside { result ≤ count block.now }
-    ensures marker { result < count block.now → 256 ≤ code_at block.now result }
+    ensures stops { StopsAt block.now from result }
     ensures few { P.total counts.new + from ≤ P.total counts.old + result }
 {
     // Copies, so that no field is read again for each photon.

@@ -1,5 +1,5 @@
 -- Bins that come to a level one after the other, and those that it closes.
-use Rattle.std.specs.Prelude.{◌≡◌, ℕ, ◌+◌, ◌*◌, ◌/◌, ◌^◌, ◌<◌, ◌≤◌, ◌==◌, ⊤, false, Option, None, Some, List, [], ◌∷◌, ◌++◌, map, take, drop, length, if◌then◌else◌}
+use Rattle.std.specs.Prelude.{◌≡◌, ℕ, ◌+◌, ◌*◌, ◌/◌, ◌^◌, ◌<◌, ◌≤◌, ◌==◌, ⊤, false, Option, None, Some, List, [], ◌∷◌, ◌++◌, map, take, drop, length, sum_by, if◌then◌else◌}
 use Rattle.std.specs.List.{AllByRecursion}
 use Rattle.tally_base.{specs.Settings.CorrelationView, specs.Tally.{History, greatest_time}, specs.Limits.record_limit, specs.declared.block.Block.Block, specs.Columns.{gathered, events_in}, specs.Floors.InOrder}
 use Rattle.lag_ring.{specs.declared.ring.Entry.Entry, specs.Ring.Ring, specs.Cells.Cells}
@@ -103,3 +103,7 @@ pub record CanGiveBlock (set : CorrelationView) (ls : List Level) (block : Block
   pub few : length h + length (events_in block) ≤ record_limit
   pub chain : Chain set 0 ls (photons_of set h)
   pub order : InOrder false (greatest_time false h) (gathered block)
+
+-- the weights of all bins together fit in a count
+abbrev pub FitCounts : List Entry → Type 0
+FitCounts es = (sum_by (λ e. e.a) es < 2 ^ 64) × (sum_by (λ e. e.b) es < 2 ^ 64)

@@ -1,7 +1,7 @@
 -- Pairs of bins with what stands in a window.
-use Rattle.std.specs.Prelude.{ℕ, ◌+◌, ◌-◌, ◌^◌, ◌<◌, ◌≤◌, List, length, sum_by}
+use Rattle.std.specs.Prelude.{ℕ, ◌≡◌, ◌+◌, ◌-◌, ◌^◌, ◌<◌, ◌≤◌, List, length, slice_index, sum_by}
 use Rattle.std.specs.List.{AllByRecursion}
-use Rattle.lag_ring.{specs.declared.ring.Entry.Entry, specs.declared.window.Side.TheVariants.{First, Second}, specs.Window.{weight_of, product_at}}
+use Rattle.lag_ring.{specs.declared.ring.Entry.Entry, specs.declared.window.Side.TheVariants.{First, Second}, specs.Ring.IsRising, specs.Window.{weight_of, product_at}}
 
 -- the second weights of later bins times what stands so many lags before each in a window of 192 lags
 abbrev pub window_pairs : List ℕ → ℕ → List Entry → ℕ → ℕ
@@ -16,3 +16,12 @@ pub record FitsWindow (lags low : ℕ) (list later : List Entry) : Type 0 where
   pub near : AllByRecursion (λ e. (low ≤ e.index) × (e.index - low + 192 ≤ 1024)) later
   pub firsts : sum_by (weight_of First) list < 2 ^ 16
   pub seconds : sum_by (weight_of Second) later < 2 ^ 16
+
+-- so many cells from one on may have changed, and no others
+abbrev pub SameOutside : ℕ → ℕ → List ℕ → List ℕ → Type 0
+SameOutside at count old new =
+    ((p : ℕ) → p < at → slice_index new p ≡ slice_index old p) × ((p : ℕ) → at + count ≤ p → slice_index new p ≡ slice_index old p)
+
+-- the bins rise, and some from a place on are the last of them
+abbrev pub EndsFrom : ℕ → List Entry → Type 0
+EndsFrom start list = (start ≤ length list) × IsRising list

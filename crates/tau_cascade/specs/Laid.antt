@@ -1,6 +1,7 @@
 -- Bins that are laid close together.
 use Rattle.std.specs.Prelude.{ℕ, ◌≡◌, ◌+◌, ◌-◌, ◌*◌, ◌^◌, ◌<◌, ◌≤◌, min, List, [], ◌∷◌, length, slice_index, sum_by}
 use Rattle.std.specs.List.{AllByRecursion}
+use Rattle.tau_cascade.specs.declared.laid.Laid.{Laid}
 use Rattle.lag_ring.{specs.declared.ring.Entry.Entry, specs.declared.window.Side.TheVariants.Second, specs.Ring.IsRising, specs.Window.product_at}
 
 -- bins behind one of this index that lies at this place, each as far from the one before it as it is, and no further than the reach
@@ -28,3 +29,7 @@ pub record IsLaid (window : List ℕ) (reach index place : ℕ) (es : List Entry
   pub few : length es ≤ 80
   pub behind : IsBehind index es
   pub room : place + reach * length es + 32 < 1408
+
+-- bins behind the last one that was laid
+abbrev pub laid_on : ℕ → Laid → List Entry → List Entry
+laid_on reach last es = laid reach last.index last.place es

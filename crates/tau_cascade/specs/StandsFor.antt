@@ -17,3 +17,7 @@ pub record StandsFor (closed : Bool) (set : CorrelationSet) (ls : List Level) (c
 -- the entries that a level keeps
 abbrev pub entries_of : Level → ℕ
 entries_of l = length l.ring.entries + length l.cells.cells + (if is_some l.open then 1 else 0)
+
+-- the levels were given the photons of these events, and none is closed
+abbrev pub HasTaken : CorrelationView → List Level → History → Type 0
+HasTaken set ls h = Chain set 0 ls (photons_of set h)

@@ -1,7 +1,7 @@
 // Bins that come to a level, and those that it closes.
-ghost use Rattle.std.specs.Prelude.{◌≡◌, ◌+◌, ◌^◌, ◌<◌, ◌≤◌, false, [], ◌∷◌, ◌++◌, length, map, take, drop, sum_by, if◌then◌else◌};
+ghost use Rattle.std.specs.Prelude.{◌≡◌, ◌+◌, ◌^◌, ◌<◌, ◌≤◌, false, [], ◌∷◌, ◌++◌, length, map, take, drop, if◌then◌else◌};
 ghost use Rattle.tally_base.{specs.Settings.correlation_view, specs.Columns.{events_in, IsSorted}};
-ghost use Rattle.tau_cascade.specs.Bins.{raised, IsSpaced, merged, merged_onto, photon_bins};
+ghost use Rattle.tau_cascade.specs.Bins.{raised, FitCounts, IsSpaced, merged, merged_onto, photon_bins};
 
 use lag_ring::{Entry, LagRing};
 use tally_base::{Block, CorrelationSet};
@@ -90,8 +90,7 @@ fn joined(apart: bool, was: u64, more: u64) -> u64
 fn merge(first: &Entry, came: &[Entry], levels: u32, list: &mut [Entry], start: usize) -> Merged
     requires levels { levels < 64 }
     requires room { start + length came.now ≤ length list.old }
-    requires a { sum_by (λ e. e.a) (merged first.now (map (raised levels) came.now)) < 2 ^ 64 }
-    requires b { sum_by (λ e. e.b) (merged first.now (map (raised levels) came.now)) < 2 ^ 64 }
+    requires counts { FitCounts (merged first.now (map (raised levels) came.now)) }
     ensures bins { take result.closed (drop start list.new) ++ result.open ∷ []
         ≡ merged first.now (map (raised levels) came.now) }
     ensures before { take start list.new ≡ take start list.old }
@@ -128,8 +127,7 @@ pub(crate) fn merge_onto(
     requires some { 0 < length came.now }
     requires levels { levels < 64 }
     requires room { start + length came.now ≤ length list.old }
-    requires a { sum_by (λ e. e.a) (merged_onto was.now (map (raised levels) came.now)) < 2 ^ 64 }
-    requires b { sum_by (λ e. e.b) (merged_onto was.now (map (raised levels) came.now)) < 2 ^ 64 }
+    requires counts { FitCounts (merged_onto was.now (map (raised levels) came.now)) }
     ensures bins { take result.closed (drop start list.new) ++ result.open ∷ []
         ≡ merged_onto was.now (map (raised levels) came.now) }
     ensures before { take start list.new ≡ take start list.old }

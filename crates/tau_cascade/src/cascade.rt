@@ -1,7 +1,7 @@
 // A correlation over its levels.
 ghost use Rattle.std.specs.Prelude.{◌≡◌, ◌+◌, ◌<◌, ◌≤◌, [], ◌++◌, false, length, vec_len};
 ghost use Rattle.tally_base.{specs.Settings.correlation_view, specs.Tally.History, specs.Limits.record_limit, specs.Columns.{events_in, IsSorted}};
-ghost use Rattle.tau_cascade.{specs.Correlation.photons_of, specs.StandsFor.StandsFor, specs.Levels.{Chain, spent}, specs.Bins.CanGiveBlock};
+ghost use Rattle.tau_cascade.{specs.StandsFor.{StandsFor, HasTaken}, specs.Levels.spent, specs.Bins.CanGiveBlock};
 
 use crate::bins::{LEVELS, LIST, gather, spacing};
 use crate::carry::{Coming, carry_all, end_all};
@@ -131,8 +131,7 @@ fn give_block<L: Ledger>(
     requires depth { length levels.old ≤ LEVELS }
     ensures same { length levels.new ≡ length levels.old }
     ensures follows { (h : History) → CanGiveBlock (correlation_view set.now) levels.old block.now h
-        → Chain (correlation_view set.now) 0 levels.new
-        (photons_of (correlation_view set.now) (h ++ events_in block.now)) }
+        → HasTaken (correlation_view set.now) levels.new (h ++ events_in block.now) }
     ensures steps { steps.new + spent levels.old ≡ steps.old + spent levels.new }
 {
     let none = Entry {

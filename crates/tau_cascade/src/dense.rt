@@ -2,7 +2,7 @@
 ghost use Rattle.std.specs.Prelude.{◌≡◌, ◌≢◌, ℕ, ◌+◌, ◌-◌, ◌^◌, ◌<◌, ◌≤◌, IfSome, IsTrue, filter, length, nat_lt, slice_index, sum_by, take, drop};
 ghost use Rattle.std.specs.List.{AllByRecursion};
 ghost use Rattle.lag_ring.{specs.Ring.IsRising, specs.declared.window.Side.TheVariants.{First, Second}, specs.Window.{weight_of, ServesLater}, specs.Cells.Spends};
-ghost use Rattle.tau_cascade.{specs.Paired.paired, specs.Dense.{window_pairs, FitsWindow}};
+ghost use Rattle.tau_cascade.{specs.Paired.paired, specs.Dense.{window_pairs, FitsWindow, SameOutside, EndsFrom}};
 
 use arrayvec::ArrayVec;
 use lag_ring::{
@@ -67,10 +67,7 @@ pub(crate) fn add_sums<L: Ledger>(
     requires room { cells.old.added + count < 2 ^ 64 }
     ensures cells { (i : ℕ) → i < count → slice_index cells.new.cells (at + i)
         ≡ slice_index cells.old.cells (at + i) + slice_index sums.now (length sums.now - 1 - i) }
-    ensures before { (p : ℕ) → p < at
-        → slice_index cells.new.cells p ≡ slice_index cells.old.cells p }
-    ensures behind { (p : ℕ) → at + count ≤ p
-        → slice_index cells.new.cells p ≡ slice_index cells.old.cells p }
+    ensures others { SameOutside at count cells.old.cells cells.new.cells }
     ensures spends { Spends cells.old cells.new steps.old steps.new count }
 {
     for i in 0..count {
@@ -92,8 +89,7 @@ fn pair_strip<L: Ledger>(
     steps: &mut Steps<L>,
 )
     requires inside { (count ≤ LAGS) × (at + count ≤ length cells.old.cells)
-        × (least + LAGS ≤ TOP) }
-    requires places { at + count < 2 ^ 32 }
+        × (least + LAGS ≤ TOP) × (at + count < 2 ^ 32) }
     requires window { ServesLater Second PLACES TOP low window.now later.now }
     requires fits { (i : ℕ) → i < count → slice_index cells.old.cells (at + i)
         + window_pairs window.now low later.now (least + 1 + i) ≤ 2 ^ 80 }
@@ -101,10 +97,7 @@ fn pair_strip<L: Ledger>(
     ensures cells { (i : ℕ) → i < count → slice_index cells.new.cells (at + i)
         ≡ slice_index cells.old.cells (at + i)
         + window_pairs window.now low later.now (least + 1 + i) }
-    ensures before { (p : ℕ) → p < at
-        → slice_index cells.new.cells p ≡ slice_index cells.old.cells p }
-    ensures behind { (p : ℕ) → at + count ≤ p
-        → slice_index cells.new.cells p ≡ slice_index cells.old.cells p }
+    ensures others { SameOutside at count cells.old.cells cells.new.cells }
     ensures spends { Spends cells.old cells.new steps.old steps.new count }
 {
     let from = TOP as usize - LAGS - least as usize;
@@ -258,10 +251,9 @@ fn pair_few_together<L: Ledger>(
     low: u64,
     steps: &mut Steps<L>,
 )
-    requires lags { (skipped ≤ lags) × (length cells.old.cells ≡ lags - skipped) }
-    requires few { lags - skipped ≤ FEW_LAGS }
-    requires start { start ≤ length list.now }
-    requires rising { IsRising list.now }
+    requires lags { (skipped ≤ lags) × (lags - skipped ≤ FEW_LAGS)
+        × (length cells.old.cells ≡ lags - skipped) }
+    requires list { EndsFrom start list.now }
     requires window { FitsWindow lags low list.now (drop start list.now) }
     requires fits { (p : ℕ) → p < lags - skipped → slice_index cells.old.cells p
         + paired (p + skipped + 1) (take start list.now) (drop start list.now) ≤ 2 ^ 80 }
@@ -288,8 +280,7 @@ fn pair_many_together<L: Ledger>(
     steps: &mut Steps<L>,
 )
     requires lags { (skipped ≤ lags) × (length cells.old.cells ≡ lags - skipped) }
-    requires start { start ≤ length list.now }
-    requires rising { IsRising list.now }
+    requires list { EndsFrom start list.now }
     requires window { FitsWindow lags low list.now (drop start list.now) }
     requires fits { (p : ℕ) → p < lags - skipped → slice_index cells.old.cells p
         + paired (p + skipped + 1) (take start list.now) (drop start list.now) ≤ 2 ^ 80 }
@@ -318,8 +309,7 @@ pub(crate) fn pair_together<L: Ledger>(
     steps: &mut Steps<L>,
 )
     requires lags { (skipped ≤ lags) × (length cells.old.cells ≡ lags - skipped) }
-    requires start { start ≤ length list.now }
-    requires rising { IsRising list.now }
+    requires list { EndsFrom start list.now }
     requires window { FitsWindow lags low list.now (drop start list.now) }
     requires fits { (p : ℕ) → p < lags - skipped → slice_index cells.old.cells p
         + paired (p + skipped + 1) (take start list.now) (drop start list.now) ≤ 2 ^ 80 }

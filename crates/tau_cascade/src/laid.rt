@@ -2,7 +2,7 @@
 // just out of reach, so that all have places in a short window.
 ghost use Rattle.std.specs.Prelude.{◌≡◌, ℕ, ◌+◌, ◌-◌, ◌*◌, ◌%◌, ◌^◌, ◌<◌, ◌≤◌, ◌==◌, ◌++◌, true, false, List, length, min, slice_index, sum_by, take, drop, if◌then◌else◌};
 ghost use Rattle.lag_ring.{specs.Ring.IsRising, specs.declared.window.Side.TheVariants.{First, Second}, specs.Window.{weight_at, product_at}, specs.Cells.Spends};
-ghost use Rattle.tau_cascade.{specs.Paired.paired, specs.Laid.{laid, laid_pairs, IsBehind, IsLight, IsLaid}};
+ghost use Rattle.tau_cascade.{specs.Paired.paired, specs.Laid.{laid, laid_on, laid_pairs, IsBehind, IsLight, IsLaid}};
 
 use crate::dense::add_sums;
 use lag_ring::{Entry, FEW_LAGS, PairCells};
@@ -95,12 +95,12 @@ fn lay_all(window: &mut [u16], list: &[Entry], reach: u64, was: Laying) -> Layin
         → slice_index window.old p + 255 * length list.now < 2 ^ 16 }
     ensures weights { result.heaviest < TOO_HEAVY → (p : ℕ) → p < PLACES → slice_index window.new p
         ≡ slice_index window.old p
-        + weight_at First TOP 0 p (laid reach was.last.index was.last.place list.now) }
+        + weight_at First TOP 0 p (laid_on reach was.last list.now) }
     ensures light { (length window.new ≡ length window.old) × ((p : ℕ) → p < PLACES
         → slice_index window.new p ≤ slice_index window.old p + 255 * length list.now) }
-    ensures next { (es : List Entry) → laid reach was.last.index was.last.place (list.now ++ es)
-        ≡ laid reach was.last.index was.last.place list.now
-        ++ laid reach result.last.index result.last.place es }
+    ensures next { (es : List Entry) → laid_on reach was.last (list.now ++ es)
+        ≡ laid_on reach was.last list.now
+        ++ laid_on reach result.last es }
     ensures last { (result.last.place ≤ was.last.place + reach * length list.now)
         × (was.heaviest ≤ result.heaviest) × IsLight result.heaviest list.now }
     ensures after { (es : List Entry) → IsBehind was.last.index (list.now ++ es)

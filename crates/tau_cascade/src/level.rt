@@ -143,8 +143,7 @@ impl Level {
             shut open' xs) ∥₁ }
         ensures follows { Takes (correlation_view set.now) level self.old self.new
             (map (raised levels) came.now) (take result.count (drop result.from list.new)) }
-        ensures few { result.count ≤ length came.now }
-        ensures early { result.from ≤ RING }
+        ensures places { (result.from ≤ RING) × (result.count ≤ length came.now) }
         ensures steps { steps.new + self.old.cells.added ≡ steps.old + self.new.cells.added }
     {
         let from = lay_out(&self.ring, list);
@@ -209,12 +208,10 @@ impl Level {
     )
         requires places { (0 < closed.from) × (0 < closed.count)
             × (closed.from + closed.count ≤ length bins.old) }
-        requires levels { levels < 64 }
-        requires fits { first.now.index * 2 ^ levels < 2 ^ 64 }
-        requires is { self.old.open ≡ Some first.now }
+        requires fits { (levels < 64) × (first.now.index * 2 ^ levels < 2 ^ 64) }
         requires spaced { IsSpaced (set.now.lags + 1)
             (first.now ∷ stretch closed.from closed.count levels bins.old) }
-        requires behind { AllByRecursion
+        requires open { (self.old.open ≡ Some first.now) × AllByRecursion
             (λ e. e.index + set.now.lags < first.now.index) self.old.ring.entries }
         ensures follows { (level : ℕ) → Takes (correlation_view set.now) level self.old self.new
             (stretch closed.from closed.count levels bins.old)

@@ -6,14 +6,8 @@ pub put_event-last-requires-clause-in_time : goal.put_event-last-requires-clause
 put_event-last-requires-clause-in_time c =
     let b = c.args.block.now in
     let within : c.loop-at.at < b.len = search (rules, arith) in
-    rw c.get-groups.ensures (order-at false c.args.bin.index (event_at b) b.len c.loop-at.at within c.requires.in_order).0
-
-pub put_event-last-requires-clause-after : goal.put_event-last-requires-clause-after
-put_event-last-requires-clause-after c =
-    let b = c.args.block.now in
-    let within : c.loop-at.at < b.len = search (rules, arith) in
     let next = order-at false c.args.bin.index (event_at b) b.len c.loop-at.at within c.requires.in_order in
-    rw c.get-groups.ensures (λ photon. let after = next.1 photon in omega (arith, c.loop-at.invariant.begun, after))
+    rw c.get-groups.ensures (next.0, λ photon. let after = next.1 photon in omega (arith, c.loop-at.invariant.begun, after))
 
 pub loop-at-preserved : goal.loop-at-preserved
 loop-at-preserved c =

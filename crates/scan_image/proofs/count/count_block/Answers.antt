@@ -5,11 +5,15 @@ use Rattle.marker_map.{specs.Lines.{Saw, line_start}, specs.Marks.{Mark, mark}}
 use Rattle.scan_image.{specs.Behind.IsBehind, proofs.Steps.marker_step, proofs.Later.{floor-below, floor-rises}}
 use Rattle.scan_image.proofs.count.count_block.Goals as goal
 
-pub count_run-at-requires-clause-in_time : goal.count_run-at-requires-clause-in_time
-count_run-at-requires-clause-in_time g c = λ i from lt.
-    let b = c.args.block.now in
-    let low = line_start c.args.lines.now in
-    omega (arith, c.runs.invariant.before, floor-below low (event_at b) b.len c.runs.from i from lt c.requires.in_order)
+pub count_run-at-requires-clause-places : goal.count_run-at-requires-clause-places
+count_run-at-requires-clause-places g c = (
+  c.requires.sorted,
+  c.runs.invariant.within,
+  λ i from lt.
+      let b = c.args.block.now in
+      let low = line_start c.args.lines.now in
+      omega (arith, c.runs.invariant.before, floor-below low (event_at b) b.len c.runs.from i from lt c.requires.in_order),
+)
 
 pub runs-preserved : goal.runs-preserved
 runs-preserved g c =
@@ -23,19 +27,19 @@ runs-preserved g c =
     let code = code_at b at in
     let time = time_at b at in
     let within : at < b.len = search (rules, arith) in
-    let marker : nat_lt code 256 ≡ false = grind (arith, nat_tests, run.marker within) in
+    let marker : nat_lt code 256 ≡ false = grind (arith, nat_tests, run.stops.2 within) in
     let kind : (item b at).0.kind ≡ Marker (code % 256) = ap (λ t. if t then Photon code (dtime_at b at) else Marker (code % 256)) marker in
     let lines' = c.marker.new.self in
     let saw : (ms : List Mark) → Saw c.runs.lines ms → Saw lines' (ms ++ mark (code % 256) time ∷ []) = λ ms is. rw (c.time.ensures, c.code.ensures) at (c.marker.ensures.follows ms is) in
     let moved = floor-more true low (event_at b) at in
-    let in_time : line_start c.runs.lines ≤ time = omega (arith, inv.before, floor-below low (event_at b) b.len c.runs.from at run.onward within c.requires.in_order) in
+    let in_time : line_start c.runs.lines ≤ time = omega (arith, inv.before, floor-below low (event_at b) b.len c.runs.from at run.stops.0 within c.requires.in_order) in
     record {
       counted = λ h is. rw (more_rows (item b) at, ← append_assoc) (marker_step over set c.runs.lines lines' (h ++ rows (item b) at) (item b at) (code % 256) kind saw (run.follows h (inv.counted h is)));
       fit = run.fit;
       within = omega (arith, within);
       few = omega (arith, inv.few, run.few);
       of_set = c.marker.ensures.same_image ∙ inv.of_set;
-      few_markers = omega (arith, inv.few_markers, c.marker.ensures.one_more, run.onward);
+      few_markers = omega (arith, inv.few_markers, c.marker.ensures.one_more, run.stops.0);
       before = rw moved (omega (arith, c.marker.ensures.begun, c.time.ensures, in_time));
     }
 
@@ -45,7 +49,7 @@ returns-then-at-len-clause-follows g c = λ h is.
     let b = c.args.block.now in
     let run = c.count_run-at in
     let len : c.min-len.result ≡ b.len = search (rules, arith) in
-    let end : run.result ≡ b.len = omega (arith, len, run.ensures.inside, c.if-at-len.true) in
+    let end : run.result ≡ b.len = omega (arith, len, run.ensures.stops.1, c.if-at-len.true) in
     subst (λ n. IsBehind (p.over c.args.pixels.now run.new.counts) (image_view (p.image c.args.pixels.now)) c.runs.lines (h ++ rows (item b) n)) end (run.ensures.follows h (c.runs.invariant.counted h is))
 
 pub returns-then-at-len-clause-begun : goal.returns-then-at-len-clause-begun

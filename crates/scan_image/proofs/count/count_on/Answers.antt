@@ -9,7 +9,7 @@ pub place-place-requires : goal.place-place-requires
 place-place-requires g c =
     let b = c.args.block.now in
     let within : c.loop-at.at < b.len = search (rules, arith) in
-    rw c.time.ensures (c.requires.in_time c.loop-at.at (omega arith) within)
+    rw c.time.ensures (c.requires.places.2 c.loop-at.at (omega arith) within)
 
 pub loop-at-preserved : goal.loop-at-preserved
 loop-at-preserved g c =
@@ -40,5 +40,5 @@ returns-clause-follows g c = λ lines strip of_set h is.
     let p = g.P.Pixels in
     let b = c.args.block.now in
     let len : c.min-len.result ≡ b.len = search (rules, arith) in
-    let end : c.loop-at.at ≡ c.min-len.result = omega (arith, len, c.requires.within, c.loop-at-test.false, c.loop-at.auto.at-end) in
+    let end : c.loop-at.at ≡ c.min-len.result = omega (arith, len, c.requires.places.1, c.loop-at-test.false, c.loop-at.auto.at-end) in
     subst (λ n. IsBehind (p.over c.args.pixels.now c.loop-at.counts) (image_view (p.image c.args.pixels.now)) lines (h ++ rows (item b) n)) end (c.loop-at.invariant.counted lines strip of_set h is)

@@ -87,14 +87,14 @@ carry_all-requires-in-None g t c κs within =
     let from = c.args.coming.closed.from in
     let count = c.args.coming.closed.count in
     let es = stretch from count c.args.coming.levels c.args.bins.now in
-    let few : c.take-closed.result.count ≤ 64 = omega (arith, c.take-closed.ensures.few, c.requires.places, length-take (from + count - from) (drop from c.args.bins.now)) in (
+    let few : c.take-closed.result.count ≤ 64 = omega (arith, c.take-closed.ensures.places.1, c.requires.places, length-take (from + count - from) (drop from c.args.bins.now)) in (
       search rules,
       (
         within,
         (
           (search rules, c.requires.sized.0),
           (
-            (c.take-closed.ensures.early, few),
+            (c.take-closed.ensures.places.0, few),
             (
               omega arith,
               (

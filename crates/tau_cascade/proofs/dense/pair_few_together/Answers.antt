@@ -26,10 +26,10 @@ pub pair_few-requires-clause-fits : goal.pair_few-requires-clause-fits
 pair_few-requires-clause-fits g c = λ p inside.
     let has : (q : ℕ) → q < length c.put_weights.new.window → get_or c.put_weights.new.window q 0 ≡ weight_at First 192 c.args.low q c.args.list.now = λ q within.
     (let at : q < 1024 = omega (arith, within, c.put_weights.ensures.same) in omega (arith, get_or-replicate {A = ℕ} 1024 q 0 0 at, (rw c.from-top.ensures at (c.put_weights.ensures.weights q at)))) in
-    rw (take_rest c.args.list.now c.args.start, window-paired-all c.args.lags c.args.low c.args.start (p + c.args.skipped + 1) c.put_weights.new.window c.args.list.now (omega arith) (omega (arith, inside, c.requires.window.served)) c.put_weights.ensures.same c.requires.rising c.requires.window has) (c.requires.fits p inside)
+    rw (take_rest c.args.list.now c.args.start, window-paired-all c.args.lags c.args.low c.args.start (p + c.args.skipped + 1) c.put_weights.new.window c.args.list.now (omega arith) (omega (arith, inside, c.requires.window.served)) c.put_weights.ensures.same c.requires.list.1 c.requires.window has) (c.requires.fits p inside)
 
 pub returns-clause-cells : goal.returns-clause-cells
 returns-clause-cells g c = λ p inside.
     let has : (q : ℕ) → q < length c.put_weights.new.window → get_or c.put_weights.new.window q 0 ≡ weight_at First 192 c.args.low q c.args.list.now = λ q within.
     (let at : q < 1024 = omega (arith, within, c.put_weights.ensures.same) in omega (arith, get_or-replicate {A = ℕ} 1024 q 0 0 at, (rw c.from-top.ensures at (c.put_weights.ensures.weights q at)))) in
-    rw (take_rest c.args.list.now c.args.start, window-paired-all c.args.lags c.args.low c.args.start (p + c.args.skipped + 1) c.put_weights.new.window c.args.list.now (omega arith) (omega (arith, inside, c.requires.window.served)) c.put_weights.ensures.same c.requires.rising c.requires.window has) at (c.pair_few.ensures.cells p inside)
+    rw (take_rest c.args.list.now c.args.start, window-paired-all c.args.lags c.args.low c.args.start (p + c.args.skipped + 1) c.put_weights.new.window c.args.list.now (omega arith) (omega (arith, inside, c.requires.window.served)) c.put_weights.ensures.same c.requires.list.1 c.requires.window has) at (c.pair_few.ensures.cells p inside)

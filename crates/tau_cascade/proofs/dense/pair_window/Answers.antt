@@ -12,8 +12,8 @@ loop-strip-preserved g c =
     let so_far : min at' all ≡ at' = omega arith in
     let next : min ((c.loop-strip.strip + 1) * 64) all ≡ at' + c.min-count.result = omega arith in
     record {
-      done = λ p within inside. strip_more at' c.min-count.result all c.args.skipped c.args.cells.now.cells c.loop-strip.cells.cells c.pair_strip.new.cells.cells (window_pairs c.args.window.now c.args.low c.args.later.now) inv.done inv.left e.before e.cells p (omega arith) inside;
-      left = λ p from. e.behind p (omega arith) ∙ inv.left p (omega arith);
+      done = λ p within inside. strip_more at' c.min-count.result all c.args.skipped c.args.cells.now.cells c.loop-strip.cells.cells c.pair_strip.new.cells.cells (window_pairs c.args.window.now c.args.low c.args.later.now) inv.done inv.left e.others.0 e.cells p (omega arith) inside;
+      left = λ p from. e.others.1 p (omega arith) ∙ inv.left p (omega arith);
       same = omega (arith, inv.same, e.spends.same);
       added = omega (arith, inv.added, e.spends.added, next, so_far);
       steps = omega (arith, inv.steps, e.spends.steps);

@@ -15,17 +15,14 @@ merge_onto-merged-requires-clause-room g c =
     let long : length c.lay_out-from.new.list ≡ length c.args.list.now = search rules in
     omega (arith, few, c.requires.room, c.args.set.now.some_lags, c.lay_out-from.ensures.count, long)
 
-pub merge_onto-merged-requires-clause-a : goal.merge_onto-merged-requires-clause-a
-merge_onto-merged-requires-clause-a g c = ∥∥₁_elim c.requires.stands (hlevel props) (λ w.
+pub merge_onto-merged-requires-clause-counts : goal.merge_onto-merged-requires-clause-counts
+merge_onto-merged-requires-clause-counts g c = ∥∥₁_elim c.requires.stands (hlevel props) (λ w.
+    let view = correlation_view c.args.set.now in
     let es = map (raised c.args.levels) c.args.came.now in
-    let some : 0 < length es = rw length-map c.requires.some in
-    omega (arith, first_fit (correlation_view c.args.set.now) c.args.level c.args.self.now es some w.0 w.1 w.2 w.3))
-
-pub merge_onto-merged-requires-clause-b : goal.merge_onto-merged-requires-clause-b
-merge_onto-merged-requires-clause-b g c = ∥∥₁_elim c.requires.stands (hlevel props) (λ w.
-    let es = map (raised c.args.levels) c.args.came.now in
-    let some : 0 < length es = rw length-map c.requires.some in
-    omega (arith, second_fit (correlation_view c.args.set.now) c.args.level c.args.self.now es some w.0 w.1 w.2 w.3))
+    let some : 0 < length es = rw length-map c.requires.some in (
+      omega (arith, first_fit view c.args.level c.args.self.now es some w.0 w.1 w.2 w.3),
+      omega (arith, second_fit view c.args.level c.args.self.now es some w.0 w.1 w.2 w.3),
+    ))
 
 pub shut_all-requires-clause-ring : goal.shut_all-requires-clause-ring
 shut_all-requires-clause-ring g c =
