@@ -10,3 +10,7 @@ pub mod Texts
 pub mod TextEnds
 pub mod TextComposed
 pub mod Answers
+pub mod TellingLaws
+pub mod RestEnds
+pub mod Fronts
+pub mod Headed

@@ -9,3 +9,5 @@ pub mod HeaderPieces
 pub mod PlanPieces
 pub mod StreamPieces
 pub mod TextRuns
+pub mod Tellings
+pub mod Rests
