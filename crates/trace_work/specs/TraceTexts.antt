@@ -7,9 +7,8 @@ use Rattle.record_stream.proofs.Lasts.{streamed-shown}
 use Rattle.gate_plan.specs.Shifting.{Sorting}
 use Rattle.tally_engine.{specs.Histories.{with_groups, history, settled_history}, proofs.Feeds.history-ends, proofs.Takes.with_groups-more}
 use Rattle.long_trace.{specs.Texts.{open_text, whole_text}, proofs.Rising.{RisesFrom, rises-parts, open-front, whole-front}}
-use Rattle.trace_work.{specs.TraceOutcomes.{open_by, settled_before, words_traced, traced, records_traced}, proofs.TraceOrder.kept-rises}
-use Rattle.command_work.proofs.TextEnds.{IsText}
-use Rattle.photon_pick.proofs.Streams.{clear-from_ok, streamed-inside}
+use Rattle.trace_work.{specs.TraceOutcomes.{open_by, settled_before, words_traced, traced, records_traced}, specs.TraceOrder.kept-rises}
+use Rattle.photon_pick.proofs.Streams.{clear-from_ok}
 
 module _ (by : Sorting) (how : Reading) where
   -- what is settled is what was given and isn't marked late
@@ -102,18 +101,9 @@ module _ (by : Sorting) (how : Reading) where
       ∙ ap (λ l. record { text = open_by set l; fault = Some fault }) (ap (settled_before by how) (words_of-append bytes more) ∙ settled-stays (words_of bytes) (words_of (rest_of bytes ++ more)) fault refused)
 
   -- the fault of the end is that of the records
-  ends-fault : (set : Option TraceView) (bytes : List ℕ) → (records_traced set by how bytes).fault ≡ fault_in (streamed how bytes)
+  pub ends-fault : (set : Option TraceView) (bytes : List ℕ) → (records_traced set by how bytes).fault ≡ fault_in (streamed how bytes)
   ends-fault set bytes = by_answer (streamed how bytes)
     where
       by_answer : (r : Result Summary Fault) → (traced set by how bytes r).fault ≡ fault_in r
       by_answer (Ok summary) = refl
       by_answer (Err fault) = refl
-
-  -- the text of a trace is one
-  pub is-text : (set : TraceView) → 0 < set.width → IsText (words_traced (Some set) by how) (records_traced (Some set) by how) (record_refusal how)
-  is-text set some = record {
-    refused = refused-ends (Some set);
-    front = text-front set some;
-    inside = record_refusal-inside how;
-    end_inside = λ bytes fault h. streamed-inside how bytes fault (sym (ends-fault (Some set) bytes) ∙ h);
-  }
