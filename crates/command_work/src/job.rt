@@ -72,5 +72,13 @@ pub fn read_file<J: Job, I: Inputs, O: Sink>(
 {
     let mut buffer = [0u8; PIECE];
     let found = read_header(inputs, &mut buffer)?;
-    read_after(job, &found.header, inputs, &mut buffer, found.used, found.len, out)
+    read_after(
+        job,
+        &found.header,
+        inputs,
+        &mut buffer,
+        found.used,
+        found.len,
+        out,
+    )
 }

@@ -18,4 +18,3 @@ pub gates-number : (gates : Gates) (plan : PlanView) (group : ℕ) → sorting_o
 gates-number gates plan group same few is =
     let count : length (map group_view gates.groups.items) ≡ length plan.groups = ap (λ (by : Sorting). length by.groups) same in
     group-number plan group (omega (arith, count, few_groups gates.groups.items few)) is
-

@@ -13,7 +13,6 @@ use Rattle.trace_work.{specs.TraceOutcomes.{settled_before, words_traced}, specs
 use Rattle.command_work.{specs.Once.{tells_writing, OutOnce}, proofs.Once.stays-same, proofs.Streams.streamed-inside, proofs.TellingLaws.AppendsShort-none}
 use Rattle.photon_pick.proofs.Streams.{clear-from_ok}
 
-
 with-parts : (by : Sorting) (l m : Marked) → with_groups by (not_marked (l ++ m)) ≡ with_groups by (not_marked l) ++ with_groups by (not_marked m)
 with-parts by l m = ap (with_groups by) (not_marked-append l m) ∙ with_groups-more by (not_marked l) (not_marked m)
 

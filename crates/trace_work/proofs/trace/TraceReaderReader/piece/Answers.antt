@@ -11,7 +11,7 @@ pub returns-clause-same : goal.returns-clause-same
 returns-clause-same g c =
     let by = sorting_of c.args.self.now.gates in
     ap (λ (set : TraceSet). traces (trace_view set) by (how_of c.trace_piece.new.stream)) c.trace_piece.ensures.set
-        ∙ ap (λ (how : Reading). traces (trace_view (set_of c.args.self.now.trace)) by how) c.trace_piece.ensures.fed.same_how
+    ∙ ap (λ (how : Reading). traces (trace_view (set_of c.args.self.now.trace)) by how) c.trace_piece.ensures.fed.same_how
 
 pub returns-clause-writes : goal.returns-clause-writes
 returns-clause-writes g c = λ bytes h. (c.trace_piece.ensures.writes h.going bytes h.streamed h.traced).writes
