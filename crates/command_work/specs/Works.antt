@@ -51,10 +51,6 @@ WorkReason writing wanting work span = HasReason
     (Rose span.faults_before span.faults_after × CutsWork writing work (span.before.rest Data) (span.after.rest Data) span.old span.new)
     (WantsWork wanting (span.before.rest Data) (span.after.rest Data) span.old span.new)
 
--- Why the work by a plan ended by a fault from outside.
-abbrev pub PlanReason : Memory → Writing (PlanView → List ℕ → List ℕ) → (PlanView → Work) → PlanView → Span → Fault → Type 0
-PlanReason memory writing work plan span = WorkReason (under plan writing) (WantsBehind memory plan) (work plan) span
-
 -- The bytes taken are some that call for no end by themselves, and no more behind them than one read gives.
 pub record TakesFew (goes_on : List ℕ → Type 0) (rest_before rest_after : Option (List ℕ)) : Type 0 where
   pub front : List ℕ
