@@ -13,7 +13,7 @@ use Rattle.ptu_made.{specs.Generator.made_words, specs.Records.made_header}
 use Rattle.long_trace.specs.Texts.{open_text, whole_text}
 use Rattle.report_work.{specs.Reports.{report_of, if_fits, report_behind, report_outcome, any_plan, reporting}, specs.Demo.{demo_plan, demo_report}}
 use Rattle.file_work.{specs.CountText.counts_text, specs.FileOutcomes.{with_counts, counts_behind, count_outcome, listing, events_behind, counting, listing_all}}
-use Rattle.trace_work.{specs.TraceOutcomes.{trace_of, unless_traced, no_trace, traced, records_traced, traced_if_fits, traced_behind, tracing}, proofs.TraceTexts.{settled-whole, settled-first}}
+use Rattle.trace_work.{specs.TraceOutcomes.{trace_of, unless_traced, no_trace, traced, records_traced, traced_if_fits, traced_behind, tracing}, specs.TraceTexts.{settled-whole, settled-first}}
 use Rattle.command_work.specs.Outcomes.{Outcome, refused, written}
 use Rattle.command_laws.{specs.Cases.{WholeCase, CountCase, StreamCase, list_text, startstop_by_places, by_places, placed_text, report_by_places, words_report, trace_text, TraceCase, HasTrace, TracedCase}, specs.CommandCases.{IsIn, RefusedIn, count_cases, stream_cases, events_cases, run_cases, trace_cases, NeedsNothing, Needs}, proofs.FaultStatuses.{of-refused, of-written, of-end, whole-cause, range-as, wider, least-status, listed-status}, proofs.CaseSteps.{end_with, same-end, lt-true, lt-false, true-lt, false-lt, empty-true, empty-false, true-empty, false-empty, whole_answer, streamed-clear}, proofs.CaseShapes.{Call, IsCut, IsRefused, IsLate, CallsBy, RecordsMeet, FileMeets, PlanMeets, needs-by}}
 

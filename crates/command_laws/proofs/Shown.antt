@@ -10,7 +10,7 @@ use Rattle.list_out.{specs.HeaderText.header_text, specs.EventText.{events_text,
 use Rattle.report_work.specs.Reports.{report_of, if_fits, report_behind, report_outcome, reporting}
 use Rattle.command_work.{specs.Outcomes.{Outcome, MayChange, ends_early}, proofs.Streams.streamed-open}
 use Rattle.file_work.{specs.FileOutcomes.{with_counts, counts_behind, count_outcome, listing, listed, events_behind, counting, printing, listing_all}, proofs.HeaderEnds.{outcome-done, outcome-refused}}
-use Rattle.trace_work.{specs.TraceOutcomes.{tracing, trace_of, traced, traced_if_fits, traced_behind}, proofs.TraceTexts.refused-ends}
+use Rattle.trace_work.{specs.TraceOutcomes.{tracing, trace_of, traced, traced_if_fits, traced_behind}, specs.TraceTexts.refused-ends}
 use Rattle.command_laws.{specs.Stays.GoesOnOrShows, proofs.CaseSteps.{Answer, end_with, same-end}}
 
 -- These bytes let a command go on, or end it whatever comes behind them.

@@ -51,23 +51,3 @@ stops-unread goes_on front before after fault took goes = record { unread = λ o
 pub stops-piece : {A : Type 0} (goes_on : List ℕ → Type 0) (front : List ℕ) (len : ℕ) (into : List ℕ) (before after : Option (List ℕ)) (r : Result A Fault) → Consumes before after (front ++ take len into) → goes_on front → length into ≤ piece_limit
     → IfErr r (λ fault. is_outside fault ≡ false) → StopsSoon goes_on before after r
 stops-piece goes_on front len into before after r took goes size inside = record { unread = none-unread _ r inside; few = few-piece goes_on front len into before after took goes size }
-
--- the same holds of bytes that go on in another way
-pub stops-map : {A B : Type 0} (p q : List ℕ → Type 0) (before after : Option (List ℕ)) (fault : Fault) → ((l : List ℕ) → p l → q l) → StopsSoon {A = A} p before after (Err fault) → StopsSoon {A = B} q before after (Err fault)
-stops-map p q before after fault f h = record {
-  unread = λ outside. let taken = h.unread outside in (taken.0, taken.1, f taken.0 taken.2);
-  few = few-map p q before after f h.few;
-}
-
--- the bytes before went on so, and some behind them ended the work
-pub stops-inside : {A : Type 0} (p q : List ℕ → Type 0) (before after : Option (List ℕ)) (r : Result A Fault) → ((l : List ℕ) → p l → q l) → TakesFew p before after → IfErr r (λ fault. is_outside fault ≡ false) → StopsSoon q before after r
-stops-inside p q before after r f few inside = record { unread = none-unread _ r inside; few = few-map p q before after f few }
-
--- bytes were taken before
-pub stops-behind : {A B : Type 0} (p q : List ℕ → Type 0) (taken : List ℕ) (before mid after : Option (List ℕ)) (fault : Fault) → Consumes before mid taken → ((l : List ℕ) → p l → q (taken ++ l)) → StopsSoon {A = A} p mid after (Err fault) → StopsSoon {A = B} q before after (Err fault)
-stops-behind p q taken before mid after fault took f h = record {
-  unread = λ outside.
-      let next = h.unread outside in
-      (taken ++ next.0, Consumes-trans before mid after taken next.0 took next.1, f next.0 next.2);
-  few = few-behind p q taken before mid after took f h.few;
-}

@@ -7,6 +7,8 @@ pub mod WorkTold
 pub mod PlanTold
 pub mod Plans
 pub mod Texts
-pub mod TextEnds
-pub mod TextComposed
 pub mod Answers
+pub mod TellingLaws
+pub mod RestEnds
+pub mod Fronts
+pub mod Headed

@@ -14,9 +14,6 @@ stays-same false before now same = same
 pub stays-behind : (tells : Bool) (before mid now : ℕ) → mid ≡ before → StaysUnless tells mid now → StaysUnless tells before now
 stays-behind tells before mid now same h = subst (λ (n : ℕ). StaysUnless tells n now) same h
 
-pub stays-ahead : (tells : Bool) (before mid now : ℕ) → StaysUnless tells before mid → now ≡ mid → StaysUnless tells before now
-stays-ahead tells before mid now h same = subst (λ (n : ℕ). StaysUnless tells before n) (sym same) h
-
 pub Rose-kept : (before mid now : ℕ) → mid ≡ before → Rose mid now → Rose before now
 Rose-kept before mid now same rose = subst (λ (n : ℕ). Rose n now) same rose
 
@@ -83,20 +80,6 @@ once-opened slot a b c so_far other reads same = once-behind a b c None so_far (
 pub once-unopened : (slot : Slot) (a b c : InputState) → InputsOnce a b None → KeepsOther slot b c → c.read_faults slot ≡ b.read_faults slot → InputsOnce a c (Some (OpenFault slot))
 once-unopened slot a b c so_far other reads =
     once-behind a b c (Some (OpenFault slot)) so_far (record { openings = unopened-openings slot b c other; reads = λ it. stays-same (tells_reading (Some (OpenFault slot)) it) _ _ (other-reads slot b c other reads it) })
-
--- a text that was written at the end
-pub out-once : {A : Type 0} (before now : ℕ) (r : Result A Fault) → IfErr r (λ fault. fault ≡ WriteFault) → TriesOnce before now r → OutOnce (fault_in r) before now
-out-once before now (Ok x) write cause = cause.kept
-out-once before now (Err fault) write cause = rw write tt
-
--- what a taker's count of faults is behind a piece, where it stays with each event that it got
-pub fed-once : {T X : Type 0} (g : Ghosts T) (how : Reading) (a b : T) (words now : List ℕ) (r : Result X Fault) → g.got a a [] → ((l : Marked) → g.got a b l → g.faults b ≡ g.faults a) → Fed g how a b words now r → OutOnce (fault_in r) (g.faults a) (g.faults b)
-fed-once g how a b words now (Ok x) none keeps fed = keeps fed.1.more (fed.1.follows a [] none)
-fed-once g how a b words now (Err fault) none keeps fed =
-    ⊎_elim
-    (λ (r : (record_refusal how now ≡ Some fault) × GaveOn g how a b words now). stays-same (tells_writing (Some fault)) _ _ (keeps r.1.more (r.1.follows a [] none)))
-    (λ (r : (fault ≡ WriteFault) × BrokeOn g how a b words now). rw r.0 tt)
-    fed
 
 -- a fault that isn't from outside tells of no write
 pub once-inside : (fault : Fault) (before now : ℕ) → is_outside fault ≡ false → OutOnce (Some fault) before now → now ≡ before

@@ -24,9 +24,6 @@ Says-shown meaning taken left answer shown =
     let some = some_left left in
     record { more = some.0; may_be = some.1; means = shown some.0 }
 
-pub Says-map : {A B : Type 0} (f : A → B) (meaning : List ℕ → A) (taken : List ℕ) (left : Option (List ℕ)) (answer : A) → Says meaning taken left answer → Says (λ (bytes : List ℕ). f (meaning bytes)) taken left (f answer)
-Says-map f meaning taken left answer says = record { more = says.more; may_be = says.may_be; means = ap f says.means }
-
 -- a file that was opened is the bytes taken and those left
 pub file-parts : (contents : Option File) (rest left : Option (List ℕ)) (taken more : List ℕ) → IsOpened contents rest → Consumes rest left taken → MayBe left more → MayBe contents (Some (taken ++ more))
 file-parts None rest left taken more opened took may_be = λ known e. cc

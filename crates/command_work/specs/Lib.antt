@@ -8,4 +8,5 @@ pub mod Pieces
 pub mod HeaderPieces
 pub mod PlanPieces
 pub mod StreamPieces
-pub mod TextRuns
+pub mod Tellings
+pub mod Rests

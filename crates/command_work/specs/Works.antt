@@ -1,9 +1,9 @@
 -- What a command's work on the bytes of FILE leaves.
-use Rattle.std.specs.Prelude.{ℕ, ◌≡◌, ◌⊎◌, ◌≤◌, List, ◌++◌, length, true, Result, IsErrAnd}
+use Rattle.std.specs.Prelude.{ℕ, ◌≡◌, ◌⊎◌, ◌≤◌, List, ◌++◌, length, true, Result, IsErrAnd, IfErr}
 use Rattle.std.{specs.declared.option.Option.Option, specs.Io.KnownBytes.{Keeps, Appends, Consumes}}
 use Rattle.tally_base.{specs.declared.slot.Slot.TheVariants.Data, specs.declared.fault.Fault.Fault, specs.FaultCounts.Rose, specs.Faults.{is_outside, fault_in, HasReason}}
 use Rattle.plan_text.specs.Plan.{PlanView}
-use Rattle.command_work.{specs.Told.{MayBe, Says}, specs.Behaviours.{piece_limit, Work, Writing, so_far, under, Memory}, specs.Endings.{Cuts, Span, WantsBehind}}
+use Rattle.command_work.{specs.Told.{MayBe, Says}, specs.Behaviours.{piece_limit, Work, Writing, so_far, under, Memory}, specs.Endings.{Cuts, Span, Once, WantsBehind}}
 
 -- The bytes taken and those left end so, and this text was written.
 pub record EndsWork (work : Work) (rest_before rest_after old new : Option (List ℕ)) (fault : Option Fault) : Type 0 where
@@ -51,10 +51,6 @@ WorkReason writing wanting work span = HasReason
     (Rose span.faults_before span.faults_after × CutsWork writing work (span.before.rest Data) (span.after.rest Data) span.old span.new)
     (WantsWork wanting (span.before.rest Data) (span.after.rest Data) span.old span.new)
 
--- Why the work by a plan ended by a fault from outside.
-abbrev pub PlanReason : Memory → Writing (PlanView → List ℕ → List ℕ) → (PlanView → Work) → PlanView → Span → Fault → Type 0
-PlanReason memory writing work plan span = WorkReason (under plan writing) (WantsBehind memory plan) (work plan) span
-
 -- The bytes taken are some that call for no end by themselves, and no more behind them than one read gives.
 pub record TakesFew (goes_on : List ℕ → Type 0) (rest_before rest_after : Option (List ℕ)) : Type 0 where
   pub front : List ℕ
@@ -62,3 +58,14 @@ pub record TakesFew (goes_on : List ℕ → Type 0) (rest_before rest_after : Op
   pub consumes : Consumes rest_before rest_after (front ++ last)
   pub goes : goes_on front
   pub few : length last ≤ piece_limit
+
+-- What the work leaves.
+pub record LeavesWork (writing : Writing (List ℕ → List ℕ)) (wanting : List ℕ → Type 0) (work : Work) (span : Span) (result : Result (Unit {0}) Fault) : Type 0 where
+  -- how it ended
+  pub answer : AnswersWork work (span.before.rest Data) (span.after.rest Data) span.old span.new result
+  -- why it ended by a fault from outside
+  pub reason : IfErr result (WorkReason writing wanting work span)
+  -- no count moved but the one that the fault tells of
+  pub once : Once span (fault_in result)
+  -- few bytes were taken
+  pub few : TakesFew work.goes_on (span.before.rest Data) (span.after.rest Data)

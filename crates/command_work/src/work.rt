@@ -1,11 +1,11 @@
 // The work of a command: on FILE alone, or by a plan.
-ghost use Rattle.std.specs.Prelude.{◌≡◌, ◌≤◌, ◌<◌, List, ℕ, true, false, None, IfErr, IfSome};
+ghost use Rattle.std.specs.Prelude.{◌≡◌, ◌≤◌, ◌<◌, List, ℕ, true, false, None, IfSome};
 ghost use Rattle.std.specs.declared.option.Option.{Option};
-ghost use Rattle.tally_base.{specs.declared.slot.Slot.Slot, specs.declared.slot.Slot.TheVariants.Plan as PlanSlot, specs.declared.slot.Slot.TheVariants.Data, specs.declared.fault.Fault.Fault, specs.Faults.{is_outside, fault_in}};
+ghost use Rattle.tally_base.{specs.declared.slot.Slot.Slot, specs.declared.slot.Slot.TheVariants.Plan as PlanSlot, specs.declared.slot.Slot.TheVariants.Data, specs.declared.fault.Fault.Fault, specs.Faults.is_outside};
 ghost use Rattle.bench_io.specs.Inputs.{OnlyReads};
 ghost use Rattle.ptu_definitions.specs.Counted.{record_limit};
 ghost use Rattle.plan_text.{specs.Plan.PlanView, specs.Reading.plan_view};
-ghost use Rattle.command_work.{specs.Behaviours.{Work, Writing, Memory, OnFile, ByPlan}, specs.Endings.{Does, Once, span}, specs.Works.{AnswersWork, TakesFew, WantsNone, WorkReason, PlanReason}};
+ghost use Rattle.command_work.{specs.Behaviours.{Work, Writing, Memory, OnFile, ByPlan, under}, specs.Endings.{Does, WantsBehind, span}, specs.Works.{WantsNone, LeavesWork}};
 
 use crate::plan::plan_of;
 use bench_io::{Inputs, Sink};
@@ -23,14 +23,8 @@ pub trait FileWork {
     fn read<I: Inputs, O: Sink>(&self, inputs: &mut I, out: &mut O) -> Result<(), Fault>
         requires { (I.state inputs.old).opened Data ≡ true }
         ensures reads { OnlyReads Data (I.state inputs.old) (I.state inputs.new) }
-        ensures answer { AnswersWork work ((I.state inputs.old).rest Data)
-            ((I.state inputs.new).rest Data) (O.written out.old) (O.written out.new) result }
-        ensures reason { IfErr result (WorkReason writing WantsNone work
-            (span I.Inputs O.Sink inputs.old inputs.new out.old out.new)) }
-        ensures once { Once (span I.Inputs O.Sink inputs.old inputs.new out.old out.new)
-            (fault_in result) }
-        ensures few { TakesFew work.goes_on ((I.state inputs.old).rest Data)
-            ((I.state inputs.new).rest Data) };
+        ensures leaves { LeavesWork writing WantsNone work
+            (span I.Inputs O.Sink inputs.old inputs.new out.old out.new) result };
 }
 
 /// Opens FILE, and does the command's work on it.
@@ -79,15 +73,9 @@ pub trait PlanWork {
             × (plan.now.policy.records ≤ record_limit) }
         requires whole { lacking self.now (plan_view plan.now) ≡ None }
         ensures reads { OnlyReads Data (I.state inputs.old) (I.state inputs.new) }
-        ensures answer { AnswersWork (work self.now (plan_view plan.now))
-            ((I.state inputs.old).rest Data) ((I.state inputs.new).rest Data)
-            (O.written out.old) (O.written out.new) result }
-        ensures reason { IfErr result (PlanReason memory (writing self.now) (work self.now)
-            (plan_view plan.now) (span I.Inputs O.Sink inputs.old inputs.new out.old out.new)) }
-        ensures once { Once (span I.Inputs O.Sink inputs.old inputs.new out.old out.new)
-            (fault_in result) }
-        ensures few { TakesFew (work self.now (plan_view plan.now)).goes_on
-            ((I.state inputs.old).rest Data) ((I.state inputs.new).rest Data) };
+        ensures leaves { LeavesWork (under (plan_view plan.now) (writing self.now))
+            (WantsBehind memory (plan_view plan.now)) (work self.now (plan_view plan.now))
+            (span I.Inputs O.Sink inputs.old inputs.new out.old out.new) result };
 }
 
 /// Reads PLAN whole. Where it is a plan and lacks nothing, opens FILE, and does the command's work

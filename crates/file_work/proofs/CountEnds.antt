@@ -1,33 +1,37 @@
--- How `count` ends.
-use Rattle.std.proofs.Common.{◌≡◌, true, inl, inr, ℕ, List, [], Ok, Err, ◌⊎◌, Result, OnOk, OnErr, IfErr}
-use Rattle.std.{specs.declared.option.Option.Option, specs.Io.KnownBytes.{Appends, Consumes}}
-use Rattle.tally_base.{specs.declared.slot.Slot.TheVariants.Data, specs.declared.fault.Fault.Fault, specs.declared.fault.Fault.TheVariants.WriteFault, specs.declared.header.Header.Header, specs.FaultCounts.Rose, specs.Faults.is_outside, proofs.Reasons.{HasReason-follows, HasReason-with}}
-use Rattle.bench_io.{specs.Inputs.InputState, specs.Sinks.AppendsShort}
-use Rattle.ptu_definitions.specs.declared.records.KindCounts.{KindCounts}
-use Rattle.command_work.{specs.Told.Says, specs.Pieces.{ReadReason, TakesOpen}, specs.Behaviours.AtEnd, specs.Endings.Span, specs.Works.{AnswersWork, WantsNone, WorkReason}, proofs.Told.Says-map, proofs.WorkTold.{refused-answers, written-answers, unwritten-reason, unread-reason}}
-use Rattle.file_work.{specs.CountText.counts_text, specs.FileOutcomes.{count_outcome, file_counts, counting}}
+-- Counting a piece, and the end of the counts.
+use Rattle.std.proofs.Common.{◌≡◌, ◌<◌, ◌≤◌, ◌↔◌, ℕ, List, [], ◌++◌, length, Some, Ok, Err, refl, sym, ap, ◌∙◌, inl, inr, Result, OnOk, OnErr, IfErr, IsErr}
+use Rattle.std.{specs.declared.option.Option.Option, specs.Io.KnownBytes.Appends, proofs.lemmas.Bool.cases_lt}
+use Rattle.tally_base.{specs.declared.fault.Fault.Fault, specs.declared.fault.Fault.TheVariants.{RecordLimit, WriteFault}, specs.declared.header.Header.Header, specs.declared.header.RecordType.RecordType}
+use Rattle.bench_io.{specs.Sinks.AppendsShort, specs.TriesOnce.TriesOnce}
+use Rattle.told_text.proofs.Texts.{WroteText-none}
+use Rattle.ptu_definitions.{specs.declared.records.KindCounts.KindCounts, specs.Words.words_of, specs.Counted.{counted, record_limit}}
+use Rattle.record_layout.{specs.declared.counter.Counter.Counter, specs.Counting.HasCounted}
+use Rattle.command_work.{specs.Outcomes.Outcome, specs.Tellings.{WritesPiece, WritesEnd}}
+use Rattle.file_work.{specs.CountText.counts_text, specs.FileOutcomes.{with_counts, count_outcome}, specs.CountPieces.{counts, CountsBytes}, specs.CountLaws.{counts-clear, counts-many}}
 
--- records that are refused end the work
-pub ends-uncounted : (taken : List ℕ) (rest left old : Option (List ℕ)) (fault : Fault) → Consumes rest left taken → (is_outside fault ≡ true) ⊎ Says file_counts taken left (Err fault) → AnswersWork counting rest left old old (Err fault)
-ends-uncounted taken rest left old fault took (inl outside) = inl outside
-ends-uncounted taken rest left old fault took (inr says) = refused-answers counting rest left old taken fault took (inr (Says-map count_outcome file_counts taken left (Err fault) says))
+-- records that were not refused aren't too many
+within_limit : (bytes : List ℕ) → (IsErr {T = Unit {0}} {E = Fault} (Ok tt) ↔ (record_limit < length (words_of bytes))) → length (words_of bytes) ≤ record_limit
+within_limit bytes limit = elim (cases_lt record_limit (length (words_of bytes))) [ | inr within ↦ within | inl many ↦ let bad = limit.1 many in cc ]
 
--- the lines were written, or a write failed
-pub ends-counted : (header : Header) (counts : KindCounts) (taken : List ℕ) (rest left old new : Option (List ℕ)) (r : Result (Unit {0}) Fault) → Consumes rest left taken → ⊥ ⊎ Says file_counts taken left (Ok (header, counts))
-    → OnOk r (Appends old new (counts_text header counts)) → IfErr r (λ fault. fault ≡ WriteFault) → AnswersWork counting rest left old new r
-ends-counted header counts taken rest left old new r took (inl none) text write = absurd none
-ends-counted header counts taken rest left old new r took (inr says) text write = written-answers counting rest left old new taken (counts_text header counts) r took (Says-map count_outcome file_counts taken left (Ok (header, counts)) says) write text
+pub writes-piece : (header : Header) (bytes piece : List ℕ) (a : Option (List ℕ)) (faults : ℕ) (r : Result (Unit {0}) Fault) → (IsErr r ↔ (record_limit < length (words_of (bytes ++ piece)))) → IfErr r (λ fault. fault ≡ RecordLimit record_limit) → WritesPiece (counts header) bytes piece a a faults faults r
+writes-piece header bytes piece a faults (Ok done) limit fault = (counts-clear (bytes ++ piece) (within_limit (bytes ++ piece) limit), WroteText-none [] a faults)
+writes-piece header bytes piece a faults (Err own) limit fault = inl (counts-many (bytes ++ piece) (limit.0 refl) ∙ ap (λ (f : Fault). Some f) (sym fault), WroteText-none [] a faults)
 
--- why the records were not counted
-pub uncounted-reason : (before after : InputState) (old : Option (List ℕ)) (faults : ℕ) (fault : Fault) → (is_outside fault ≡ true → TakesOpen file_counts [] (before.rest Data) (after.rest Data)) → ReadReason before after fault
-    → WorkReason AtEnd WantsNone counting (record { before = before; after = after; old = old; new = old; faults_before = faults; faults_after = faults }) fault
-uncounted-reason before after old faults fault unread reason =
-    unread-reason WantsNone counting before after old faults fault
-    (HasReason-follows _ _ _ _ _ _ _ _ fault (λ slot none. none) (λ slot r. (r.0.0, r.0.1, r.1)) (λ none. absurd none) (λ none. absurd none)
-    (HasReason-with _ _ _ _ _ fault unread reason))
+pub takes-piece : (old new : Counter) (record_type : RecordType) (piece : List ℕ) (r : Result (Unit {0}) Fault) → ((record_type : RecordType) (bytes : List ℕ) → HasCounted old record_type bytes → HasCounted new record_type (bytes ++ piece))
+    → ((record_type : RecordType) (bytes : List ℕ) → HasCounted old record_type bytes → (IsErr r ↔ (record_limit < length (words_of (bytes ++ piece))))) → OnOk r ((bytes : List ℕ) → CountsBytes old record_type bytes → CountsBytes new record_type (bytes ++ piece))
+takes-piece old new record_type piece (Ok done) taken limit = λ bytes h. record { counted = taken record_type bytes h.counted; few = within_limit (bytes ++ piece) (limit record_type bytes h.counted) }
+takes-piece old new record_type piece (Err fault) taken limit = tt
 
--- why the lines were not written
-pub unlisted-reason : (header : Header) (counts : KindCounts) (span : Span) (taken : List ℕ) (r : Result (Unit {0}) Fault) → Consumes (span.before.rest Data) (span.after.rest Data) taken → ⊥ ⊎ Says file_counts taken (span.after.rest Data) (Ok (header, counts))
-    → IfErr r (λ fault. fault ≡ WriteFault) → OnErr r (Rose span.faults_before span.faults_after) → OnErr r (AppendsShort span.old span.new (counts_text header counts)) → IfErr r (WorkReason AtEnd WantsNone counting span)
-unlisted-reason header counts span taken r took (inl none) write rose short = absurd none
-unlisted-reason header counts span taken r took (inr says) write rose short = unwritten-reason WantsNone counting span taken (counts_text header counts) r took (Says-map count_outcome file_counts taken (span.after.rest Data) (Ok (header, counts)) says) write rose short
+-- ## The end
+
+module _ (header : Header) (bytes : List ℕ) where
+  ends-is : (r : Result KindCounts Fault) → r ≡ counted header.record_type bytes → (counts header).ends bytes ≡ count_outcome (with_counts header r)
+  ends-is r is = ap (λ c. count_outcome (with_counts header c)) (sym is)
+
+  pub ends-refused : (fault : Fault) (a : Option (List ℕ)) (faults : ℕ) → Err fault ≡ counted header.record_type bytes → WritesEnd (counts header) bytes a a faults faults (Err fault)
+  ends-refused fault a faults is = rw (ends-is (Err fault) is) (inl (refl, WroteText-none [] a faults))
+
+  pub ends-written : (kinds : KindCounts) (r : Result (Unit {0}) Fault) (old new : Option (List ℕ)) (before after : ℕ) → Ok kinds ≡ counted header.record_type bytes → OnOk r (Appends old new (counts_text header kinds)) → OnErr r (AppendsShort old new (counts_text header kinds)) → IfErr r (λ fault. fault ≡ WriteFault)
+      → TriesOnce before after r → WritesEnd (counts header) bytes old new before after r
+  ends-written kinds (Ok done) old new before after is text short write cause = rw (ends-is (Ok kinds) is) (refl, record { more = counts_text header kinds; adds = refl; written = text; kept = cause.kept })
+  ends-written kinds (Err fault) old new before after is text short write cause = rw (ends-is (Ok kinds) is) (inr (write, record { more = counts_text header kinds; adds = refl; cut = short; rose = cause.failed }))

@@ -1,5 +1,3 @@
-pub mod CountPieces
-pub mod Composed
 pub mod CountEnds
 pub mod Bodies
 pub mod Printers
@@ -8,5 +6,3 @@ pub mod HeaderEnds
 pub mod EventSteps
 pub mod ListedBlocks
 pub mod EventEnds
-pub mod EventComposed
-pub mod EventReasons

@@ -7,7 +7,7 @@ use Rattle.ptu_definitions.specs.Kept.{Marked}
 use Rattle.abs_time.specs.Floors.{orders_markers}
 use Rattle.record_stream.{specs.Blocks.on_time, proofs.Given.length-on_time, proofs.Eaches.floor_of-block}
 use Rattle.list_out.specs.EventText.{events_text}
-use Rattle.file_work.{specs.EventLines.{Listed, ListedShort}, proofs.EventSteps.events_text-append}
+use Rattle.file_work.{specs.EventLines.{Listed, ListedShort}, specs.EventLaws.events_text-append}
 
 lines_more : (held : List ℕ) (l more : Marked) → (held ++ events_text l) ++ events_text more ≡ held ++ events_text (l ++ more)
 lines_more held l more = append_assoc held (events_text l) (events_text more) ∙ ap (λ t. held ++ t) (sym (events_text-append l more))

@@ -1,13 +1,25 @@
--- What counting records in pieces leaves.
-use Rattle.std.specs.Prelude.{ℕ, ◌≤◌, List, length, Result}
+-- What is made of the bytes after a header, where their records are counted.
+use Rattle.std.specs.Prelude.{ℕ, ◌≤◌, List, [], length, nat_lt, None, Some, if◌then◌else◌}
 use Rattle.std.specs.declared.option.Option.{Option}
-use Rattle.tally_base.{specs.declared.fault.Fault.Fault, specs.declared.header.RecordType.RecordType}
-use Rattle.ptu_definitions.{specs.declared.records.KindCounts.KindCounts, specs.Words.words_of, specs.Counted.{counted, record_limit}}
+use Rattle.tally_base.{specs.declared.fault.Fault.Fault, specs.declared.fault.Fault.TheVariants.RecordLimit, specs.declared.header.Header.Header, specs.declared.header.RecordType.RecordType}
+use Rattle.ptu_definitions.{specs.Words.words_of, specs.Counted.{counted, record_limit}}
 use Rattle.record_layout.{specs.declared.counter.Counter.Counter, specs.Counting.HasCounted}
-use Rattle.command_work.specs.Pieces.{MayChangeBehind, StopsSoon}
+use Rattle.command_work.specs.Tellings.{Telling}
+use Rattle.file_work.specs.FileOutcomes.{with_counts, count_outcome}
 
--- A counter that was given few enough bytes stops soon.
-abbrev pub StopsCounting : Counter → Option (List ℕ) → Option (List ℕ) → Result KindCounts Fault → Type 0
-StopsCounting counter rest_before rest_after result =
-    (record_type : RecordType) (bytes : List ℕ) → HasCounted counter record_type bytes → length (words_of bytes) ≤ record_limit
-    → StopsSoon (MayChangeBehind (counted record_type) bytes) rest_before rest_after result
+-- the fault of too many records
+abbrev pub too_many : List ℕ → Option Fault
+too_many bytes = if nat_lt record_limit (length (words_of bytes)) then Some (RecordLimit record_limit) else None
+
+-- the counts at their end
+abbrev pub counts : Header → Telling
+counts header = record {
+  text = λ bytes. [];
+  ends = λ bytes. count_outcome (with_counts header (counted header.record_type bytes));
+  refuses = too_many;
+}
+
+-- The counter was given these bytes, and their records are few enough.
+pub record CountsBytes (counter : Counter) (record_type : RecordType) (bytes : List ℕ) : Type 0 where
+  pub counted : HasCounted counter record_type bytes
+  pub few : length (words_of bytes) ≤ record_limit

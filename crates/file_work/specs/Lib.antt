@@ -1,9 +1,10 @@
 pub mod CountText
 pub mod FileOutcomes
 pub mod CountPieces
+pub mod CountLaws
 pub mod Grown
 pub mod BodyPieces
 pub mod HeaderPrints
 pub mod EventLines
 pub mod EventPieces
-pub mod EventRuns
+pub mod EventLaws

@@ -3,15 +3,12 @@ ghost use Rattle.list_out.specs.HeaderText.{header_text};
 ghost use Rattle.command_work.specs.Behaviours.{AtEnd, AsItReads};
 ghost use Rattle.file_work.specs.FileOutcomes.{counting, printing, events_so_far, listing_all};
 
-use crate::counts::write_counts;
-use crate::data::{count_data, list_data, print_data};
+use crate::counting::Counting;
+use crate::data::print_data;
+use crate::events::Listing;
 use bench_io::{Inputs, Sink};
-use command_work::FileWork;
+use command_work::{FileWork, read_file};
 use tally_base::Fault;
-
-/// Counts the records of a file by kind.
-#[derive(Clone, Copy, Debug)]
-pub struct Counting;
 
 impl FileWork for Counting {
     ghost work = { counting };
@@ -19,8 +16,7 @@ impl FileWork for Counting {
     ghost writing = { AtEnd };
 
     fn read<I: Inputs, O: Sink>(&self, inputs: &mut I, out: &mut O) -> Result<(), Fault> {
-        let (header, counts) = count_data(inputs)?;
-        write_counts(&header, &counts, out)
+        read_file(self, inputs, out)
     }
 }
 
@@ -38,16 +34,12 @@ impl FileWork for Printing {
     }
 }
 
-/// Lists the events of a file while it is read.
-#[derive(Clone, Copy, Debug)]
-pub struct Listing;
-
 impl FileWork for Listing {
     ghost work = { listing_all };
 
     ghost writing = { AsItReads events_so_far };
 
     fn read<I: Inputs, O: Sink>(&self, inputs: &mut I, out: &mut O) -> Result<(), Fault> {
-        list_data(inputs, out)
+        read_file(self, inputs, out)
     }
 }

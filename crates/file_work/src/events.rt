@@ -1,18 +1,26 @@
 // The lines of the events of a file, written while it is read.
 ghost use Rattle.std.specs.Prelude.{◌≡◌, List, ℕ, OnOk, false, IfErr};
-ghost use Rattle.record_stream.specs.Standing.{how_of, HasStreamed};
-ghost use Rattle.tally_base.{specs.Faults.{fault_in, is_outside}, specs.declared.slot.Slot.TheVariants.Data};
-ghost use Rattle.command_work.{specs.Endings.{Once, span}, specs.StreamPieces.{TakesOn, StaysOpen}, specs.Pieces.{IsReady, MayChangeBehind}, specs.Works.TakesFew};
-ghost use Rattle.file_work.{specs.EventLines.ListsNone, specs.EventPieces.{IsOpenIn, WritesPiece, WritesOnce}, specs.EventRuns.{AnswersLines, LinesReason}};
-ghost use Rattle.bench_io.specs.Inputs.{OnlyReads};
+ghost use Rattle.tally_base.specs.Faults.{is_outside};
 ghost use Rattle.ptu_definitions.specs.Streams.{streamed};
+ghost use Rattle.record_stream.specs.Standing.{how_of, HasStreamed};
+ghost use Rattle.command_work.specs.StreamPieces.{TakesOn, StaysOpen};
+ghost use Rattle.file_work.{specs.EventLines.ListsNone, specs.EventPieces.{IsOpenIn, ListsPiece}};
 
 use abs_time::{moved_floor, orders_markers};
-use bench_io::{Block, Inputs, Sink};
-use command_work::READ_FAULT;
+use bench_io::{Block, Sink};
+use command_work::{Job, Reader};
 use list_out::{LINE_SIZE, LINES_SIZE, format_block, format_event};
 use record_stream::{EventTaker, RecordStream, Summary};
-use tally_base::{Event, Failed, Fault, Mode, Slot};
+use tally_base::{Event, Failed, Fault, Header, Mode, OnReserved, Order, Policy, RECORD_LIMIT};
+
+/// How the records are read that are listed: late events are marked, and reserved records are left
+/// out.
+const LISTING: Policy = Policy {
+    order: Order::Drop,
+    reserved: OnReserved::Skip,
+    records: RECORD_LIMIT,
+    settle: 0,
+};
 
 /// Writes the line of each event that it is given, through a block. It lives for one piece, or for the end.
 #[derive(Drop)]
@@ -89,10 +97,9 @@ fn feed_lines<'o, O: Sink>(
     requires mode { lines.old.mode ≡ (how_of stream.old).mode }
     requires none { ListsNone lines.old.taken lines.old.floor lines.old.block }
     ensures fed { TakesOn stream.old stream.new piece.now }
-    ensures writes { WritesPiece O.Sink stream.old piece.now lines.old.out.now lines.new.out.now
+    ensures writes { ListsPiece O.Sink stream.old piece.now lines.old.out.now lines.new.out.now
         result }
     ensures going { OnOk result (StaysOpen stream.old stream.new piece.now) }
-    ensures once { WritesOnce O.Sink stream.old lines.old.out.now lines.new.out.now result }
     ensures same { lines.new.out.ghost_name ≡ lines.old.out.ghost_name }
 {
     let fed = stream.feed(piece, lines);
@@ -103,7 +110,7 @@ fn feed_lines<'o, O: Sink>(
 }
 
 /// Writes the lines of the events of a piece.
-pub(crate) fn list_piece<O: Sink>(
+fn list_piece<O: Sink>(
     stream: &mut RecordStream,
     mode: Mode,
     piece: &[u8],
@@ -111,9 +118,8 @@ pub(crate) fn list_piece<O: Sink>(
 ) -> Result<(), Fault>
     requires { mode ≡ (how_of stream.old).mode }
     ensures fed { TakesOn stream.old stream.new piece.now }
-    ensures writes { WritesPiece O.Sink stream.old piece.now out.old out.new result }
+    ensures writes { ListsPiece O.Sink stream.old piece.now out.old out.new result }
     ensures going { OnOk result (StaysOpen stream.old stream.new piece.now) }
-    ensures once { WritesOnce O.Sink stream.old out.old out.new result }
 {
     let mut lines = EventLines {
         out,
@@ -145,39 +151,66 @@ fn end_lines<O: Sink>(stream: RecordStream, mode: Mode, out: &mut O) -> Result<S
     stream.finish(&mut lines)
 }
 
-/// Writes the lines of the events behind those that the stream was given, up to the end of the
-/// data.
-pub(crate) fn list_rest<I: Inputs, O: Sink>(
-    inputs: &mut I,
-    buffer: &mut [u8],
-    mut stream: RecordStream,
+/// Writes the lines of events while the data are read.
+#[derive(Drop)]
+pub struct EventReader {
+    stream: RecordStream,
     mode: Mode,
-    out: &mut O,
-) -> Result<(), Fault>
-    requires ready { IsReady (I.state inputs.old) buffer.old }
-    requires open_in { IsOpenIn mode stream }
-    ensures reads { OnlyReads Data (I.state inputs.old) (I.state inputs.new) }
-    ensures answer { (bytes : List ℕ) → HasStreamed stream bytes
-        → AnswersLines (how_of stream) bytes ((I.state inputs.old).rest Data)
-        ((I.state inputs.new).rest Data) (O.written out.old) (O.written out.new) result }
-    ensures reason { (bytes : List ℕ) → HasStreamed stream bytes
-        → IfErr result (LinesReason (how_of stream) bytes
-        (span I.Inputs O.Sink inputs.old inputs.new out.old out.new)) }
-    ensures once { (bytes : List ℕ) → HasStreamed stream bytes
-        → Once (span I.Inputs O.Sink inputs.old inputs.new out.old out.new) (fault_in result) }
-    ensures few { (bytes : List ℕ) → HasStreamed stream bytes
-        → TakesFew (MayChangeBehind (streamed (how_of stream)) bytes)
-        ((I.state inputs.old).rest Data)
-        ((I.state inputs.new).rest Data) }
-{
-    'pieces: loop {
-        let Ok(len) = inputs.read(Slot::Data, buffer) else {
-            return Err(READ_FAULT);
-        };
-        if len == 0 {
-            end_lines(stream, mode, out)?;
-            return Ok(());
-        }
-        list_piece(&mut stream, mode, &buffer[..len], out)?;
+    ghost same_mode: { mode ≡ (how_of stream).mode },
+    ghost unsettled: { (how_of stream).policy.settle ≡ 0 },
+}
+
+impl Reader for EventReader {
+    ghost use Rattle.std.specs.Prelude.{◌+◌, ◌*◌, ◌-◌};
+    ghost use Rattle.ptu_definitions.specs.Counted.{record_limit};
+    ghost use Rattle.record_stream.specs.Standing.{bytes_in};
+    ghost use Rattle.file_work.{specs.EventPieces.{lists, HasListed}, specs.EventLaws.{lists-law, listed-clear}};
+
+    ghost tells = { λ r. lists (how_of r.stream) };
+
+    ghost stands = { λ r bytes. HasListed r.stream bytes };
+
+    ghost room = { λ r. 4 * record_limit + 3 - bytes_in r.stream };
+
+    fn piece<O: Sink>(&mut self, piece: &[u8], out: &mut O) -> Result<(), Fault> {
+        list_piece(&mut self.stream, self.mode, piece, out)
     }
+
+    fn end<O: Sink>(self, out: &mut O) -> Result<(), Fault> {
+        end_lines(self.stream, self.mode, out)?;
+        Ok(())
+    }
+
+    ghost law = { λ r. lists-law (how_of r.stream) };
+
+    ghost clear = { λ r bytes h. listed-clear r.stream bytes h };
+}
+
+/// Lists the events of a file while it is read.
+#[derive(Clone, Copy, Debug)]
+pub struct Listing;
+
+impl Job for Listing {
+    ghost use Rattle.command_work.{specs.Behaviours.AsItReads, specs.Works.WantsNone};
+    ghost use Rattle.file_work.{specs.FileOutcomes.{events_so_far, listing, listing_all}, specs.EventPieces.lists, specs.EventLaws.listing-suits};
+
+    type Reader = EventReader;
+
+    ghost work = { λ job. listing_all };
+
+    ghost writing = { λ job. AsItReads events_so_far };
+
+    ghost wanting = { λ job. WantsNone };
+
+    ghost tells = { λ job header. lists (listing header) };
+
+    ghost wants = { λ job header. ⊥ };
+
+    fn open<O: Sink>(&self, header: &Header, _out: &mut O) -> Result<EventReader, Fault> {
+        let stream = RecordStream::new(header.record_type, LISTING);
+        let mode = header.record_type.mode();
+        Ok(EventReader { stream, mode })
+    }
+
+    ghost law = { λ job. listing-suits };
 }

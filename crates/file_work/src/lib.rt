@@ -2,10 +2,13 @@
 #![tactic(auto)]
 
 mod command;
+mod counting;
 mod counts;
 mod data;
 mod events;
 mod print;
 
-pub use command::{Counting, Listing, Printing};
+pub use command::Printing;
+pub use counting::Counting;
 pub use counts::write_counts;
+pub use events::Listing;

@@ -1,1 +1,2 @@
-pub mod PickComposed
+pub mod Groups
+pub mod Picked

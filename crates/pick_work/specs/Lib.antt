@@ -1,2 +1,3 @@
 pub mod PickOutcomes
-pub mod PickRuns
+pub mod PickPieces
+pub mod PickLaws

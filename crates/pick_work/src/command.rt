@@ -5,9 +5,9 @@ ghost use Rattle.plan_text.specs.Reading.{plan_view};
 ghost use Rattle.command_work.specs.Behaviours.{AsItReads, ForPlan};
 ghost use Rattle.pick_work.specs.PickOutcomes.{no_group, pick_so_far, picking};
 
-use crate::pick::pick_data;
+use crate::pick::PickJob;
 use bench_io::{Inputs, Sink};
-use command_work::PlanWork;
+use command_work::{PlanWork, read_file};
 use plan_text::Plan;
 use std::alloc::Global;
 use tally_base::Fault;
@@ -44,7 +44,7 @@ impl PlanWork for Picking {
         plan: &Plan,
     ) -> Result<(), Fault> {
         match group_in(plan, self.group) {
-            Some(group) => pick_data(inputs, out, plan, group),
+            Some(group) => read_file(&PickJob { plan, group }, inputs, out),
             None => Err(Fault::NoGroup { group: self.group }),
         }
     }

@@ -1,95 +1,103 @@
 // The photons of a group of a plan, written while the data are read.
-ghost use Rattle.std.specs.Prelude.{◌≡◌, ◌<◌, ◌≤◌, List, ℕ, true, IfErr, None};
-ghost use Rattle.tally_base.{specs.declared.slot.Slot.TheVariants.Data, specs.Faults.fault_in};
-ghost use Rattle.bench_io.specs.Inputs.{OnlyReads};
-ghost use Rattle.ptu_definitions.{specs.Counted.record_limit, specs.Words.words_of};
-ghost use Rattle.gate_plan.specs.Groups.{sorting_of};
+ghost use Rattle.std.specs.Prelude.{◌≡◌, ◌<◌, ◌≤◌, None};
+ghost use Rattle.ptu_definitions.specs.Counted.{record_limit};
 ghost use Rattle.plan_text.specs.Reading.{plan_view};
-ghost use Rattle.record_stream.specs.Standing.{how_of, refused_with, HasStreamed};
-ghost use Rattle.photon_pick.{specs.Chosen.is_chosen, specs.Pieces.IsNoFurther, specs.Texts.{refusal_in, HasPickedIn}};
-ghost use Rattle.command_work.{specs.Endings.{Once, span}, specs.Pieces.IsReady, specs.Behaviours.AsItReads, specs.TextRuns.IsUnrefused, specs.Works.{AnswersWork, TakesFew, WantsNone, WorkReason}};
-ghost use Rattle.pick_work.{specs.PickOutcomes.{no_group, pick_so_far, picking}, specs.PickRuns.{AnswersPicks, PicksReason}};
+ghost use Rattle.pick_work.specs.PickOutcomes.{no_group};
 
-use bench_io::{Inputs, Sink};
-use command_work::{PIECE, READ_FAULT, read_header};
+use bench_io::Sink;
+use command_work::{Job, Reader};
 use gate_plan::Gates;
 use photon_pick::{pick_end, pick_piece};
 use plan_text::Plan;
 use record_stream::RecordStream;
 use record_write::Picker;
-use tally_base::{Fault, Slot};
+use tally_base::{Fault, Header};
 
-/// Writes the photons of the records behind those that the stream was given, up to the end of the data.
-fn pick_rest<I: Inputs, O: Sink>(
-    inputs: &mut I,
-    buffer: &mut [u8],
-    mut stream: RecordStream,
-    gates: &Gates,
+/// Writes the photons of a group to a file of their own.
+#[derive(Drop)]
+pub(crate) struct PickReader {
+    stream: RecordStream,
+    gates: Gates,
     group: u8,
-    mut picker: Picker,
-    out: &mut O,
-) -> Result<(), Fault>
-    requires ready { IsReady (I.state inputs.old) buffer.old }
-    requires group { (0 < group) × (group ≤ 64) }
-    requires going { refused_with stream ≡ None }
-    requires behind { IsNoFurther stream picker }
-    ensures reads { OnlyReads Data (I.state inputs.old) (I.state inputs.new) }
-    ensures answer { (bytes : List ℕ) → HasStreamed stream bytes
-        → HasPickedIn (is_chosen (sorting_of gates.now) group) (how_of stream) picker (words_of bytes)
-        → AnswersPicks (is_chosen (sorting_of gates.now) group) (how_of stream) bytes
-        ((I.state inputs.old).rest Data) ((I.state inputs.new).rest Data)
-        (O.written out.old) (O.written out.new) result }
-    ensures reason { (bytes : List ℕ) → HasStreamed stream bytes
-        → HasPickedIn (is_chosen (sorting_of gates.now) group) (how_of stream) picker (words_of bytes)
-        → IfErr result (PicksReason (is_chosen (sorting_of gates.now) group) (how_of stream) bytes
-        (span I.Inputs O.Sink inputs.old inputs.new out.old out.new)) }
-    ensures once { (bytes : List ℕ) → HasStreamed stream bytes
-        → HasPickedIn (is_chosen (sorting_of gates.now) group) (how_of stream) picker (words_of bytes)
-        → Once (span I.Inputs O.Sink inputs.old inputs.new out.old out.new) (fault_in result) }
-    ensures few { (bytes : List ℕ) → HasStreamed stream bytes
-        → HasPickedIn (is_chosen (sorting_of gates.now) group) (how_of stream) picker (words_of bytes)
-        → TakesFew (IsUnrefused (refusal_in (is_chosen (sorting_of gates.now) group) (how_of stream)) bytes)
-        ((I.state inputs.old).rest Data) ((I.state inputs.new).rest Data) }
-{
-    'pieces: loop {
-        let Ok(len) = inputs.read(Slot::Data, buffer) else {
-            return Err(READ_FAULT);
-        };
-        if len == 0 {
-            return pick_end(stream, gates, group, picker, out);
-        }
-        pick_piece(&mut stream, gates, group, &mut picker, &buffer[..len], out)?;
-    }
+    picker: Picker,
+    ghost grouped: { (0 < group) × (group ≤ 64) },
 }
 
-/// Reads the data to their end, and writes the file of the photons of a group meanwhile.
-pub(crate) fn pick_data<I: Inputs, O: Sink>(
-    inputs: &mut I,
-    out: &mut O,
-    plan: &Plan,
-    group: u8,
-) -> Result<(), Fault>
-    requires opened { (I.state inputs.old).opened Data ≡ true }
-    requires records { (0 < plan.now.policy.records) × (plan.now.policy.records ≤ record_limit) }
-    requires group { no_group group (plan_view plan.now) ≡ None }
-    ensures reads { OnlyReads Data (I.state inputs.old) (I.state inputs.new) }
-    ensures answer { AnswersWork (picking group (plan_view plan.now)) ((I.state inputs.old).rest Data)
-        ((I.state inputs.new).rest Data) (O.written out.old) (O.written out.new) result }
-    ensures reason { IfErr result (WorkReason (AsItReads (pick_so_far group (plan_view plan.now))) WantsNone
-        (picking group (plan_view plan.now)) (span I.Inputs O.Sink inputs.old inputs.new out.old out.new)) }
-    ensures once { Once (span I.Inputs O.Sink inputs.old inputs.new out.old out.new) (fault_in result) }
-    ensures few { TakesFew (picking group (plan_view plan.now)).goes_on ((I.state inputs.old).rest Data)
-        ((I.state inputs.new).rest Data) }
-{
-    let mut buffer = [0u8; PIECE];
-    let found = read_header(inputs, &mut buffer)?;
-    let mode = found.header.record_type.mode();
-    plan.fits(mode)?;
-    let gates = Gates::of(plan);
-    let mut stream = RecordStream::new(found.header.record_type, plan.policy);
-    let mut picker = Picker::new(mode);
-    picker.start(out)?;
-    let first = &buffer[found.used..found.len];
-    pick_piece(&mut stream, &gates, group, &mut picker, first, out)?;
-    pick_rest(inputs, &mut buffer, stream, &gates, group, picker, out)
+impl Reader for PickReader {
+    ghost use Rattle.std.specs.Prelude.{◌+◌, ◌*◌, ◌-◌};
+    ghost use Rattle.ptu_definitions.specs.Counted.{record_limit};
+    ghost use Rattle.gate_plan.specs.Groups.{sorting_of};
+    ghost use Rattle.record_stream.specs.Standing.{how_of, bytes_in};
+    ghost use Rattle.photon_pick.specs.Chosen.{is_chosen};
+    ghost use Rattle.pick_work.{specs.PickPieces.{picks, HasWritten}, specs.PickLaws.{picks-law, written-clear}};
+
+    ghost tells = { λ r. picks (is_chosen (sorting_of r.gates) r.group) (how_of r.stream) };
+
+    ghost stands = { λ r bytes. HasWritten (is_chosen (sorting_of r.gates) r.group) r.stream r.picker bytes };
+
+    ghost room = { λ r. 4 * record_limit + 3 - bytes_in r.stream };
+
+    fn piece<O: Sink>(&mut self, piece: &[u8], out: &mut O) -> Result<(), Fault> {
+        pick_piece(
+            &mut self.stream,
+            &self.gates,
+            self.group,
+            &mut self.picker,
+            piece,
+            out,
+        )
+    }
+
+    fn end<O: Sink>(self, out: &mut O) -> Result<(), Fault> {
+        pick_end(self.stream, &self.gates, self.group, self.picker, out)
+    }
+
+    ghost law = { λ r. picks-law (is_chosen (sorting_of r.gates) r.group) (how_of r.stream) };
+
+    ghost clear = { λ r bytes h. written-clear (is_chosen (sorting_of r.gates) r.group) r.stream r.picker bytes h };
+}
+
+/// The work on the photons of a plan's group. The plan has such a group.
+#[derive(Drop)]
+pub(crate) struct PickJob<'p> {
+    pub plan: &'p Plan,
+    pub group: u8,
+    ghost records: { (0 < plan.now.policy.records) × (plan.now.policy.records ≤ record_limit) },
+    ghost grouped: { no_group group (plan_view plan.now) ≡ None },
+}
+
+impl<'p> Job for PickJob<'p> {
+    ghost use Rattle.plan_text.specs.Reading.{plan_view};
+    ghost use Rattle.command_work.{specs.Behaviours.AsItReads, specs.Works.WantsNone};
+    ghost use Rattle.pick_work.{specs.PickOutcomes.{pick_so_far, picking}, specs.PickPieces.picks_by, specs.PickLaws.picking-suits};
+
+    type Reader = PickReader;
+
+    ghost work = { λ job. picking job.group (plan_view job.plan.now) };
+
+    ghost writing = { λ job. AsItReads (pick_so_far job.group (plan_view job.plan.now)) };
+
+    ghost wanting = { λ job. WantsNone };
+
+    ghost tells = { λ job header. picks_by job.group (plan_view job.plan.now) header };
+
+    ghost wants = { λ job header. ⊥ };
+
+    fn open<O: Sink>(&self, header: &Header, out: &mut O) -> Result<PickReader, Fault> {
+        let mode = header.record_type.mode();
+        self.plan.fits(mode)?;
+        let gates = Gates::of(self.plan);
+        let stream = RecordStream::new(header.record_type, self.plan.policy);
+        let picker = Picker::new(mode);
+        picker.start(out)?;
+        let group = self.group;
+        Ok(PickReader {
+            stream,
+            gates,
+            group,
+            picker,
+        })
+    }
+
+    ghost law = { λ job. picking-suits job.group (plan_view job.plan.now) };
 }

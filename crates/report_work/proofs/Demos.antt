@@ -1,17 +1,15 @@
 -- What `demo` leaves.
-use Rattle.std.proofs.Common.{◌≡◌, ◌≤◌, ◌++◌, ℕ, List, None, Some, Ok, Err, true, refl, sym, ap, ◌∙◌, subst, inl, inr, arith, rules, ◌≢◌, ◌⊎◌, Result, IsErrAnd, OnOk, OnErr, IfErr}
-use Rattle.std.{specs.declared.option.Option.Option, specs.Io.KnownBytes.{Appends, Consumes}}
-use Rattle.tally_base.{specs.declared.fault.Fault.Fault, specs.declared.fault.Fault.TheVariants.{OutOfMemory, WriteFault}, specs.declared.header.Mode.TheVariants.T2, specs.declared.header.RecordType.TheVariants.HydraHarp2T2, specs.FaultCounts.Rose, specs.Faults.{is_outside, fault_in}, specs.RecordTypes.mode_of, proofs.Reasons.HasReason-follows}
-use Rattle.bench_io.{specs.Inputs.InputState, specs.Sinks.AppendsShort, proofs.Bytes.{Appends-nil, Keeps-from_none}}
+use Rattle.std.proofs.Common.{◌≡◌, ◌≤◌, ◌++◌, ℕ, List, None, Some, Ok, Err, true, refl, sym, ap, subst, ◌∙◌, inl, inr, arith, rules, ◌≢◌, ◌⊎◌, Result, IsErrAnd, IfErr}
+use Rattle.std.{specs.declared.option.Option.Option, specs.Io.KnownBytes.Consumes, proofs.lemmas.Result.IfErr-weaker}
+use Rattle.tally_base.{specs.declared.fault.Fault.Fault, specs.declared.fault.Fault.TheVariants.OutOfMemory, specs.declared.slot.Slot.TheVariants.Data, specs.declared.header.Mode.TheVariants.T2, specs.declared.header.RecordType.TheVariants.HydraHarp2T2, specs.Faults.{is_outside, fault_in}, specs.RecordTypes.mode_of, proofs.Reasons.HasReason-follows}
+use Rattle.bench_io.{specs.Inputs.InputState, proofs.Bytes.Appends-same}
 use Rattle.ptu_definitions.{specs.Headers.header_answer, specs.Words.words_of, specs.Streams.{record_refusal, streamed, summary}}
 use Rattle.plan_text.{specs.declared.plan.Plan.Plan, specs.Plan.PlanView, specs.Reading.{plan_view, plan_answer}, specs.Fits.fits, proofs.OnLiterals.plan_on_literals}
-use Rattle.plan_parts.specs.declared.results.Results.{Results}
 use Rattle.gate_plan.specs.Plans.{policy_of}
-use Rattle.table_out.specs.Report.{Table, report, EachHolds}
 use Rattle.ptu_made.{specs.Generator.{made_words, photon_limit}, specs.MadeFile.made_file, specs.Records.made_header, specs.declared.made.Made.Made, specs.Made.made_state, proofs.Meanings.{all-made, words-bytes}, proofs.MadeEvents.few-words, proofs.Unrefused.unrefused}
 use Rattle.short_file.{specs.ShortFiles.{short_header, short_file, bytes_in}, proofs.ShortHeaders.short-answer}
-use Rattle.report_work.{specs.Reports.file_report, specs.RunPieces.{IsReport, AnswersReport, RunReason}, specs.Demo.{demo_text, demo_plan, demo_reading, demo_report}}
-use Rattle.command_work.{specs.Behaviours.Alone, specs.Told.Says, specs.Outcomes.written, specs.Endings.{EndsWith, HasCauses, outcome}, proofs.Told.file-parts}
+use Rattle.report_work.{specs.Reports.{file_report, report_outcome, reporting}, specs.Demo.{demo_text, demo_plan, demo_reading, demo_report}}
+use Rattle.command_work.{specs.Told.MayBe, specs.Outcomes.{Outcome, written}, specs.Behaviours.{Alone, AtEnd, ForTables}, specs.Endings.{Cuts, EndsWith, HasCauses, WantsBehind, outcome}, specs.Works.{AnswersWork, WorkReason}, proofs.Told.file-parts}
 
 -- ## The plan
 
@@ -50,53 +48,35 @@ made-report seed count few =
     let whole : words_of (bytes_in (made_words seed count)) ≡ made_words seed count = (words-bytes (made_words seed count) (all-made seed count)).0 in
     rw (answer, suits, made-streamed seed count few, whole) refl
 
--- what is said of the made file is its report
-pub demo-told : (seed count : ℕ) (plan : PlanView) (rest left : Option (List ℕ)) (taken : List ℕ) (answer : Result (List ℕ) Fault) → count ≤ photon_limit → plan ≡ demo_plan → rest ≡ Some (made_file seed count) → Consumes rest left taken
-    → Says (file_report plan) taken left answer → answer ≡ Ok (demo_report seed count)
-demo-told seed count plan rest left taken answer few is opened took says =
-    let file = made_file seed count in
-    let parts : Some (taken ++ says.more) ≡ Some file = file-parts (Some (Some file)) rest left taken says.more (opened, search rules) took says.may_be (Some file) refl in
-    let whole : taken ++ says.more ≡ file = cc in
-    sym says.means ∙ ap (file_report plan) whole ∙ ap (λ (view : PlanView). file_report view file) is ∙ made-report seed count few
+module _ (seed count : ℕ) (plan : PlanView) (few : count ≤ photon_limit) (is : plan ≡ demo_plan) where
+  -- what is said of the made file is its report
+  demo-told : (rest left : Option (List ℕ)) (taken more : List ℕ) → rest ≡ Some (made_file seed count) → Consumes rest left taken → MayBe left more → (reporting plan).outcome (taken ++ more) ≡ written (demo_report seed count)
+  demo-told rest left taken more opened took may_be =
+      let file = made_file seed count in
+      let parts : Some (taken ++ more) ≡ Some file = file-parts (Some (Some file)) rest left taken more (opened, search rules) took may_be (Some file) refl in
+      let whole : taken ++ more ≡ file = cc in
+      ap (reporting plan).outcome whole ∙ ap (λ (view : PlanView). (reporting view).outcome file) is ∙ ap report_outcome (made-report seed count few)
 
--- a fault is from outside
-pub demo-outside : (seed count : ℕ) (plan : PlanView) (rest left : Option (List ℕ)) (taken : List ℕ) (fault : Fault) → count ≤ photon_limit → plan ≡ demo_plan → rest ≡ Some (made_file seed count) → Consumes rest left taken
-    → AnswersReport plan taken left (Err fault) → is_outside fault ≡ true
-demo-outside seed count plan rest left taken fault few is opened took (inl outside) = outside
-demo-outside seed count plan rest left taken fault few is opened took (inr says) = let bad = demo-told seed count plan rest left taken (Err fault) few is opened took says in cc
+  -- the report was written, or a fault from outside came
+  pub ends-demo : (rest left old new : Option (List ℕ)) (r : Result (Unit {0}) Fault) → rest ≡ Some (made_file seed count) → AnswersWork (reporting plan) rest left old new r
+      → IsErrAnd r (λ fault. is_outside fault ≡ true) ⊎ EndsWith (written (demo_report seed count)) (fault_in r) old new
+  ends-demo rest left old new r opened (inl outside) = inl outside
+  ends-demo rest left old new r opened (inr h) =
+      let told = sym h.says.means ∙ demo-told rest left h.taken h.says.more opened h.consumes h.says.may_be in
+      inr (record { same = ap (λ (end : Outcome). end.fault) told; text = Appends-same old new _ _ (ap (λ (end : Outcome). end.text) told) h.written })
 
--- no read of the made file fails
-pub demo-causes : (seed count : ℕ) (plan : PlanView) (before after : Made) (state : InputState) (old : Option (List ℕ)) (faults : ℕ) (fault : Fault) → RunReason plan (made_state before) (made_state after) fault
-    → HasCauses (Alone (written (demo_report seed count))) (record { before = state; after = state; old = old; new = old; faults_before = faults; faults_after = faults }) fault
-unfolding HasCauses made_state
-demo-causes seed count plan before after state old faults fault reason =
-    HasReason-follows _ _ _ _ _ _ _ _ fault
-    (λ slot h. absurd h)
-    (λ slot h. absurd (omega (arith, h.1)))
-    (λ h. absurd h)
-    (λ h. Keeps-from_none old old (Appends-nil old))
-    reason
-
--- ## The report
-
--- a report that was written, or cut short
-pub ends-demo : (seed count : ℕ) (plan : PlanView) (rest left : Option (List ℕ)) (taken : List ℕ) (results : Results) (r : Result (Unit {0}) Fault) (old new : Option (List ℕ)) → count ≤ photon_limit → plan ≡ demo_plan
-    → rest ≡ Some (made_file seed count) → Consumes rest left taken → IsReport plan taken left results → IfErr r (λ fault. fault ≡ WriteFault)
-    → OnOk r ((tables : List Table) → EachHolds results.parts.items tables → Appends old new (report results.header results.summary tables))
-    → IsErrAnd r (λ fault. is_outside fault ≡ true) ⊎ EndsWith (written (demo_report seed count)) (fault_in r) old new
-ends-demo seed count plan rest left taken results (Ok done) old new few is opened took counted fault text =
-    let told = demo-told seed count plan rest left taken _ few is opened took counted.says in
-    let same : report results.header results.summary counted.tables ≡ demo_report seed count = cc in
-    inr (record { same = refl; text = subst (λ (bytes : List ℕ). Appends old new bytes) same (text counted.tables counted.counts) })
-ends-demo seed count plan rest left taken results (Err fault) old new few is opened took counted write text = inl (rw write refl)
-
-pub untold-causes : (seed count : ℕ) (plan : PlanView) (rest left : Option (List ℕ)) (taken : List ℕ) (results : Results) (state : InputState) (r : Result (Unit {0}) Fault) (old new : Option (List ℕ)) (faults now : ℕ) → count ≤ photon_limit → plan ≡ demo_plan
-    → rest ≡ Some (made_file seed count) → Consumes rest left taken → IsReport plan taken left results → IfErr r (λ fault. fault ≡ WriteFault) → OnErr r (Rose faults now)
-    → OnErr r ((tables : List Table) → EachHolds results.parts.items tables → AppendsShort old new (report results.header results.summary tables))
-    → IfErr r (HasCauses (Alone (written (demo_report seed count))) (record { before = state; after = state; old = old; new = new; faults_before = faults; faults_after = now }))
-unfolding HasCauses outcome
-untold-causes seed count plan rest left taken results state (Ok done) old new faults now few is opened took counted write rose short = tt
-untold-causes seed count plan rest left taken results state (Err fault) old new faults now few is opened took counted write rose short =
-    let told = demo-told seed count plan rest left taken _ few is opened took counted.says in
-    let same : report results.header results.summary counted.tables ≡ demo_report seed count = cc in
-    rw write (rose, record { plan_file = None; data_file = None; may_be = tt; holds = (refl, subst (λ (bytes : List ℕ). AppendsShort old new bytes) same (short counted.tables counted.counts)) })
+  -- no read of the made file fails
+  pub demo-causes : (before after : Made) (state : InputState) (old new : Option (List ℕ)) (faults now : ℕ) (r : Result (Unit {0}) Fault) → (made_state before).rest Data ≡ Some (made_file seed count)
+      → IfErr r (WorkReason AtEnd (WantsBehind ForTables plan) (reporting plan) (record { before = made_state before; after = made_state after; old = old; new = new; faults_before = faults; faults_after = now }))
+      → IfErr r (HasCauses (Alone (written (demo_report seed count))) (record { before = state; after = state; old = old; new = new; faults_before = faults; faults_after = now }))
+  unfolding HasCauses outcome made_state
+  demo-causes before after state old new faults now r opened reason =
+      IfErr-weaker r _ _
+      (λ fault h.
+      HasReason-follows _ _ _ _ _ _ _ _ fault
+      (λ slot no. absurd no)
+      (λ slot h. absurd (omega (arith, h.1)))
+      (λ h. (h.0, record { plan_file = None; data_file = None; may_be = tt; holds = subst (λ (end : Outcome). Cuts {A = List ℕ → List ℕ} AtEnd end old new) (demo-told _ _ h.1.taken h.1.more opened h.1.consumes h.1.may_be) h.1.cut }))
+      (λ h. h.keeps)
+      h)
+      reason

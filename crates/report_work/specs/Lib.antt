@@ -1,3 +1,4 @@
 pub mod Reports
 pub mod RunPieces
+pub mod RunLaws
 pub mod Demo

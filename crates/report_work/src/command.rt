@@ -2,12 +2,11 @@
 ghost use Rattle.command_work.specs.Behaviours.{AtEnd, ForTables};
 ghost use Rattle.report_work.specs.Reports.{any_plan, reporting};
 
-use crate::run::run_data;
+use crate::run::RunJob;
 use bench_io::{Inputs, Sink};
-use command_work::PlanWork;
+use command_work::{PlanWork, read_file};
 use plan_text::Plan;
 use std::alloc::Global;
-use table_out::write_report;
 use tally_base::Fault;
 
 /// Counts what a plan asks for in a file, and writes the report. Nothing is written before the data
@@ -35,7 +34,6 @@ impl PlanWork for Reporting {
         out: &mut O,
         plan: &Plan,
     ) -> Result<(), Fault> {
-        let results = run_data(alloc, inputs, plan)?;
-        write_report(&results, out)
+        read_file(&RunJob { alloc, plan }, inputs, out)
     }
 }

@@ -6,12 +6,12 @@ ghost use Rattle.ptu_made.{specs.MadeFile.made_file, specs.Made.made_state, spec
 ghost use Rattle.command_work.{specs.Outcomes.written, specs.Behaviours.Alone, specs.Once.OutOnce, specs.Endings.{Answers, HasCauses, alone_span}};
 ghost use Rattle.report_work.specs.Demo.{demo_report};
 
-use crate::run::run_data;
+use crate::run::RunJob;
 use bench_io::{Inputs, Sink};
+use command_work::read_file;
 use plan_text::read_plan;
 use ptu_made::Made;
 use std::alloc::Global;
-use table_out::write_report;
 use tally_base::{Fault, Slot};
 
 /// The text of the plan of `demo`.
@@ -66,6 +66,5 @@ pub fn demo<O: Sink>(alloc: Global, out: &mut O, seed: u64, count: u64) -> Resul
 {
     let plan = read_plan(alloc, DEMO_PLAN)?;
     let mut made = made_data(seed, count);
-    let results = run_data(alloc, &mut made, &plan)?;
-    write_report(&results, out)
+    read_file(&RunJob { alloc, plan: &plan }, &mut made, out)
 }

@@ -1,107 +1,111 @@
 // Counts the records of a file by a plan.
-ghost use Rattle.std.specs.Prelude.{◌≡◌, ◌≤◌, ◌<◌, List, ℕ, slice_range, true, None, IfErr};
-ghost use Rattle.std.specs.Io.KnownBytes.{Consumes};
-ghost use Rattle.tally_base.{specs.declared.slot.Slot.TheVariants.Data, specs.Faults.fault_in};
-ghost use Rattle.bench_io.specs.Inputs.{OnlyReads};
-ghost use Rattle.ptu_definitions.{specs.Counted.record_limit, specs.Streams.streamed};
-ghost use Rattle.plan_text.specs.Reading.{plan_view};
-ghost use Rattle.tally_engine.specs.Engine.{HasFed, reading_of, refused_by};
-ghost use Rattle.command_work.{specs.Once.InputsOnce, specs.Pieces.{ReadReason, IsReady, HoldsPart, MayChangeBehind, StopsSoon, StopsEarly}, specs.Works.TakesFew};
-ghost use Rattle.report_work.{specs.Reports.reporting, specs.RunPieces.{IsLedger, IsFresh, EndsBehind, AnswersReport, RunReason}};
+ghost use Rattle.std.specs.Prelude.{◌≡◌, ◌+◌, ◌*◌, ◌<◌, ◌≤◌, List, ℕ, length, ◌++◌, None, OnOk};
+ghost use Rattle.tally_base.specs.Faults.{fault_in};
+ghost use Rattle.ptu_definitions.{specs.Counted.record_limit, specs.Streams.record_refusal, specs.Words.words_of};
+ghost use Rattle.tally_engine.specs.Engine.{HasFed, SameEngine, Finishes, reading_of, refused_by, bytes_fed};
+ghost use Rattle.report_work.specs.RunPieces.{IsLedger};
 
-use bench_io::Inputs;
-use command_work::{PIECE, READ_FAULT, read_header};
+use bench_io::Sink;
+use command_work::{Job, Reader};
 use plan_text::Plan;
 use std::alloc::Global;
 use std::marker::Brand;
 use std::sync::ledger::{Blank, Ledger};
-use tally_base::{Fault, Slot, Steps};
+use table_out::write_report;
+use tally_base::{Fault, Header, Steps};
 use tally_engine::{Engine, Results};
 
-/// Feeds an engine the data behind those that it was given, up to their end, and closes its tables.
-fn feed_rest<I: Inputs, L: Ledger>(
-    inputs: &mut I,
-    buffer: &mut [u8],
-    mut engine: Engine,
-    steps: &mut Steps<L>,
-) -> Result<Results, Fault>
-    requires ready { IsReady (I.state inputs.old) buffer.old }
-    requires going { refused_by engine ≡ None }
-    ensures reads { OnlyReads Data (I.state inputs.old) (I.state inputs.new) }
-    ensures reason { IfErr result (ReadReason (I.state inputs.old) (I.state inputs.new)) }
-    ensures once { InputsOnce (I.state inputs.old) (I.state inputs.new) (fault_in result) }
-    ensures answer { (bytes : List ℕ) → HasFed engine bytes
-        → EndsBehind engine bytes ((I.state inputs.old).rest Data)
-        ((I.state inputs.new).rest Data) result }
-    ensures stops { (bytes : List ℕ) → HasFed engine bytes
-        → StopsSoon (MayChangeBehind (streamed (reading_of engine)) bytes)
-        ((I.state inputs.old).rest Data) ((I.state inputs.new).rest Data) result }
-{
-    'pieces: loop {
-        let Ok(len) = inputs.read(Slot::Data, buffer) else {
-            return Err(READ_FAULT);
-        };
-        if len == 0 {
-            return engine.finish(steps);
-        }
-        engine.feed(&buffer[..len], steps)?;
-    }
-}
-
-/// Feeds an engine all data behind the header. Those that were read with it are the bytes of the
-/// buffer from `used` to `len`. Nobody asks for the number of steps, which is counted from 0.
-fn feed_data<I: Inputs, L: Ledger>(
-    blank: Blank,
-    inputs: &mut I,
-    buffer: &mut [u8],
-    used: usize,
-    len: usize,
-    mut engine: Engine,
-) -> Result<Results, Fault>
-    requires blank { IsLedger blank.name blank.parts L.name L.parts }
-    requires part { HoldsPart (I.state inputs.old) buffer.old used len }
-    requires fresh { IsFresh engine }
-    ensures reads { OnlyReads Data (I.state inputs.old) (I.state inputs.new) }
-    ensures reason { IfErr result (ReadReason (I.state inputs.old) (I.state inputs.new)) }
-    ensures once { InputsOnce (I.state inputs.old) (I.state inputs.new) (fault_in result) }
-    ensures answer { EndsBehind engine (slice_range buffer.old used len)
-        ((I.state inputs.old).rest Data) ((I.state inputs.new).rest Data) result }
-    ensures stops { StopsEarly
-        (MayChangeBehind (streamed (reading_of engine)) (slice_range buffer.old used len))
-        ((I.state inputs.old).rest Data) ((I.state inputs.new).rest Data) result }
+/// Feeds an engine a piece. Nobody asks for the number of steps, which is counted from 0.
+fn feed_engine<L: Ledger>(blank: Blank, engine: &mut Engine, piece: &[u8]) -> Result<(), Fault>
+    requires { IsLedger blank.name blank.parts L.name L.parts }
+    ensures taken { (bytes : List ℕ) → HasFed engine.old bytes → HasFed engine.new (bytes ++ piece.now) }
+    ensures answer { refused_by engine.old ≡ None → (bytes : List ℕ) → HasFed engine.old bytes
+        → fault_in result ≡ record_refusal (reading_of engine.old) (words_of (bytes ++ piece.now)) }
+    ensures refused { refused_by engine.new ≡ fault_in result }
+    ensures counted { OnOk result (bytes_fed engine.new ≡ bytes_fed engine.old + length piece.now) }
+    ensures limit { bytes_fed engine.new ≤ 4 * record_limit + 3 }
+    ensures same { SameEngine engine.old engine.new }
 {
     let mut steps = Steps::<L>::new(blank);
-    engine.feed(&buffer[used..len], &mut steps)?;
-    feed_rest(inputs, buffer, engine, &mut steps)
+    engine.feed(piece, &mut steps)
 }
 
-/// Reads the data to its end, and counts what the plan asks for.
-pub(crate) fn run_data<I: Inputs>(
-    alloc: Global,
-    inputs: &mut I,
-    plan: &Plan,
-) -> Result<Results, Fault>
-    requires opened { (I.state inputs.old).opened Data ≡ true }
-    requires records { (0 < plan.now.policy.records) × (plan.now.policy.records ≤ record_limit) }
-    ensures reads { OnlyReads Data (I.state inputs.old) (I.state inputs.new) }
-    ensures reason { IfErr result (RunReason (plan_view plan.now) (I.state inputs.old)
-        (I.state inputs.new)) }
-    ensures once { InputsOnce (I.state inputs.old) (I.state inputs.new) (fault_in result) }
-    ensures answer { (taken : List ℕ)
-        × Consumes ((I.state inputs.old).rest Data) ((I.state inputs.new).rest Data) taken
-        × AnswersReport (plan_view plan.now) taken ((I.state inputs.new).rest Data) result }
-    ensures few { TakesFew (reporting (plan_view plan.now)).goes_on ((I.state inputs.old).rest Data)
-        ((I.state inputs.new).rest Data) }
+/// Closes the tables of an engine.
+fn finish_engine<L: Ledger>(blank: Blank, engine: Engine) -> Result<Results, Fault>
+    requires { IsLedger blank.name blank.parts L.name L.parts }
+    ensures { (bytes : List ℕ) → HasFed engine bytes → Finishes engine bytes result }
 {
-    let mut buffer = [0u8; PIECE];
-    let found = read_header(inputs, &mut buffer)?;
-    let engine = Engine::open(alloc, plan, &found.header)?;
-    feed_data::<I, Brand>(
-        Blank::new(1),
-        inputs,
-        &mut buffer,
-        found.used,
-        found.len,
-        engine,
-    )
+    let mut steps = Steps::<L>::new(blank);
+    engine.finish(&mut steps)
+}
+
+/// Counts what a plan asks for, and writes the report at the end.
+#[derive(Drop)]
+pub(crate) struct RunReader<'p> {
+    engine: Engine,
+    plan: &'p Plan,
+}
+
+impl<'p> Reader for RunReader<'p> {
+    ghost use Rattle.std.specs.Prelude.{◌-◌};
+    ghost use Rattle.plan_text.specs.Reading.{plan_view};
+    ghost use Rattle.tally_engine.specs.Engine.{header_of};
+    ghost use Rattle.report_work.{specs.RunPieces.{reports, CountsBy}, specs.RunLaws.{reports-law, counts-clear}};
+
+    ghost tells = { λ r. reports (plan_view r.plan.now) (header_of r.engine) };
+
+    ghost stands = { λ r bytes. CountsBy (plan_view r.plan.now) r.engine bytes };
+
+    ghost room = { λ r. 4 * record_limit + 3 - bytes_fed r.engine };
+
+    fn piece<O: Sink>(&mut self, piece: &[u8], _out: &mut O) -> Result<(), Fault> {
+        feed_engine::<Brand>(Blank::new(1), &mut self.engine, piece)
+    }
+
+    fn end<O: Sink>(self, out: &mut O) -> Result<(), Fault> {
+        let results = finish_engine::<Brand>(Blank::new(1), self.engine)?;
+        write_report(&results, out)
+    }
+
+    ghost law = { λ r. reports-law (plan_view r.plan.now) (header_of r.engine) };
+
+    ghost clear = { λ r bytes h. counts-clear (plan_view r.plan.now) r.engine bytes h };
+}
+
+/// The work on what a plan asks for.
+#[derive(Drop)]
+pub(crate) struct RunJob<'p> {
+    pub alloc: Global,
+    pub plan: &'p Plan,
+    ghost records: { (0 < plan.now.policy.records) × (plan.now.policy.records ≤ record_limit) },
+}
+
+impl<'p> Job for RunJob<'p> {
+    ghost use Rattle.std.specs.Prelude.{Ok};
+    ghost use Rattle.tally_base.specs.RecordTypes.{mode_of};
+    ghost use Rattle.plan_text.{specs.Fits.fits, specs.Reading.plan_view};
+    ghost use Rattle.command_work.{specs.Behaviours.{AtEnd, ForTables}, specs.Endings.WantsBehind};
+    ghost use Rattle.report_work.{specs.Reports.reporting, specs.RunPieces.reports_by, specs.RunLaws.reporting-suits};
+
+    type Reader = RunReader<'p>;
+
+    ghost work = { λ job. reporting (plan_view job.plan.now) };
+
+    ghost writing = { λ job. AtEnd };
+
+    ghost wanting = { λ job. WantsBehind ForTables (plan_view job.plan.now) };
+
+    ghost tells = { λ job header. reports_by (plan_view job.plan.now) header };
+
+    ghost wants = { λ job header. fits (mode_of header.record_type) (plan_view job.plan.now) ≡ Ok tt };
+
+    fn open<O: Sink>(&self, header: &Header, _out: &mut O) -> Result<RunReader<'p>, Fault> {
+        let engine = Engine::open(self.alloc, self.plan, header)?;
+        Ok(RunReader {
+            engine,
+            plan: self.plan,
+        })
+    }
+
+    ghost law = { λ job. reporting-suits (plan_view job.plan.now) };
 }

@@ -1,7 +1,5 @@
 pub mod FirstTraces
-pub mod TraceOrder
-pub mod TraceTexts
+pub mod TraceStarts
 pub mod TraceSteps
 pub mod TraceFeeds
-pub mod TraceComposed
 pub mod TraceLast

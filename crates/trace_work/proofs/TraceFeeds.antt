@@ -8,12 +8,9 @@ use Rattle.ptu_definitions.{specs.declared.records.Summary.Summary, specs.Kept.M
 use Rattle.record_stream.{specs.declared.taker.EventTaker.Ghosts, specs.Feeding.{GaveOn, BrokeOn, Fed}, specs.Ending.{GaveRest, BrokeFirst, Ended}}
 use Rattle.gate_plan.{specs.Shifting.Sorting, specs.Histories.{with_groups, history}, proofs.Histories.with_groups-more}
 use Rattle.long_trace.{specs.declared.trace.LongTrace.LongTrace, specs.LongTrace.{Holds, GivenMore, set_of}, specs.Texts.open_text, proofs.Rising.{RisesFrom, open-front}}
-use Rattle.trace_work.{specs.TraceOutcomes.{settled_before, words_traced}, specs.TracePieces.{WroteLast, CutLast, WritesLast, both_ended}, proofs.TraceTexts.{settled-adds, settled-rises, history-rest, history-rises}}
-use Rattle.command_work.{specs.Once.{tells_writing, OutOnce}, proofs.Once.stays-same}
-use Rattle.photon_pick.proofs.Streams.{clear-from_ok, streamed-inside}
-
-AppendsShort-none : (a b : Option (List ℕ)) → AppendsShort a b [] → ⊥
-AppendsShort-none a b q = let e : length {A = ℕ} [] ≡ length (q.0 ++ q.1) = ap length q.3 in let some = q.2 in omega (arith, e, some, length-append q.0 q.1)
+use Rattle.trace_work.{specs.TraceOutcomes.{settled_before, words_traced}, specs.TracePieces.{WroteLast, CutLast, WritesLast, both_ended}, specs.TraceTexts.{settled-adds, settled-rises, history-rest, history-rises}}
+use Rattle.command_work.{specs.Once.{tells_writing, OutOnce}, proofs.Once.stays-same, proofs.Streams.streamed-inside, proofs.TellingLaws.AppendsShort-none}
+use Rattle.photon_pick.proofs.Streams.{clear-from_ok}
 
 with-parts : (by : Sorting) (l m : Marked) → with_groups by (not_marked (l ++ m)) ≡ with_groups by (not_marked l) ++ with_groups by (not_marked m)
 with-parts by l m = ap (with_groups by) (not_marked-append l m) ∙ with_groups-more by (not_marked l) (not_marked m)

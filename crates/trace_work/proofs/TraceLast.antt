@@ -6,8 +6,8 @@ use Rattle.bench_io.{specs.declared.sink.Sink.Ghosts, proofs.Bytes.{Appends-tran
 use Rattle.ptu_definitions.{specs.declared.records.Summary.Summary, specs.Words.words_of, specs.Streams.{Reading, record_refusal, streamed}}
 use Rattle.gate_plan.{specs.Shifting.Sorting, specs.Histories.history}
 use Rattle.long_trace.{specs.declared.trace.LongTrace.LongTrace, specs.LongTrace.set_of, specs.Texts.{open_text, whole_text}, specs.Written.{AppendsRest, CutsRest}, proofs.Rising.whole-front}
-use Rattle.command_work.{specs.Outcomes.{Outcome, written}, specs.Once.OutOnce, specs.TextRuns.WritesEnd, proofs.Once.once-inside}
-use Rattle.trace_work.{specs.TraceOutcomes.{words_traced, traced, records_traced}, specs.TracePieces.{WroteLast, WritesLast}}
+use Rattle.command_work.{specs.Outcomes.{Outcome, written}, specs.Once.OutOnce, specs.Tellings.WritesEnd, proofs.Once.once-inside}
+use Rattle.trace_work.{specs.TraceOutcomes.{words_traced, traced, records_traced}, specs.TracePieces.{traces, WroteLast, WritesLast}}
 
 Keeps-append : (a b : Option (List ℕ)) → Keeps a b → Appends a b []
 Keeps-append None b k = tt
@@ -45,11 +45,8 @@ module _ {O : Type 0} (o : Ghosts O) (by : Sorting) (how : Reading) (trace now :
       by_answer (Ok summary) e = cc
       by_answer (Err own) e = ap (end_with (text (words_of bytes))) e
 
-  abbrev refuses : List ℕ → Option Fault
-  refuses = record_refusal how
-
   -- The lines of what was kept back were not all written.
-  pub last-refused : (old new : O) (fault : Fault) → OutOnce (Some fault) (o.faults old) (o.faults new) → WritesLast o by how trace now old new bytes (Err fault) → WritesEnd text ends refuses (o.written old) (o.written new) (o.faults old) (o.faults new) bytes (Err fault)
+  pub last-refused : (old new : O) (fault : Fault) → OutOnce (Some fault) (o.faults old) (o.faults new) → WritesLast o by how trace now old new bytes (Err fault) → WritesEnd (traces set by how) bytes (o.written old) (o.written new) (o.faults old) (o.faults new) (Err fault)
   last-refused old new fault once (inl h) =
       let is = ends-refused fault h.1 in
       inl (
@@ -77,7 +74,7 @@ module _ {O : Type 0} (o : Ghosts O) (by : Sorting) (how : Reading) (trace now :
   pub last-ended : (old mid new : O) (r : Result (Unit {0}) Fault) → set_of now ≡ set_of trace → o.faults mid ≡ o.faults old → WroteLast o by how trace now old mid bytes
       → OnOk r (AppendsRest (o.written mid) (o.written new) (open_text (trace_view (set_of now)) all) (whole_text (trace_view (set_of now)) all))
       → OnErr r (CutsRest (o.written mid) (o.written new) (open_text (trace_view (set_of now)) all) (whole_text (trace_view (set_of now)) all))
-      → IfErr r (λ fault. fault ≡ WriteFault) → OnErr r (Rose (o.faults mid) (o.faults new)) → OnOk r (o.faults new ≡ o.faults mid) → WritesEnd text ends refuses (o.written old) (o.written new) (o.faults old) (o.faults new) bytes r
+      → IfErr r (λ fault. fault ≡ WriteFault) → OnErr r (Rose (o.faults mid) (o.faults new)) → OnOk r (o.faults new ≡ o.faults mid) → WritesEnd (traces set by how) bytes (o.written old) (o.written new) (o.faults old) (o.faults new) r
   last-ended old mid new (Ok done) same still h all_of cut write rose kept =
       let rest = rw same at all_of in
       let is = ends-whole h.clear in (

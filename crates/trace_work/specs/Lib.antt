@@ -1,3 +1,6 @@
 pub mod TraceOutcomes
+pub mod TraceOrder
+pub mod TraceTexts
 pub mod TraceLines
 pub mod TracePieces
+pub mod TraceLaws

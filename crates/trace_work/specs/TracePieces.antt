@@ -1,15 +1,27 @@
 -- What the trace of words writes that come behind others.
 use Rattle.std.specs.Prelude.{ℕ, ◌≡◌, ◌⊎◌, ◌≤◌, List, ◌++◌, OnOk, false, None, Some, Result, Ok, Err}
 use Rattle.std.specs.Io.KnownBytes.{Appends, Keeps}
-use Rattle.tally_base.{specs.declared.fault.Fault.Fault, specs.declared.fault.Fault.TheVariants.WriteFault, specs.FaultCounts.Rose, specs.Faults.{is_outside, fault_in}, specs.Settings.trace_view}
+use Rattle.tally_base.{specs.declared.fault.Fault.Fault, specs.declared.fault.Fault.TheVariants.WriteFault, specs.FaultCounts.Rose, specs.Faults.{is_outside, fault_in}, specs.Settings.{TraceView, trace_view}, specs.declared.header.Header.Header, specs.RecordTypes.mode_of}
 use Rattle.bench_io.{specs.Sinks.AppendsShort, specs.declared.sink.Sink.Ghosts}
-use Rattle.told_text.specs.Texts.{WritesText}
 use Rattle.ptu_definitions.{specs.Words.words_of, specs.Streams.{Reading, record_refusal, streamed}}
-use Rattle.gate_plan.{specs.Shifting.Sorting, specs.Histories.history}
+use Rattle.plan_text.{specs.Plan.PlanView, specs.Fits.fits}
+use Rattle.gate_plan.{specs.Shifting.{Sorting, sorting}, specs.Histories.history, specs.Plans.reading_by}
 use Rattle.record_stream.{specs.declared.stream.RecordStream.RecordStream, specs.Standing.{how_of, given_by, greatest_of, refused_with, HasStreamed}}
 use Rattle.long_trace.{specs.declared.trace.LongTrace.LongTrace, specs.LongTrace.{Holds, set_of, taken_of, floor_of}, specs.Texts.open_text}
-use Rattle.command_work.specs.Once.{OutOnce}
-use Rattle.trace_work.specs.TraceOutcomes.{settled_before, words_traced}
+use Rattle.command_work.specs.Tellings.{Telling, WritesPiece, unless_declined}
+use Rattle.trace_work.specs.TraceOutcomes.{settled_before, words_traced, records_traced}
+
+-- the trace of the settings
+abbrev pub traces : TraceView → Sorting → Reading → Telling
+traces set by how = record {
+  text = λ bytes. words_traced (Some set) by how (words_of bytes);
+  ends = λ bytes. records_traced (Some set) by how bytes;
+  refuses = λ bytes. record_refusal how (words_of bytes);
+}
+
+-- the same by a plan, where its parts suit the file
+abbrev pub traces_by : TraceView → PlanView → Header → Telling
+traces_by set plan header = unless_declined (fault_in (fits (mode_of header.record_type) plan)) (traces set (sorting plan) (reading_by plan header))
 
 -- The trace is no further on than the stream.
 pub record IsBehindStream (stream : RecordStream) (trace : LongTrace) : Type 0 where
@@ -20,20 +32,22 @@ pub record IsBehindStream (stream : RecordStream) (trace : LongTrace) : Type 0 w
 abbrev pub TracesBytes : Sorting → Reading → LongTrace → List ℕ → Type 0
 TracesBytes by how trace bytes = Holds trace (settled_before by how (words_of bytes))
 
+-- The stream was given these bytes and refused none, and the trace stands for what they give.
+pub record HasTraced (by : Sorting) (stream : RecordStream) (trace : LongTrace) (bytes : List ℕ) : Type 0 where
+  pub going : refused_with stream ≡ None
+  pub behind : IsBehindStream stream trace
+  pub streamed : HasStreamed stream bytes
+  pub traced : TracesBytes by (how_of stream) trace bytes
+
 -- What feeding a piece behind these bytes wrote on an output, and that the trace then stands for them with the piece.
-pub record TracedPiece {O X : Type 0} (o : Ghosts O) (by : Sorting) (stream : RecordStream) (trace now : LongTrace) (bytes piece : List ℕ) (old new : O) (result : Result X Fault) : Type 0 where
-  pub writes : WritesText (words_traced (Some (trace_view (set_of trace))) by (how_of stream) (words_of bytes)) (words_traced (Some (trace_view (set_of trace))) by (how_of stream) (words_of (bytes ++ piece))) (record_refusal (how_of stream) (words_of (bytes ++ piece)))
-      (o.written old) (o.written new) (o.faults old) (o.faults new) result
+pub record TracedPiece {O : Type 0} (o : Ghosts O) (by : Sorting) (stream : RecordStream) (trace now : LongTrace) (bytes piece : List ℕ) (old new : O) (result : Result (Unit {0}) Fault) : Type 0 where
+  pub writes : WritesPiece (traces (trace_view (set_of trace)) by (how_of stream)) bytes piece (o.written old) (o.written new) (o.faults old) (o.faults new) result
   pub stands : OnOk result (TracesBytes by (how_of stream) now (bytes ++ piece))
 
 -- the same of a stream that has refused nothing, with a trace that stands for what came before
-abbrev pub TracesPiece : {O X : Type 0} → Ghosts O → Sorting → RecordStream → LongTrace → LongTrace → List ℕ → O → O → Result X Fault → Type 0
+abbrev pub TracesPiece : {O : Type 0} → Ghosts O → Sorting → RecordStream → LongTrace → LongTrace → List ℕ → O → O → Result (Unit {0}) Fault → Type 0
 TracesPiece o by stream trace now piece old new result =
     refused_with stream ≡ None → (bytes : List ℕ) → HasStreamed stream bytes → TracesBytes by (how_of stream) trace bytes → TracedPiece o by stream trace now bytes piece old new result
-
--- feeding it tried no write again that failed
-abbrev pub TracesOnce : {O X : Type 0} → Ghosts O → RecordStream → O → O → Result X Fault → Type 0
-TracesOnce o stream old new result = refused_with stream ≡ None → (bytes : List ℕ) → HasStreamed stream bytes → OutOnce (fault_in result) (o.faults old) (o.faults new)
 
 -- The trace was given what the stream kept back, and the lines of the bins that this closed were written. Then it stands for the whole kept list.
 pub record WroteLast {O : Type 0} (o : Ghosts O) (by : Sorting) (how : Reading) (trace now : LongTrace) (old new : O) (bytes : List ℕ) : Type 0 where

@@ -5,9 +5,9 @@ ghost use Rattle.plan_text.specs.Reading.{plan_view};
 ghost use Rattle.command_work.specs.Behaviours.{AsItReads, ForPlan};
 ghost use Rattle.trace_work.specs.TraceOutcomes.{no_trace, trace_of, trace_so_far, tracing};
 
-use crate::trace::trace_data;
+use crate::trace::TraceJob;
 use bench_io::{Inputs, Sink};
-use command_work::PlanWork;
+use command_work::{PlanWork, read_file};
 use plan_text::Plan;
 use std::alloc::Global;
 use tally_base::{Fault, TraceSet};
@@ -41,7 +41,7 @@ impl PlanWork for Tracing {
         plan: &Plan,
     ) -> Result<(), Fault> {
         match first_trace(plan) {
-            Some(set) => trace_data(inputs, out, plan, &set),
+            Some(set) => read_file(&TraceJob { plan, set }, inputs, out),
             None => Err(Fault::NoTrace),
         }
     }

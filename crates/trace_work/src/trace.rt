@@ -1,24 +1,23 @@
 // The trace of a plan, written while the file is read.
-ghost use Rattle.std.specs.Prelude.{◌≡◌, ◌<◌, ◌≤◌, ℕ, true, List, [], IfErr, OnOk, None, Some};
-ghost use Rattle.tally_base.{specs.declared.slot.Slot.TheVariants.Data, specs.Faults.fault_in, specs.Settings.trace_view};
-ghost use Rattle.bench_io.specs.Inputs.{OnlyReads};
-ghost use Rattle.ptu_definitions.{specs.Streams.{record_refusal, streamed}, specs.Counted.record_limit};
+ghost use Rattle.std.specs.Prelude.{◌≡◌, ◌<◌, ◌≤◌, ℕ, List, [], OnOk, None, Some};
+ghost use Rattle.tally_base.{specs.Faults.fault_in, specs.Settings.trace_view};
+ghost use Rattle.ptu_definitions.{specs.Counted.record_limit};
 ghost use Rattle.plan_text.specs.Reading.{plan_view};
 ghost use Rattle.record_stream.specs.Standing.{how_of, given_by, greatest_of, refused_with, HasStreamed};
 ghost use Rattle.gate_plan.specs.Groups.{sorting_of};
 ghost use Rattle.long_trace.specs.LongTrace.{set_of, taken_of, floor_of};
-ghost use Rattle.command_work.{specs.StreamPieces.{TakesOn, StaysOpen}, specs.Once.OutOnce, specs.Endings.{Once, span}, specs.Pieces.{IsReady, MayChangeBehind}, specs.Behaviours.AsItReads, specs.TextRuns.{WritesEnd, AnswersText, TextReason}, specs.Works.{AnswersWork, TakesFew, WantsNone, WorkReason}};
-ghost use Rattle.trace_work.{specs.TraceOutcomes.{trace_of, words_traced, records_traced, trace_so_far, tracing}, specs.TracePieces.{IsBehindStream, TracesBytes, TracesPiece, TracesOnce, WritesLast, both_ended}};
+ghost use Rattle.command_work.{specs.StreamPieces.{TakesOn, StaysOpen}, specs.Once.OutOnce, specs.Tellings.WritesEnd};
+ghost use Rattle.trace_work.{specs.TraceOutcomes.trace_of, specs.TracePieces.{traces, IsBehindStream, TracesBytes, TracesPiece, WritesLast, both_ended}};
 
 use abs_time::{moved_floor, orders_markers};
 use arrayvec::ArrayVec;
-use bench_io::{Block, Inputs, Sink};
-use command_work::{PIECE, READ_FAULT, read_header};
+use bench_io::{Block, Sink};
+use command_work::{Job, Reader};
 use gate_plan::{Gates, sort_events};
 use long_trace::{LINES_SIZE, LongTrace};
 use plan_text::Plan;
 use record_stream::{EventTaker, RecordStream, Summary};
-use tally_base::{Event, Failed, Fault, Mode, Slot, TraceSet};
+use tally_base::{Event, Failed, Fault, Header, Mode, TraceSet};
 
 /// Gives each event that isn't late to a trace, with its groups, and writes the lines of the bins that it closes,
 /// through a block. It lives for one piece, or for the end.
@@ -110,7 +109,6 @@ fn feed_lines<'g, 't, 'o, O: Sink>(
     ensures writes { TracesPiece O.Sink (sorting_of lines.old.gates.now) stream.old
         lines.old.trace.now lines.new.trace.now piece.now lines.old.out.now lines.new.out.now result }
     ensures going { OnOk result (StaysOpen stream.old stream.new piece.now) }
-    ensures once { TracesOnce O.Sink stream.old lines.old.out.now lines.new.out.now result }
     ensures behind { OnOk result (IsBehindStream stream.new lines.new.trace.now) }
     ensures set { set_of lines.new.trace.now ≡ set_of lines.old.trace.now }
     ensures same { (lines.new.out.ghost_name ≡ lines.old.out.ghost_name)
@@ -124,7 +122,7 @@ fn feed_lines<'g, 't, 'o, O: Sink>(
 }
 
 /// Writes the lines of the bins that the events of a piece close.
-pub(crate) fn trace_piece<O: Sink>(
+fn trace_piece<O: Sink>(
     stream: &mut RecordStream,
     mode: Mode,
     gates: &Gates,
@@ -138,7 +136,6 @@ pub(crate) fn trace_piece<O: Sink>(
     ensures writes { TracesPiece O.Sink (sorting_of gates.now) stream.old trace.old trace.new piece.now
         out.old out.new result }
     ensures going { OnOk result (StaysOpen stream.old stream.new piece.now) }
-    ensures once { TracesOnce O.Sink stream.old out.old out.new result }
     ensures behind { OnOk result (IsBehindStream stream.new trace.new) }
     ensures set { set_of trace.new ≡ set_of trace.old }
 {
@@ -205,14 +202,10 @@ fn end_trace<O: Sink>(
     requires mode { mode ≡ (how_of stream).mode }
     requires going { refused_with stream ≡ None }
     requires behind { IsBehindStream stream trace }
-    ensures writes { (bytes : List ℕ) → HasStreamed stream bytes
+    ensures { (bytes : List ℕ) → HasStreamed stream bytes
         → TracesBytes (sorting_of gates.now) (how_of stream) trace bytes
-        → WritesEnd (words_traced (Some (trace_view (set_of trace))) (sorting_of gates.now) (how_of stream))
-        (records_traced (Some (trace_view (set_of trace))) (sorting_of gates.now) (how_of stream))
-        (record_refusal (how_of stream)) (O.written out.old) (O.written out.new) (O.faults out.old)
-        (O.faults out.new) bytes result }
-    ensures once { (bytes : List ℕ) → HasStreamed stream bytes
-        → OutOnce (fault_in result) (O.faults out.old) (O.faults out.new) }
+        → WritesEnd (traces (trace_view (set_of trace)) (sorting_of gates.now) (how_of stream)) bytes
+        (O.written out.old) (O.written out.new) (O.faults out.old) (O.faults out.new) result }
 {
     last_lines(stream, mode, gates, &mut trace, out)?;
     trace.finish(out)
@@ -250,79 +243,86 @@ fn last_lines<O: Sink>(
     end_lines(stream, &mut lines)
 }
 
-/// Writes the trace of the records behind those that the stream was given, up to the end of the data.
-fn trace_rest<I: Inputs, O: Sink>(
-    inputs: &mut I,
-    buffer: &mut [u8],
-    mut stream: RecordStream,
+/// Writes a trace while the data are read.
+#[derive(Drop)]
+pub(crate) struct TraceReader {
+    stream: RecordStream,
     mode: Mode,
-    gates: &Gates,
-    mut trace: LongTrace,
-    out: &mut O,
-) -> Result<(), Fault>
-    requires ready { IsReady (I.state inputs.old) buffer.old }
-    requires mode { mode ≡ (how_of stream).mode }
-    requires going { refused_with stream ≡ None }
-    requires behind { IsBehindStream stream trace }
-    ensures reads { OnlyReads Data (I.state inputs.old) (I.state inputs.new) }
-    ensures answer { (bytes : List ℕ) → HasStreamed stream bytes
-        → TracesBytes (sorting_of gates.now) (how_of stream) trace bytes
-        → AnswersText (words_traced (Some (trace_view (set_of trace))) (sorting_of gates.now) (how_of stream))
-        (records_traced (Some (trace_view (set_of trace))) (sorting_of gates.now) (how_of stream))
-        (record_refusal (how_of stream)) bytes ((I.state inputs.old).rest Data) ((I.state inputs.new).rest Data)
-        (O.written out.old) (O.written out.new) result }
-    ensures reason { (bytes : List ℕ) → HasStreamed stream bytes
-        → TracesBytes (sorting_of gates.now) (how_of stream) trace bytes
-        → IfErr result (TextReason
-        (words_traced (Some (trace_view (set_of trace))) (sorting_of gates.now) (how_of stream))
-        (records_traced (Some (trace_view (set_of trace))) (sorting_of gates.now) (how_of stream))
-        (record_refusal (how_of stream)) bytes (span I.Inputs O.Sink inputs.old inputs.new out.old out.new)) }
-    ensures once { (bytes : List ℕ) → HasStreamed stream bytes
-        → Once (span I.Inputs O.Sink inputs.old inputs.new out.old out.new) (fault_in result) }
-    ensures few { (bytes : List ℕ) → HasStreamed stream bytes
-        → TakesFew (MayChangeBehind (streamed (how_of stream)) bytes)
-        ((I.state inputs.old).rest Data) ((I.state inputs.new).rest Data) }
-{
-    'pieces: loop {
-        let Ok(len) = inputs.read(Slot::Data, buffer) else {
-            return Err(READ_FAULT);
-        };
-        if len == 0 {
-            return end_trace(stream, mode, gates, trace, out);
-        }
-        trace_piece(&mut stream, mode, gates, &mut trace, &buffer[..len], out)?;
-    }
+    gates: Gates,
+    trace: LongTrace,
+    ghost same_mode: { mode ≡ (how_of stream).mode },
 }
 
-/// Reads the data to its end, and writes the trace of its photons meanwhile.
-pub(crate) fn trace_data<I: Inputs, O: Sink>(
-    inputs: &mut I,
-    out: &mut O,
-    plan: &Plan,
-    set: &TraceSet,
-) -> Result<(), Fault>
-    requires opened { (I.state inputs.old).opened Data ≡ true }
-    requires records { (0 < plan.now.policy.records) × (plan.now.policy.records ≤ record_limit) }
-    requires set { trace_of (plan_view plan.now) ≡ Some (trace_view set.now) }
-    ensures reads { OnlyReads Data (I.state inputs.old) (I.state inputs.new) }
-    ensures answer { AnswersWork (tracing (plan_view plan.now)) ((I.state inputs.old).rest Data)
-        ((I.state inputs.new).rest Data) (O.written out.old) (O.written out.new) result }
-    ensures reason { IfErr result (WorkReason (AsItReads (trace_so_far (plan_view plan.now))) WantsNone
-        (tracing (plan_view plan.now)) (span I.Inputs O.Sink inputs.old inputs.new out.old out.new)) }
-    ensures once { Once (span I.Inputs O.Sink inputs.old inputs.new out.old out.new)
-        (fault_in result) }
-    ensures few { TakesFew (tracing (plan_view plan.now)).goes_on ((I.state inputs.old).rest Data)
-        ((I.state inputs.new).rest Data) }
-{
-    let mut buffer = [0u8; PIECE];
-    let found = read_header(inputs, &mut buffer)?;
-    let mode = found.header.record_type.mode();
-    plan.fits(mode)?;
-    let gates = Gates::of(plan);
-    let mut stream = RecordStream::new(found.header.record_type, plan.policy);
-    let mut trace = LongTrace::new(set);
-    trace.start(out)?;
-    let first = &buffer[found.used..found.len];
-    trace_piece(&mut stream, mode, &gates, &mut trace, first, out)?;
-    trace_rest(inputs, &mut buffer, stream, mode, &gates, trace, out)
+impl Reader for TraceReader {
+    ghost use Rattle.std.specs.Prelude.{◌+◌, ◌*◌, ◌-◌};
+    ghost use Rattle.record_stream.specs.Standing.{bytes_in};
+    ghost use Rattle.trace_work.{specs.TracePieces.{traces, HasTraced}, specs.TraceLaws.{traces-law, traced-clear}};
+
+    ghost tells = { λ r. traces (trace_view (set_of r.trace)) (sorting_of r.gates) (how_of r.stream) };
+
+    ghost stands = { λ r bytes. HasTraced (sorting_of r.gates) r.stream r.trace bytes };
+
+    ghost room = { λ r. 4 * record_limit + 3 - bytes_in r.stream };
+
+    fn piece<O: Sink>(&mut self, piece: &[u8], out: &mut O) -> Result<(), Fault> {
+        trace_piece(
+            &mut self.stream,
+            self.mode,
+            &self.gates,
+            &mut self.trace,
+            piece,
+            out,
+        )
+    }
+
+    fn end<O: Sink>(self, out: &mut O) -> Result<(), Fault> {
+        end_trace(self.stream, self.mode, &self.gates, self.trace, out)
+    }
+
+    ghost law = { λ r. traces-law (set_of r.trace) (sorting_of r.gates) (how_of r.stream) };
+
+    ghost clear = { λ r bytes h. traced-clear (sorting_of r.gates) r.stream r.trace bytes h };
+}
+
+/// The work on a plan's first trace.
+#[derive(Drop)]
+pub(crate) struct TraceJob<'p> {
+    pub plan: &'p Plan,
+    pub set: TraceSet,
+    ghost records: { (0 < plan.now.policy.records) × (plan.now.policy.records ≤ record_limit) },
+    ghost traced: { trace_of (plan_view plan.now) ≡ Some (trace_view set) },
+}
+
+impl<'p> Job for TraceJob<'p> {
+    ghost use Rattle.command_work.{specs.Behaviours.AsItReads, specs.Works.WantsNone};
+    ghost use Rattle.trace_work.{specs.TraceOutcomes.{trace_so_far, tracing}, specs.TracePieces.traces_by, specs.TraceLaws.tracing-suits};
+
+    type Reader = TraceReader;
+
+    ghost work = { λ job. tracing (plan_view job.plan.now) };
+
+    ghost writing = { λ job. AsItReads (trace_so_far (plan_view job.plan.now)) };
+
+    ghost wanting = { λ job. WantsNone };
+
+    ghost tells = { λ job header. traces_by (trace_view job.set) (plan_view job.plan.now) header };
+
+    ghost wants = { λ job header. ⊥ };
+
+    fn open<O: Sink>(&self, header: &Header, out: &mut O) -> Result<TraceReader, Fault> {
+        let mode = header.record_type.mode();
+        self.plan.fits(mode)?;
+        let gates = Gates::of(self.plan);
+        let stream = RecordStream::new(header.record_type, self.plan.policy);
+        let mut trace = LongTrace::new(&self.set);
+        trace.start(out)?;
+        Ok(TraceReader {
+            stream,
+            mode,
+            gates,
+            trace,
+        })
+    }
+
+    ghost law = { λ job. tracing-suits job.set (plan_view job.plan.now) job.traced };
 }

@@ -76,18 +76,18 @@ returns-in-Ok g c =
       faults_after = g.O.Sink.faults c.read.new.out;
     } in
     record {
-      answer = plan-answers c.args.plan_name.now c.args.data_name.now (does.writing it) does.memory (does.lacking it) (does.work it) before (g.I.Inputs.state c.read.new.inputs) view _ _ _ _ c.read.result has same c.in-Ok.ensures.file c.read.ensures.answer;
+      answer = plan-answers c.args.plan_name.now c.args.data_name.now (does.writing it) does.memory (does.lacking it) (does.work it) before (g.I.Inputs.state c.read.new.inputs) view _ _ _ _ c.read.result has same c.in-Ok.ensures.file c.read.ensures.leaves.answer;
       causes = IfErr-weaker c.read.result _ _
           (λ fault h. plan-causes c.args.plan_name.now c.args.data_name.now (does.writing it) does.memory (does.lacking it) (does.work it) view _ before span fault has same c.in-Ok.ensures.file
           (Keeps-trans before planned opened c.plan_of.ensures.uses.keeps c.in-Ok.ensures.keeps).read_faults h)
-          c.read.ensures.reason;
+          c.read.ensures.leaves.reason;
       asks = (
         takes-later before opened _ c.args.plan_name.now (takes-later before planned opened c.args.plan_name.now c.plan_of.ensures.takes c.open.ensures.keeps_other) c.read.ensures.reads.keeps_other,
-        λ asked. (view, has, λ was. few-told (does.work it view) _ before opened _ c.args.data_name.now same c.in-Ok.ensures.file c.read.ensures.few),
+        λ asked. (view, has, λ was. few-told (does.work it view) _ before opened _ c.args.data_name.now same c.in-Ok.ensures.file c.read.ensures.leaves.few),
       );
       once = record {
-        inputs = once-behind before opened _ _ (once-opened Data before planned opened c.in_ok-plan.ensures.once c.open.ensures.keeps_other c.open.ensures.reads c.in-Ok.ensures.cause.kept) c.read.ensures.once.inputs;
-        out = c.read.ensures.once.out;
+        inputs = once-behind before opened _ _ (once-opened Data before planned opened c.in_ok-plan.ensures.once c.open.ensures.keeps_other c.open.ensures.reads c.in-Ok.ensures.cause.kept) c.read.ensures.leaves.once.inputs;
+        out = c.read.ensures.leaves.once.out;
       };
     }
 

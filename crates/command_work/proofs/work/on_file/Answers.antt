@@ -36,14 +36,14 @@ returns-in-Ok g c =
       faults_after = g.O.Sink.faults c.read.new.out;
     } in
     record {
-      answer = file-answers c.args.file.now writing work before after _ _ _ _ c.in-Ok.ensures.file c.read.ensures.answer;
-      causes = IfErr-weaker c.read.result _ _ (λ fault h. file-causes c.args.file.now writing work before span fault c.in-Ok.ensures.file c.in-Ok.ensures.keeps.read_faults h) c.read.ensures.reason;
+      answer = file-answers c.args.file.now writing work before after _ _ _ _ c.in-Ok.ensures.file c.read.ensures.leaves.answer;
+      causes = IfErr-weaker c.read.result _ _ (λ fault h. file-causes c.args.file.now writing work before span fault c.in-Ok.ensures.file c.in-Ok.ensures.keeps.read_faults h) c.read.ensures.leaves.reason;
       asks = (
         ap (λ f. f Plan) c.read.ensures.reads.opens_none.asked ∙ c.open.ensures.keeps_other.asked ∙ c.requires.first Plan,
-        λ was. few-told work (before.contents c.args.file.now) before opened after c.args.file.now refl c.in-Ok.ensures.file c.read.ensures.few,
+        λ was. few-told work (before.contents c.args.file.now) before opened after c.args.file.now refl c.in-Ok.ensures.file c.read.ensures.leaves.few,
       );
       once = record {
-        inputs = once-behind before opened after _ (once-opened Data before before opened (once-refl before None) c.open.ensures.keeps_other c.open.ensures.reads c.in-Ok.ensures.cause.kept) c.read.ensures.once.inputs;
-        out = c.read.ensures.once.out;
+        inputs = once-behind before opened after _ (once-opened Data before before opened (once-refl before None) c.open.ensures.keeps_other c.open.ensures.reads c.in-Ok.ensures.cause.kept) c.read.ensures.leaves.once.inputs;
+        out = c.read.ensures.leaves.once.out;
       };
     }

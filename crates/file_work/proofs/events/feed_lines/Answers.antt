@@ -1,17 +1,17 @@
 use Rattle.std.proofs.Common.{arith}
 use Rattle.file_work.{specs.EventLines.listed_none, proofs.EventSteps.{writes_on, writes_cut}}
-use Rattle.command_work.{proofs.Streams.stays-open, proofs.Once.{stays-ahead, fed-once}}
+use Rattle.command_work.proofs.Streams.{stays-open}
 use Rattle.file_work.proofs.events.feed_lines.Goals as goal
 
 pub returns-in-Ok-clause-writes : goal.returns-in-Ok-clause-writes
 returns-in-Ok-clause-writes g c = λ going bytes h.
-    writes_on _ (λ t. g.O.Sink.written t.out.now) (λ t. t.block) _ _ _ _ _ _ _ c.feed-fed.result (listed_none _ _ _ _ _ _ _) (λ l is. rw c.requires.none.empty at is.text) (λ l is. (rw c.requires.none.empty at is.text, is.empty)) c.in-Ok.ensures.all c.flush.ensures.cause.later (c.feed-fed.ensures.fed going bytes h)
+    writes_on _ (λ t. g.O.Sink.written t.out.now) (λ t. t.block) _ _ _ _ _ _ _ (listed_none _ _ _ _ _ _ _) (λ l is. rw c.requires.none.empty at is.text) (λ l is. is.kept) (λ l is. (rw c.requires.none.empty at is.text, is.empty)) c.feed-fed.result c.in-Ok.ensures.all c.in-Ok.ensures.cause.kept (c.feed-fed.ensures.fed going bytes h)
 
 pub returns-in-Err-clause-writes : goal.returns-in-Err-clause-writes
 returns-in-Err-clause-writes g c = λ going bytes h.
     let later = c.feed-fed.ensures.later in
     let rose = c.in-Err.ensures.cause.failed in
-    writes_cut _ (λ t. g.O.Sink.written t.out.now) (λ t. t.block) _ _ _ _ _ _ _ c.feed-fed.result (listed_none _ _ _ _ _ _ _) (λ l is. rw c.requires.none.empty at is.text) (λ l is. (rw c.requires.none.empty at is.text, is.empty)) c.in-Err.ensures.short (omega (arith, later, rose)) (c.feed-fed.ensures.fed going bytes h)
+    writes_cut _ (λ t. g.O.Sink.written t.out.now) (λ t. t.block) _ _ _ _ _ _ _ (listed_none _ _ _ _ _ _ _) (λ l is. rw c.requires.none.empty at is.text) (λ l is. is.kept) (λ l is. (rw c.requires.none.empty at is.text, is.empty)) c.feed-fed.result c.in-Err.ensures.short (omega (arith, later, rose)) (c.feed-fed.ensures.fed going bytes h)
 
 pub returns-in-Ok-clause-going : goal.returns-in-Ok-clause-going
 returns-in-Ok-clause-going g c = stays-open _ _ _ c.feed-fed.result c.feed-fed.ensures.refused c.feed-fed.ensures.counted
@@ -21,10 +21,3 @@ returns-in-Ok-clause-fed g c = record { same_how = c.feed-fed.ensures.same_how; 
 
 pub returns-in-Err-clause-fed : goal.returns-in-Err-clause-fed
 returns-in-Err-clause-fed g c = record { same_how = c.feed-fed.ensures.same_how; taken = c.feed-fed.ensures.taken; limit = c.feed-fed.ensures.limit }
-
-pub returns-in-Ok-clause-once : goal.returns-in-Ok-clause-once
-returns-in-Ok-clause-once g c = λ going bytes h.
-    stays-ahead _ _ _ _ (fed-once _ _ _ _ _ _ c.feed-fed.result (listed_none _ _ _ _ _ _ _) (λ l is. is.kept) (c.feed-fed.ensures.fed going bytes h)) c.in-Ok.ensures.cause.kept
-
-pub returns-in-Err-clause-once : goal.returns-in-Err-clause-once
-returns-in-Err-clause-once g c = λ going bytes h. tt

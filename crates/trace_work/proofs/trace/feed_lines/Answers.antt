@@ -2,7 +2,7 @@ use Rattle.std.proofs.Common.{arith}
 use Rattle.std.proofs.lemmas.Result.{on_ok_weaker}
 use Rattle.gate_plan.specs.Groups.{sorting_of}
 use Rattle.trace_work.{specs.TraceLines.traced_none, proofs.TraceFeeds.{feeds-on, feeds-cut}}
-use Rattle.command_work.{proofs.Streams.stays-open, proofs.Once.{stays-ahead, fed-once}}
+use Rattle.command_work.proofs.Streams.{stays-open}
 use Rattle.trace_work.proofs.trace.feed_lines.Goals as goal
 
 pub returns-in-Ok-clause-writes : goal.returns-in-Ok-clause-writes
@@ -33,13 +33,6 @@ returns-in-Ok-clause-fed g c = record { same_how = c.feed-fed.ensures.same_how; 
 
 pub returns-in-Err-clause-fed : goal.returns-in-Err-clause-fed
 returns-in-Err-clause-fed g c = record { same_how = c.feed-fed.ensures.same_how; taken = c.feed-fed.ensures.taken; limit = c.feed-fed.ensures.limit }
-
-pub returns-in-Ok-clause-once : goal.returns-in-Ok-clause-once
-returns-in-Ok-clause-once g c = λ going bytes h.
-    stays-ahead _ _ _ _ (fed-once _ _ _ _ _ _ c.feed-fed.result (traced_none _ _ _ _ _ _ _ _) (λ l is. is.kept) (c.feed-fed.ensures.fed going bytes h)) c.in-Ok.ensures.cause.kept
-
-pub returns-in-Err-clause-once : goal.returns-in-Err-clause-once
-returns-in-Err-clause-once g c = λ going bytes h. tt
 
 pub returns-in-Ok-clause-behind : goal.returns-in-Ok-clause-behind
 returns-in-Ok-clause-behind g c =

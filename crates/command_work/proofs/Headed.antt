@@ -1,0 +1,112 @@
+-- A header, and what reading all data after it leaves.
+use Rattle.std.proofs.Common.{◌≡◌, ◌∙◌, ◌<◌, ℕ, List, [], ◌++◌, None, Some, Ok, Err, refl, sym, ap, subst, inl, inr, ⊎_elim, append_assoc, append-nil, length, ◌⊎◌, true, Result, IfErr, IsErrAnd}
+use Rattle.std.{specs.declared.option.Option.Option, specs.Io.KnownBytes.{Appends, Consumes}, proofs.lemmas.Result.IfErr-weaker}
+use Rattle.tally_base.{specs.declared.fault.Fault.Fault, specs.declared.slot.Slot.TheVariants.Data, specs.declared.header.Header.Header, specs.Faults.{is_outside, fault_in}, proofs.Reasons.{HasReason-follows, HasReason-with}}
+use Rattle.bench_io.{specs.Inputs.{InputState, NoneFalls}, proofs.Bytes.{Appends-nil, Appends-same, AppendsShort-same, Consumes-trans}, proofs.Rises.Rose-behind}
+use Rattle.ptu_definitions.specs.Headers.{header_answer}
+use Rattle.command_work.{specs.Told.Says, specs.Once.InputsOnce, specs.Outcomes.{Outcome, refused, IsCut}, specs.Behaviours.{piece_limit, Work, Writing}, specs.Endings.Span, specs.Works.{AnswersWork, ReadsWork, CutsWork, WantsWork, WorkReason, TakesFew, LeavesWork}}
+use Rattle.command_work.{specs.Pieces.{ReadReason, StopsSoon}, specs.Tellings.{Telling, headed_end, headed_text, HeadedGoes, Suits}, specs.Rests.{EndsText, ReadsText, CutsText, WantsMemory, ReadsRest}, proofs.Once.{stays-same, once-behind}, proofs.Few.{few-map, few-behind}, proofs.Pieces.ShowsHeader, proofs.Fronts.still}
+
+module _ (work : Work) (writing : Writing (List ℕ → List ℕ)) (wanting : List ℕ → Type 0) (tells : Header → Telling) (wants : Header → Type 0) (suits : Suits work writing wanting tells wants) where
+  -- the header is cut
+  cut-goes : (bytes : List ℕ) → IsCut bytes → work.goes_on bytes
+  cut-goes bytes cut = suits.goes bytes (subst (HeadedGoes tells) (sym cut) refl)
+
+  module _ (start : InputState) (at : Span) (front behind : List ℕ) (header : Header) (shows : ShowsHeader front header behind) (took : Consumes (start.rest Data) (at.before.rest Data) front) where
+    abbrev t : Telling
+    t = tells header
+
+    abbrev all : Span
+    all = record at { before = start }
+
+    taken : (more : List ℕ) → Consumes (at.before.rest Data) (at.after.rest Data) more → Consumes (start.rest Data) (at.after.rest Data) (front ++ more)
+    taken more h = Consumes-trans _ _ _ front more took h
+
+    ends-is : (more left : List ℕ) → work.outcome ((front ++ more) ++ left) ≡ t.ends ((behind ++ more) ++ left)
+    ends-is more left = ap work.outcome (append_assoc front more left) ∙ suits.ends (front ++ (more ++ left)) ∙ ap (headed_end tells) (shows (more ++ left)) ∙ ap t.ends (sym (append_assoc behind more left))
+
+    answers : (r : Result (Unit {0}) Fault) → IsErrAnd r (λ fault. is_outside fault ≡ true) ⊎ EndsText t [] behind (wants header) at (fault_in r) → AnswersWork work (start.rest Data) (at.after.rest Data) at.old at.new r
+    answers r (inl outside) = inl outside
+    answers r (inr h) = inr (record {
+      taken = front ++ h.taken;
+      consumes = taken h.taken h.consumes;
+      text = h.more;
+      written = h.written;
+      says = record { more = h.left; may_be = h.may_be; means = ends-is h.taken h.left ∙ h.is };
+    })
+
+    goes : (more : List ℕ) → t.refuses (behind ++ more) ≡ None → work.goes_on (front ++ more)
+    goes more none = suits.goes (front ++ more) (subst (HeadedGoes tells) (sym (shows more)) none)
+
+    reads : ReadsText t [] behind (wants header) at → ReadsWork writing work (start.rest Data) (at.after.rest Data) at.old at.new
+    reads h = record {
+      taken = front ++ h.taken;
+      consumes = taken h.taken h.consumes;
+      written = Appends-same _ _ _ _ (sym (suits.text (front ++ h.taken) ∙ ap (headed_text tells) (shows h.taken) ∙ h.adds)) h.written;
+      goes_on = goes h.taken h.unrefused;
+    }
+
+    cuts : CutsText t [] behind (wants header) at → CutsWork writing work (start.rest Data) (at.after.rest Data) at.old at.new
+    cuts h = record {
+      taken = front ++ h.taken;
+      consumes = taken h.taken h.consumes;
+      more = h.left;
+      may_be = h.may_be;
+      cut = suits.cuts _ _ _ (AppendsShort-same _ _ _ _ (sym (ap (λ (o : Outcome). o.text) (ends-is h.taken h.left) ∙ h.adds)) h.cut);
+    }
+
+    wanted : length behind < piece_limit → WantsMemory t [] behind (wants header) at → WantsWork wanting (start.rest Data) (at.after.rest Data) at.old at.new
+    wanted few h = record {
+      keeps = h.keeps;
+      taken = front;
+      consumes = subst (λ (rest : Option (List ℕ)). Consumes (start.rest Data) rest front) (sym h.same) took;
+      wants = suits.wanting front behind header (ap header_answer (sym (append-nil front)) ∙ shows [] ∙ ap (λ l. Ok (header, l)) (append-nil behind)) h.wants few;
+    }
+
+    -- the rest was read
+    pub leaves-rest : (r : Result (Unit {0}) Fault) → length behind < piece_limit → NoneFalls start.read_faults at.before.read_faults → InputsOnce start at.before None → TakesFew IsCut (start.rest Data) (at.before.rest Data) → ReadsRest t [] behind (wants header) at r → LeavesWork writing wanting work all r
+    leaves-rest r small falls once few rest = record {
+      answer = answers r rest.answer;
+      reason = IfErr-weaker r _ _
+          (λ fault h.
+          HasReason-follows _ _ _ _ _ _ _ _ fault (λ slot no. no) (λ slot h. (h.0, Rose-behind _ _ _ (falls slot) h.1, reads h.2)) (λ h. (h.0, cuts h.1)) (wanted small) h)
+          rest.reason;
+      once = record { inputs = once-behind _ _ _ _ once rest.once.inputs; out = rest.once.out };
+      few = ⊎_elim
+          (λ (same : at.after.rest Data ≡ at.before.rest Data). subst (λ (left : Option (List ℕ)). TakesFew work.goes_on (start.rest Data) left) (sym same) (few-map IsCut work.goes_on _ _ cut-goes few))
+          (λ (h : TakesFew (λ more. t.refuses (behind ++ more) ≡ None) (at.before.rest Data) (at.after.rest Data)). few-behind _ work.goes_on front _ _ _ took goes h)
+          rest.few;
+    }
+
+  module _ (before after : InputState) (a : Option (List ℕ)) (faults : ℕ) where
+    abbrev unwritten : Span
+    unwritten = record (still after a a faults faults) { before = before }
+
+    unheaded : (front : List ℕ) (fault : Fault) → Consumes (before.rest Data) (after.rest Data) front → (is_outside fault ≡ true) ⊎ Says header_answer front (after.rest Data) (Err fault) → AnswersWork work (before.rest Data) (after.rest Data) a a (Err fault)
+    unheaded front fault took (inl outside) = inl outside
+    unheaded front fault took (inr says) = inr (record {
+      taken = front;
+      consumes = took;
+      text = [];
+      written = Appends-nil a;
+      says = record { more = says.more; may_be = says.may_be; means = suits.ends (front ++ says.more) ∙ ap (headed_end tells) says.means };
+    })
+
+    cut-reads : (front : List ℕ) → Consumes (before.rest Data) (after.rest Data) front → IsCut front → ReadsWork writing work (before.rest Data) (after.rest Data) a a
+    cut-reads front took cut = record {
+      taken = front;
+      consumes = took;
+      written = Appends-same a a [] _ (sym (suits.text front ∙ ap (headed_text tells) cut)) (Appends-nil a);
+      goes_on = cut-goes front cut;
+    }
+
+    -- there is no header
+    pub leaves-unheaded : {A : Type 0} (front : List ℕ) (fault : Fault) → Consumes (before.rest Data) (after.rest Data) front → (is_outside fault ≡ true) ⊎ Says header_answer front (after.rest Data) (Err fault) → ReadReason before after fault → InputsOnce before after (Some fault) → StopsSoon {A = A} IsCut (before.rest Data) (after.rest Data) (Err fault)
+        → LeavesWork writing wanting work unwritten (Err fault)
+    leaves-unheaded front fault took answer reason once stops = record {
+      answer = unheaded front fault took answer;
+      reason = HasReason-follows _ _ _ _ _ _ _ _ fault (λ slot no. no) (λ slot h. (h.0.0, h.0.1, cut-reads h.1.0 h.1.1 h.1.2)) (λ no. absurd no) (λ no. absurd no)
+          (HasReason-with _ _ _ _ _ fault stops.unread reason);
+      once = record { inputs = once; out = stays-same _ _ _ refl };
+      few = few-map IsCut work.goes_on _ _ cut-goes stops.few;
+    }

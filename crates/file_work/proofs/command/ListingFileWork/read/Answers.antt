@@ -1,0 +1,4 @@
+use Rattle.file_work.proofs.command.ListingFileWork.read.Goals as goal
+
+pub returns-clause-leaves : goal.returns-clause-leaves
+returns-clause-leaves g c = c.read_file.ensures.leaves

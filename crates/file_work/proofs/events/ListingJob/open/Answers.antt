@@ -1,0 +1,14 @@
+use Rattle.std.proofs.Common.{[], refl, ap}
+use Rattle.bench_io.proofs.Bytes.{Appends-nil}
+use Rattle.command_work.{proofs.Streams.refused-none, proofs.TellingLaws.opens-wrote}
+use Rattle.file_work.{specs.FileOutcomes.listing, specs.EventPieces.lists, proofs.EventEnds.lines_of-none}
+use Rattle.file_work.proofs.events.ListingJob.open.Goals as goal
+
+pub returns-clause-opens : goal.returns-clause-opens
+returns-clause-opens g c = opens-wrote (Unit {0}) (lists (listing c.args.header.now)) ⊥ _ _ _ _ tt [] (lines_of-none _) (refused-none _) (Appends-nil _) refl
+
+pub returns-clause-tells : goal.returns-clause-tells
+returns-clause-tells g c = ap lists c.new-stream.ensures.how
+
+pub returns-clause-stands : goal.returns-clause-stands
+returns-clause-stands g c = record { going = c.new-stream.ensures.unrefused; streamed = c.new-stream.ensures.empty }

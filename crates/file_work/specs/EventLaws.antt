@@ -1,0 +1,51 @@
+-- What holds of the lines of events of bytes that grow.
+use Rattle.std.proofs.Common.{◌≡◌, ◌∙◌, ℕ, List, [], ◌∷◌, ◌++◌, None, Ok, Err, refl, sym, ap, append_assoc, Result}
+use Rattle.tally_base.{specs.declared.fault.Fault.Fault, specs.declared.header.Header.Header, specs.Faults.fault_in}
+use Rattle.ptu_definitions.{specs.Headers.header_answer, specs.Kept.Marked, specs.Words.{words_of, rest_of}, specs.Streams.{Reading, record_refusal, given}, proofs.Firsts.record_refusal-inside, proofs.WordsLemmas.words_of-append, proofs.StreamLemmas.{given-front, given-stays}}
+use Rattle.record_stream.{specs.declared.stream.RecordStream.RecordStream, specs.Standing.how_of, proofs.Lasts.streamed-shown}
+use Rattle.list_out.specs.EventText.{event_text, events_text, lines_of}
+use Rattle.command_work.{specs.Outcomes.MayChange, specs.Behaviours.AsItReads, specs.Works.WantsNone, specs.Tellings.{IsText, Suits, headed_end, headed_text, HeadedGoes}, proofs.TellingLaws.same-end, proofs.Streams.{streamed-clear, streamed-inside, streamed-open}}
+use Rattle.file_work.{specs.FileOutcomes.{listing, listed, events_behind, events_so_far, listing_all}, specs.EventPieces.{lists, HasListed}}
+
+pub events_text-append : (l m : Marked) → events_text (l ++ m) ≡ events_text l ++ events_text m
+events_text-append [] m = refl
+events_text-append (x ∷ l) m = ap (λ t. event_text x.0 x.1 ++ t) (events_text-append l m) ∙ sym (append_assoc (event_text x.0 x.1) (events_text l) (events_text m))
+
+lines-front : (how : Reading) (bytes more : List ℕ) → (tail : List ℕ) × (lines_of how (words_of (bytes ++ more)) ≡ lines_of how (words_of bytes) ++ tail)
+lines-front how bytes more =
+    let r = given-front how (words_of bytes) (words_of (rest_of bytes ++ more)) in
+    (events_text r.0, ap (lines_of how) (words_of-append bytes more) ∙ ap events_text r.1 ∙ events_text-append (given how (words_of bytes)) r.0)
+
+pub lists-law : (how : Reading) → IsText (lists how)
+lists-law how = record {
+  refused = λ bytes more fault h.
+      same-end (listed how (bytes ++ more)) _ _ (ap (lines_of how) (words_of-append bytes more) ∙ ap events_text (given-stays how (words_of bytes) (words_of (rest_of bytes ++ more)) fault h)) (ap fault_in (streamed-shown how bytes fault h more));
+  front = lines-front how;
+  inside = λ bytes. record_refusal-inside how (words_of bytes);
+  end_inside = streamed-inside how;
+}
+
+pub listed-clear : (stream : RecordStream) (bytes : List ℕ) → HasListed stream bytes → record_refusal (how_of stream) (words_of bytes) ≡ None
+listed-clear stream bytes h = streamed-clear _ _ _ _ _ _ _ _ h.streamed h.going
+
+ends : (answer : Result (Header × List ℕ) Fault) → events_behind answer ≡ headed_end (λ header. lists (listing header)) answer
+ends (Ok found) = refl
+ends (Err fault) = refl
+
+text : (answer : Result (Header × List ℕ) Fault) → (events_behind answer).text ≡ headed_text (λ header. lists (listing header)) answer
+text (Ok found) = refl
+text (Err fault) = refl
+
+goes : (answer : Result (Header × List ℕ) Fault) → HeadedGoes (λ header. lists (listing header)) answer → MayChange (events_behind answer).fault
+goes (Ok found) h = streamed-open (listing found.0) found.1 h
+goes (Err fault) h = h
+
+pub listing-suits : Suits listing_all (AsItReads events_so_far) WantsNone (λ header. lists (listing header)) (λ header. ⊥)
+listing-suits = record {
+  ends = λ bytes. ends (header_answer bytes);
+  text = λ bytes. text (header_answer bytes);
+  cuts = λ bytes old new h. h;
+  goes = λ bytes. goes (header_answer bytes);
+  wanting = λ bytes behind header answer wants few. wants;
+  is = λ header. lists-law (listing header);
+}

@@ -1,0 +1,45 @@
+use Rattle.std.proofs.Common.{◌∙◌, None, sym, ap, arith}
+use Rattle.std.proofs.lemmas.Result.{err_from_is_err_and}
+use Rattle.ptu_definitions.specs.Streams.{Reading}
+use Rattle.plan_text.specs.Reading.{plan_view}
+use Rattle.gate_plan.{specs.Plans.reading_by, specs.Groups.sorting_of}
+use Rattle.record_stream.specs.Standing.{how_of}
+use Rattle.photon_pick.proofs.Stays.{has-none}
+use Rattle.command_work.proofs.TellingLaws.{opens-misfit, opens-wrote, opens-cut}
+use Rattle.pick_work.{specs.PickOutcomes.chosen_by, specs.PickPieces.picks, proofs.Picked.{picks-start, picks-none, picks-same}}
+use Rattle.pick_work.proofs.pick.PickJobJob.open.Goals as goal
+
+pub returns-in_err-fits-clause-opens : goal.returns-in_err-fits-clause-opens
+returns-in_err-fits-clause-opens g c =
+    let p = err_from_is_err_and c.from_residual.result c.from_residual.ensures.1 in
+    rw (p.1, p.2) (opens-misfit (Unit {0}) _ _ _ None _ 0 _ c.in_err-fits.field-0.0 (sym (rw c.mode-mode.ensures at c.in_err-fits.ensures.answer)))
+
+pub returns-in_err-start-clause-opens : goal.returns-in_err-start-clause-opens
+returns-in_err-start-clause-opens g c =
+    let p = err_from_is_err_and c.from_residual-in_err-start.result c.from_residual-in_err-start.ensures.1 in
+    let job = c.args.self.now in
+    let suits = sym (rw c.mode-mode.ensures at c.in_ok-fits.ensures.answer) in
+    let short = rw (c.new-picker.ensures.mode, c.mode-mode.ensures) at c.in_err-start.ensures.short in
+    rw (p.1, p.2, suits) (opens-cut (Unit {0}) (picks (chosen_by (plan_view job.plan.now) job.group) (reading_by (plan_view job.plan.now) c.args.header.now)) _ _ _ _ _ c.in_err-start.field-0.0 _ (picks-start _ _) c.in_err-start.ensures.fault short c.in_err-start.ensures.cause.failed)
+
+pub returns-clause-opens : goal.returns-clause-opens
+returns-clause-opens g c =
+    let job = c.args.self.now in
+    let suits = sym (rw c.mode-mode.ensures at c.in_ok-fits.ensures.answer) in
+    let wrote = rw (c.new-picker.ensures.mode, c.mode-mode.ensures) at c.in_ok-start.ensures.all in
+    rw suits (opens-wrote (Unit {0}) (picks (chosen_by (plan_view job.plan.now) job.group) (reading_by (plan_view job.plan.now) c.args.header.now)) ⊥ _ _ _ _ tt _ (picks-start _ _) (picks-none _ _ c.new-picker.result c.new-picker.ensures.none) wrote c.in_ok-start.ensures.cause.kept)
+
+pub returns-clause-tells : goal.returns-clause-tells
+returns-clause-tells g c =
+    let suits = sym (rw c.mode-mode.ensures at c.in_ok-fits.ensures.answer) in
+    picks-same c.args.self.now.group (plan_view c.args.self.now.plan.now) c.args.header.now (sorting_of c.of-gates.result) (how_of c.new-stream.result) suits c.of-gates.ensures.sorting c.new-stream.ensures.how
+
+pub returns-clause-stands : goal.returns-clause-stands
+returns-clause-stands g c =
+    let none = c.new-picker.ensures.none in
+    record {
+      going = c.new-stream.ensures.unrefused;
+      behind = record { same_mode = c.new-picker.ensures.mode ∙ c.mode-mode.ensures ∙ sym (ap (λ (how : Reading). how.mode) c.new-stream.ensures.how); before = omega (arith, none) };
+      streamed = c.new-stream.ensures.empty;
+      picked = has-none _ _ _ none;
+    }
