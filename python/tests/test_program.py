@@ -3,6 +3,7 @@
 import io
 import os
 import pickle
+import subprocess
 import sys
 import time
 from collections.abc import Callable
@@ -11,7 +12,6 @@ from typing import Any
 
 import made
 import pytest
-import words_of_documents
 from conftest import EXAMPLES
 
 import ptulab
@@ -56,8 +56,8 @@ def test_refusals_say_what_the_documents_say(program: str, make_plan: Callable[.
 
 
 def test_words_are_those_of_the_documents() -> None:
-    words = words_of_documents.words()
-    assert words == module._words()
+    subprocess.run([sys.executable, EXAMPLES.parent / "docs" / "make_references.py", "--check"], check=True)
+    words = module._words()
     assert sorted(map(int, words["rules"])) == list(range(1, 32)) and sorted(map(int, words["statuses"])) == list(range(1, 25))
     assert module.refusal(8, "ptu: plan breaks rule 31 at 1").meaning == words["rules"]["31"]
     assert module.refusal(127, "no status of the program").meaning == ""
