@@ -1,7 +1,8 @@
 #!/usr/bin/env python3
 """Checks the sizes, times and counts that documents state against measures.toml: check_measures.py [--write]
 
-A measure there has a `value` with the day on which it was measured (`on`), or is `counted` here in the tree. `said` lists the
+A measure there has a `value` with the day on which it was measured (`on`), or is `counted` here in the tree; with both, what
+is counted may differ by a tenth. `said` lists the
 places that state it, each as PAGE: WORDS, where {} stands for the number and a line may break at each blank. Each place must be there and
 have this number; with --write the number is put there. In the `pages` of measures.toml every number that has one of the
 `units` behind it, outside of blocks of code, must be such a place or stand word for word in `others`. Ends with 1 where one isn't so.
@@ -88,13 +89,16 @@ def main() -> None:
     told = tomllib.loads(read("docs/measures.toml"))
     texts: dict[str, str] = {}
     wrong = []
-    for name, measure in told["measure"].items():
-        value = COUNTERS[measure["counted"]]() if "counted" in measure else measure["value"]
+    for name, measure in told.get("measure", {}).items():
+        counted = COUNTERS[measure["counted"]]() if "counted" in measure else None
+        value = measure.get("value", counted)
+        if counted is not None and abs(counted - value) > (0.1 * value if "value" in measure else 0):
+            wrong.append(f"docs/measures.toml: {name} is {value}, and was counted as {counted}: measure it anew")
         if "value" in measure and not isinstance(measure.get("on"), datetime.date):
             wrong.append(f"docs/measures.toml: {name} has no day")
         wrong += [fault for place in measure["said"] if value is not None and (fault := check_place(texts, name, value, place))]
     for page in filter(lambda page: (ROOT / page).exists(), told["pages"]):
-        said = [place.split(": ", 1) for measure in told["measure"].values() for place in measure["said"]]
+        said = [place.split(": ", 1) for measure in told.get("measure", {}).values() for place in measure["said"]]
         places = [words for whose, words in said if whose == page] + told["others"]
         wrong += [f"{page}: '{number}' is no measure of docs/measures.toml" for number in unmeasured(page, told["units"], places)]
     if "--write" not in sys.argv[1:]:
