@@ -35,10 +35,6 @@ def files(*patterns: str) -> list[str]:
     return [str(path) for pattern in patterns for path in ROOT.glob(pattern)]
 
 
-def lines(*patterns: str) -> int:
-    return sum(open(name, encoding="utf-8").read().count("\n") for name in files(*patterns))
-
-
 def program_kilobytes() -> int | None:
     """The size of the program in thousands of bytes, None where it isn't built."""
     built = [path for path in (ROOT / "crates/ptu/out/ptu", ROOT / "out/ptu") if path.exists()]
@@ -46,13 +42,9 @@ def program_kilobytes() -> int | None:
 
 
 COUNTERS: dict[str, Callable[[], int | None]] = {
-    "crates": lambda: sum(":" in line for line in re.sub(r"#.*", "", read("crates.txt")).split("\n")),
     "crates_of_program": crates_of_program,
     "edits_of_gate": lambda: len(files("crates/*/must-fail/*.edit")),
     "other_edits": lambda: len(files("bench/edits/*/*.edit")),
-    "lines_of_code": lambda: lines("crates/*/src/**/*.rt"),
-    "lines_of_specs": lambda: lines("crates/*/specs/**/*.antt"),
-    "lines_of_proofs": lambda: lines("crates/*/proofs/**/*.antt"),
     "rules_of_plans": lambda: len(re.findall(r"^\| \d+ \|", read("docs/plan.md").split("## The rules")[1], flags=re.M)),
     "program_kilobytes": program_kilobytes,
 }
