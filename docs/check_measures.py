@@ -9,7 +9,10 @@ have this number; with --write the number is put there. In the `pages` of measur
 """
 
 import datetime
+import pathlib
 import re
+import shutil
+import subprocess
 import sys
 import tomllib
 from collections.abc import Callable
@@ -35,26 +38,32 @@ def files(*patterns: str) -> list[str]:
     return [str(path) for pattern in patterns for path in ROOT.glob(pattern)]
 
 
-def lines(*patterns: str) -> int:
-    return sum(open(name, encoding="utf-8").read().count("\n") for name in files(*patterns))
+def built_programs() -> list[pathlib.Path]:
+    return [path for path in (ROOT / "crates/ptu/out/ptu", ROOT / "out/ptu") if path.exists()]
 
 
 def program_kilobytes() -> int | None:
     """The size of the program in thousands of bytes, None where it isn't built."""
-    built = [path for path in (ROOT / "crates/ptu/out/ptu", ROOT / "out/ptu") if path.exists()]
+    built = built_programs()
     return round(built[0].stat().st_size / 1000) if built else None
 
 
-COUNTERS: dict[str, Callable[[], int | None]] = {
-    "crates": lambda: sum(":" in line for line in re.sub(r"#.*", "", read("crates.txt")).split("\n")),
+def c_library() -> float | None:
+    """The version of the GNU C library that the built program asks for, None where that can't be seen."""
+    if not (built := built_programs()) or not shutil.which("objdump"):
+        return None
+    symbols = subprocess.run(["objdump", "-T", built[0]], capture_output=True, text=True, check=True).stdout
+    return max((float(f"{major}.{minor}") for major, minor in re.findall(r"GLIBC_(\d+)\.(\d\d)\b", symbols)), default=None)
+
+
+COUNTERS: dict[str, Callable[[], float | None]] = {
     "crates_of_program": crates_of_program,
     "edits_of_gate": lambda: len(files("crates/*/must-fail/*.edit")),
     "other_edits": lambda: len(files("bench/edits/*/*.edit")),
-    "lines_of_code": lambda: lines("crates/*/src/**/*.rt"),
-    "lines_of_specs": lambda: lines("crates/*/specs/**/*.antt"),
-    "lines_of_proofs": lambda: lines("crates/*/proofs/**/*.antt"),
     "rules_of_plans": lambda: len(re.findall(r"^\| \d+ \|", read("docs/plan.md").split("## The rules")[1], flags=re.M)),
     "program_kilobytes": program_kilobytes,
+    "c_library": c_library,
+    "python": lambda: float(re.findall(r'requires-python = ">=([\d.]+)"', read("python/pyproject.toml"))[0]),
 }
 
 

@@ -228,11 +228,21 @@ def check_facts(text: str) -> None:
         raise SystemExit(f"{PAGE}: the main theorem has the facts {sorted(facts)}, and the page tells {sorted(told)}")
 
 
+def check_laws(found: Iterator[Row]) -> None:
+    """Each law that a page names is one."""
+    laws = {word for row in found for word in [*re.findall(r"`(\w+)`", row.name), *row.ensures]}
+    for path in [ROOT / "README.md", *sorted((ROOT / "docs").glob("*.md"))]:
+        for law in re.findall(r"\blaw `(\w+)`", path.read_text("utf-8")):
+            if law not in laws and path.name != "proved.md":
+                raise SystemExit(f"{path.relative_to(ROOT)}: there is no law {law}")
+
+
 def main() -> None:
     text = read(PAGE)
     check_facts(text)
     names = [line.split(":")[0].strip() for line in read("crates.txt").split("\n") if ":" in line.split("#")[0]]
     found = {crate: list(rows(crate)) for crate in names}
+    check_laws(row for crate in names for row in found[crate])
     named = parts(text, [crate for crate in names if found[crate]])
     made = iter(named)
 
