@@ -41,7 +41,7 @@ def test_refusals_say_what_the_documents_say(program: str, make_plan: Callable[.
     with pytest.raises(Refusal) as fault:
         ptulab.run(EXAMPLES / "broken.toml", data, program=program)
     assert (fault.value.status, fault.value.line) == (8, "ptu: plan breaks rule 10 at 2")
-    assert fault.value.meaning.startswith("A group's `gate`, if it is there, is a list of two whole numbers from 0 to 32768")
+    assert fault.value.meaning.startswith("A group's `gate`, if present, is a list of two whole numbers from 0 to 32768")
     with pytest.raises(Refusal, match=r"status 19") as fault:
         ptulab.run(plan, data, program=program)
     assert fault.value.line == "ptu: record 2 goes back from 20 to 15" and fault.value.meaning.startswith("a late event")
