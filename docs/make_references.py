@@ -129,6 +129,8 @@ def endings() -> Iterator[Ending]:
         when = fault["when"].replace("{kinds}", ", ".join(kinds[:-1]) + " or " + kinds[-1])
         asked = {"plan": "PLAN", "data": "FILE"}.get(slot)
         ends = [c.word for c in named if fault.get("words") or status in may_end[c.word] and (not asked or asked in c.words)]
+        if not ends:
+            raise SystemExit(f"by the law on the statuses no command ends with {status}, {fault['name']}")
         yield Ending(status, f"ptu: {line}", when, ends)
 
 
