@@ -51,7 +51,7 @@ def test_refusals_say_what_the_documents_say(program: str, make_plan: Callable[.
         ptulab.run(plan, "nothing.ptu", program=program)
     with pytest.raises(Refusal, match="a read of FILE failed"):
         ptulab.run(plan, plan.parent, program=program)
-    with pytest.raises(Refusal, match="no TOML document"):
+    with pytest.raises(Refusal, match="isn.t a TOML document"):
         ptulab.run(make_plan("= 5"), data, program=program)
 
 
