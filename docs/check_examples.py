@@ -1,7 +1,7 @@
 #!/usr/bin/env python3
 """Compares the printed examples of the documents with what the program prints: check_examples.py [PROGRAM] [PAGE ..]
 
-A page is README.md, a page of docs/ or examples/README.md, or the man page. Its blocks tell what is tried:
+A page is README.md, CONTRIBUTING.md, CHANGELOG.md, a page of docs/ or examples/README.md, or the man page. Its blocks tell what is tried:
 
 - console: each line that begins with '$ ' is a command, and the lines up to the next one are all that it prints,
   standard error included, byte by byte. A command goes on where its line ends with a backslash or within a text in
@@ -36,7 +36,7 @@ BUILTINS = {"if", "for", "do", "done", "then", "fi", "cd", "echo", "export", "so
 
 def pages():
     names = [name for name in sorted(os.listdir(os.path.join(ROOT, "docs"))) if name.endswith((".md", ".1"))]
-    return ["README.md", *(f"docs/{name}" for name in names), "examples/README.md"]
+    return ["README.md", "CONTRIBUTING.md", "CHANGELOG.md", *(f"docs/{name}" for name in names), "examples/README.md"]
 
 
 def blocks(text):

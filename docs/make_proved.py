@@ -208,9 +208,9 @@ def section(crate: str, found: list[Row]) -> str:
     return "\n".join([*lines, *(line for one in refused(crate) for line in ("", one))]) + "\n"
 
 
-def parts(text: str, crates: list[str]) -> list[list[str]]:
+def parts(text: str, crates: list[str], pattern: re.Pattern[str] = PART) -> list[list[str]]:
     """The crates of each part, with those that no part names behind the ones before them in the list."""
-    named = [[crate for crate in found.split() if crate in crates] for found in PART.findall(text)]
+    named = [[crate for crate in found.split() if crate in crates] for found in pattern.findall(text)]
     for at, crate in enumerate(crates):
         if not any(crate in part for part in named):
             earlier = [one for one in crates[:at] if any(one in part for part in named)]

@@ -44,7 +44,7 @@ def test_refusals_say_what_the_documents_say(program: str, make_plan: Callable[.
     assert fault.value.meaning.startswith("A group's `gate`, if present, is a list of two whole numbers from 0 to 32768")
     with pytest.raises(Refusal, match=r"status 19") as fault:
         ptulab.run(plan, data, program=program)
-    assert fault.value.line == "ptu: record 2 goes back from 20 to 15" and fault.value.meaning.startswith("an event that is out of order (late)")
+    assert fault.value.line == "ptu: record 2 goes back from 20 to 15" and fault.value.meaning.startswith("an event that is out of order")
     with pytest.raises(Refusal, match="PLAN can't be opened"):
         ptulab.run("nothing.toml", data, program=program)
     with pytest.raises(Refusal, match="FILE can't be opened"):
