@@ -1,7 +1,7 @@
 #!/usr/bin/env python3
 """Compares the printed examples of the documents with what the program prints: check_examples.py [PROGRAM] [PAGE ..]
 
-A page is README.md, a page of docs/ or examples/README.md, or the man page. Its blocks tell what is tried:
+A page is README.md, CONTRIBUTING.md, CHANGELOG.md, a page of docs/ or examples/README.md, or the man page. Its blocks tell what is tried:
 
 - console: each line that begins with '$ ' is a command, and the lines up to the next one are all that it prints,
   standard error included, byte by byte. A command goes on where its line ends with a backslash or within a text in
@@ -15,7 +15,7 @@ The blocks of a page are tried in their order, in a folder of their own that has
 examples, docs, bench and python, ./ptu, FILE and PLAN, which are the sample of a scan and its plan, the same as big.ptu,
 big.ptu.gz and plan.toml, and the folder data with three such files. A block with a program that isn't on this machine is
 left out, and that is said. PROGRAM is ./ptu of this tree by default. What differs is shown, and so is each link to a
-file or a title that isn't there; it ends with 1 if there is any. The scripts of examples/ want what ptulab
+file or a title that isn't there and each name of a crate's file, as `ptu_cli/specs/Runs.antt`, that none has; it ends with 1 if there is any. The scripts of examples/ want what ptulab
 wants (python/debian-packages): call it by a Python that has it.
 """
 
@@ -36,7 +36,7 @@ BUILTINS = {"if", "for", "do", "done", "then", "fi", "cd", "echo", "export", "so
 
 def pages():
     names = [name for name in sorted(os.listdir(os.path.join(ROOT, "docs"))) if name.endswith((".md", ".1"))]
-    return ["README.md", *(f"docs/{name}" for name in names), "examples/README.md"]
+    return ["README.md", "CONTRIBUTING.md", "CHANGELOG.md", *(f"docs/{name}" for name in names), "examples/README.md"]
 
 
 def blocks(text):
@@ -141,7 +141,10 @@ def anchors(page):
 
 
 def dead_links(page):
-    """Each link of a page to a file or a title of this tree that isn't there."""
+    """Each link of a page to a file or a title of this tree that isn't there, and each file of a crate that it names so."""
+    for name in re.findall(r"`(\w+/(?:src|specs|proofs|must-fail)/[\w./-]+)`", prose(page)):
+        if not os.path.exists(os.path.join(ROOT, "crates", name)):
+            yield name
     for target in re.findall(r"\]\(([^)\s]+)\)", prose(page)):
         name, _, anchor = target.partition("#")
         file = os.path.normpath(os.path.join(os.path.dirname(page), name)) if name else page

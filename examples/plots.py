@@ -1,9 +1,11 @@
 #!/usr/bin/env python3
-"""Draws seven worked plots: plots.py FOLDER [PROGRAM]
+"""Draws eight worked plots: plots.py FOLDER [PROGRAM]
 
 It makes the samples of two detectors and of single molecules, runs ptu over them and over the sample of a scan, and
-puts decay.png, trace.png, image.png, startstop.png, coincidence.png, correlation.png and bursts.png into FOLDER. Each plot is a function of a few lines, to
-be copied. PROGRAM is the ptu that counts, by default ./ptu of this folder's tree. It needs NumPy and Matplotlib.
+puts decay.png, trace.png, image.png, startstop.png, coincidence.png, correlation.png and bursts.png into FOLDER, and
+overview.png, the picture of the README: a lifetime image, a correlation and coincidences. Each plot is a function of a
+few lines, meant to be copied. PROGRAM is the ptu that counts, by default ./ptu of this folder's tree. It needs NumPy and
+Matplotlib.
 """
 
 import math
@@ -69,6 +71,25 @@ def correlation(report, axes):
     axes.set(xlabel="lag (s)", ylabel="G", ylim=(0, 3))
 
 
+def lifetimes(report, axes, pulse=2e-9, least=25):
+    """The mean delay of each pixel after the pulse, of those with enough photons."""
+    table = report.table("cube")
+    delays = table.mean_delays() * report.head["resolution"] - pulse
+    shown = axes.imshow(np.where(table.counts.sum(axis=2) < least, np.nan, delays * 1e9), cmap="viridis", interpolation="nearest")
+    axes.figure.colorbar(shown, ax=axes, label="mean delay (ns)")
+    axes.set(xlabel="column", ylabel="row", facecolor="0.9")
+
+
+def overview(folder, scan, pairs):
+    figure, axes = plt.subplots(1, 3, figsize=(12, 3.4), layout="constrained")
+    lifetimes(scan, axes[0])
+    correlation(pairs, axes[1])
+    coincidence(pairs, axes[2])
+    for title, place in zip(("lifetime image", "normalised correlation", "antibunching"), axes, strict=True):
+        place.set_title(title)
+    figure.savefig(os.path.join(folder, "overview.png"), dpi=90, metadata={"Software": None})
+
+
 def bursts(folder, program):
     """Two seconds of single molecules by milliseconds, and how many bins have how many photons, beside what the
     background alone would give."""
@@ -111,7 +132,9 @@ def main():
     draw(folder, report_of(program, "scan.toml", os.path.join(HERE, "scan.ptu")), (decay, trace, image))
     with tempfile.NamedTemporaryFile(suffix=".ptu") as data:
         write(data.name, "HydraHarp2T2", t2_words(*photons()), TICK)
-        draw(folder, report_of(program, "pairs.toml", data.name), (startstop, coincidence, correlation))
+        pairs = report_of(program, "pairs.toml", data.name)
+    draw(folder, pairs, (startstop, coincidence, correlation))
+    overview(folder, report_of(program, "lifetimes.toml", os.path.join(HERE, "scan.ptu")), pairs)
     bursts(folder, program)
 
 

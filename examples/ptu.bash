@@ -1,14 +1,18 @@
 # Completion of the words of ptu for bash: source examples/ptu.bash
 _ptu() {
-    local word=${COMP_WORDS[COMP_CWORD]}
+    # made by docs/make_references.py: commands
+    local commands="count header events run trace pick demo"
+    local files=" count:2 header:2 events:2 run:3 trace:3 pick:4 "
+    local plans=" run:2 trace:2 pick:2 "
+    # end
+    local word=${COMP_WORDS[COMP_CWORD]} at=" ${COMP_WORDS[1]}:$COMP_CWORD " ending=
     COMPREPLY=()
     if [ "$COMP_CWORD" -eq 1 ]; then
-        mapfile -t COMPREPLY < <(compgen -W "run count header events trace pick demo" -- "$word")
+        mapfile -t COMPREPLY < <(compgen -W "$commands" -- "$word")
         return
     fi
-    case ${COMP_WORDS[1]}:$COMP_CWORD in
-    run:2 | trace:2 | pick:2) mapfile -t COMPREPLY < <(compgen -f -X '!*.toml' -- "$word"; compgen -d -- "$word") ;;
-    run:3 | trace:3 | pick:4 | count:2 | header:2 | events:2) mapfile -t COMPREPLY < <(compgen -f -X '!*.ptu' -- "$word"; compgen -d -- "$word") ;;
-    esac
+    [[ $plans != *"$at"* ]] || ending=toml
+    [[ $files != *"$at"* ]] || ending=ptu
+    [ -z "$ending" ] || mapfile -t COMPREPLY < <(compgen -f -X "!*.$ending" -- "$word"; compgen -d -- "$word")
 }
 complete -o filenames -F _ptu ptu ./ptu

@@ -255,5 +255,11 @@ def test_a_plan_of_lifetimes_over_the_file_is_checked_too(tmp_path):
     assert "width = 0 isn't a whole number from 1 to 32,768\n" in script("check_plan.py", tmp_path / "plan.toml", PTU).stdout
 
 
-def test_the_man_page_has_the_tables_of_the_documents():
-    subprocess.run([sys.executable, f"{ROOT}/docs/man_tables.py", "--check"], check=True)
+@pytest.mark.parametrize("words, said", [(["p"], ["pick"]), (["run", ""], ["plans/"]), (["run", "a.toml", ""], ["b.ptu", "plans/"]), (["demo", ""], [])])
+def test_the_shell_completes_the_words_of_the_program(tmp_path, words, said):
+    for name in ("b.ptu", "c.txt"):
+        (tmp_path / name).touch()
+    (tmp_path / "plans").mkdir()
+    text = f'. {ROOT}/examples/ptu.bash; COMP_WORDS=(ptu "$@") COMP_CWORD=$#; _ptu; printf "%s\n" "${{COMPREPLY[@]}}"'
+    run = subprocess.run(["bash", "-c", text, "bash", *words], capture_output=True, text=True, check=True, cwd=tmp_path)
+    assert [f"{word}/" if (tmp_path / word).is_dir() else word for word in run.stdout.split()] == said

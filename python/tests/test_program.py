@@ -3,6 +3,7 @@
 import io
 import os
 import pickle
+import subprocess
 import sys
 import time
 from collections.abc import Callable
@@ -11,7 +12,6 @@ from typing import Any
 
 import made
 import pytest
-import words_of_documents
 from conftest import EXAMPLES
 
 import ptulab
@@ -41,23 +41,23 @@ def test_refusals_say_what_the_documents_say(program: str, make_plan: Callable[.
     with pytest.raises(Refusal) as fault:
         ptulab.run(EXAMPLES / "broken.toml", data, program=program)
     assert (fault.value.status, fault.value.line) == (8, "ptu: plan breaks rule 10 at 2")
-    assert fault.value.meaning.startswith("A group's `gate`, if it is there, is a list of two whole numbers from 0 to 32768")
+    assert fault.value.meaning.startswith("A group's `gate`, if present, is a list of two whole numbers from 0 to 32768")
     with pytest.raises(Refusal, match=r"status 19") as fault:
         ptulab.run(plan, data, program=program)
-    assert fault.value.line == "ptu: record 2 goes back from 20 to 15" and fault.value.meaning.startswith("a late event")
+    assert fault.value.line == "ptu: record 2 goes back from 20 to 15" and fault.value.meaning.startswith("an event that is out of order")
     with pytest.raises(Refusal, match="PLAN can't be opened"):
         ptulab.run("nothing.toml", data, program=program)
     with pytest.raises(Refusal, match="FILE can't be opened"):
         ptulab.run(plan, "nothing.ptu", program=program)
     with pytest.raises(Refusal, match="a read of FILE failed"):
         ptulab.run(plan, plan.parent, program=program)
-    with pytest.raises(Refusal, match="no TOML document"):
+    with pytest.raises(Refusal, match="isn.t a TOML document"):
         ptulab.run(make_plan("= 5"), data, program=program)
 
 
 def test_words_are_those_of_the_documents() -> None:
-    words = words_of_documents.words()
-    assert words == module._words()
+    subprocess.run([sys.executable, EXAMPLES.parent / "docs" / "make_references.py", "--check"], check=True)
+    words = module._words()
     assert sorted(map(int, words["rules"])) == list(range(1, 32)) and sorted(map(int, words["statuses"])) == list(range(1, 25))
     assert module.refusal(8, "ptu: plan breaks rule 31 at 1").meaning == words["rules"]["31"]
     assert module.refusal(127, "no status of the program").meaning == ""

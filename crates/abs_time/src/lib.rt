@@ -1,4 +1,5 @@
-//! Absolute times of records, and which events are late.
+//! The clock of a file: absolute times of records (macrotimes), and which events are late (out of order). Begin
+//! with `clock.rt`; `record_stream` uses it.
 #![tactic(auto)]
 
 mod clock;

@@ -1,4 +1,5 @@
-//! Counts of pairs of photons by the time between them: the start-stop table and the coincidences.
+//! Pairs of photons by the time between them: the start-stop table (neighbours) and the coincidences (all pairs).
+//! Begin with `specs/Intervals.antt` and `specs/Pairs.antt`: what is counted.
 #![tactic(auto)]
 
 mod closing;

@@ -1,4 +1,6 @@
-//! Laws over all commands, each as the contract of a function that does nothing.
+//! Laws over all commands, which the program doesn't need: their outcomes as a table of cases, where each fault
+//! comes from, and the statuses of their runs, each as the contract of a function that does nothing. Begin with
+//! `specs/CommandCases.antt`.
 #![tactic(auto)]
 
 ghost use Rattle.std.specs.Prelude.{◌≡◌, ◌≤◌, ◌↔◌, ◌⊎◌, ℕ, List, None, Some, false, length, map};

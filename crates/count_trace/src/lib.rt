@@ -1,4 +1,5 @@
-//! The count trace: how many photons of a group came in each bin of the time of the file.
+//! The intensity trace: how many photons of a group are in each bin of the absolute time. Begin with
+//! `specs/TraceCounts.antt`: what is counted.
 #![tactic(auto)]
 
 mod bin;

@@ -1,4 +1,5 @@
-//! The commands on FILE alone: `count`, `header` and `events`.
+//! The commands on FILE alone: `count`, `header` and `events`. Begin with `command.rt`, and with
+//! `specs/FileOutcomes.antt` for what they leave.
 #![tactic(auto)]
 
 mod command;

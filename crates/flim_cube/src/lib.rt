@@ -1,4 +1,5 @@
-//! Lifetime cubes: an image of a scan with a histogram of the dtimes in each pixel.
+//! Lifetime images (FLIM): an image of a scan with a TCSPC histogram in each pixel. Begin with
+//! `specs/CubeCounts.antt`: what is counted.
 #![tactic(auto)]
 
 mod count;

@@ -1,4 +1,5 @@
-//! Fold patterns: which groups have a photon in the window that begins at a photon.
+//! n-fold coincidences: which groups have a photon in the window that begins at a photon. Begin with
+//! `specs/FoldCounts.antt`: what is counted.
 #![tactic(auto)]
 
 mod fold;

@@ -1,4 +1,6 @@
-//! Recent occupied bins of time with their weights in two groups, and cells that count pairs.
+//! The last bins of time that have photons, with their weights in two groups, cells that count pairs, and the
+//! weights of many bins by tick with the sums of their products at many lags. Begin with `ring.rt`; `coincidence`,
+//! `fold_count` and `tau_cascade` stand on it.
 #![tactic(auto)]
 
 mod buffer;

@@ -1,5 +1,5 @@
-//! A trace without end: a line for each bin that isn't empty, once a later one begins, and then how often each
-//! count came.
+//! The trace of the command `trace`, of any length: a line for each bin that isn't empty, once a later one begins,
+//! and then how many bins have each count. Begin with `trace.rt`, and with `specs/Texts.antt` for what is printed.
 #![tactic(auto)]
 
 mod closed;

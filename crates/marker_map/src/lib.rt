@@ -1,4 +1,5 @@
-//! Where a photon is in a scan image, by the markers before it: its line, its row and its column.
+//! Where a photon is in a scan, by the markers before it: its line, its row and its column. Begin with
+//! `specs/Places.antt`; `scan_image` and `flim_cube` count by it.
 #![tactic(auto)]
 
 mod bits;

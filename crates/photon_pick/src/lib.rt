@@ -1,4 +1,5 @@
-//! The photons of one group of a plan, written while a file is read.
+//! The photons of one group of a plan, written as the records of a file while another is read. Begin with
+//! `piece.rt`, and with `specs/Chosen.antt` for which photons; `pick_work` is the command.
 #![tactic(auto)]
 
 mod choosing;

@@ -1,4 +1,6 @@
-//! Reads a plan: what a run refuses, the groups of photons, and the tables that are counted.
+//! Reads a plan: what makes it invalid, its groups of photons, and the tables that it asks for. Begin with
+//! `read.rt`; each part of a plan has a file here and one in `specs/`, and `kind.rt` is what every kind of table
+//! is.
 #![tactic(auto)]
 
 mod coincidences;

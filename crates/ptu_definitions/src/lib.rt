@@ -1,4 +1,6 @@
-//! What the bytes of a file mean. The definitions stand in `specs/`, and here the plain data that they speak of.
+//! What the bytes of a file mean, as definitions: `specs/` has them, and here is the plain data that they speak of.
+//! Begin with `specs/Layouts.antt` (records), `specs/Times.antt` (absolute times) and `specs/Kept.antt` (late
+//! events).
 #![tactic(auto)]
 
 mod found;

@@ -1,4 +1,5 @@
-//! A large valid file of photons, made from a seed while it is read.
+//! A valid file of photons of any size, made from a seed while it is read: the data of `demo`. Begin with
+//! `made.rt`, and with `specs/Generator.antt` for the photons.
 #![tactic(auto)]
 
 pub mod laws;

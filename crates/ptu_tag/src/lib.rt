@@ -1,4 +1,5 @@
-//! One tag of a PTU header (PicoQuant's unified TTTR format): 48 bytes give its parts.
+//! One tag of a PTU header (PicoQuant's unified TTTR format): 48 bytes give its parts. `ptu_header` reads the whole
+//! header with it.
 #![tactic(auto)]
 
 mod head;

@@ -1,4 +1,6 @@
-//! Records of 32 bits: what each means, and how many there are of each kind.
+//! Records of 32 bits: what each means in the four layouts, the parts of up to 64 of them in columns, and how many
+//! there are of each kind. Begin with `layout.rt`; `by_type.rt` finds the layout of a record type, and
+//! `record_stream` reads files with it.
 #![tactic(auto)]
 
 mod begun;

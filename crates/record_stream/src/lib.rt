@@ -1,4 +1,5 @@
-//! Bytes to events: each photon and marker of a stream of records, once and in order.
+//! From bytes to events: each photon and marker of a stream of records, once and in order, given to a taker. Begin
+//! with `stream.rt` and `taker.rt`; `blocks.rt` takes 64 words at a time, and `walk.rt` one.
 #![tactic(auto)]
 
 mod blocks;

@@ -1,4 +1,5 @@
-//! Writes photons as the records of a file that others read.
+//! Writes photons as the records of a file: their wraps (overflow records) and words. Begin with `Picker` in
+//! `picker.rt`; `photon_pick` feeds it.
 #![tactic(auto)]
 
 pub mod laws;

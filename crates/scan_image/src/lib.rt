@@ -1,4 +1,5 @@
-//! Images of a scan: how many photons of a group came at each place of the scan.
+//! Images of a scan: how many photons of a group are in each pixel. Begin with `specs/ImageCounts.antt`: what is
+//! counted; `count.rt` is the loop that `flim_cube` uses too.
 #![tactic(auto)]
 
 mod count;

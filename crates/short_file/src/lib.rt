@@ -1,4 +1,5 @@
-//! A file of a short header and of words: which bytes it has, and that the definitions of a file's bytes read them back.
+//! A file of a header of two tags and of words: which bytes it has, and that the definitions of a file's bytes read
+//! them back. `ptu_made` and `record_write` write such files.
 #![tactic(auto)]
 
 mod header;

@@ -1,4 +1,6 @@
-//! What every part of the program speaks of: record types, headers, events, the settings of a plan, what every table is, slots, faults and their lines.
+//! What every other crate uses: record types, headers, events and blocks of them in columns, the settings of a
+//! plan, what every table is (`Tally`), input slots, faults with their statuses and lines, and small functions that
+//! append text and numbers to a line. Begin with `event.rt` and `tally.rt`; the faults are in `fault.rt`.
 #![tactic(auto)]
 
 mod block;

@@ -1,4 +1,4 @@
-//! All tables of a plan, fed by one stream of records.
+//! All tables of a plan, fed by one stream of records. Begin with `Engine` in `engine.rt`.
 #![tactic(auto)]
 
 mod engine;

@@ -1,4 +1,5 @@
-//! The correlation of two groups of photons, on levels of coarser and coarser time.
+//! The multiple-tau correlation of two groups of photons, on levels of coarser and coarser time. Begin with
+//! `specs/Correlation.antt`: what is counted; then `cascade.rt` and `level.rt`.
 #![tactic(auto)]
 
 mod bins;

@@ -1,4 +1,5 @@
-//! Rules in their order, and what is read in the values of a TOML document.
+//! Rules in their order up to the first that is broken, and what is read in the values of a TOML document.
+//! `plan_text` has the rules of plans; begin with `rules.rt`.
 #![tactic(auto)]
 
 mod rules;
