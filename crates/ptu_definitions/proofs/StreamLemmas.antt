@@ -1,6 +1,6 @@
 -- Streams that grow.
-use Rattle.std.proofs.Common.{◌≡◌, ◌+◌, ℕ, List, [], ◌∷◌, ◌++◌, Bool, true, false, cond, None, Some, map, max, refl, sym, ap, ◌∙◌, append_assoc, append-nil, arith, nat_lt, count_by, not, ◌&&◌, ◌||◌}
-use Rattle.std.{specs.declared.option.Option.Option, specs.List.list_any, proofs.lemmas.Grind.common_steps, proofs.lemmas.List.map-append, proofs.lemmas.List.Elements.filter-append, proofs.lemmas.List.Sums.sum_by_push, proofs.lemmas.Bool.Decides.nat_tests}
+use Rattle.std.proofs.Common.{◌≡◌, ℕ, List, [], ◌∷◌, ◌++◌, Bool, cond, None, Some, map, max, refl, sym, ap, ◌∙◌, append_assoc, append-nil, arith, nat_lt, not, ◌&&◌, ◌||◌}
+use Rattle.std.{specs.declared.option.Option.Option, specs.List.list_any, proofs.lemmas.Grind.common_steps, proofs.lemmas.List.map-append, proofs.lemmas.Bool.Decides.nat_tests}
 use Rattle.tally_base.{specs.declared.event.Event.Event, specs.declared.header.Mode.Mode, specs.Events.is_ordered, specs.declared.fault.Fault.Fault}
 use Rattle.ptu_definitions.{specs.declared.records.Raw.Raw, specs.Prefixes.{each_after, listed, first}, specs.Times.{event_after, events}, specs.Kept.{floor_of, mark, marked, is_late, greatest, ordered_time, Marked}, specs.Streams.{Reading, refusal, refusals, record_refusal, unless_refused, unrefused_after, events_in, given}, proofs.PrefixLemmas.{each-push, each_after-append, first-append}, proofs.DeliveredLaws.{delivered_after, delivered-append}}
 
