@@ -11,7 +11,7 @@ use Rattle.file_work.{specs.CountText.counts_text, specs.FileOutcomes.{with_coun
 
 -- records that were not refused aren't too many
 within_limit : (bytes : List ℕ) → (IsErr {T = Unit {0}} {E = Fault} (Ok tt) ↔ (record_limit < length (words_of bytes))) → length (words_of bytes) ≤ record_limit
-within_limit bytes limit = elim (cases_lt record_limit (length (words_of bytes))) [ | inr within ↦ within | inl many ↦ let bad = limit.1 many in cc ]
+within_limit bytes limit = elim (cases_lt record_limit (length (words_of bytes))) [ inr within ↦ within | inl many ↦ let bad = limit.1 many in cc ]
 
 pub writes-piece : (header : Header) (bytes piece : List ℕ) (a : Option (List ℕ)) (faults : ℕ) (r : Result (Unit {0}) Fault) → (IsErr r ↔ (record_limit < length (words_of (bytes ++ piece)))) → IfErr r (λ fault. fault ≡ RecordLimit record_limit) → WritesPiece (counts header) bytes piece a a faults faults r
 writes-piece header bytes piece a faults (Ok done) limit fault = (counts-clear (bytes ++ piece) (within_limit (bytes ++ piece) limit), WroteText-none [] a faults)

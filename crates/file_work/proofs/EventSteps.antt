@@ -34,7 +34,6 @@ ListedShort-more name name' mode mode' taken taken' floor floor' faults faults' 
   empty = none;
 }
 
-
 lines-add : (how : Reading) (words now : List ℕ) (more : Marked) → given how now ≡ given how words ++ more → lines_of how now ≡ lines_of how words ++ events_text more
 lines-add how words now more adds = ap events_text adds ∙ events_text-append (given how words) more
 
