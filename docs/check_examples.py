@@ -8,7 +8,7 @@ A page is README.md, CONTRIBUTING.md, CHANGELOG.md, a page of docs/ or examples/
   single quotes. A line '..' stands for any lines, which were left out.
 - sh and python: commands whose output isn't shown. They must end with status 0.
 - toml: a plan, which the program must read. If its first line is a comment that is the name of a file, it is put into
-  that file, for the commands behind it.
+  that file, for the commands behind it. If it begins with '# examples/NAME.toml', the block must be that file.
 - in the man page the lines between .nf and .fi are console.
 
 The blocks of a page are tried in their order, in a folder of their own that has what the pages speak of: the folders
@@ -86,6 +86,13 @@ def agrees(said, printed):
     return re.fullmatch("(?:.*\n)*?".join(map(re.escape, parts)), printed) is not None
 
 
+def read_or_nothing(name):
+    if not os.path.exists(name):
+        return ""
+    with open(name, encoding="utf-8") as file:
+        return file.read()
+
+
 def try_block(kind, text):
     """What is wrong with a block, or nothing."""
     if kind == "console":
@@ -101,6 +108,9 @@ def try_block(kind, text):
         if status != 0:
             yield f"{text}ends with {status}:\n{printed}"
     elif kind == "toml":
+        shipped = re.match(r"# (examples/\w+\.toml)\b", text)
+        if shipped and text != read_or_nothing(shipped[1]):
+            yield f"{text}is not {shipped[1]}"
         named = re.match(r"# ([\w.]+\.toml)\n", text)
         name = named[1] if named else "some.toml"
         with open(name, "w", encoding="utf-8") as out:
