@@ -31,7 +31,7 @@ import tempfile
 
 ROOT = os.path.dirname(os.path.dirname(os.path.abspath(__file__)))
 SHOWN = 40  # lines of a difference
-BUILTINS = {"if", "for", "do", "done", "then", "fi", "cd", "echo", "export", "source"}
+BUILTINS = {"if", "for", "do", "done", "then", "fi", "cd", "echo", "exit", "export", "source"}
 
 
 def pages():

@@ -183,7 +183,7 @@ def help_text(found: Iterable[Ending]) -> str:
     wide = max(len(usage) for usage, _ in shown)
     lines = [f"  {usage:{wide}}  {does[0].lower()}{does[1:]}" for usage, does in shown]
     said = [f"  {one.status:2} {one.line.removeprefix('ptu: ')}" for one in found if one.line]
-    return f"""ptu reads PicoQuant PTU time-tag files, and counts exactly what is in them.
+    return f"""ptu turns PicoQuant PTU time-tag files into exact tables of counts.
 
 {chr(10).join(lines)}
 
