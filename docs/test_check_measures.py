@@ -26,7 +26,7 @@ WORDS = "takes {1.5} to {2.25} seconds"
     ("page", "facts", "found"),
     [
         (PAGE, ["30 MiB", "4 seconds"], []),
-        (PAGE, ["4 seconds"], ["p.md: ' and 30 MiB' is no measure of docs/measures.toml"]),
+        (PAGE, ["4 seconds"], ["p.md: 'A run   and 30 MiB' is no measure of docs/measures.toml"]),
         (PAGE + "It took 0.9.\n", ["30 MiB", "4 seconds"], ["p.md: 'It took 0.9' is no measure of docs/measures.toml"]),
         (PAGE + "Of 2^20 records 12 % are late.\n", ["30 MiB", "4 seconds"], ["p.md: 'Of 2^20 records 12 %' is no measure of docs/measures.toml"]),
         (PAGE, ["30 MiB", "4 seconds", "8 KiB"], ["p.md: '8 KiB', a fact of docs/measures.toml, isn't there"]),

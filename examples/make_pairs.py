@@ -4,8 +4,8 @@
 The file is of type HydraHarp2T2 with ticks of 100 ps, and has 360,627 photons of the inputs 1 and 2. 300,001 of them
 come from a single emitter, which cannot give two photons at once (antibunching), and which goes dark at random for some
 microseconds (blinking). The others are an even background, a tenth as bright as the emitter while it shines. With
---steady it never goes dark, so there is half as much background, and g2 is 1 beside the dip. The same photons come each
-time.
+--steady it never goes dark: 330,014 photons, with half as much background, and g2 is 1 beside the dip. The same photons
+come each time.
 """
 
 import random

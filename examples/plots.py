@@ -77,7 +77,9 @@ def lifetimes(report, axes, pulse=2e-9, least=25):
     """The mean delay of each pixel after the pulse, of those with enough photons."""
     table = report.table("cube")
     delays = table.mean_delays() * report.head["resolution"] - pulse
-    shown = axes.imshow(np.where(table.counts.sum(axis=2) < least, np.nan, delays * 1e9), cmap="viridis", interpolation="nearest")
+    delays = np.where(table.counts.sum(axis=2) < least, np.nan, delays * 1e9)
+    low, high = np.nanpercentile(delays, (1, 98))  # a few pixels at the edge are mostly background
+    shown = axes.imshow(delays, cmap="viridis", interpolation="nearest", vmin=low, vmax=high)
     axes.figure.colorbar(shown, ax=axes, label="mean delay (ns)")
     axes.set(xlabel="column", ylabel="row", facecolor="0.9")
 
