@@ -16,7 +16,7 @@ from made_file import t2_words, write
 TICK = 100e-12  # seconds
 PHOTONS = 300_000
 PUMP, DECAY = 300, 100  # ticks until the emitter is excited, and until it emits
-BRIGHT, DARK = 40_000, 40_000  # ticks that it stays so, in the mean
+BRIGHT, DARK = 40_000, 40_000  # ticks that it stays so, on average
 GROUND = 4_000  # ticks between photons of the background
 
 
