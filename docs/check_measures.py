@@ -1,11 +1,19 @@
 #!/usr/bin/env python3
-"""Checks the sizes, times and counts that documents state against measures.toml: check_measures.py [--write]
+"""Checks the figures that documents state against measures.toml: check_measures.py [--write]
 
-A measure there has a `value` with the day on which it was measured (`on`), or is `counted` here in the tree; with both, what
-is counted may differ by a tenth. `said` lists the
-places that state it, each as PAGE: WORDS, where {} stands for the number and a line may break at each blank. Each place must be there and
-have this number; with --write the number is put there. In the `pages` of measures.toml every number that has one of the
-`units` behind it, outside of blocks of code, must be such a place or stand word for word in `others`. Ends with 1 where one isn't so.
+A figure is a number with a decimal point, with a per cent sign, or with one of the `units` of measures.toml behind it. On the
+`pages` of measures.toml each, outside of blocks of code and tables, must stand in one of these:
+
+- measure.NAME: one number that one or more pages state. It has a `value` and the day on which it was measured (`on`), or is
+  `counted` here in the tree; with both, what is counted may differ by a tenth. `said` lists its places as PAGE: WORDS, where {}
+  stands for the number.
+- told.NAME: places of one page, measured on one day (`on`) under the same conditions (`how`). Each is WORDS with its figures in
+  braces, as "takes {1.04} of the seconds".
+- table.NAME: a whole table of one page, made of `rows`, with `on` and `how`.
+- facts.PAGE: words with numbers that nothing measured, as facts of the format, limits of a plan, and those of an example.
+
+WORDS must stand once on their page, where a line may break at each blank. With --write the figures and tables of measures.toml
+are put there. Ends with 1 where something differs, or where a page has a figure that measures.toml hasn't.
 """
 
 import datetime
@@ -15,11 +23,13 @@ import shutil
 import subprocess
 import sys
 import tomllib
-from collections.abc import Callable
+from collections.abc import Callable, Iterator
+from typing import Any
 
-from made_parts import ROOT, finish, read
+from made_parts import ROOT, finish, put_part, read
 
-NUMBER = r"\d[\d,]*(?:\.\d+)?"
+NUMBER = r"\d+(?:,\d{3})*(?:\.\d+)?"
+SCRIPT = "check_measures.py"
 
 
 def crates_of_program() -> int:
@@ -64,52 +74,92 @@ COUNTERS: dict[str, Callable[[], float | None]] = {
     "program_kilobytes": program_kilobytes,
     "c_library": c_library,
     "python": lambda: float(re.findall(r'requires-python = ">=([\d.]+)"', read("python/pyproject.toml"))[0]),
+    "least_coverage": lambda: int(re.findall(r"--fail-under=(\d+)", read("python/check"))[0]),
 }
-
-
-def pattern(words: str) -> re.Pattern[str]:
-    before, after = (re.escape(part).replace(r"\ ", r"\s+") for part in words.split("{}"))
-    return re.compile(rf"({before})({NUMBER})({after})")
 
 
 def shown(value: float) -> str:
     return f"{value:,}" if abs(value) >= 10_000 else str(value)
 
 
-def check_place(texts: dict[str, str], name: str, value: float, place: str) -> str | None:
-    """What is wrong with a place; the text of its page gets the number."""
-    page, words = place.split(": ", 1)
-    found = pattern(words).search(texts.setdefault(page, read(page)))
-    if found is None:
-        return f"{page}: nothing is told by the words '{words}' ({name} in docs/measures.toml)"
-    texts[page] = pattern(words).sub(lambda match: match[1] + shown(value) + match[3], texts[page])
-    return None
+def pattern(words: str) -> re.Pattern[str]:
+    """Finds words with any numbers in the place of those in braces; its groups are words and numbers in turn."""
+    between = [re.escape(part).replace(r"\ ", r"\s+") for part in re.split(r"\{[^{}]*\}", words)]
+    return re.compile(f"({f')({NUMBER})('.join(between)})")
 
 
-def unmeasured(page: str, units: list[str], places: list[str]) -> list[str]:
-    """Numbers with a unit that no place of the page has."""
-    text = re.sub(r"^```.*?^```", "", read(page), flags=re.M | re.S)
-    for place in places:
-        text = pattern(place).sub("", text) if "{}" in place else text.replace(place, "")
-    return [found[0] for found in re.finditer(rf"[^\n]{{0,30}}(?<![\w.]){NUMBER}[- ](?:million )?(?:{'|'.join(units)})\b", text)]
+def figures(words: str) -> list[str]:
+    return re.findall(r"\{([^{}]*)\}", words)
+
+
+def put_figures(text: str, words: str, numbers: list[str]) -> str | None:
+    """The text with these numbers in the place that has these words, None where there isn't one such place."""
+    found = list(pattern(words).finditer(text))
+    if len(found) != 1:
+        return None
+    parts = list(found[0].groups())
+    parts[1::2] = numbers
+    return text[: found[0].start()] + "".join(parts) + text[found[0].end() :]
+
+
+def faults_of_days(told: dict[str, Any]) -> Iterator[str]:
+    """What was measured has a day; a table and places that are told also have their conditions."""
+    for kind in ("measure", "told", "table"):
+        for name, one in told.get(kind, {}).items():
+            if ("counted" not in one or "value" in one) and not isinstance(one.get("on"), datetime.date):
+                yield f"docs/measures.toml: {kind}.{name} has no day"
+            if kind != "measure" and not one.get("how"):
+                yield f"docs/measures.toml: {kind}.{name} has no conditions"
+
+
+def faults_of_counts(measures: dict[str, Any]) -> Iterator[str]:
+    """What can be counted in the tree is as it was measured. A count that isn't known has no value."""
+    for name, measure in measures.items():
+        counted = COUNTERS[measure["counted"]]() if "counted" in measure else None
+        value = measure.setdefault("value", counted)
+        if counted is not None and abs(counted - value) > 0.1 * value:
+            yield f"docs/measures.toml: {name} is {value}, and was counted as {counted}: measure it anew"
+
+
+def places(told: dict[str, Any]) -> Iterator[tuple[str, str, list[str] | None]]:
+    """The places of figures: the page, the words, and the numbers, None where they aren't known on this machine."""
+    for measure in told.get("measure", {}).values():
+        for page, words in (place.split(": ", 1) for place in measure["said"]):
+            yield page, words, None if measure["value"] is None else [shown(measure["value"])]
+    for one in told.get("told", {}).values():
+        yield from ((one["page"], words, figures(words)) for words in one["words"])
+
+
+def unmeasured(page: str, told: dict[str, Any]) -> Iterator[str]:
+    """Figures of a page that nothing in measures.toml has, and facts that the page hasn't."""
+    text = re.sub(r"^```.*?^```|^[^\n]*made by docs/.*?(?:<!--|#) end\b", "", read(page), flags=re.M | re.S)
+    for whose, words, _ in places(told):
+        text = pattern(words).sub(" ", text) if whose == page else text
+    for fact in told.get("facts", {}).get(page, []):
+        without = re.sub(re.escape(fact).replace(r"\ ", r"\s+"), " ", text)
+        if without == text:
+            yield f"{page}: '{fact}', a fact of docs/measures.toml, isn't there"
+        text = without
+    text = re.sub(r"`[^`\n]*`|\]\([^)\n]*\)", " ", text)
+    unit = rf"[- ](?:(?:million|thousand) )?(?:{'|'.join(told['units'])})\b| ?%"
+    for found in re.finditer(rf"[^\n]{{0,30}}(?<![\w.,^])(?:{NUMBER}(?:{unit})|\d[\d,]*\.\d+(?!\w|\.\d))", text):
+        yield f"{page}: '{found[0]}' is no measure of docs/measures.toml"
 
 
 def main() -> None:
     told = tomllib.loads(read("docs/measures.toml"))
+    wrong = [*faults_of_days(told), *faults_of_counts(told["measure"])]
     texts: dict[str, str] = {}
-    wrong = []
-    for name, measure in told.get("measure", {}).items():
-        counted = COUNTERS[measure["counted"]]() if "counted" in measure else None
-        value = measure.get("value", counted)
-        if counted is not None and abs(counted - value) > (0.1 * value if "value" in measure else 0):
-            wrong.append(f"docs/measures.toml: {name} is {value}, and was counted as {counted}: measure it anew")
-        if "value" in measure and not isinstance(measure.get("on"), datetime.date):
-            wrong.append(f"docs/measures.toml: {name} has no day")
-        wrong += [fault for place in measure["said"] if value is not None and (fault := check_place(texts, name, value, place))]
-    for page in filter(lambda page: (ROOT / page).exists(), told["pages"]):
-        said = [place.split(": ", 1) for measure in told.get("measure", {}).values() for place in measure["said"]]
-        places = [words for whose, words in said if whose == page] + told["others"]
-        wrong += [f"{page}: '{number}' is no measure of docs/measures.toml" for number in unmeasured(page, told["units"], places)]
+    for page, words, numbers in places(told):
+        text = texts.setdefault(page, read(page))
+        changed = put_figures(text, words, numbers) if numbers is not None else text
+        if changed is None:
+            wrong.append(f"{page}: the words '{words}' of docs/measures.toml must stand there once")
+        texts[page] = changed or text
+    for name, table in told.get("table", {}).items():
+        page = table["page"]
+        texts[page] = put_part(texts.setdefault(page, read(page)), SCRIPT, name, table["rows"])
+    wrong += [fault for page in told["pages"] for fault in unmeasured(page, told)]
     if "--write" not in sys.argv[1:]:
         sys.argv.append("--check")
     print(*wrong, sep="\n", end="\n" if wrong else "")

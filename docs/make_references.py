@@ -187,7 +187,7 @@ def help_text(found: Iterable[Ending]) -> str:
 
 {chr(10).join(lines)}
 
-Status 0: all was done. With any other one line stands on standard error, "ptu: " and
+Status 0: all was done. With any other status standard error has one line: "ptu: " and
 {chr(10).join(said)}
 
 The program has no options, so 'ptu --help' is a bad command line to it: './ptu --help' in the source folder, and the

@@ -3,8 +3,8 @@
 
 It makes the samples of two detectors and of single molecules, runs ptu over them and over the sample of a scan, and
 puts decay.png, trace.png, image.png, startstop.png, coincidence.png, correlation.png and bursts.png into FOLDER, and
-overview.png, the picture of the README: a lifetime image, a correlation and coincidences. Each plot is a function of a
-few lines, meant to be copied. PROGRAM is the ptu that counts, by default ./ptu of this folder's tree. It needs NumPy and
+overview.png, the picture of the README: what its three recipes count. Each plot is a function of a few lines, meant to be
+copied. PROGRAM is the ptu that counts, by default ./ptu of this folder's tree. It needs NumPy and
 Matplotlib.
 """
 
@@ -21,11 +21,13 @@ import matplotlib.pyplot as plt  # noqa: E402
 import numpy as np  # noqa: E402
 
 import make_bursts  # noqa: E402
+import make_samples  # noqa: E402
 from make_pairs import photons  # noqa: E402
 from make_pairs import TICK  # noqa: E402
 from made_file import t2_words, write  # noqa: E402
 from ptu_report import read_report  # noqa: E402
 from ptulab import read_trace  # noqa: E402
+from ptulab.fits import g2  # noqa: E402
 
 HERE = os.path.dirname(os.path.abspath(__file__))
 
@@ -75,17 +77,43 @@ def lifetimes(report, axes, pulse=2e-9, least=25):
     """The mean delay of each pixel after the pulse, of those with enough photons."""
     table = report.table("cube")
     delays = table.mean_delays() * report.head["resolution"] - pulse
-    shown = axes.imshow(np.where(table.counts.sum(axis=2) < least, np.nan, delays * 1e9), cmap="viridis", interpolation="nearest")
+    delays = np.where(table.counts.sum(axis=2) < least, np.nan, delays * 1e9)
+    low, high = np.nanpercentile(delays, (1, 98))  # a few pixels at the edge are mostly background
+    shown = axes.imshow(delays, cmap="viridis", interpolation="nearest", vmin=low, vmax=high)
     axes.figure.colorbar(shown, ax=axes, label="mean delay (ns)")
     axes.set(xlabel="column", ylabel="row", facecolor="0.9")
 
 
-def overview(folder, scan, pairs):
+def antibunching(report, axes):
+    table = report.table("coincidence")
+    values, bars = g2(table)
+    axes.errorbar(table.seconds * 1e9, values, bars, fmt=".", markersize=3, linewidth=0.7)
+    axes.axhline(1, color="0.7")
+    axes.set(xlabel="delay (ns)", ylabel="g2", ylim=(0, None))
+
+
+def diffusion(report, axes):
+    """A correlation with its bars, from where these are small."""
+    table = report.table("correlation")
+    values, bars = g2(table)
+    shown = slice(int(np.argmax(bars < 0.05)), None)
+    axes.errorbar(table.seconds[shown], values[shown], bars[shown], fmt=".", markersize=3, linewidth=0.7)
+    axes.axhline(1, color="0.7")
+    axes.set(xlabel="delay (s)", ylabel="G", xscale="log")
+
+
+def overview(folder, program):
+    """What the three recipes of the README count."""
+    with tempfile.TemporaryDirectory() as made:
+        molecules, pairs = os.path.join(made, "diffusion.ptu"), os.path.join(made, "steady.ptu")
+        make_samples.diffusion(molecules)
+        write(pairs, "HydraHarp2T2", t2_words(*photons(blinks=False)), TICK)
+        files = {"flim.toml": os.path.join(HERE, "scan.ptu"), "fcs.toml": molecules, "g2.toml": pairs}
+        reports = [report_of(program, plan, data) for plan, data in files.items()]
     figure, axes = plt.subplots(1, 3, figsize=(12, 3.4), layout="constrained")
-    lifetimes(scan, axes[0])
-    correlation(pairs, axes[1])
-    coincidence(pairs, axes[2])
-    for title, place in zip(("lifetime image", "normalised correlation", "antibunching"), axes, strict=True):
+    titles = "average arrival times of a scan", "correlation of diffusing molecules", "antibunching of one emitter"
+    for draw_one, report, title, place in zip((lifetimes, diffusion, antibunching), reports, titles, axes, strict=True):
+        draw_one(report, place)
         place.set_title(title)
     figure.savefig(os.path.join(folder, "overview.png"), dpi=90, metadata={"Software": None})
 
@@ -116,7 +144,7 @@ def bursts(folder, program):
 
 def report_of(program, plan, data):
     run = subprocess.run([program, "run", os.path.join(HERE, plan), data], check=True, capture_output=True, text=True)
-    return read_report(run.stdout)
+    return read_report(run.stdout, os.path.join(HERE, plan))
 
 
 def draw(folder, report, plots):
@@ -134,7 +162,7 @@ def main():
         write(data.name, "HydraHarp2T2", t2_words(*photons()), TICK)
         pairs = report_of(program, "pairs.toml", data.name)
     draw(folder, pairs, (startstop, coincidence, correlation))
-    overview(folder, report_of(program, "lifetimes.toml", os.path.join(HERE, "scan.ptu")), pairs)
+    overview(folder, program)
     bursts(folder, program)
 
 

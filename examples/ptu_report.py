@@ -4,7 +4,7 @@
     ptu_report.py REPORT --csv FOLDER           # a table of each kind and number, one file each
     ptu_report.py REPORT --json OUT
     ptu_report.py REPORT --page OUT.html        # one page with the head and a plot of every table
-    ptu_report.py REPORT --plan PLAN ..         # the same with normalised correlations
+    ptu_report.py REPORT --plan PLAN ..         # the same with normalised correlations and g2
 
 It is a short program over the package ptulab, which has the reader of reports (docs/python.md) and the page. CSV and
 JSON need NumPy, the page Plotly and Matplotlib too.
@@ -23,6 +23,7 @@ import numpy as np
 sys.path.append(str(Path(__file__).resolve().parents[1] / "python" / "src"))  # where ptulab isn't installed
 from ptulab import PtulabError, Report, Table, read_report  # noqa: E402
 from ptulab.exports import written_whole  # noqa: E402
+from ptulab.fits import g2  # noqa: E402
 
 LEADING = {"image": ("row",), "cube": ("row", "column")}  # axes before the last one
 
@@ -37,17 +38,25 @@ def along(table: Table) -> dict[str, Any]:
     return {name: array for name, array in columns.items() if array is not None}
 
 
+def normalised(table: Table) -> dict[str, Any]:
+    """The columns of a CSV file that are 1 without correlation, an array of each: none where photons or length aren't known."""
+    if table.photons is None or None in (one.length for one in table.measurements):
+        return {}
+    if table.kind == "coincidence":
+        return dict(zip(("g2", "error"), g2(table)))
+    return {"normalised": table.normalised()} if table.kind == "correlation" else {}
+
+
 def lines(table: Table) -> Iterator[str]:
     """The lines of a CSV file of all cells of a table, those of 0 too, with their names first."""
-    columns = along(table)
-    is_known = table.kind == "correlation" and table.photons is not None and None not in (one.length for one in table.measurements)
-    yield ",".join([*LEADING.get(table.kind, ()), *columns, "count", *(["normalised"] if is_known else [])]) + "\n"
+    columns, more = along(table), normalised(table)
+    yield ",".join([*LEADING.get(table.kind, ()), *columns, "count", *more]) + "\n"
     middles = ["".join(f"{value}," for value in values) for values in zip(*(array.tolist() for array in columns.values()))]
-    ends = [f",{value}\n" for value in table.normalised().tolist()] if is_known else ["\n"] * len(middles)
+    ends = ["".join(f",{value}" for value in values) + "\n" for values in zip(*(array.tolist() for array in more.values()))]
     for place in np.ndindex(table.counts.shape[:-1]):
         front = "".join(f"{number}," for number in place)
         counts = table.counts[place].tolist()
-        yield "".join([f"{front}{middle}{count}{end}" for middle, count, end in zip(middles, counts, ends)])
+        yield "".join([f"{front}{middle}{count}{end}" for middle, count, end in zip(middles, counts, ends or ["\n"] * len(middles))])
 
 
 def write_csv(report: Report, folder: str) -> None:
@@ -77,7 +86,7 @@ def write_json(report: Report, path: str) -> None:
 def main() -> None:
     parser = argparse.ArgumentParser(description="Makes other files of a report of ptu run.")
     parser.add_argument("report", help="a file, or - for standard input")
-    parser.add_argument("--plan", metavar="PLAN", help="the report's plan: correlations are normalised")
+    parser.add_argument("--plan", metavar="PLAN", help="the report's plan: correlations are normalised, and coincidences have g2")
     parser.add_argument("--csv", metavar="FOLDER", help="a file of each table")
     parser.add_argument("--json", metavar="OUT")
     parser.add_argument("--page", metavar="OUT.html", help="a page with the head and a plot of every table")

@@ -89,6 +89,22 @@ def test_a_curve_by_its_plan(tmp_path):
     assert curve[5][:4] == ["6", "6e-12", "1", "4"] and float(curve[5][4]) == pytest.approx(4 * 64 / 40)
 
 
+def test_g2_of_a_report_by_its_plan(tmp_path):
+    """With the two traces that tell the photons a coincidence has g2 and its bar, worked out by hand, and without them none."""
+    pairs(tmp_path)
+    assert script(tmp_path / "report.txt", "--plan", tmp_path / "plan.toml", "--csv", tmp_path / "some").returncode == 0
+    names, *cells = rows(tmp_path / "some", "coincidence_1.csv")
+    assert names == ["ticks", "seconds", "count", "g2", "error"] and len(cells) == 3
+    # the cell of the differences 2, 3, 4 has 4 pairs, T is 9, and 2 and 5 are the photons: 4 * 81 / (2 * 5 * (7 + 6 + 5))
+    assert cells[2][:3] == ["3.0", "3e-12", "4"]
+    assert [float(one) for one in cells[2][3:]] == pytest.approx([4 * 81 / 180, 2 * 81 / 180])
+    # no pair in the cell of -4, -3, -2: the bar is that of one
+    assert cells[0][2] == "0" and [float(one) for one in cells[0][3:]] == pytest.approx([0, 81 / 180])
+    pairs(tmp_path, PAIRS[: PAIRS.index("[[trace]]")] + PAIRS[PAIRS.index("[[startstop]]") :])
+    assert script(tmp_path / "report.txt", "--plan", tmp_path / "plan.toml", "--csv", tmp_path / "none").returncode == 0
+    assert rows(tmp_path / "none", "coincidence_1.csv")[0] == ["ticks", "seconds", "count"]
+
+
 def written(table):
     return [line.split(",") for line in "".join(lines(table)).splitlines()]
 
