@@ -1,5 +1,5 @@
 -- One word more where events are put in their places.
-use Rattle.std.proofs.Common.{◌≡◌, ◌≢◌, ◌+◌, ℕ, List, [], ◌∷◌, ◌++◌, None, Ok, Err, OnOk, IfErr, length, map, refl, sym, ap, subst, ◌∙◌, add-zero}
+use Rattle.std.proofs.Common.{◌≡◌, ◌≢◌, ◌+◌, ℕ, List, [], ◌∷◌, ◌++◌, None, Ok, Err, OnOk, length, map, refl, sym, ap, subst, ◌∙◌, add-zero}
 use Rattle.std.specs.declared.result.Result.{Result}
 use Rattle.tally_base.{specs.declared.event.Event.Event, specs.declared.fault.Fault.Fault}
 use Rattle.ptu_definitions.{specs.Settled.{ordered, not_marked}, specs.Streams.{Reading, refusal, events_in}, specs.Times.events, proofs.StreamLemmas.fresh}

@@ -1,6 +1,5 @@
-use Rattle.std.proofs.Common.{arith, ◌≤◌, ◌≡◌, ◌++◌, ◌∷◌, [], true, false, None, refl, sym, ◌∙◌, append-nil, inl, ap}
+use Rattle.std.proofs.Common.{arith, ◌∷◌, [], true, false, refl, sym, ◌∙◌, append-nil, inl, ap}
 use Rattle.abs_time.specs.Placing.{placed_by}
-use Rattle.tally_base.specs.Events.{is_ordered, stops_late}
 use Rattle.settle.specs.Standing.{kept_back, last_time}
 use Rattle.record_stream.{specs.Keeping.CanWait, specs.Walking.how_of, proofs.Settles.{by_clock, tells-on, tells-off, ordered-on, ordered-off, unrefused-off, unrefused-early, unrefused-passed, refused-stopped, floor-late, floor-on, late-order, kept_on, that_goes, those_waiting, count_going, count_waiting, told_none, tells_one, none_late}}
 use Rattle.record_stream.proofs.settled.settle_event.Goals as goal

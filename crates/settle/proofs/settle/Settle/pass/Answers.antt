@@ -1,4 +1,4 @@
-use Rattle.std.proofs.Common.{◌≡◌, ◌∙◌, length, ap, refl, subst, sym}
+use Rattle.std.proofs.Common.{◌≡◌, ◌∙◌, length, ap, refl, subst}
 use Rattle.std.specs.List.{refill}
 use Rattle.arrayvec.specs.ArrayVec.{array_vec_len}
 use Rattle.settle.{specs.Standing.IsSettled, proofs.Passing.{passed, refilled}}
