@@ -1,5 +1,5 @@
 -- Bins that are closed together.
-use Rattle.std.specs.Prelude.{◌≡◌, ℕ, ◌+◌, ◌-◌, ◌^◌, ◌<◌, ◌≤◌, ◌==◌, ◌/◌, ◌*◌, slice_index, Option, List, [], ◌∷◌, ◌++◌, length, map, sum_by, if◌then◌else◌}
+use Rattle.std.specs.Prelude.{◌≡◌, ℕ, ◌+◌, ◌-◌, ◌^◌, ◌<◌, ◌≤◌, ◌==◌, ◌/◌, ◌*◌, ◌%◌, slice_index, Option, List, [], ◌∷◌, ◌++◌, length, map, sum_by, if◌then◌else◌}
 use Rattle.std.specs.List.{AllByRecursion, range_with_len}
 use Rattle.tally_base.{specs.Settings.CoincidenceView, specs.Tally.History, specs.Limits.record_limit}
 use Rattle.lag_ring.{specs.declared.ring.Entry.Entry, specs.declared.window.Side.Side, specs.declared.window.Side.TheVariants.{First, Second}, specs.Cells.Cells, specs.Ring.Ring, specs.Window.{weight_of, weight_before, product_at}}
@@ -63,6 +63,13 @@ pub record FitsWindow (set : CoincidenceView) (low : ℕ) (es later : List Entry
   pub near : AllByRecursion (λ e. (low ≤ e.index) × (e.index - low < 4096)) later
   pub firsts : sum_by (weight_of First) (es ++ later) < 2 ^ 16
   pub seconds : sum_by (weight_of Second) (es ++ later) < 2 ^ 16
+
+-- An empty window for so many lags behind few bins, each of which is at a place of it with room for these.
+pub record IsOpenFor (reach top low : ℕ) (window : List ℕ) (later : List Entry) : Type 0 where
+  pub few : length later ≤ 64
+  pub empty : (p : ℕ) → p < length window → slice_index window p ≡ 0
+  pub lags : (reach ≤ top) × (top ≤ 4096) × (top % 64 ≡ 0)
+  pub near : AllByRecursion (λ e. (low ≤ e.index) × (e.index - low + top ≤ length window)) later
 
 module _ (set : CoincidenceView) where
   -- photons came: those of closed bins, and behind them those of the gathered ones and of the open one

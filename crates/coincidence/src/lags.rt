@@ -3,7 +3,7 @@ ghost use Rattle.std.specs.Prelude.{◌≡◌, ℕ, ◌+◌, ◌-◌, ◌%◌, �
 ghost use Rattle.std.specs.List.{AllByRecursion};
 ghost use Rattle.tally_base.specs.Settings.{coincidence_view, coincidence_cells};
 ghost use Rattle.lag_ring.{specs.Window.{weight_of, weight_at, ServesLater}, specs.Cells.Spends};
-ghost use Rattle.coincidence.{specs.Pairing.{HasRoom, CountsMore}, specs.Closing.{earlier_side, later_side, strip_sum, window_sum, lag_sum, FitsWindow}};
+ghost use Rattle.coincidence.{specs.Pairing.{HasRoom, CountsMore}, specs.Closing.{earlier_side, later_side, strip_sum, window_sum, lag_sum, FitsWindow, IsOpenFor}};
 
 use crate::pairing::{Direction, add_pairs};
 use arrayvec::ArrayVec;
@@ -244,11 +244,7 @@ fn pair_over<L: Ledger>(
 )
     requires sized { length cells.old.cells ≡ coincidence_cells (coincidence_view set) }
     requires photons { FitsWindow (coincidence_view set) low ring.now.entries later.now }
-    requires empty { (p : ℕ) → p < length window.old → slice_index window.old p ≡ 0 }
-    requires lags { (set.reach ≤ top) × (top ≤ TOP) × (top % LAGS ≡ 0) }
-    requires near { AllByRecursion
-        (λ e. (low ≤ e.index) × (e.index - low + top ≤ length window.old)) later.now }
-    requires few { length later.now ≤ 64 }
+    requires opens { IsOpenFor set.reach top low window.old later.now }
     requires fits { HasRoom (coincidence_view set) cells.old
         (λ c. lag_sum direction (coincidence_view set) c (ring.now.entries ++ later.now) later.now) }
     requires room { cells.old.added + set.reach < 2 ^ 64 }

@@ -1,3 +1,4 @@
 pub mod TraceCounts
+pub mod Counting
 pub mod Trace
 pub mod Laws

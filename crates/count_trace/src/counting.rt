@@ -1,7 +1,7 @@
 // The photons of a block, counted by their times.
 ghost use Rattle.std.specs.Prelude.{◌≡◌, ◌+◌, ◌*◌, ◌^◌, ◌<◌, ◌≤◌, ◌==◌, ℕ, length, nat_le, slice_index, sum, if◌then◌else◌};
 ghost use Rattle.tally_base.{specs.Settings.trace_view, specs.Limits.record_limit, specs.Columns.{gathered, events_in, IsSorted}};
-ghost use Rattle.count_trace.specs.TraceCounts.{in_trace_bin, count_before, count_beyond};
+ghost use Rattle.count_trace.specs.Counting.{CountsMore};
 
 use crate::bin::Bin;
 use tally_base::{BLOCK_SIZE, Block, TraceSet};
@@ -28,12 +28,8 @@ pub(crate) fn count_block(
     requires edge { kept.old.low ≡ set.now.origin + kept.old.index * set.now.width }
     requires room { sum cells.old + outside.old.before + outside.old.beyond
         + length (gathered block.now) ≤ record_limit }
-    ensures cells { (b : ℕ) → b < set.now.bins → slice_index cells.new b
-        ≡ slice_index cells.old b + in_trace_bin (trace_view set.now) b (events_in block.now) }
-    ensures before { outside.new.before
-        ≡ outside.old.before + count_before (trace_view set.now) (events_in block.now) }
-    ensures beyond { outside.new.beyond
-        ≡ outside.old.beyond + count_beyond (trace_view set.now) (events_in block.now) }
+    ensures counts { CountsMore (trace_view set.now) cells.old cells.new outside.old outside.new
+        (events_in block.now) }
     ensures few { sum cells.new + outside.new.before + outside.new.beyond
         ≤ sum cells.old + outside.old.before + outside.old.beyond
         + length (gathered block.now) }

@@ -1,7 +1,7 @@
 -- What the numbers that a fold keeps stand for.
-use Rattle.std.specs.Prelude.{◌≡◌, ℕ, ◌-◌, ◌^◌, ◌<◌, ◌≤◌, ⊤, Bool, true, false, IsTrue, ◌&&◌, ◌==◌, nat_le, nat_lt, List, [], ◌∷◌, ◌++◌, length, map, slice_index, count_by, sum_by, bit_or, if◌then◌else◌}
+use Rattle.std.specs.Prelude.{◌≡◌, ℕ, ◌+◌, ◌-◌, ◌^◌, ◌<◌, ◌≤◌, ⊤, Bool, true, false, IsTrue, ◌&&◌, ◌==◌, nat_le, nat_lt, List, [], ◌∷◌, ◌++◌, length, map, slice_index, count_by, sum_by, bit_or, if◌then◌else◌}
 use Rattle.std.{specs.Coded.Unit-prop, specs.List.{list_any, AllByRecursion}, proofs.Props.props}
-use Rattle.tally_base.{specs.declared.event.Event.Event, specs.Events.{is_photon, is_in}, specs.Settings.FoldView, specs.Tally.History, specs.Limits.time_limit}
+use Rattle.tally_base.{specs.declared.event.Event.Event, specs.Events.{is_photon, is_in}, specs.Settings.FoldView, specs.Tally.History, specs.Limits.time_limit, specs.declared.block.Block.Block, specs.Columns.{gathered, IsSorted}, specs.Floors.InOrder}
 use Rattle.lag_ring.{specs.declared.ring.Entry.Entry, specs.Ring.Ring, specs.Kept.weight_where}
 use Rattle.fold_count.specs.FoldCounts.{is_of, is_of_any, number_of, seen_set, in_set}
 
@@ -101,3 +101,26 @@ PutsPhoton set cells cells' ring ring' bin bin' time met =
 -- its time is in range, and that of a photon is not before the open bin
 abbrev pub IsInTime : Entry → Event → Type 0
 IsInTime bin e = (e.time ≤ time_limit) × (IsTrue (is_photon e) → bin.index ≤ e.time)
+
+-- Bins that can be counted before the open one: each has a cell for its groups, and they are nested, few and before it.
+pub record AreHeld (cells : List ℕ) (ring : Ring) (bin : Entry) : Type 0 where
+  pub inside : AllByRecursion (λ e. e.b < length cells) (as_met ring bin)
+  pub nested : IsNested ring.entries
+  pub within : length ring.entries ≤ ring.reach
+  pub above : AllByRecursion (λ e. e.index < bin.index) ring.entries
+
+-- As many cells as before have the photons more that these bins have before a tick.
+pub record GainsBefore (cells cells' : List ℕ) (before : ℕ) (bins : List Entry) : Type 0 where
+  pub each : (s : ℕ) → s < length cells → slice_index cells' s ≡ slice_index cells s + photons_of before s bins
+  pub same : length cells' ≡ length cells
+
+-- A photon at this time, in which this set of the groups was met, can be put behind an open bin.
+pub record CanPut (set : FoldView) (bin : Entry) (time met : ℕ) : Type 0 where
+  pub after : bin.index ≤ time
+  pub in_time : time ≤ time_limit
+  pub inside : met < 2 ^ length set.groups
+
+-- The events of a block, whose groups are known, come in order and none before the open bin.
+pub record ComesAfter (bin : Entry) (block : Block) : Type 0 where
+  pub sorted : IsSorted block
+  pub in_order : InOrder false bin.index (gathered block)

@@ -1,7 +1,7 @@
 // The events that a fold is given.
 ghost use Rattle.std.specs.Prelude.{◌≡◌, ◌+◌, ◌<◌, ◌≤◌, ◌++◌, ◌∷◌, [], ℕ, false, ◌^◌, IsTrue, length, sum, if◌then◌else◌};
 ghost use Rattle.tally_base.{specs.Events.is_photon, specs.Settings.fold_view, specs.Tally.History, specs.Limits.{record_limit, time_limit}, specs.Columns.{gathered, events_in, IsSorted}, specs.Floors.{floor_after, InOrder}};
-ghost use Rattle.fold_count.specs.Folded.{IsSound, IsInTime, Stands, PutsPhoton, AreCounts, waiting, photons_in};
+ghost use Rattle.fold_count.specs.Folded.{IsSound, IsInTime, Stands, PutsPhoton, CanPut, ComesAfter, AreCounts, waiting, photons_in};
 
 use crate::groups::set_in;
 use crate::waiting::settle;
@@ -47,8 +47,7 @@ fn put(
 ) -> Entry
     requires sound { IsSound (fold_view set.now) cells.old ring.old bin }
     requires room { sum cells.old + photons_in (waiting ring.old bin) < record_limit }
-    requires after { (bin.index ≤ time) × (time ≤ time_limit) }
-    requires inside { met < 2 ^ length (fold_view set.now).groups }
+    requires can { CanPut (fold_view set.now) bin time met }
     ensures sound { IsSound (fold_view set.now) cells.new ring.new result }
     ensures sum { sum cells.new + photons_in (waiting ring.new result)
         ≡ sum cells.old + photons_in (waiting ring.old bin) + 1 }
@@ -103,11 +102,10 @@ pub(crate) fn put_block(
     set: &FoldSet,
     block: &Block,
 ) -> Entry
-    requires sorted { IsSorted block.now }
     requires sound { IsSound (fold_view set.now) cells.old ring.old bin }
     requires room { sum cells.old + photons_in (waiting ring.old bin)
         + length (gathered block.now) ≤ record_limit }
-    requires in_order { InOrder false bin.index (gathered block.now) }
+    requires comes { ComesAfter bin block.now }
     ensures sound { IsSound (fold_view set.now) cells.new ring.new result }
     ensures few { sum cells.new + photons_in (waiting ring.new result)
         ≤ sum cells.old + photons_in (waiting ring.old bin) + length (gathered block.now) }

@@ -2,7 +2,7 @@
 ghost use Rattle.std.specs.Prelude.{◌≡◌, ◌+◌, ◌^◌, ◌<◌, ◌≤◌, ◌==◌, ℕ, filter, length, slice_index, sum, nat_lt, nat_le, if◌then◌else◌};
 ghost use Rattle.std.specs.List.{AllByRecursion};
 ghost use Rattle.lag_ring.{specs.Ring.IsRising, specs.Ring.ring as ring_of};
-ghost use Rattle.fold_count.specs.Folded.{waiting, joined, as_met, IsNested, photons_in, photons_of, photons_where};
+ghost use Rattle.fold_count.specs.Folded.{waiting, joined, as_met, AreHeld, GainsBefore, IsNested, photons_in, photons_of, photons_where};
 
 use lag_ring::{Entry, LagRing};
 
@@ -79,20 +79,15 @@ fn count_closed(cells: &mut [u64], ring: &LagRing, before: u64)
 /// Counts the bins that are before a tick, with the groups of the open one met in those before it too, and
 /// keeps the others, the open one as the last.
 pub(crate) fn settle(cells: &mut [u64], ring: &mut LagRing, bin: &Entry, before: u64)
-    requires inside { AllByRecursion (λ e. e.b < length cells.old) (as_met ring.old bin.now) }
-    requires nested { IsNested ring.old.entries }
-    requires within { length ring.old.entries ≤ ring.old.reach }
-    requires above { AllByRecursion (λ e. e.index < bin.now.index) ring.old.entries }
+    requires held { AreHeld cells.old ring.old bin.now }
     requires near { bin.now.index < before + ring.old.reach }
     requires room { sum cells.old + photons_in (waiting ring.old bin.now) < 2 ^ 64 }
-    ensures cells { (s : ℕ) → s < length cells.old → slice_index cells.new s ≡ slice_index cells.old s
-        + photons_of before s (as_met ring.old bin.now) }
+    ensures cells { GainsBefore cells.old cells.new before (as_met ring.old bin.now) }
     ensures kept { ring.new ≡ ring_of
         (filter (λ e. nat_le before e.index) (as_met ring.old bin.now)) ring.old.reach }
     ensures within { length ring.new.entries ≤ ring.new.reach }
     ensures sum { sum cells.new + photons_in ring.new.entries
         ≡ sum cells.old + photons_in (waiting ring.old bin.now) }
-    ensures same { length cells.new ≡ length cells.old }
 {
     meet(ring, bin.b);
     count_closed(cells, ring, before);

@@ -2,8 +2,7 @@
 ghost use Rattle.std.specs.Prelude.{◌≡◌, ℕ, ◌+◌, ◌*◌, ◌^◌, ◌<◌, ◌≤◌, ◌&&◌, [], false, true, max, nat_lt, nat_le, ◌==◌, slice_index, sum, length, if◌then◌else◌};
 ghost use Rattle.arrayvec.specs.ArrayVec.{array_vec_len};
 ghost use Rattle.tally_base.{specs.Columns.{gathered, events_in, IsSorted}, specs.Floors.{floor_after, InOrder}, specs.Limits.record_limit, specs.Settings.trace_view};
-ghost use Rattle.count_trace.specs.TraceCounts.{count_before};
-ghost use Rattle.long_trace.{specs.Texts.frequency_limit, specs.Bins.{CountsOn, CountsAt}, specs.States.{state_of, Fills}};
+ghost use Rattle.long_trace.{specs.Texts.frequency_limit, specs.Bins.CountsAt, specs.States.{state_of, CanCount, Counted, CountsAll, IsInStep, IsUpTo, Opens}};
 
 use crate::closed::Closed;
 use crate::lines::{LINE_SIZE, LINES_SIZE, put_bin};
@@ -26,16 +25,11 @@ fn open_next<const N: usize>(
     time: u64,
     lines: &mut ArrayVec<u8, N>,
 ) -> OpenBin
-    requires edge { newest.bin.low ≡ set.now.origin + newest.bin.index * set.now.width }
+    requires step { IsInStep set.now newest closed.old }
     requires later { newest.bin.low + set.now.width ≤ time }
-    requires all { sum closed.old.frequencies + closed.old.many ≡ newest.bin.index }
     requires room { array_vec_len lines.old + LINE_SIZE ≤ N }
-    ensures edge { result.bin.low ≡ set.now.origin + result.bin.index * set.now.width }
-    ensures low { result.bin.low ≤ time }
-    ensures one { result.count ≡ 1 }
-    ensures all { sum closed.new.frequencies + closed.new.many ≡ result.bin.index }
-    ensures filled { result.count + result.bin.index + slice_index closed.old.frequencies 0
-        ≤ newest.count + newest.bin.index + 1 + slice_index closed.new.frequencies 0 }
+    ensures step { IsInStep set.now result closed.new }
+    ensures opens { Opens newest result closed.old closed.new time }
     ensures len { array_vec_len lines.new ≤ array_vec_len lines.old + LINE_SIZE }
     ensures counts { CountsAt (trace_view set.now) (state_of newest closed.old)
         (state_of result closed.new) time (λ met. met ≡ true) lines.old.items lines.new.items }
@@ -57,23 +51,13 @@ pub(crate) fn count_at<const N: usize>(
     more: u64,
     lines: &mut ArrayVec<u8, N>,
 )
-    requires one { more ≤ 1 }
-    requires edge { newest.old.bin.low ≡ set.now.origin + newest.old.bin.index * set.now.width }
-    requires order { 0 < more → newest.old.bin.low ≤ max time set.now.origin }
-    requires all { sum closed.old.frequencies + closed.old.many ≡ newest.old.bin.index }
-    requires few { before.old + newest.old.count + more < 2 ^ 64 }
+    requires step { IsInStep set.now newest.old closed.old }
+    requires can { CanCount set.now before.old newest.old time more }
     requires room { array_vec_len lines.old + LINE_SIZE ≤ N }
-    ensures edge { newest.new.bin.low ≡ set.now.origin + newest.new.bin.index * set.now.width }
-    ensures low { (0 < more → newest.new.bin.low ≤ max time set.now.origin)
-        × (more ≡ 0 → newest.new ≡ newest.old) }
-    ensures all { sum closed.new.frequencies + closed.new.many ≡ newest.new.bin.index }
-    ensures few { before.new + newest.new.count ≤ before.old + newest.old.count + more }
-    ensures filled { newest.new.count + newest.new.bin.index
-        + slice_index closed.old.frequencies 0
-        ≤ newest.old.count + newest.old.bin.index + more
-        + slice_index closed.new.frequencies 0 }
+    ensures step { IsInStep set.now newest.new closed.new }
+    ensures counted { Counted set.now before.old before.new newest.old newest.new closed.old
+        closed.new time more }
     ensures len { array_vec_len lines.new ≤ array_vec_len lines.old + LINE_SIZE }
-    ensures before { before.new ≡ before.old + (if nat_lt time set.now.origin then more else 0) }
     ensures counts { CountsAt (trace_view set.now) (state_of newest.old closed.old)
         (state_of newest.new closed.new) time (λ met. more ≡ (if met then 1 else 0))
         lines.old.items lines.new.items }
@@ -87,7 +71,8 @@ pub(crate) fn count_at<const N: usize>(
     }
 }
 
-/// Counts the photons of a block, and answers the greatest time of the photons so far.
+/// Counts the photons of a block, and answers the greatest time of the photons so far. The lines of the bins that
+/// they close are put in the place of others.
 pub(crate) fn count_block(
     set: &TraceSet,
     before: &mut u64,
@@ -99,24 +84,14 @@ pub(crate) fn count_block(
 ) -> u64
     requires sorted { IsSorted block.now }
     requires in_order { InOrder false floor (gathered block.now) }
-    requires edge { newest.old.bin.low ≡ set.now.origin + newest.old.bin.index * set.now.width }
-    requires low { newest.old.bin.low ≤ max floor set.now.origin }
-    requires all { sum closed.old.frequencies + closed.old.many ≡ newest.old.bin.index }
+    requires stands { IsUpTo set.now newest.old closed.old floor }
     requires few { before.old + newest.old.count + length (gathered block.now) ≤ record_limit }
-    requires empty { lines.old.items ≡ [] }
     ensures floor { result ≡ floor_after false floor (gathered block.now) }
-    ensures edge { newest.new.bin.low ≡ set.now.origin + newest.new.bin.index * set.now.width }
-    ensures low { newest.new.bin.low ≤ max result set.now.origin }
-    ensures all { sum closed.new.frequencies + closed.new.many ≡ newest.new.bin.index }
-    ensures few { before.new + newest.new.count
-        ≤ before.old + newest.old.count + length (gathered block.now) }
-    ensures filled { Fills (state_of newest.old closed.old) (state_of newest.new closed.new)
-        (length (gathered block.now)) }
-    ensures before { before.new
-        ≡ before.old + count_before (trace_view set.now) (events_in block.now) }
-    ensures counts { CountsOn (trace_view set.now) (state_of newest.old closed.old)
-        (state_of newest.new closed.new) (events_in block.now) [] lines.new.items }
+    ensures stands { IsUpTo set.now newest.new closed.new result }
+    ensures counted { CountsAll set.now before.old before.new newest.old newest.new closed.old
+        closed.new (events_in block.now) lines.new.items }
 {
+    lines.clear();
     // Copies, so that no field is read again for each photon.
     let own = *set;
     let mut bin = *newest;

@@ -110,12 +110,11 @@ impl LongTrace {
     }
 
     /// Takes the events of a block, as `take` does one by one, and puts the lines of the bins that they close
-    /// into a buffer that holds none.
+    /// into a buffer, in place of its own.
     pub fn take_block(&mut self, block: &Block, lines: &mut ArrayVec<u8, LINES_SIZE>)
         requires sorted { IsSorted block.now }
         requires room { taken_of self.old + length (gathered block.now) ≤ record_limit }
         requires in_order { InOrder false (floor_of self.old) (gathered block.now) }
-        requires empty { lines.old.items ≡ [] }
         ensures given { GivenMore self.old self.new (events_in block.now) lines.new.items }
         ensures more { taken_of self.new ≡ taken_of self.old + length (gathered block.now) }
         ensures moved { floor_of self.new

@@ -1,7 +1,8 @@
 -- What giving photons to a picker writes.
-use Rattle.std.specs.Prelude.{ℕ, ◌≡◌, ◌⊎◌, true, false, List, [], ◌∷◌, ◌++◌}
+use Rattle.std.specs.Prelude.{ℕ, ◌≡◌, ◌<◌, ◌≤◌, ◌⊎◌, All, slice_index, true, false, List, [], ◌∷◌, ◌++◌}
 use Rattle.std.specs.declared.option.Option.{Option}
-use Rattle.tally_base.{specs.declared.event.Event.Event, specs.declared.fault.Fault.Fault, specs.declared.fault.Fault.TheVariants.{PickTime, WriteFault}, specs.FaultCounts.Rose, specs.Floors.floor_after}
+use Rattle.tally_base.{specs.declared.event.Event.Event, specs.declared.fault.Fault.Fault, specs.declared.fault.Fault.TheVariants.{PickTime, WriteFault}, specs.FaultCounts.Rose, specs.Floors.{floor_after, InOrder}, specs.Events.is_photon, specs.Columns.count, specs.declared.block.Block.Block}
+use Rattle.record_stream.specs.Blocks.{AllFit}
 use Rattle.bench_io.specs.declared.sink.Sink.{Ghosts}
 use Rattle.ptu_definitions.specs.Prefixes.{each_after}
 use Rattle.record_write.{specs.declared.picker.Picker.Picker, specs.Picked.{is_too_late, photon_words}, specs.Picker.{mode_of, last_by, HasPicked}, specs.Writing.{PutsWords, CutsWords}}
@@ -20,6 +21,17 @@ pen picker written held faults = record { picker = picker; written = written; he
 -- the words of photons behind others
 abbrev pub words_behind : Pen → List Event → List Event → List ℕ
 words_behind p behind photons = each_after (photon_words (mode_of p.picker)) behind photons
+
+-- The first so many of these places are places of the block.
+pub record ArePlaces (events : Block) (places : List ℕ) (many : ℕ) : Type 0 where
+  pub few : many ≤ 64
+  pub inside : (k : ℕ) → k < many → slice_index places k < count events
+
+-- The events are photons that fit the picker's mode and come in order, no earlier than its last.
+pub record CanBeGiven (picker : Picker) (photons : List Event) : Type 0 where
+  pub are_photons : All (λ e. is_photon e ≡ true) photons
+  pub fit : AllFit (mode_of picker) photons
+  pub in_order : InOrder true (last_by picker) photons
 
 -- These photons were given to the picker, which refused none.
 pub record Gave (p q : Pen) (photons : List Event) : Type 0 where

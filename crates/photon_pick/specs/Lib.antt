@@ -5,4 +5,5 @@ pub mod Late
 pub mod Taking
 pub mod Texts
 pub mod Pieces
+pub mod Begins
 pub mod Ends

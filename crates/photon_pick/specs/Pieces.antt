@@ -1,9 +1,9 @@
 -- What feeding a piece writes of the photons that are chosen.
-use Rattle.std.specs.Prelude.{ℕ, ◌≡◌, ◌≤◌, Bool, List, ◌++◌, OnOk, None, Result}
+use Rattle.std.specs.Prelude.{ℕ, ◌≡◌, ◌+◌, ◌≤◌, Bool, List, ◌++◌, length, OnOk, None, Result}
 use Rattle.tally_base.{specs.declared.event.Event.Event, specs.declared.fault.Fault.Fault}
 use Rattle.bench_io.specs.declared.sink.Sink.{Ghosts}
 use Rattle.ptu_definitions.specs.Words.{words_of}
-use Rattle.record_stream.{specs.declared.stream.RecordStream.RecordStream, specs.Standing.{how_of, greatest_of, refused_with, HasStreamed}}
+use Rattle.record_stream.{specs.declared.stream.RecordStream.RecordStream, specs.Standing.{how_of, greatest_of, bytes_in, refused_with, HasStreamed}}
 use Rattle.record_write.{specs.declared.picker.Picker.Picker, specs.Picker.{mode_of, last_by}}
 use Rattle.told_text.specs.Texts.{WritesText}
 use Rattle.photon_pick.{specs.Texts.{text_in, refusal_in, HasPickedIn}, specs.Ends.WritesEnd}
@@ -12,6 +12,12 @@ use Rattle.photon_pick.{specs.Texts.{text_in, refusal_in, HasPickedIn}, specs.En
 pub record IsNoFurther (stream : RecordStream) (picker : Picker) : Type 0 where
   pub same_mode : mode_of picker ≡ (how_of stream).mode
   pub before : last_by picker ≤ greatest_of stream
+
+-- The stream took a piece and refused nothing, and the picker is no further on.
+pub record GoesOn (old new : RecordStream) (picker : Picker) (piece : List ℕ) : Type 0 where
+  pub unrefused : refused_with new ≡ None
+  pub counted : bytes_in new ≡ bytes_in old + length piece
+  pub behind : IsNoFurther new picker
 
 -- What a piece wrote, where the stream has refused nothing and the picker has picked the photons before it, by the answer.
 abbrev pub PicksPiece : {O : Type 0} → Ghosts O → (Event → Bool) → RecordStream → List ℕ → Picker → Picker → O → O → Result (Unit {0}) Fault → Type 0

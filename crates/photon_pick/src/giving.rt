@@ -1,9 +1,8 @@
 // Photons of a block, given to a picker.
-ghost use Rattle.std.specs.Prelude.{◌≡◌, ◌<◌, ◌≤◌, ℕ, All, true, slice_index, OnOk, IfErr};
-ghost use Rattle.tally_base.{specs.Events.is_photon, specs.Columns.{count, gathered}, specs.Floors.{floor_after, InOrder}};
-ghost use Rattle.record_stream.specs.Blocks.{AllFit};
+ghost use Rattle.std.specs.Prelude.{◌≡◌, ◌≤◌, true, OnOk, IfErr};
+ghost use Rattle.tally_base.{specs.Columns.gathered, specs.Floors.floor_after};
 ghost use Rattle.record_write.specs.Picker.{mode_of, last_by};
-ghost use Rattle.photon_pick.{specs.Places.events_at, specs.Giving.{pen_on, Gave, Stopped}};
+ghost use Rattle.photon_pick.{specs.Places.events_at, specs.Giving.{pen_on, ArePlaces, CanBeGiven, Gave, Stopped}};
 
 use bench_io::{Block, Sink};
 use record_write::Picker;
@@ -18,11 +17,8 @@ pub(crate) fn give_photons<O: Sink>(
     block: &mut Block,
     out: &mut O,
 ) -> Result<(), Fault>
-    requires few { many ≤ BLOCK_SIZE }
-    requires inside { (k : ℕ) → k < many → slice_index places.now k < count events.now }
-    requires photons { All (λ e. is_photon e ≡ true) (events_at events.now places.now many) }
-    requires fit { AllFit (mode_of picker.old) (events_at events.now places.now many) }
-    requires in_order { InOrder true (last_by picker.old) (events_at events.now places.now many) }
+    requires places { ArePlaces events.now places.now many }
+    requires can { CanBeGiven picker.old (events_at events.now places.now many) }
     ensures gave { OnOk result (Gave
         (pen_on O.Sink picker.old out.old block.old) (pen_on O.Sink picker.new out.new block.new)
         (events_at events.now places.now many)) }

@@ -1,8 +1,8 @@
 // What a piece of a file writes of the photons of a group.
 ghost use Rattle.std.specs.Prelude.{◌≡◌, ◌+◌, ◌*◌, ◌<◌, ◌≤◌, ◌++◌, List, ℕ, [], None, length, OnOk};
 ghost use Rattle.ptu_definitions.specs.Counted.{record_limit};
-ghost use Rattle.record_stream.specs.Standing.{how_of, given_by, greatest_of, refused_with, bytes_in, HasStreamed};
-ghost use Rattle.photon_pick.{specs.Chosen.is_of_group, specs.Texts.answer_by, specs.Pieces.{PicksPiece, IsNoFurther}};
+ghost use Rattle.record_stream.specs.Standing.{how_of, refused_with, bytes_in, HasStreamed};
+ghost use Rattle.photon_pick.{specs.Chosen.is_of_group, specs.Texts.answer_by, specs.Pieces.{GoesOn, IsNoFurther, PicksPiece}, specs.Begins.Begins};
 
 use crate::taker::Picks;
 use bench_io::{Block, Sink};
@@ -28,10 +28,8 @@ fn feed_picks<'g, 'p, 'o, O: Sink>(
     piece: &[u8],
     picks: &mut Picks<'g, 'p, 'o, O>,
 ) -> Result<(), Fault>
-    requires mode { picks.old.mode ≡ (how_of stream.old).mode }
-    requires stands { (picks.old.taken ≡ given_by stream.old) × (picks.old.floor ≡ greatest_of stream.old) }
-    requires empty { picks.old.block ≡ [] }
-    requires unrefused { picks.old.fault ≡ None }
+    requires begins { Begins stream.old picks.old.mode picks.old.taken picks.old.floor
+        picks.old.block picks.old.fault }
     ensures taken { (bytes : List ℕ) → HasStreamed stream.old bytes
         → HasStreamed stream.new (bytes ++ piece.now) }
     ensures same_how { how_of stream.new ≡ how_of stream.old }
@@ -39,9 +37,8 @@ fn feed_picks<'g, 'p, 'o, O: Sink>(
     ensures writes { PicksPiece O.Sink
         (is_of_group picks.old.gates.now picks.old.group) stream.old piece.now
         picks.old.picker.now picks.new.picker.now picks.old.out.now picks.new.out.now result }
-    ensures going { OnOk result ((refused_with stream.new ≡ None)
-        × (bytes_in stream.new ≡ bytes_in stream.old + length piece.now)) }
-    ensures behind { OnOk result (IsNoFurther stream.new picks.new.picker.now) }
+    ensures goes_on { OnOk result
+        (GoesOn stream.old stream.new picks.new.picker.now piece.now) }
     ensures same { (picks.new.out.ghost_name ≡ picks.old.out.ghost_name)
         × (picks.new.picker.ghost_name ≡ picks.old.picker.ghost_name) }
 {

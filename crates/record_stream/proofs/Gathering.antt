@@ -79,8 +79,9 @@ chosen-none false mode = refl
 chosen-none true mode = refl
 
 -- nothing is gathered of no words
-pub gathers-none : (walk : Walk) (words : List (List ℕ)) (only : Bool) (sum greatest : ℕ) (es : List Event) → words ≡ [] → es ≡ [] → sum ≡ base_of (clock_in walk) → greatest ≡ greatest_of walk → Gathers walk words only true sum greatest es
-gathers-none walk words only sum greatest es no_words none sum_is greatest_is = rw (no_words, none, sum_is, greatest_is) (record {
+pub gathers-none : (walk : Walk) (words : List (List ℕ)) (only : Bool) (sum greatest : ℕ) (es : List Event) → words ≡ [] → es ≡ [] → sum ≡ base_of (clock_in walk) → sum ≤ wrap_limit → greatest ≡ greatest_of walk → Gathers walk words only true sum greatest es
+gathers-none walk words only sum greatest es no_words none sum_is low greatest_is = rw (no_words, none, sum_is, greatest_is) (record {
+  limit = omega (arith, low, sum_is);
   came = [];
   chosen = chosen-none only (how_of walk).mode;
   places = record { rises = tt; last = omega arith };

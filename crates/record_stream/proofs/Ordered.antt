@@ -4,7 +4,7 @@ use Rattle.std.{specs.List.AllByRecursion, proofs.lemmas.Bool.ne_eqb, proofs.lem
 use Rattle.tally_base.{specs.declared.event.Event.Event, specs.declared.header.Mode.Mode, specs.Events.is_ordered, specs.Tally.moves_floor, specs.Floors.InOrder}
 use Rattle.ptu_definitions.{specs.Fitting.KindFits, specs.Kept.mark, specs.Prefixes.each_after, specs.Settled.{delivered, not_marked, ordered, settles}, specs.Streams.{Reading, events_in}, specs.Times.events, proofs.DeliveredLaws.{delivered-append, delivered_after}}
 use Rattle.abs_time.{specs.Placing.placed_by, specs.Floors.orders_markers, proofs.Floors.moves_by}
-use Rattle.record_stream.{specs.Blocks.PlacesRise, specs.LettingGo.{AreOrdered, ComesNext, IsDelivered}, specs.Walking.{how_of, greatest_of, clock_in}, specs.declared.walk.Walk.Walk, proofs.Passed.ordered-same}
+use Rattle.record_stream.{specs.Blocks.{AllFit, PlacesRise}, specs.LettingGo.{AreOrdered, ComesNext, IsDelivered}, specs.Walking.{how_of, greatest_of, clock_in}, specs.declared.walk.Walk.Walk, proofs.Passed.ordered-same}
 use Rattle.settle.{specs.Passing.place_after, specs.Standing.HasSettled, specs.declared.settle.Settle.Settle}
 
 -- They are all in order.
@@ -65,13 +65,14 @@ line-ordered mode t (e ∷ es) line =
     pick true is rest = (line.0, line.1, rest)
     pick false is rest = subst (λ b. InOrder (orders_markers mode) (if b then e.time else t) (ordered mode es)) is rest
 
-pub comes-ordered : (walk : Walk) (es : List Event) → ComesNext walk es → ComesNext walk (ordered (how_of walk).mode es)
-comes-ordered walk es next =
+pub comes-ordered : (walk : Walk) (es : List Event) → PlacesRise (placed_by (clock_in walk)) es → InOrder (orders_markers (how_of walk).mode) (greatest_of walk) es → AllFit (how_of walk).mode es → ComesNext walk (ordered (how_of walk).mode es)
+comes-ordered walk es rises line fit =
     let mode = (how_of walk).mode in
     record {
-      places = places-ordered mode (placed_by (clock_in walk)) es next.places;
-      in_order = line-ordered mode (greatest_of walk) es next.in_order;
-      fit = All-from_recursion (λ (e : Event). KindFits mode e.kind) (ordered mode es) (fewer (λ (e : Event). KindFits mode e.kind) mode es (recursion_from_All (λ (e : Event). KindFits mode e.kind) es next.fit));
+      places = places-ordered mode (placed_by (clock_in walk)) es rises;
+      in_order = line-ordered mode (greatest_of walk) es line;
+      fit = All-from_recursion (λ (e : Event). KindFits mode e.kind) (ordered mode es) (fewer (λ (e : Event). KindFits mode e.kind) mode es (recursion_from_All (λ (e : Event). KindFits mode e.kind) es fit));
+      ordered = those_ordered mode es;
     }
 
 -- What they let go all let go.

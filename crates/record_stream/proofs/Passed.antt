@@ -99,7 +99,7 @@ place-rows place f zero some = absurd (omega (arith, some))
 place-rows place f (suc n) some = let e : suc n - 1 ≡ n = omega arith in rw e (place-push place (rows f n) (f n))
 
 module _ (walk : Walk) (from : Settle) (came went stay : List Event) (settles : (how_of walk).policy.settle ≢ 0) (keeps : IsKeeping walk from) (is_full : IsFull walk from) (next : ComesNext walk came)
-    (all : AreOrdered (how_of walk).mode came) (joined : kept_back from ++ came ≡ went ++ stay) where
+    (joined : kept_back from ++ came ≡ went ++ stay) where
   abbrev pub mode : Mode
   mode = (how_of walk).mode
 
@@ -129,6 +129,9 @@ module _ (walk : Walk) (from : Settle) (came went stay : List Event) (settles : 
 
   fit : AllFit mode came
   fit = next.fit
+
+  all : AreOrdered mode came
+  all = next.ordered
 
   low-top : last_time from ≤ top
   low-top = first (kept_back from) some lows below
@@ -175,6 +178,9 @@ module _ (walk : Walk) (from : Settle) (came went stay : List Event) (settles : 
 
   pub comes_behind : (time place : ℕ) → time ≡ time_after (last_time from) went → place ≡ place_after (last_place from) came → ComesBehind from came went stay time place
   comes_behind time place time_is place_is = record {
+    unpopped = keeps.unpopped;
+    some = omega (arith, keeps.reach, settles);
+    full = is_full.full;
     greatest = top;
     low = low-top;
     below = recursion_from_All (λ (x : Event). x.time ≤ top) (kept_back from) below;

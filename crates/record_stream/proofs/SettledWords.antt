@@ -1,11 +1,11 @@
 -- One word more where events are put in their places.
-use Rattle.std.proofs.Common.{◌≡◌, ◌≢◌, ◌+◌, ℕ, List, [], ◌∷◌, ◌++◌, None, Ok, Err, OnOk, IfErr, length, map, refl, sym, ap, subst, ◌∙◌, add-zero}
+use Rattle.std.proofs.Common.{◌≡◌, ◌≢◌, ◌+◌, ℕ, List, [], ◌∷◌, ◌++◌, None, Ok, Err, OnOk, length, map, refl, sym, ap, subst, ◌∙◌, add-zero}
 use Rattle.std.specs.declared.result.Result.{Result}
 use Rattle.tally_base.{specs.declared.event.Event.Event, specs.declared.fault.Fault.Fault}
 use Rattle.ptu_definitions.{specs.Settled.{ordered, not_marked}, specs.Streams.{Reading, refusal, events_in}, specs.Times.events, proofs.StreamLemmas.fresh}
 use Rattle.abs_time.specs.declared.clock.Placed.{Placed}
 use Rattle.settle.specs.declared.settle.Settle.{Settle}
-use Rattle.record_stream.{specs.Feeding.Fed, specs.Keeping.{HasCome, tells, refused_for}, specs.Recorded.IsPlaced, specs.Settling.{IsSettledBehind, Told, Untold}, specs.Walking.{how_of, given_by, summary_in, clock_in, KeepsPlace}, specs.declared.taker.EventTaker.Ghosts, specs.declared.walk.Walk.Walk, proofs.Placed.{event_in, top_in, comes, refused-placed, fresh-placed, skipped-refusal, skipped-fresh}, proofs.Settles.{come_event, come_none}, proofs.Steps.{placed_at, told_fed, skipped_fed}}
+use Rattle.record_stream.{specs.Feeding.Fed, specs.Keeping.{HasCome, tells, refused_for}, specs.Recorded.IsPlaced, specs.Settling.{IsSettledBehind, Tells, Told, Untold}, specs.Walking.{how_of, given_by, summary_in, clock_in, KeepsPlace}, specs.declared.taker.EventTaker.Ghosts, specs.declared.walk.Walk.Walk, proofs.Placed.{event_in, top_in, comes, refused-placed, fresh-placed, skipped-refusal, skipped-fresh}, proofs.Settles.{come_event, come_none}, proofs.Steps.{placed_at, told_fed, skipped_fed}}
 
 -- the events in order of these words
 abbrev pub came_in : Reading → List ℕ → List Event
@@ -24,7 +24,7 @@ module _ (old mid : Walk) (ws : List ℕ) (w : ℕ) (p : Placed) (placed : IsPla
     adds some = fresh-placed (how_of old) ws ((how_of old).meaning w) p e some placed.answer is
 
     pub word_at : {T X : Type 0} (g : Ghosts T) (r : Result X Fault) (new : Walk) (settle settle' : Settle) (t now : T) → (how_of old).policy.settle ≢ 0 → given_by mid ≡ given_by old → KeepsPlace mid new → IsSettledBehind old settle ws
-        → OnOk r (Told g (how_of mid) mid new settle settle' t now (came_in (how_of old) ws) (gone_in (how_of old) ws) e (top_in p)) → OnOk r (IsSettledBehind new settle' (ws ++ w ∷ []))
+        → Tells g mid new settle settle' t now (came_in (how_of old) ws) (gone_in (how_of old) ws) e (top_in p) r → OnOk r (IsSettledBehind new settle' (ws ++ w ∷ []))
     word_at g (Ok x) new settle settle' t now some same_given place b told_mid =
         let how = how_of old in
         let told = subst (λ h. Told g h mid new settle settle' t now (came_in how ws) (gone_in how ws) e (top_in p)) same_how told_mid in
@@ -38,13 +38,16 @@ module _ (old mid : Walk) (ws : List ℕ) (w : ℕ) (p : Placed) (placed : IsPla
     word_at g (Err y) new settle settle' t now some same_given place b told_mid = tt
 
     pub word_fed : {T X : Type 0} (g : Ghosts T) (r : Result X Fault) (new : Walk) (settle settle' : Settle) (t now : T) → (how_of old).policy.settle ≢ 0 → IsSettledBehind old settle ws
-        → OnOk r (Told g (how_of mid) mid new settle settle' t now (came_in (how_of old) ws) (gone_in (how_of old) ws) e (top_in p)) → IfErr r (Untold g (how_of mid) t now (came_in (how_of old) ws) e (top_in p))
+        → Tells g mid new settle settle' t now (came_in (how_of old) ws) (gone_in (how_of old) ws) e (top_in p) r
         → Fed g (how_of old) t now ws (ws ++ w ∷ []) r
-    word_fed g r new settle settle' t now some b told untold =
+    word_fed g (Ok x) new settle settle' t now some b told =
         let how = how_of old in
-        told_fed g how mid new settle settle' t now ws w (came_in how ws) (gone_in how ws) e (top_in p) r b.behind.clear refuses (adds some)
-        (subst (λ h. OnOk r (Told g h mid new settle settle' t now (came_in how ws) (gone_in how ws) e (top_in p))) same_how told)
-        (subst (λ h. IfErr r (Untold g h t now (came_in how ws) e (top_in p))) same_how untold)
+        told_fed g how mid new settle settle' t now ws w (came_in how ws) (gone_in how ws) e (top_in p) (Ok x) b.behind.clear refuses (adds some)
+        (subst (λ h. Told g h mid new settle settle' t now (came_in how ws) (gone_in how ws) e (top_in p)) same_how told) tt
+    word_fed {X} g (Err y) new settle settle' t now some b untold =
+        let how = how_of old in
+        told_fed g {X = X} how mid new settle settle' t now ws w (came_in how ws) (gone_in how ws) e (top_in p) (Err y) b.behind.clear refuses (adds some) tt
+        (subst (λ h. Untold g h t now (came_in how ws) e (top_in p) y) same_how untold)
 
   -- a word with no event
   module _ (none : event_in p ≡ []) where

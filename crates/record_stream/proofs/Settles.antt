@@ -3,9 +3,13 @@ use Rattle.std.proofs.Common.{◌≡◌, ◌+◌, ◌<◌, ◌≤◌, ℕ, suc, 
 use Rattle.std.{specs.List.All, specs.Option.option_to_list, specs.declared.option.Option.Option, specs.declared.result.Result.Result, proofs.lemmas.List.map-append, proofs.lemmas.List.Elements.{filter-append, All-tail, All-from_recursion, recursion_from_All}}
 use Rattle.tally_base.{specs.declared.event.Event.Event, specs.declared.fault.Fault.Fault, specs.declared.fault.Fault.TheVariants.{BackwardTime, WriteFault}, specs.declared.header.Mode.Mode, specs.Events.{is_ordered, stops_late}, specs.FaultCounts.HasCause}
 use Rattle.ptu_definitions.{specs.Kept.{Marked, floor_of}, specs.Settled.{is_overtaken, ordered, settles, put_in, not_marked}, specs.Streams.{Reading, events_in}, specs.Times.{event_after, events}, proofs.DeliveredLaws.not_marked-append, proofs.SettledLemmas.length-put_in, proofs.SettlingLemmas.each-put_in, proofs.StreamLemmas.{events-push, events_in-push, fresh}}
-use Rattle.abs_time.{specs.Placing.placed_by, specs.Floors.moved_floor, proofs.Floors.moved_floor-push}
-use Rattle.record_stream.{specs.Keeping.{CanWait, IsKeeping, HasCome, tells, refused_for}, specs.OneMore.with_marks, specs.Settling.{Told, Untold}, specs.Walking.{how_of, given_by, records_of, summary_in, clock_in, Notes}, specs.declared.taker.EventTaker.Ghosts, specs.declared.walk.Walk.Walk}
+use Rattle.abs_time.{specs.Placing.mode_of as clock_mode, specs.Placing.placed_by, specs.Floors.moved_floor, proofs.Floors.moved_floor-push}
+use Rattle.record_stream.{specs.Keeping.{CanWait, IsKeeping, HasCome, tells, refused_for}, specs.OneMore.with_marks, specs.Settling.{Tells, Told}, specs.Walking.{how_of, given_by, records_of, summary_in, clock_in, Gave}, specs.declared.taker.EventTaker.Ghosts, specs.declared.walk.Walk.Walk}
 use Rattle.settle.{specs.Standing.{HasSettled, kept_back, last_place, last_time, reach_of, was_popped}, specs.declared.settle.Settle.Settle}
+
+-- whether an event is in order, by the mode of the clock of a walk
+pub by_clock : (walk : Walk) (e : Event) (r : Bool) (mode : Mode) (b : Bool) → r ≡ is_ordered mode e → mode ≡ clock_mode walk.clock → r ≡ b → is_ordered (how_of walk).mode e ≡ b
+by_clock walk e r mode b is of_clock told = sym (is ∙ ap (λ m. is_ordered m e) (of_clock ∙ walk.same_mode)) ∙ told
 
 -- What an event in order adds, by what its push tells.
 pub tells-on : (k reach : ℕ) (mode : Mode) (before : List Event) (e : Event) (l : Marked) → reach ≡ k → is_ordered mode e ≡ true → settles reach before e ≡ l → tells k mode before e ≡ l
@@ -124,25 +128,23 @@ module _ {T : Type 0} (g : Ghosts T) where
     counted = sym (ap (λ m. given_by walk + length m) is ∙ add-zero (given_by walk));
   }
 
-  -- an event that adds one
-  pub told_one : {X : Type 0} (r : Result X Fault) (how : Reading) (old new : Walk) (from settle : Settle) (t now : T) (before given : List Event) (e x : Event) (late : Bool) (top : ℕ)
-      → refused_for how before e top ≡ None → tells how.policy.settle how.mode before e ≡ (x, late) ∷ [] → ordered how.mode (e ∷ []) ≡ e ∷ []
-      → HasSettled settle (before ++ e ∷ []) (given ++ not_marked ((x, late) ∷ [])) → last_time settle ≡ moved_floor how.mode (last_time from) x late → (IsTrue (is_ordered how.mode x && not late) → last_time from ≤ x.time)
-      → OnOk r ((start : T) (l : Marked) → g.got start t l → g.got start now (l ++ (x, late) ∷ [])) → OnOk r (Notes old new x late) → OnOk r (Told g how old new from settle t now before given e top)
-  told_one (Ok y) how old new from settle t now before given e x late top none is all_is settled moved in_order got notes = record {
-    unrefused = none;
-    settled = subst (λ m. HasSettled settle (before ++ ordered how.mode (e ∷ [])) (given ++ not_marked m)) (sym is) (subst (λ p. HasSettled settle (before ++ p) (given ++ not_marked ((x, late) ∷ []))) (sym all_is) settled);
-    greatest = λ l low. subst (λ m. last_time settle ≡ floor_of how.mode (l ++ m)) (sym is) (greatest-push how.mode l x late (last_time from) (last_time settle) moved in_order low);
-    got = subst (λ m. (start : T) (l : Marked) → g.got start t l → g.got start now (l ++ m)) (sym is) got;
-    summary = subst (λ m. summary_in new ≡ with_marks (summary_in old) m) (sym is) notes.summary;
-    counted = subst (λ (m : Marked). given_by new ≡ given_by old + length m) (sym is) notes.given;
-  }
-  told_one (Err y) how old new from settle t now before given e x late top none is all_is settled moved in_order got notes = tt
-
-  pub untold_one : {X : Type 0} (r : Result X Fault) (how : Reading) (t now : T) (before : List Event) (e x : Event) (late : Bool) (top : ℕ) → refused_for how before e top ≡ None → tells how.policy.settle how.mode before e ≡ (x, late) ∷ []
-      → OnErr r ((start : T) (l : Marked) → g.got start t l → g.broke start now (l ++ (x, late) ∷ [])) → IfErr r (λ fault. fault ≡ WriteFault) → HasCause (g.faults t) (g.faults now) r → IfErr r (Untold g how t now before e top)
-  untold_one (Ok y) how t now before e x late top none is broken fault cause = tt
-  untold_one (Err y) how t now before e x late top none is broken fault cause =
+  -- an event that adds one, which was given or broke the taker
+  pub tells_one : {X : Type 0} (r : Result X Fault) (old new : Walk) (from settle : Settle) (t now : T) (before given : List Event) (e x : Event) (late : Bool) (top : ℕ) → refused_for (how_of old) before e top ≡ None
+      → tells (how_of old).policy.settle (how_of old).mode before e ≡ (x, late) ∷ [] → ordered (how_of old).mode (e ∷ []) ≡ e ∷ []
+      → HasSettled settle (before ++ e ∷ []) (given ++ not_marked ((x, late) ∷ [])) → last_time settle ≡ moved_floor (how_of old).mode (last_time from) x late → (IsTrue (is_ordered (how_of old).mode x && not late) → last_time from ≤ x.time)
+      → OnOk r (Gave g old new t now x late) → OnErr r ((start : T) (l : Marked) → g.got start t l → g.broke start now (l ++ (x, late) ∷ [])) → IfErr r (λ fault. fault ≡ WriteFault) → HasCause (g.faults t) (g.faults now) r
+      → Tells g old new from settle t now before given e top r
+  tells_one (Ok y) old new from settle t now before given e x late top none is all_is settled moved in_order gave broken fault cause =
+      let how = how_of old in
+      record {
+        unrefused = none;
+        settled = subst (λ m. HasSettled settle (before ++ ordered how.mode (e ∷ [])) (given ++ not_marked m)) (sym is) (subst (λ p. HasSettled settle (before ++ p) (given ++ not_marked ((x, late) ∷ []))) (sym all_is) settled);
+        greatest = λ l low. subst (λ m. last_time settle ≡ floor_of how.mode (l ++ m)) (sym is) (greatest-push how.mode l x late (last_time from) (last_time settle) moved in_order low);
+        got = subst (λ m. (start : T) (l : Marked) → g.got start t l → g.got start now (l ++ m)) (sym is) gave.got;
+        summary = subst (λ m. summary_in new ≡ with_marks (summary_in old) m) (sym is) gave.noted.summary;
+        counted = subst (λ (m : Marked). given_by new ≡ given_by old + length m) (sym is) gave.noted.given;
+      }
+  tells_one (Err y) old new from settle t now before given e x late top none is all_is settled moved in_order gave broken fault cause =
       inr (
         fault,
         record {

@@ -1,7 +1,7 @@
 -- What a taker is given by words that come behind others.
-use Rattle.std.specs.Prelude.{ℕ, Bool, ◌&&◌, not, IsTrue, ◌≡◌, ◌<◌, ◌≤◌, List, [], ◌++◌, length, map, None, Some, Result, Ok, Err, ◌⊎◌}
-use Rattle.ptu_definitions.{specs.declared.records.Summary.Summary, specs.Kept.Marked, specs.Streams.{Reading, refusals, record_refusal, given, events_in}}
-use Rattle.tally_base.{specs.declared.fault.Fault.Fault, specs.declared.fault.Fault.TheVariants.WriteFault, specs.declared.header.Mode.Mode, specs.declared.event.Event.Event, specs.Events.is_ordered, specs.FaultCounts.Rose}
+use Rattle.std.specs.Prelude.{ℕ, ◌≡◌, ◌<◌, ◌≤◌, List, [], ◌++◌, length, map, None, Some, Result, Ok, Err, ◌⊎◌}
+use Rattle.ptu_definitions.{specs.declared.records.Summary.Summary, specs.Kept.Marked, specs.Words.words_of, specs.Streams.{Reading, refusals, record_refusal, given, events_in}}
+use Rattle.tally_base.{specs.declared.fault.Fault.Fault, specs.declared.fault.Fault.TheVariants.WriteFault, specs.declared.header.Mode.Mode, specs.FaultCounts.Rose}
 use Rattle.abs_time.{specs.declared.clock.Clock.Clock, specs.Placing.HasPlaced}
 use Rattle.record_stream.{specs.SoFar.so_far, specs.declared.taker.EventTaker.Ghosts}
 
@@ -18,12 +18,6 @@ module _ {T : Type 0} (g : Ghosts T) where
     pub mode_is : g.mode taker ≡ mode
     pub few : g.taken taker ≤ count
     pub before : g.floor taker ≤ greatest
-
-  -- The event can come behind those that the taker got.
-  pub record CanGet (mode : Mode) (count : ℕ) (e : Event) (late : Bool) (taker : T) : Type 0 where
-    pub mode_is : g.mode taker ≡ mode
-    pub few : g.taken taker ≤ count
-    pub in_order : IsTrue (is_ordered mode e && not late) → g.floor taker ≤ e.time
 
   -- It got what the words call for that came behind others.
   pub record GaveOn (how : Reading) (old new : T) (words now : List ℕ) : Type 0 where
@@ -45,3 +39,7 @@ module _ {T : Type 0} (g : Ghosts T) where
   Fed how old new words now (Ok x) = (record_refusal how now ≡ None) × GaveOn how old new words now
   Fed how old new words now (Err fault) =
       ((record_refusal how now ≡ Some fault) × GaveOn how old new words now) ⊎ ((fault ≡ WriteFault) × BrokeOn how old new words now)
+
+  -- The same of the words of bytes behind which a piece came.
+  abbrev pub FedPiece : {X : Type 0} → Reading → T → T → List ℕ → List ℕ → Result X Fault → Type 0
+  FedPiece how old new bytes piece answer = Fed how old new (words_of bytes) (words_of (bytes ++ piece)) answer

@@ -4,18 +4,19 @@ use Rattle.std.specs.List.{All, AllByRecursion}
 use Rattle.tally_base.{specs.declared.event.Event.Event, specs.declared.header.Mode.Mode, specs.Events.is_ordered, specs.Floors.InOrder}
 use Rattle.ptu_definitions.{specs.Settled.{delivered, not_marked, ordered}, specs.Streams.{Reading, events_in}, specs.Times.events}
 use Rattle.abs_time.{specs.Placing.placed_by, specs.Floors.orders_markers}
-use Rattle.record_stream.{specs.Blocks.{on_time, AllFit, IsInLine, PlacesRise}, specs.Keeping.CanWait, specs.Walking.{how_of, greatest_of, clock_in, IsBlank}, specs.declared.settled_blocks.Room.Room, specs.declared.walk.Walk.Walk}
+use Rattle.record_stream.{specs.Blocks.{on_time, AllFit, IsInLine, PlacesRise}, specs.Keeping.CanWait, specs.Walking.{how_of, greatest_of, clock_in}, specs.declared.walk.Walk.Walk}
 use Rattle.settle.{specs.Standing.{HasSettled, kept_back, last_place, last_time, reach_of, was_popped}, specs.declared.settle.Settle.Settle, specs.Passing.place_after}
 
 -- each event is in order
 abbrev pub AreOrdered : Mode → List Event → Type 0
 AreOrdered mode es = AllByRecursion (λ e. is_ordered mode e ≡ true) es
 
--- Events that come next, none of them late.
+-- Events that come next, each in order and none of them late.
 pub record ComesNext (walk : Walk) (es : List Event) : Type 0 where
   pub places : PlacesRise (placed_by (clock_in walk)) es
   pub in_order : InOrder (orders_markers (how_of walk).mode) (greatest_of walk) es
   pub fit : AllFit (how_of walk).mode es
+  pub ordered : AreOrdered (how_of walk).mode es
 
 -- As many events are kept back as may be, and none is later than the greatest time so far.
 pub record IsFull (walk : Walk) (settle : Settle) : Type 0 where
@@ -37,8 +38,3 @@ pub record LetsGo (mode : Mode) (low : ℕ) (from settle : Settle) (came went : 
 pub record IsDelivered (how : Reading) (settle : Settle) (words : List ℕ) (came went : List Event) : Type 0 where
   pub settled : HasSettled settle (ordered how.mode (events (map how.meaning words) ++ came)) (not_marked (events_in how words) ++ went)
   pub delivers : delivered how.policy.settle how.mode (events (map how.meaning words) ++ came) ≡ events_in how words ++ on_time went
-
--- None of its blocks has events.
-pub record AreBlank (room : Room) : Type 0 where
-  pub block : IsBlank room.block
-  pub out : IsBlank room.out

@@ -1,24 +1,45 @@
 -- How far a walk is whose events are put in their places.
-use Rattle.std.specs.Prelude.{ℕ, ◌≡◌, ◌+◌, ◌<◌, List, [], ◌∷◌, ◌++◌, length, None, Some, ◌⊎◌}
+use Rattle.std.specs.Prelude.{ℕ, ◌≡◌, ◌≢◌, ◌+◌, ◌<◌, ◌≤◌, Result, Ok, Err, List, [], ◌∷◌, ◌++◌, length, None, Some, ◌⊎◌}
 use Rattle.tally_base.{specs.declared.event.Event.Event, specs.declared.fault.Fault.Fault, specs.declared.fault.Fault.TheVariants.WriteFault, specs.FaultCounts.Rose}
 use Rattle.ptu_definitions.{specs.Kept.{Marked, floor_of}, specs.Settled.{ordered, not_marked}, specs.Streams.Reading}
-use Rattle.settle.{specs.Standing.{HasSettled, last_time}, specs.declared.settle.Settle.Settle}
-use Rattle.record_stream.{specs.Feeding.Follows, specs.Keeping.{HasCome, tells, refused_for}, specs.OneMore.with_marks, specs.Walking.{how_of, given_by, records_of, summary_in, IsBehind}, specs.declared.taker.EventTaker.Ghosts, specs.declared.walk.Walk.Walk}
+use Rattle.abs_time.specs.Placing.{placed_by, IsSmall}
+use Rattle.settle.{specs.Standing.{HasSettled, kept_back, last_place, last_time}, specs.declared.settle.Settle.Settle}
+use Rattle.record_stream.{specs.Feeding.Follows, specs.Keeping.{HasCome, IsKeeping, tells, refused_for}, specs.OneMore.with_marks, specs.Walking.{how_of, given_by, records_of, clock_in, summary_in, IsBehind}, specs.declared.taker.EventTaker.Ghosts, specs.declared.walk.Walk.Walk}
 
 -- It took these words and refused none, and the events in order of these came.
 pub record IsSettledBehind (walk : Walk) (settle : Settle) (words : List ℕ) : Type 0 where
   pub behind : IsBehind walk words
   pub come : HasCome (how_of walk) settle words
 
+-- The next event: behind those that were pushed, and of a record that is counted and placed.
+pub record ComesUp (walk : Walk) (settle : Settle) (e : Event) : Type 0 where
+  pub next : last_place settle < e.place
+  pub placed : e.place ≤ placed_by (clock_in walk)
+  pub room : given_by walk + length (kept_back settle) < records_of walk
+  pub small : IsSmall (how_of walk).mode e
+
 module _ {T : Type 0} (g : Ghosts T) where
   -- The taker is of the mode of the walk, and no further on.
   abbrev pub IsFollowedBy : Walk → Settle → T → Type 0
   IsFollowedBy walk settle taker = Follows g (how_of walk).mode (given_by walk) (last_time settle) taker
 
+  -- Events are to be put in their places, and what is kept back and the taker are in step with the walk.
+  pub record IsReady (walk : Walk) (settle : Settle) (taker : T) : Type 0 where
+    pub settles : (how_of walk).policy.settle ≢ 0
+    pub keeps : IsKeeping walk settle
+    pub follows : IsFollowedBy walk settle taker
+
   -- The walk took so many words more and refused none, and the taker is no further on.
   pub record SettlesOn (old new : Walk) (settle : Settle) (taker : T) (more : ℕ) : Type 0 where
     pub follows : Follows g (how_of old).mode (given_by new) (last_time settle) taker
     pub counted : records_of new ≡ records_of old + more
+
+  -- Whatever is answered, the walk reads as before, what is kept back is in step with it, the taker keeps what a call leaves as it is, and the count of faults doesn't fall.
+  pub record StaysKept (old new : Walk) (settle : Settle) (taker now : T) : Type 0 where
+    pub same_how : how_of new ≡ how_of old
+    pub keeps : IsKeeping new settle
+    pub later : g.faults taker ≤ g.faults now
+    pub same : g.same taker now
 
   -- Behind these events in order one more came, and what it adds was given.
   pub record Told (how : Reading) (old new : Walk) (from settle : Settle) (taker now : T) (before given : List Event) (e : Event) (latest : ℕ) : Type 0 where
@@ -40,3 +61,8 @@ module _ {T : Type 0} (g : Ghosts T) where
   abbrev pub Untold : Reading → T → T → List Event → Event → ℕ → Fault → Type 0
   Untold how taker now before e latest fault =
       ((refused_for how before e latest ≡ Some fault) × (now ≡ taker)) ⊎ ((fault ≡ WriteFault) × BrokeAt how taker now before e latest)
+
+  -- What the event did, by the answer.
+  abbrev pub Tells : {X : Type 0} → Walk → Walk → Settle → Settle → T → T → List Event → List Event → Event → ℕ → Result X Fault → Type 0
+  Tells old new from settle taker now before given e latest (Ok x) = Told (how_of old) old new from settle taker now before given e latest
+  Tells old new from settle taker now before given e latest (Err fault) = Untold (how_of old) taker now before e latest fault

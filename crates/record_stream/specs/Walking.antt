@@ -1,8 +1,8 @@
 -- How far a walk is.
-use Rattle.std.specs.Prelude.{ℕ, Bool, true, ◌≡◌, ◌+◌, ◌≤◌, List, ◌++◌, length}
-use Rattle.tally_base.{specs.declared.event.Event.Event, specs.Columns.{count, sorted}, specs.declared.block.Block.Block}
-use Rattle.ptu_definitions.{specs.declared.records.Summary.Summary, specs.Streams.{Reading, reading}, specs.Fours.numbers}
-use Rattle.abs_time.{specs.declared.clock.Clock.Clock, specs.Placing.{greatest_by, placed_by}}
+use Rattle.std.specs.Prelude.{ℕ, Bool, true, not, IsTrue, ◌&&◌, ◌≡◌, ◌+◌, ◌^◌, ◌<◌, ◌≤◌, List, [], ◌∷◌, ◌++◌, length, map, count_by}
+use Rattle.tally_base.{specs.declared.event.Event.Event, specs.Columns.{count, sorted}, specs.declared.block.Block.Block, specs.Events.{is_ordered, stops_reserved}, specs.Limits.wrap_limit}
+use Rattle.ptu_definitions.{specs.declared.records.{Raw.Raw, Summary.Summary}, specs.Kept.Marked, specs.Kinds.is_reserved, specs.Streams.{Reading, reading}, specs.Fours.numbers}
+use Rattle.abs_time.{specs.declared.clock.Clock.Clock, specs.Placing.{base_of, greatest_by, placed_by, IsSmall}, specs.Floors.moved_floor}
 use Rattle.record_stream.{specs.Blocks.chosen as chosen_of, specs.Blocks.{Adds, IsInLine, RisesWithin}, specs.Feeding.{IsAt, Follows}, specs.declared.taker.EventTaker.Ghosts, specs.OneMore.with_event, specs.Summing.summed, specs.declared.walk.Walk.Walk}
 
 abbrev pub how_of : Walk → Reading
@@ -49,11 +49,18 @@ AddsBehind walk words sum greatest es =
 -- These are the events of some words that come next, or those in order alone. Up to this sum of wraps and this greatest
 -- time none of them is late, where that is said.
 pub record Gathers (walk : Walk) (words : List (List ℕ)) (only_ordered in_order : Bool) (sum greatest : ℕ) (es : List Event) : Type 0 where
+  pub limit : sum ≤ wrap_limit
   pub came : List Event
   pub chosen : es ≡ chosen_of only_ordered (how_of walk).mode came
   pub places : RisesWithin (placed_by (clock_in walk)) (placed_by (clock_in walk) + length words) came
   pub in_line : in_order ≡ true → IsInLine (how_of walk).mode (greatest_of walk) greatest came
   pub adds : in_order ≡ true → AddsBehind walk words sum greatest came
+
+-- None of these words can be refused as one too many, for its wraps or as reserved.
+pub record LetsPass (walk : Walk) (meaning : ℕ → Raw) (words : List (List ℕ)) : Type 0 where
+  pub room : records_of walk + length words ≤ (how_of walk).policy.records
+  pub base : base_of (clock_in walk) + 2 ^ 56 ≤ wrap_limit
+  pub reserved : stops_reserved (how_of walk).policy.reserved ≡ true → count_by is_reserved (map meaning (numbers words)) ≡ 0
 
 -- A block with no events, of which no groups are known.
 pub record IsBlank (block : Block) : Type 0 where
@@ -69,6 +76,25 @@ module _ {T : Type 0} (g : Ghosts T) where
   pub record WalksOn (old new : Walk) (taker : T) (more : ℕ) : Type 0 where
     pub follows : Follows g (how_of old).mode (given_by new) (greatest_of new) taker
     pub counted : records_of new ≡ records_of old + more
+
+  -- No event is to be put in its place, and the taker is of the mode of the walk and no further on.
+  pub record IsReady (walk : Walk) (taker : T) : Type 0 where
+    pub plain : (how_of walk).policy.settle ≡ 0
+    pub follows : IsFollowed walk taker
+
+  -- The event, whose record is counted, can be given behind those that the taker got.
+  pub record CanGive (walk : Walk) (e : Event) (late : Bool) (taker : T) : Type 0 where
+    pub mode_is : g.mode taker ≡ (how_of walk).mode
+    pub few : g.taken taker ≤ given_by walk
+    pub in_order : IsTrue (is_ordered (how_of walk).mode e && not late) → g.floor taker ≤ e.time
+    pub room : given_by walk < records_of walk
+    pub small : IsSmall (how_of walk).mode e
+
+  -- The taker got it behind whatever it got before, and the walk has noted it.
+  pub record Gave (old new : Walk) (taker now : T) (e : Event) (late : Bool) : Type 0 where
+    pub got : (start : T) (l : Marked) → g.got start taker l → g.got start now (l ++ (e, late) ∷ [])
+    pub follows : (greatest : ℕ) → moved_floor (how_of old).mode (g.floor taker) e late ≤ greatest → Follows g (how_of old).mode (given_by new) greatest now
+    pub noted : Notes old new e late
 
   -- Whatever a walk answers, it reads as before, the taker keeps what a call leaves as it is, and the count of faults doesn't fall.
   pub record Stays (old new : Walk) (taker now : T) : Type 0 where

@@ -4,7 +4,7 @@ ghost use Rattle.tally_base.{specs.declared.header.Mode.Mode, specs.declared.fau
 ghost use Rattle.ptu_definitions.{specs.Fours.numbers, specs.Kinds.{is_reserved, counts_of}, specs.Kept.Marked, specs.Times.event_of};
 ghost use Rattle.abs_time.specs.Placing.{base_of, placed_by};
 ghost use Rattle.record_layout.{specs.InColumns.HasRows, specs.Rowed.raw_of};
-ghost use Rattle.record_stream.{specs.Blocks.{on_time, BrokeAmong}, specs.Rows.{ordered_below, gathered_below, event_below, greatest_with_row}, specs.Feeding.Fed, specs.Walking.{how_of, given_by, greatest_of, records_of, summary_in, clock_in, IsBehind, Gathers, IsBlank, IsFollowed, WalksOn, Stays}};
+ghost use Rattle.record_stream.{specs.Blocks.{on_time, BrokeAmong}, specs.Rows.{ordered_below, gathered_below, event_below, GoesBy}, specs.Feeding.Fed, specs.Walking.{how_of, given_by, greatest_of, records_of, summary_in, clock_in, IsBehind, Gathers, IsBlank, IsReady, LetsPass, WalksOn, Stays}};
 
 use crate::count::{add_block, stops_reserved};
 use crate::taker::EventTaker;
@@ -36,14 +36,9 @@ impl Ahead {
         requires room { self.old.len < BLOCK_SIZE }
         requires behind { count block.old ≤ self.old.len }
         requires base { self.old.base + row.now.amount ≤ wrap_limit }
-        ensures base { self.new.base ≡ self.old.base + row.now.amount }
-        ensures greatest { self.new.greatest ≡ greatest_with_row ordered self.old.greatest self.old.base row.now }
-        ensures in_order { self.new.in_order
-            ≡ (self.old.in_order && nat_le self.old.greatest self.new.greatest) }
+        ensures goes { GoesBy ordered row.now self.old self.new }
         ensures events { written block.new self.new.len ≡ written block.old self.old.len
             ++ event_below below place self.old.base row.now }
-        ensures behind { self.old.len ≤ self.new.len }
-        ensures few { self.new.len ≤ self.old.len + 1 }
         ensures count { count block.new ≡ count block.old }
         ensures unsorted { sorted block.new ≡ sorted block.old }
     {
@@ -84,8 +79,8 @@ fn gathered_below(only_ordered: bool, mode: Mode) -> u16
     }
 }
 
-/// Writes the events of words, whose records are in columns, into an empty block, or those in order alone,
-/// where their policy lets each of them pass. Whether none is late is known at the end.
+/// Writes the events of words, whose records are in columns, into a block, in place of its own, or those in
+/// order alone, where each of them passes. Whether none is late is known at the end.
 #[inline(always)]
 pub(crate) fn gather<R: RecordLayout>(
     walk: &Walk,
@@ -97,18 +92,13 @@ pub(crate) fn gather<R: RecordLayout>(
     requires meaning { R.meaning ≡ (how_of walk.now).meaning }
     requires rows { HasRows R.meaning R.UNIT columns.now words.now }
     requires few { length words.now ≤ BLOCK_SIZE }
-    requires empty { count block.old ≡ 0 }
-    requires room { records_of walk.now + length words.now ≤ (how_of walk.now).policy.records }
-    requires base { base_of (clock_in walk.now) + 2 ^ 56 ≤ wrap_limit }
-    requires reserved { stops_reserved (how_of walk.now).policy.reserved ≡ true
-        → count_by is_reserved (map R.meaning (numbers words.now)) ≡ 0 }
+    requires passes { LetsPass walk.now R.meaning words.now }
     ensures gathers { Gathers walk.now words.now only_ordered result.in_order result.base
         result.greatest (written block.new result.len) }
     ensures few { result.len ≤ length words.now }
-    ensures base { result.base ≤ wrap_limit }
-    ensures empty { count block.new ≡ 0 }
-    ensures unsorted { sorted block.new ≡ sorted block.old }
+    ensures blank { IsBlank block.new }
 {
+    block.clear();
     let placed = walk.clock.placed();
     let ordered = ordered_below(walk.clock.mode());
     let below = gathered_below(only_ordered, walk.clock.mode());
@@ -125,7 +115,7 @@ pub(crate) fn gather<R: RecordLayout>(
     ahead
 }
 
-/// Takes at most as many words as a block has places, with columns for their records and an empty block for their events.
+/// Takes at most as many words as a block has places, with columns for their records and a block for their events.
 #[inline(always)]
 fn take_block<R: RecordLayout, S: EventTaker>(
     walk: &mut Walk,
@@ -135,11 +125,8 @@ fn take_block<R: RecordLayout, S: EventTaker>(
     taker: &mut S,
 ) -> Result<(), Fault>
     requires few { length words.now ≤ BLOCK_SIZE }
-    requires blank { IsBlank block.old }
     requires meaning { R.meaning ≡ (how_of walk.old).meaning }
-    requires plain { (how_of walk.old).policy.settle ≡ 0 }
-    requires follows { IsFollowed S.EventTaker walk.old taker.old }
-    ensures blank { OnOk result (IsBlank block.new) }
+    requires ready { IsReady S.EventTaker walk.old taker.old }
     ensures at { (before : List ℕ) → IsBehind walk.old before
         → OnOk result (IsBehind walk.new (before ++ numbers words.now)) }
     ensures fed { (before : List ℕ) → IsBehind walk.old before
@@ -168,7 +155,6 @@ fn take_block<R: RecordLayout, S: EventTaker>(
     if taker.take_block(block).is_err() {
         return Err(Fault::WriteFault);
     }
-    block.clear();
     Ok(())
 }
 
@@ -179,8 +165,7 @@ pub(crate) fn take_words<R: RecordLayout, S: EventTaker>(
     taker: &mut S,
 ) -> Result<(), Fault>
     requires meaning { R.meaning ≡ (how_of walk.old).meaning }
-    requires plain { (how_of walk.old).policy.settle ≡ 0 }
-    requires follows { IsFollowed S.EventTaker walk.old taker.old }
+    requires ready { IsReady S.EventTaker walk.old taker.old }
     ensures at { (before : List ℕ) → IsBehind walk.old before
         → OnOk result (IsBehind walk.new (before ++ numbers words.now)) }
     ensures fed { (before : List ℕ) → IsBehind walk.old before

@@ -3,7 +3,7 @@ ghost use Rattle.std.specs.Prelude.{◌≡◌, ◌≢◌, ◌+◌, ◌-◌, ◌<
 ghost use Rattle.std.specs.Option.{option_to_list};
 ghost use Rattle.abs_time.specs.Placing.{placed_by};
 ghost use Rattle.tally_base.specs.Columns.{count, sorted, gathered};
-ghost use Rattle.record_stream.{specs.Keeping.IsKeeping, specs.LettingGo.{AreOrdered, ComesNext, IsFull, LetsGo, IsDelivered}, specs.Settling.IsSettledBehind, specs.Walking.{how_of, clock_in, IsBlank}};
+ghost use Rattle.record_stream.{specs.Keeping.IsKeeping, specs.LettingGo.{ComesNext, IsFull, LetsGo, IsDelivered}, specs.Settling.IsSettledBehind, specs.Walking.{how_of, clock_in}};
 
 use crate::walk::Walk;
 use arrayvec::ArrayVec;
@@ -72,19 +72,18 @@ fn is_full(walk: &Walk, settle: &Settle) -> bool
 }
 
 /// Takes the events of a block, all in order and none late, one by one, and puts those that are let go with
-/// them into an empty block.
+/// them into another, in place of its own.
 fn push_block(walk: &Walk, block: &Block, settle: &mut Settle, out: &mut Block)
     requires settles { (how_of walk.now).policy.settle ≢ 0 }
     requires keeps { IsKeeping walk.now settle.old }
     requires comes { ComesNext walk.now (gathered block.now) }
-    requires ordered { AreOrdered (how_of walk.now).mode (gathered block.now) }
-    requires blank { IsBlank out.old }
     ensures lets_go { LetsGo (how_of walk.now).mode (placed_by (clock_in walk.now)) settle.old
         settle.new (gathered block.now) (gathered out.new) }
     ensures delivers { (words : List ℕ) → IsSettledBehind walk.now settle.old words
         → IsDelivered (how_of walk.now) settle.new words (gathered block.now) (gathered out.new) }
     ensures unsorted { sorted out.new ≡ 0 }
 {
+    out.clear();
     for at in 0..block.len() {
         let settled = settle.push(block.event(at));
         push_some(out, settled.emitted);
@@ -104,14 +103,13 @@ fn pass_block(
     requires keeps { IsKeeping walk.now settle.old }
     requires full { IsFull walk.now settle.old }
     requires comes { ComesNext walk.now (gathered block.now) }
-    requires ordered { AreOrdered (how_of walk.now).mode (gathered block.now) }
-    requires blank { IsBlank out.old }
     ensures lets_go { LetsGo (how_of walk.now).mode (placed_by (clock_in walk.now)) settle.old
         settle.new (gathered block.now) (gathered out.new) }
     ensures delivers { (words : List ℕ) → IsSettledBehind walk.now settle.old words
         → IsDelivered (how_of walk.now) settle.new words (gathered block.now) (gathered out.new) }
     ensures unsorted { sorted out.new ≡ 0 }
 {
+    out.clear();
     let len = block.len();
     if len == 0 {
         return;
@@ -130,8 +128,8 @@ fn pass_block(
     );
 }
 
-/// Takes the events of a block, all in order and none late, and puts those that are let go with them into an
-/// empty block. It has an array for those that stay.
+/// Takes the events of a block, all in order and none late, and puts those that are let go with them into
+/// another, in place of its own. It has an array for those that stay.
 pub(crate) fn let_go(
     walk: &Walk,
     block: &Block,
@@ -142,8 +140,6 @@ pub(crate) fn let_go(
     requires settles { (how_of walk.now).policy.settle ≢ 0 }
     requires keeps { IsKeeping walk.now settle.old }
     requires comes { ComesNext walk.now (gathered block.now) }
-    requires ordered { AreOrdered (how_of walk.now).mode (gathered block.now) }
-    requires blank { IsBlank out.old }
     ensures lets_go { LetsGo (how_of walk.now).mode (placed_by (clock_in walk.now)) settle.old
         settle.new (gathered block.now) (gathered out.new) }
     ensures delivers { (words : List ℕ) → IsSettledBehind walk.now settle.old words

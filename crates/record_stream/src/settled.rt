@@ -4,7 +4,7 @@ ghost use Rattle.tally_base.{specs.declared.fault.Fault.TheVariants.WriteFault, 
 ghost use Rattle.ptu_definitions.{specs.Fours.numbers, specs.Kept.Marked, specs.Settled.marked_as};
 ghost use Rattle.abs_time.specs.Placing.{IsSmall, placed_by};
 ghost use Rattle.settle.specs.Standing.{HasSettled, kept_back, last_place, last_time};
-ghost use Rattle.record_stream.{specs.Feeding.{Follows, Fed}, specs.Keeping.{CanWait, IsKeeping, HasCome}, specs.Settling.{IsSettledBehind, IsFollowedBy, SettlesOn, Told, Untold}, specs.Ending.BrokeFirst, specs.OneMore.with_marks, specs.Walking.{how_of, given_by, records_of, clock_in, summary_in, IsBehind, KeepsPlace, Stays}};
+ghost use Rattle.record_stream.{specs.Feeding.{Follows, Fed}, specs.Keeping.{CanWait, IsKeeping, HasCome}, specs.Settling.{IsSettledBehind, IsFollowedBy, IsReady, ComesUp, SettlesOn, StaysKept, Tells}, specs.Ending.BrokeFirst, specs.OneMore.with_marks, specs.Walking.{how_of, given_by, records_of, clock_in, summary_in, IsBehind, KeepsPlace, Stays}};
 
 use crate::count::stops_late;
 use crate::taker::EventTaker;
@@ -25,22 +25,15 @@ fn settle_event<S: EventTaker>(
     taker: &mut S,
 ) -> Result<(), Fault>
     requires keeps { IsKeeping walk.old settle.old }
-    requires next { last_place settle.old < event.place }
-    requires placed { event.place ≤ placed_by (clock_in walk.old) }
-    requires room { given_by walk.old + length (kept_back settle.old) < records_of walk.old }
-    requires small { IsSmall (how_of walk.old).mode event }
+    requires comes { ComesUp walk.old settle.old event }
     requires follows { IsFollowedBy S.EventTaker walk.old settle.old taker.old }
-    ensures told { (pushed given : List Event) → HasSettled settle.old pushed given
-        → OnOk result (Told S.EventTaker (how_of walk.old) walk.old walk.new settle.old settle.new
-        taker.old taker.new pushed given event before) }
-    ensures untold { (pushed given : List Event) → HasSettled settle.old pushed given
-        → IfErr result (Untold S.EventTaker (how_of walk.old) taker.old taker.new pushed event
-        before) }
+    ensures answers { (pushed given : List Event) → HasSettled settle.old pushed given
+        → Tells S.EventTaker walk.old walk.new settle.old settle.new taker.old taker.new pushed
+        given event before result }
     ensures goes_on { OnOk result (Follows S.EventTaker (how_of walk.old).mode (given_by walk.new)
         (last_time settle.new) taker.new) }
-    ensures keeps { IsKeeping walk.new settle.new }
     ensures place { KeepsPlace walk.old walk.new }
-    ensures stays { Stays S.EventTaker walk.old walk.new taker.old taker.new }
+    ensures stays { StaysKept S.EventTaker walk.old walk.new settle.new taker.old taker.new }
 {
     if !is_ordered(walk.clock.mode(), &event) {
         return Ok(());
@@ -70,9 +63,7 @@ fn settle_word<R: RecordLayout, S: EventTaker>(
     taker: &mut S,
 ) -> Result<(), Fault>
     requires meaning { R.meaning ≡ (how_of walk.old).meaning }
-    requires settles { (how_of walk.old).policy.settle ≢ 0 }
-    requires keeps { IsKeeping walk.old settle.old }
-    requires follows { IsFollowedBy S.EventTaker walk.old settle.old taker.old }
+    requires ready { IsReady S.EventTaker walk.old settle.old taker.old }
     ensures at { (words : List ℕ) → IsSettledBehind walk.old settle.old words
         → OnOk result (IsSettledBehind walk.new settle.new (words ++ word ∷ [])) }
     ensures fed { (words : List ℕ) → IsSettledBehind walk.old settle.old words
@@ -80,8 +71,7 @@ fn settle_word<R: RecordLayout, S: EventTaker>(
         (words ++ word ∷ []) result }
     ensures goes_on { OnOk result
         (SettlesOn S.EventTaker walk.old walk.new settle.new taker.new 1) }
-    ensures keeps { IsKeeping walk.new settle.new }
-    ensures stays { Stays S.EventTaker walk.old walk.new taker.old taker.new }
+    ensures stays { StaysKept S.EventTaker walk.old walk.new settle.new taker.old taker.new }
 {
     match walk.place_next::<R>(word)? {
         Placed::Event(event) => settle_event(walk, settle, event, event.time, taker),
@@ -98,9 +88,7 @@ pub(crate) fn settle_words<R: RecordLayout, S: EventTaker>(
     taker: &mut S,
 ) -> Result<(), Fault>
     requires meaning { R.meaning ≡ (how_of walk.old).meaning }
-    requires settles { (how_of walk.old).policy.settle ≢ 0 }
-    requires keeps { IsKeeping walk.old settle.old }
-    requires follows { IsFollowedBy S.EventTaker walk.old settle.old taker.old }
+    requires ready { IsReady S.EventTaker walk.old settle.old taker.old }
     ensures at { (before : List ℕ) → IsSettledBehind walk.old settle.old before
         → OnOk result (IsSettledBehind walk.new settle.new (before ++ numbers words.now)) }
     ensures fed { (before : List ℕ) → IsSettledBehind walk.old settle.old before
@@ -108,8 +96,7 @@ pub(crate) fn settle_words<R: RecordLayout, S: EventTaker>(
         (before ++ numbers words.now) result }
     ensures goes_on { OnOk result
         (SettlesOn S.EventTaker walk.old walk.new settle.new taker.new (length words.now)) }
-    ensures keeps { IsKeeping walk.new settle.new }
-    ensures stays { Stays S.EventTaker walk.old walk.new taker.old taker.new }
+    ensures stays { StaysKept S.EventTaker walk.old walk.new settle.new taker.old taker.new }
 {
     for word in words {
         settle_word::<R, S>(walk, settle, u32::from_le_bytes(*word), taker)?;

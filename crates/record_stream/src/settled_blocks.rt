@@ -4,7 +4,7 @@ ghost use Rattle.std.specs.Option.{option_to_list};
 ghost use Rattle.tally_base.{specs.declared.event.Event.Event, specs.declared.fault.Fault.TheVariants.WriteFault, specs.FaultCounts.HasCause, specs.Columns.{count, sorted, gathered, written}, specs.Floors.InOrder};
 ghost use Rattle.ptu_definitions.specs.Fours.{numbers};
 ghost use Rattle.abs_time.{specs.Placing.placed_by, specs.Floors.orders_markers};
-ghost use Rattle.record_stream.{specs.Blocks.{on_time, AllFit, PlacesRise}, specs.Feeding.{Follows, Fed}, specs.Keeping.IsKeeping, specs.LettingGo.{AreBlank, LetsGo, IsDelivered}, specs.Settling.{IsSettledBehind, IsFollowedBy, SettlesOn}, specs.Walking.{how_of, given_by, greatest_of, records_of, clock_in, summary_in, IsBlank, Stays}};
+ghost use Rattle.record_stream.{specs.Blocks.{on_time, AllFit, PlacesRise}, specs.Feeding.{Follows, Fed}, specs.Keeping.IsKeeping, specs.LettingGo.{LetsGo, IsDelivered}, specs.Settling.{IsSettledBehind, IsReady, SettlesOn, StaysKept}, specs.Walking.{how_of, given_by, greatest_of, records_of, clock_in, summary_in, IsBlank}};
 ghost use Rattle.settle.specs.Standing.{last_time};
 
 use crate::blocks::{EARLY_ENOUGH, gather};
@@ -32,9 +32,7 @@ struct Room {
 }
 
 impl Room {
-    fn new() -> Room
-        ensures { AreBlank result }
-    {
+    fn new() -> Room {
         Room {
             columns: Columns::new(),
             block: Block::new(),
@@ -44,7 +42,7 @@ impl Room {
     }
 }
 
-/// Takes at most as many words as a block has places, with empty blocks.
+/// Takes at most as many words as a block has places, with room for them.
 #[inline(always)]
 fn settle_block<R: RecordLayout, S: EventTaker>(
     walk: &mut Walk,
@@ -54,12 +52,8 @@ fn settle_block<R: RecordLayout, S: EventTaker>(
     taker: &mut S,
 ) -> Result<(), Fault>
     requires few { length words.now ≤ BLOCK_SIZE }
-    requires blank { AreBlank room.old }
     requires meaning { R.meaning ≡ (how_of walk.old).meaning }
-    requires settles { (how_of walk.old).policy.settle ≢ 0 }
-    requires keeps { IsKeeping walk.old settle.old }
-    requires follows { IsFollowedBy S.EventTaker walk.old settle.old taker.old }
-    ensures blank { OnOk result (AreBlank room.new) }
+    requires ready { IsReady S.EventTaker walk.old settle.old taker.old }
     ensures at { (before : List ℕ) → IsSettledBehind walk.old settle.old before
         → OnOk result (IsSettledBehind walk.new settle.new (before ++ numbers words.now)) }
     ensures fed { (before : List ℕ) → IsSettledBehind walk.old settle.old before
@@ -67,8 +61,7 @@ fn settle_block<R: RecordLayout, S: EventTaker>(
         (before ++ numbers words.now) result }
     ensures goes_on { OnOk result
         (SettlesOn S.EventTaker walk.old walk.new settle.new taker.new (length words.now)) }
-    ensures keeps { IsKeeping walk.new settle.new }
-    ensures stays { Stays S.EventTaker walk.old walk.new taker.old taker.new }
+    ensures stays { StaysKept S.EventTaker walk.old walk.new settle.new taker.old taker.new }
 {
     room.columns.fill::<R>(words);
     let counts = room.columns.kinds::<R>(words);
@@ -83,7 +76,6 @@ fn settle_block<R: RecordLayout, S: EventTaker>(
     }
     room.block.keep(ahead.len);
     let_go(walk, &room.block, settle, &mut room.out, &mut room.stay);
-    room.block.clear();
     add_block(&mut walk.sums, &counts, &room.out);
     let placed = walk.clock.placed() + counts.records;
     walk.clock.go_on(placed, ahead.base, ahead.greatest);
@@ -91,7 +83,6 @@ fn settle_block<R: RecordLayout, S: EventTaker>(
     if taker.take_block(&mut room.out).is_err() {
         return Err(Fault::WriteFault);
     }
-    room.out.clear();
     Ok(())
 }
 
@@ -103,9 +94,7 @@ pub(crate) fn settle_blocks<R: RecordLayout, S: EventTaker>(
     taker: &mut S,
 ) -> Result<(), Fault>
     requires meaning { R.meaning ≡ (how_of walk.old).meaning }
-    requires settles { (how_of walk.old).policy.settle ≢ 0 }
-    requires keeps { IsKeeping walk.old settle.old }
-    requires follows { IsFollowedBy S.EventTaker walk.old settle.old taker.old }
+    requires ready { IsReady S.EventTaker walk.old settle.old taker.old }
     ensures at { (before : List ℕ) → IsSettledBehind walk.old settle.old before
         → OnOk result (IsSettledBehind walk.new settle.new (before ++ numbers words.now)) }
     ensures fed { (before : List ℕ) → IsSettledBehind walk.old settle.old before
@@ -113,8 +102,7 @@ pub(crate) fn settle_blocks<R: RecordLayout, S: EventTaker>(
         (before ++ numbers words.now) result }
     ensures goes_on { OnOk result
         (SettlesOn S.EventTaker walk.old walk.new settle.new taker.new (length words.now)) }
-    ensures keeps { IsKeeping walk.new settle.new }
-    ensures stays { Stays S.EventTaker walk.old walk.new taker.old taker.new }
+    ensures stays { StaysKept S.EventTaker walk.old walk.new settle.new taker.old taker.new }
 {
     if words.len() < 2 {
         return settle_words::<R, S>(walk, settle, words, taker);

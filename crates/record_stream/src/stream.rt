@@ -39,9 +39,9 @@ pub struct RecordStream {
 impl RecordStream {
     ghost use Rattle.std.specs.Prelude.{◌&&◌, not, IsTrue, if◌then◌else◌, Err, false};
     ghost use Rattle.tally_base.{specs.declared.fault.Fault.Fault, specs.declared.fault.Fault.TheVariants.WriteFault, specs.FaultCounts.{HasCause, Rose}, specs.Events.is_ordered, specs.Faults.{is_outside, fault_in}};
-    ghost use Rattle.ptu_definitions.{specs.Kept.Marked, specs.Streams.{reading, streamed}, specs.Fitting.Fits, specs.Fours.numbers, specs.Words.{words_of, rest_of}, specs.Shown.Shows};
+    ghost use Rattle.ptu_definitions.{specs.Kept.Marked, specs.Streams.{reading, streamed}, specs.Fitting.Fits, specs.Fours.numbers, specs.Shown.Shows};
     ghost use Rattle.abs_time.specs.Placing.{IsSmall};
-    ghost use Rattle.record_stream.{specs.OneMore.with_event, specs.Feeding.{Follows, Fed}, specs.Standing.{how_of, given_by, greatest_of, refused_with, carried_by, kept_back_by, records_of, bytes_in, summary_in, clock_in, IsBehind, CarriesOn, HasStreamed, IsFollowed, StreamsOn, Stays}, specs.Ending.Ended};
+    ghost use Rattle.record_stream.{specs.OneMore.with_event, specs.Feeding.{Follows, Fed, FedPiece}, specs.Standing.{how_of, given_by, greatest_of, refused_with, carried_by, kept_back_by, records_of, bytes_in, summary_in, clock_in, IsBehind, CarriesOn, HasStreamed, IsFollowed, StreamsOn, Stays}, specs.Ending.Ended};
 
     /// The stream of a file of this type, which was given no bytes. The greatest number of records is 1
     /// to 2^40, and at most 64 events may overtake one.
@@ -149,8 +149,8 @@ impl RecordStream {
         ensures at { (bytes : List ℕ) → CarriesOn self.old bytes
             → OnOk result (CarriesOn self.new (bytes ++ piece.now)) }
         ensures fed { (bytes : List ℕ) → CarriesOn self.old bytes
-            → Fed S.EventTaker (how_of self.old) taker.old taker.new (words_of bytes) (words_of
-            (bytes ++ piece.now)) result }
+            → FedPiece S.EventTaker (how_of self.old) taker.old taker.new bytes piece.now
+            result }
         ensures goes_on { OnOk result
             (StreamsOn S.EventTaker self.old self.new taker.new (length piece.now)) }
         ensures stays { Stays S.EventTaker self.old self.new taker.old taker.new }
@@ -166,8 +166,8 @@ impl RecordStream {
         ensures at { (bytes : List ℕ) → CarriesOn self.old bytes
             → OnOk result (CarriesOn self.new (bytes ++ piece.now)) }
         ensures fed { (bytes : List ℕ) → CarriesOn self.old bytes
-            → Fed S.EventTaker (how_of self.old) taker.old taker.new (words_of bytes) (words_of
-            (bytes ++ piece.now)) result }
+            → FedPiece S.EventTaker (how_of self.old) taker.old taker.new bytes piece.now
+            result }
         ensures goes_on { OnOk result
             (StreamsOn S.EventTaker self.old self.new taker.new (length piece.now)) }
         ensures stays { Stays S.EventTaker self.old self.new taker.old taker.new }
@@ -188,8 +188,8 @@ impl RecordStream {
         ensures taken { (bytes : List ℕ) → HasStreamed self.old bytes
             → HasStreamed self.new (bytes ++ piece.now) }
         ensures fed { refused_with self.old ≡ None → (bytes : List ℕ)
-            → HasStreamed self.old bytes → Fed S.EventTaker (how_of self.old) taker.old taker.new
-            (words_of bytes) (words_of (bytes ++ piece.now)) result }
+            → HasStreamed self.old bytes → FedPiece S.EventTaker (how_of self.old) taker.old
+            taker.new bytes piece.now result }
         ensures kept { (fault : Fault) → refused_with self.old ≡ Some fault
             → (result ≡ Err fault) × (self.new ≡ self.old) × (taker.new ≡ taker.old) }
         ensures refused { refused_with self.new ≡ fault_in result }

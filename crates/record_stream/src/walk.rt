@@ -32,7 +32,7 @@ impl Walk {
     ghost use Rattle.tally_base.{specs.declared.fault.Fault.TheVariants.WriteFault, specs.FaultCounts.HasCause, specs.Events.is_ordered};
     ghost use Rattle.ptu_definitions.{specs.Kept.Marked, specs.Fitting.Fits, specs.Fours.numbers, specs.Streams.refusal};
     ghost use Rattle.abs_time.{specs.Placing.IsSmall, specs.Floors.moved_floor};
-    ghost use Rattle.record_stream.{specs.OneMore.with_event, specs.Feeding.{Follows, CanGet, Fed}, specs.Walking.{how_of, given_by, greatest_of, records_of, Notes, KeepsPlace, IsBehind, IsFollowed, WalksOn, Stays}, specs.Recorded.{IsPlaced, CountsOne, KeepsGiven}};
+    ghost use Rattle.record_stream.{specs.OneMore.with_event, specs.Feeding.{Follows, Fed}, specs.Walking.{how_of, given_by, greatest_of, records_of, KeepsPlace, IsBehind, IsReady, CanGive, Gave, WalksOn, Stays}, specs.Recorded.{IsPlaced, CountsOne, KeepsGiven}};
 
     /// What a word means.
     #[inline(always)]
@@ -79,8 +79,7 @@ impl Walk {
         taker: &mut S,
     ) -> Result<(), Fault>
         requires meaning { R.meaning ≡ (how_of self.old).meaning }
-        requires plain { (how_of self.old).policy.settle ≡ 0 }
-        requires follows { IsFollowed S.EventTaker self.old taker.old }
+        requires ready { IsReady S.EventTaker self.old taker.old }
         ensures at { (words : List ℕ) → IsBehind self.old words
             → OnOk result (IsBehind self.new (words ++ word ∷ [])) }
         ensures fed { (words : List ℕ) → IsBehind self.old words
@@ -114,17 +113,9 @@ impl Walk {
         late: bool,
         taker: &mut S,
     ) -> Result<(), Fault>
-        requires may { CanGet S.EventTaker (how_of self.old).mode (given_by self.old)
-            event.now late taker.old }
-        requires room { given_by self.old < records_of self.old }
-        requires small { IsSmall (how_of self.old).mode event.now }
-        ensures got { OnOk result ((start : S) (l : Marked) → S.got start taker.old l
-            → S.got start taker.new (l ++ (event.now, late) ∷ [])) }
-        ensures follows { (greatest : ℕ) → moved_floor (how_of self.old).mode
-            (S.floor taker.old) event.now late ≤ greatest
-            → OnOk result (Follows S.EventTaker (how_of self.old).mode
-            (given_by self.new) greatest taker.new) }
-        ensures noted { OnOk result (Notes self.old self.new event.now late) }
+        requires can { CanGive S.EventTaker self.old event.now late taker.old }
+        ensures gave { OnOk result
+            (Gave S.EventTaker self.old self.new taker.old taker.new event.now late) }
         ensures broken { OnErr result ((start : S) (l : Marked) → S.got start taker.old l
             → S.broke start taker.new (l ++ (event.now, late) ∷ [])) }
         ensures fault { IfErr result (λ fault. fault ≡ WriteFault) }
@@ -147,8 +138,7 @@ impl Walk {
         taker: &mut S,
     ) -> Result<(), Fault>
         requires meaning { R.meaning ≡ (how_of self.old).meaning }
-        requires plain { (how_of self.old).policy.settle ≡ 0 }
-        requires follows { IsFollowed S.EventTaker self.old taker.old }
+        requires ready { IsReady S.EventTaker self.old taker.old }
         ensures at { (before : List ℕ) → IsBehind self.old before
             → OnOk result (IsBehind self.new (before ++ numbers words.now)) }
         ensures fed { (before : List ℕ) → IsBehind self.old before

@@ -1,6 +1,7 @@
 -- What a picker stands for.
-use Rattle.std.specs.Prelude.{ℕ, ◌≡◌, List}
-use Rattle.tally_base.{specs.declared.event.Event.Event, specs.declared.header.Mode.Mode}
+use Rattle.std.specs.Prelude.{ℕ, ◌≡◌, ◌≤◌, true, List, [], ◌∷◌, ◌++◌}
+use Rattle.tally_base.{specs.declared.event.Event.Event, specs.declared.header.Mode.Mode, specs.Events.is_photon}
+use Rattle.ptu_definitions.specs.Fitting.{KindFits}
 use Rattle.record_write.{specs.declared.picker.Picker.Picker, specs.Picked.{last_time, photon_words}}
 
 abbrev pub mode_of : Picker → Mode
@@ -12,6 +13,18 @@ last_by picker = picker.last
 -- The picker has picked these photons.
 abbrev pub HasPicked : Picker → List Event → Type 0
 HasPicked picker photons = last_by picker ≡ last_time photons
+
+-- The event is a photon that fits the picker's mode and comes no earlier than the last.
+pub record IsNext (picker : Picker) (e : Event) : Type 0 where
+  pub photon : is_photon e ≡ true
+  pub fits : KindFits (mode_of picker) e.kind
+  pub in_order : last_by picker ≤ e.time
+
+-- The photon was picked behind any others.
+pub record Picks (old new : Picker) (e : Event) : Type 0 where
+  pub picked : (photons : List Event) → HasPicked old photons → HasPicked new (photons ++ e ∷ [])
+  pub last : last_by new ≡ e.time
+  pub same_mode : mode_of new ≡ mode_of old
 
 -- This holds of the words of a photon behind those that the picker has picked.
 abbrev pub OnWordsOf : Picker → Event → (List ℕ → Type 0) → Type 0

@@ -1,7 +1,8 @@
 -- What a call says of the words that it puts into a block or writes.
-use Rattle.std.specs.Prelude.{ℕ, ◌≡◌, ◌≤◌, ◌⊎◌, List, [], ◌++◌, OnOk, IfErr}
+use Rattle.std.specs.Prelude.{ℕ, ◌≡◌, ◌≤◌, ◌⊎◌, Err, List, [], ◌++◌, OnOk, IfErr}
 use Rattle.std.{specs.declared.option.Option.Option, specs.declared.result.Result.Result}
 use Rattle.tally_base.{specs.declared.fault.Fault.Fault, specs.declared.fault.Fault.TheVariants.{PickTime, WriteFault}, specs.FaultCounts.Rose}
+use Rattle.std.specs.Io.KnownBytes.{Appends}
 use Rattle.bench_io.specs.Sinks.{AppendsShort, PassesOn}
 use Rattle.short_file.specs.ShortFiles.{bytes_in}
 
@@ -13,6 +14,16 @@ PutsWords old new held now words = PassesOn old new (held ++ bytes_in words) now
 pub record CutsWords (old new : Option (List ℕ)) (held now words : List ℕ) : Type 0 where
   pub short : AppendsShort old new (held ++ bytes_in words)
   pub empty : now ≡ []
+
+-- What a photon's words left in a block, by the answer.
+pub record PutsOrCuts {T : Type 0} (old new : Option (List ℕ)) (held now words : List ℕ) (result : Result T Fault) : Type 0 where
+  pub puts : OnOk result (PutsWords old new held now words)
+  pub cuts : result ≡ Err WriteFault → CutsWords old new held now words
+
+-- What they left in a sink, by the answer.
+pub record WritesOrCuts {T : Type 0} (old new : Option (List ℕ)) (words : List ℕ) (result : Result T Fault) : Type 0 where
+  pub writes : OnOk result (Appends old new (bytes_in words))
+  pub cuts : result ≡ Err WriteFault → AppendsShort old new (bytes_in words)
 
 -- A photon is refused since its time is too late to be written, and the sink's count of faults stays, or since a write failed and the
 -- count rose.

@@ -5,7 +5,7 @@ ghost use Rattle.tally_base.{specs.declared.event.Event.Event, specs.declared.fa
 ghost use Rattle.bench_io.{specs.TriesOnce.TriesOnce, specs.Sinks.AppendsShort};
 ghost use Rattle.ptu_definitions.specs.Fitting.{KindFits};
 ghost use Rattle.short_file.specs.ShortFiles.{bytes_in, short_header};
-ghost use Rattle.record_write.{specs.Picked.is_too_late, specs.Writing.{PutsWords, CutsWords, PickCause}};
+ghost use Rattle.record_write.{specs.Picked.is_too_late, specs.Writing.{PutsOrCuts, WritesOrCuts, PickCause}};
 
 use crate::words::{is_too_late, put_photon};
 use bench_io::{Block, Sink, write_all};
@@ -23,7 +23,7 @@ pub struct Picker {
 }
 
 impl Picker {
-    ghost use Rattle.record_write.specs.Picker.{mode_of, last_by, HasPicked, OnWordsOf};
+    ghost use Rattle.record_write.specs.Picker.{mode_of, HasPicked, IsNext, OnWordsOf, Picks};
 
     /// A picker for a file of this mode, which has picked no photon.
     pub fn new(mode: Mode) -> Picker
@@ -58,17 +58,13 @@ impl Picker {
     /// Puts the words of a photon into a block.
     #[inline(always)]
     fn put_words<O: Sink>(&self, e: &Event, block: &mut Block, out: &mut O) -> Result<(), Fault>
-        requires photon { is_photon e.now ≡ true }
-        requires fits { KindFits (mode_of self.now) e.now.kind }
-        requires in_order { last_by self.now ≤ e.now.time }
-        ensures words { OnWordsOf self.now e.now (λ words. OnOk result
-            (PutsWords (O.written out.old) (O.written out.new) block.old block.new words)) }
+        requires next { IsNext self.now e.now }
+        ensures puts { OnWordsOf self.now e.now (λ words. PutsOrCuts (O.written out.old)
+            (O.written out.new) block.old block.new words result) }
         ensures late { (result ≡ Err (PickTime e.now.place))
             ↔ (is_too_late (mode_of self.now) e.now.time ≡ true) }
         ensures untouched { result ≡ Err (PickTime e.now.place)
             → (out.new ≡ out.old) × (block.new ≡ block.old) }
-        ensures cut { OnWordsOf self.now e.now (λ words. result ≡ Err WriteFault
-            → CutsWords (O.written out.old) (O.written out.new) block.old block.new words) }
         ensures cause { PickCause e.now.place (O.faults out.old) (O.faults out.new) result }
     {
         if is_too_late(self.mode, e.time) {
@@ -92,25 +88,16 @@ impl Picker {
     /// more than 2^62, and then puts nothing. Where a write fails, a front of the bytes that are held and of
     /// this photon's words was written, and the block holds none.
     pub fn put<O: Sink>(&mut self, e: &Event, block: &mut Block, out: &mut O) -> Result<(), Fault>
-        requires photon { is_photon e.now ≡ true }
-        requires fits { KindFits (mode_of self.old) e.now.kind }
-        requires in_order { last_by self.old ≤ e.now.time }
-        ensures picked { (photons : List Event) → HasPicked self.old photons
-            → OnOk result (HasPicked self.new (photons ++ e.now ∷ [])) }
-        ensures words { OnWordsOf self.old e.now (λ words. OnOk result
-            (PutsWords (O.written out.old) (O.written out.new) block.old block.new words)) }
+        requires next { IsNext self.old e.now }
+        ensures picks { OnOk result (Picks self.old self.new e.now) }
+        ensures puts { OnWordsOf self.old e.now (λ words. PutsOrCuts (O.written out.old)
+            (O.written out.new) block.old block.new words result) }
         ensures late { (result ≡ Err (PickTime e.now.place))
             ↔ (is_too_late (mode_of self.old) e.now.time ≡ true) }
         ensures untouched { result ≡ Err (PickTime e.now.place)
             → (out.new ≡ out.old) × (block.new ≡ block.old) }
-        ensures cut { OnWordsOf self.old e.now (λ words. result ≡ Err WriteFault
-            → CutsWords (O.written out.old) (O.written out.new) block.old block.new words) }
         ensures cause { PickCause e.now.place (O.faults out.old) (O.faults out.new) result }
         ensures kept { OnErr result (self.new ≡ self.old) }
-
-        // What the next photon must keep to.
-        ensures last { OnOk result (last_by self.new ≡ e.now.time) }
-        ensures same_mode { mode_of self.new ≡ mode_of self.old }
     {
         self.put_words(e, block, out)?;
         self.last = e.time;
@@ -119,24 +106,15 @@ impl Picker {
 
     /// Writes a photon behind those before it, as `put` does, but at once.
     pub fn photon<O: Sink>(&mut self, e: &Event, out: &mut O) -> Result<(), Fault>
-        requires photon { is_photon e.now ≡ true }
-        requires fits { KindFits (mode_of self.old) e.now.kind }
-        requires in_order { last_by self.old ≤ e.now.time }
-        ensures picked { (photons : List Event) → HasPicked self.old photons
-            → OnOk result (HasPicked self.new (photons ++ e.now ∷ [])) }
-        ensures words { OnWordsOf self.old e.now (λ words. OnOk result
-            (Appends (O.written out.old) (O.written out.new) (bytes_in words))) }
+        requires next { IsNext self.old e.now }
+        ensures picks { OnOk result (Picks self.old self.new e.now) }
+        ensures writes { OnWordsOf self.old e.now (λ words. WritesOrCuts (O.written out.old)
+            (O.written out.new) words result) }
         ensures late { (result ≡ Err (PickTime e.now.place))
             ↔ (is_too_late (mode_of self.old) e.now.time ≡ true) }
         ensures untouched { result ≡ Err (PickTime e.now.place) → out.new ≡ out.old }
-        ensures short { OnWordsOf self.old e.now (λ words. result ≡ Err WriteFault
-            → AppendsShort (O.written out.old) (O.written out.new) (bytes_in words)) }
         ensures cause { PickCause e.now.place (O.faults out.old) (O.faults out.new) result }
         ensures kept { OnErr result (self.new ≡ self.old) }
-
-        // What the next photon must keep to.
-        ensures last { OnOk result (last_by self.new ≡ e.now.time) }
-        ensures same_mode { mode_of self.new ≡ mode_of self.old }
     {
         let mut block = Block::new();
         self.put_words(e, &mut block, out)?;

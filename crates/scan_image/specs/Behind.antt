@@ -1,7 +1,7 @@
 -- Counts and lines behind the events of a block.
-use Rattle.std.specs.Prelude.{◌≡◌, ℕ, ◌<◌, ◌≤◌, ◌++◌, List}
-use Rattle.tally_base.{specs.declared.settings.ImageSet.ImageSet, specs.Settings.ImageView, specs.Tally.History, specs.declared.block.Block.Block, specs.Columns.{count, code_at, time_at, item, rows, IsSorted}}
-use Rattle.marker_map.{specs.declared.lines.Lines.Lines, specs.declared.strip.Strip.Strip, specs.Lines.{Saw, image_of}, specs.Marks.Mark, specs.Places.place_of, specs.Strips.{place_on, width_of, height_of}}
+use Rattle.std.specs.Prelude.{◌≡◌, ℕ, ◌+◌, ◌<◌, ◌≤◌, ◌++◌, true, List, length}
+use Rattle.tally_base.{specs.declared.settings.ImageSet.ImageSet, specs.Settings.ImageView, specs.Tally.History, specs.declared.block.Block.Block, specs.Columns.{count, code_at, time_at, item, rows, gathered, IsSorted}, specs.Floors.floor_after, specs.Limits.record_limit}
+use Rattle.marker_map.{specs.declared.lines.Lines.Lines, specs.declared.strip.Strip.Strip, specs.Lines.{Saw, image_of, markers_given, line_start}, specs.Marks.Mark, specs.Places.place_of, specs.Strips.{place_on, width_of, height_of}}
 use Rattle.scan_image.{specs.Counted.HowMany, specs.ImageCounts.{markers, count_met}}
 
 -- The counts are over these events, and the lines saw their markers.
@@ -37,3 +37,24 @@ ComesFrom block from start = IsSorted block × (from ≤ count block) × ((i : �
 -- the place of the next marker from a place on, or the end of the block
 abbrev pub StopsAt : Block → ℕ → ℕ → Type 0
 StopsAt block from at = (from ≤ at) × (at ≤ count block) × (at < count block → 256 ≤ code_at block at)
+
+-- The counts are of the size of the image, and have room for so many photons more.
+pub record HasRoom (fits : Type 0) (total more : ℕ) : Type 0 where
+  pub fit : fits
+  pub room : total + more ≤ record_limit
+
+-- They still are, and so many photons more were counted at most.
+pub record Gained (fits : Type 0) (total total' more : ℕ) : Type 0 where
+  pub fit : fits
+  pub few : total' ≤ total + more
+
+-- The lines are those of the image, and have room for so many markers more.
+pub record LinesHaveRoom (set : ImageView) (lines : Lines) (more : ℕ) : Type 0 where
+  pub of_set : image_of lines ≡ set
+  pub few : markers_given lines + more ≤ record_limit
+
+-- The lines saw no more markers than the block has events, and begin no later than these come.
+pub record LinesGoOn (old new : Lines) (block : Block) : Type 0 where
+  pub of_set : image_of new ≡ image_of old
+  pub few : markers_given new ≤ markers_given old + length (gathered block)
+  pub begun : line_start new ≤ floor_after true (line_start old) (gathered block)

@@ -1,8 +1,8 @@
 // The photons of a block, counted by their places.
 ghost use Rattle.std.specs.Prelude.{◌≡◌, ◌+◌, ◌≤◌, true, length};
-ghost use Rattle.tally_base.{specs.Settings.image_view, specs.Limits.record_limit, specs.Columns.{count, gathered, events_in, IsSorted}, specs.Floors.{floor_after, InOrder}};
-ghost use Rattle.marker_map.{specs.Lines.{image_of, markers_given, line_start}, specs.Strips.start_of};
-ghost use Rattle.scan_image.specs.Behind.{CountsMore, CountsOn, CountsOnStrip, IsOfSize, ComesFrom, StopsAt};
+ghost use Rattle.tally_base.{specs.Settings.image_view, specs.Limits.record_limit, specs.Columns.{count, gathered, events_in, IsSorted}, specs.Floors.InOrder};
+ghost use Rattle.marker_map.{specs.Lines.{image_of, line_start}, specs.Strips.start_of};
+ghost use Rattle.scan_image.specs.Behind.{CountsMore, CountsOn, CountsOnStrip, IsOfSize, ComesFrom, StopsAt, HasRoom, Gained, LinesHaveRoom, LinesGoOn};
 
 use crate::pixels::Pixels;
 use marker_map::{Lines, Strip, Way};
@@ -13,20 +13,16 @@ use tally_base::{BLOCK_SIZE, Block};
 #[inline(never)]
 pub fn count_block<P: Pixels>(pixels: &P, lines: &mut Lines, counts: &mut P::Counts, block: &Block)
     requires sorted { IsSorted block.now }
-    requires fit { P.fits pixels.now counts.old }
-    requires room { P.total counts.old + length (gathered block.now) ≤ record_limit }
-    requires of_set { image_of lines.old ≡ image_view (P.image pixels.now) }
-    requires few { markers_given lines.old + length (gathered block.now) ≤ record_limit }
+    requires room { HasRoom (P.fits pixels.now counts.old) (P.total counts.old)
+        (length (gathered block.now)) }
+    requires lines { LinesHaveRoom (image_view (P.image pixels.now)) lines.old
+        (length (gathered block.now)) }
     requires in_order { InOrder true (line_start lines.old) (gathered block.now) }
     ensures follows { CountsMore (P.over pixels.now counts.old) (P.over pixels.now counts.new)
         (image_view (P.image pixels.now)) lines.old lines.new (events_in block.now) }
-    ensures fit { P.fits pixels.now counts.new }
-    ensures few { P.total counts.new ≤ P.total counts.old + length (gathered block.now) }
-    ensures of_set { image_of lines.new ≡ image_of lines.old }
-    ensures few_markers { markers_given lines.new
-        ≤ markers_given lines.old + length (gathered block.now) }
-    ensures begun { line_start lines.new
-        ≤ floor_after true (line_start lines.old) (gathered block.now) }
+    ensures gained { Gained (P.fits pixels.now counts.new) (P.total counts.old)
+        (P.total counts.new) (length (gathered block.now)) }
+    ensures lines { LinesGoOn lines.old lines.new block.now }
 {
     let len = block.len().min(BLOCK_SIZE);
     let mut from = 0;

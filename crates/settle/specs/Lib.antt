@@ -1,3 +1,4 @@
 pub mod Settling
 pub mod Standing
 pub mod Passing
+pub mod Pushing

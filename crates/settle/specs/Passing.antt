@@ -1,9 +1,9 @@
 -- Events that come in order behind all that are kept back.
-use Rattle.std.specs.Prelude.{ℕ, ◌≡◌, ◌<◌, ◌≤◌, ◌++◌, false, List, [], ◌∷◌}
+use Rattle.std.specs.Prelude.{ℕ, ◌≡◌, ◌<◌, ◌≤◌, ◌++◌, false, List, [], ◌∷◌, length}
 use Rattle.std.specs.List.{AllByRecursion}
 use Rattle.tally_base.specs.declared.event.Event.{Event}
 use Rattle.ptu_definitions.{specs.Prefixes.each_after, specs.Settled.{marked_as, settles}}
-use Rattle.settle.{specs.Standing.{HasSettled, kept_back, last_place, last_time, reach_of}, specs.declared.settle.Settle.Settle}
+use Rattle.settle.{specs.Standing.{HasSettled, kept_back, last_place, last_time, reach_of, was_popped}, specs.declared.settle.Settle.Settle}
 
 -- no place and no time falls: each place is greater than the one before it and the first greater than this, and no
 -- time is less than the one before it or than this
@@ -21,9 +21,12 @@ abbrev pub time_after : ℕ → List Event → ℕ
 time_after time [] = time
 time_after time (e ∷ es) = time_after e.time es
 
--- These events come in order behind all that are kept back. Of both together the first go, up to this time, and the
--- last stay. The last that came has this place.
+-- These events come in order behind all that are kept back, which are as many as may be. Of both together the first go,
+-- up to this time, and the last stay. The last that came has this place.
 pub record ComesBehind (s : Settle) (came went stay : List Event) (time place : ℕ) : Type 0 where
+  pub unpopped : was_popped s ≡ false
+  pub some : 0 < reach_of s
+  pub full : length (kept_back s) ≡ reach_of s
   pub greatest : ℕ
   pub low : last_time s ≤ greatest
   pub below : AllByRecursion (λ x. x.time ≤ greatest) (kept_back s)

@@ -34,7 +34,7 @@ pub struct Settle {
 }
 
 impl Settle {
-    ghost use Rattle.settle.{specs.Passing.{ComesBehind, HasPassed}, specs.Standing.{reach_of, kept_back, last_time, last_place, was_popped, HasSettled}};
+    ghost use Rattle.settle.{specs.Passing.{ComesBehind, HasPassed}, specs.Pushing.{HasPushed, KeepsOrEmits, MovesTo, StandsBehind}, specs.Standing.{reach_of, kept_back, last_time, last_place, was_popped, HasSettled}};
 
     /// Keeps back at most so many events, and none yet.
     pub fn new(k: u32) -> Settle
@@ -76,24 +76,11 @@ impl Settle {
     pub fn push(&mut self, event: Event) -> Settled
         requires behind { last_place self.old < event.place }
         requires unpopped { was_popped self.old ≡ false }
-        ensures settled { (pushed given : List Event) → HasSettled self.old pushed given
-            → HasSettled self.new (pushed ++ event ∷ []) (given ++ option_to_list result.emitted) }
-        ensures late { (pushed given : List Event) → HasSettled self.old pushed given
-            → result.late ≡ is_overtaken (reach_of self.old) pushed event }
-        ensures settles { (pushed given : List Event) → HasSettled self.old pushed given
-            → settles (reach_of self.old) pushed event ≡ told event result.late result.emitted }
-        ensures least { (pushed given : List Event) → HasSettled self.old pushed given
-            → IfSome result.emitted (λ x. AllByRecursion (λ y. Precedes x y) (kept_back self.new)) }
-        ensures left_out { result.late ≡ true → kept_back self.new ≡ kept_back self.old }
-        ensures kept { result.late ≡ false
-            → option_to_list result.emitted ++ kept_back self.new ≡ put_in event (kept_back self.old) }
-        ensures emits { is_some result.emitted ≡ (not result.late && not (nat_lt (length (kept_back self.old)) (reach_of self.old))) }
-        ensures time { IfSome result.emitted (λ e. last_time self.new ≡ e.time) }
-        ensures same_time { result.emitted ≡ None → last_time self.new ≡ last_time self.old }
-        ensures rises { IfSome result.emitted (λ x. last_time self.old ≤ x.time) }
-        ensures place { last_place self.new ≡ event.place }
-        ensures same_reach { reach_of self.new ≡ reach_of self.old }
-        ensures still_unpopped { was_popped self.new ≡ false }
+        ensures pushed { (pushed given : List Event) → HasSettled self.old pushed given
+            → HasPushed self.old self.new pushed given event result }
+        ensures keeps { KeepsOrEmits self.old self.new event result }
+        ensures moves { MovesTo self.old self.new result.emitted }
+        ensures stands { StandsBehind self.old self.new event.place }
     {
         self.place = event.place;
         if event.time < self.last {
@@ -129,10 +116,7 @@ impl Settle {
     /// together these last ones stay, as many, and all before these are let go, up to this time. The last
     /// event that came has this place.
     pub fn pass(&mut self, stay: &[Event], time: u64, place: u64)
-        requires unpopped { was_popped self.old ≡ false }
-        requires some { 0 < reach_of self.old }
-        requires full { length (kept_back self.old) ≡ reach_of self.old }
-        requires as_many { length stay.now ≡ reach_of self.old }
+        requires as_many { length stay.now ≡ length (kept_back self.old) }
         requires low { All (λ (x : Event). time ≤ x.time) stay.now }
         requires rising { IsNonDecreasingBy (λ (x : Event). x.time) stay.now }
         ensures passed { (pushed given came went : List Event) → HasSettled self.old pushed given
@@ -140,9 +124,7 @@ impl Settle {
             → HasPassed self.old self.new pushed given came went }
         ensures waits { kept_back self.new ≡ stay.now }
         ensures time { last_time self.new ≡ time }
-        ensures place { last_place self.new ≡ place }
-        ensures same_reach { reach_of self.new ≡ reach_of self.old }
-        ensures still_unpopped { was_popped self.new ≡ false }
+        ensures stands { StandsBehind self.old self.new place }
     {
         self.waiting.as_mut_slice().copy_from_slice(stay);
         self.last = time;

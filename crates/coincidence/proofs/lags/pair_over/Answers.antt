@@ -27,20 +27,20 @@ pair_window-requires-clause-window g c = record {
       rw counted (few_later c.args.direction (coincidence_view c.args.set) c.args.low c.args.ring.now.entries c.args.later.now c.requires.photons);
   near =
       let counted : c.deref.result.now ≡ filter (λ (e : Entry). ltb 0 (weight_of (later_side c.args.direction) e)) c.args.later.now = c.deref.ensures.0 ∙ rw c.later_side.ensures at c.with_weight-counted.ensures in
-      let near = all_weaker (λ (e : Entry). (c.args.low ≤ e.index) × (e.index - c.args.low + c.args.top ≤ length c.args.window.now)) (λ (e : Entry). (c.args.low ≤ e.index) × (e.index - c.args.low + c.args.top ≤ length c.fill.new.window)) (λ e is. (is.0, omega (arith, is.1, c.fill.ensures.same))) c.args.later.now c.requires.near in
+      let near = all_weaker (λ (e : Entry). (c.args.low ≤ e.index) × (e.index - c.args.low + c.args.top ≤ length c.args.window.now)) (λ (e : Entry). (c.args.low ≤ e.index) × (e.index - c.args.low + c.args.top ≤ length c.fill.new.window)) (λ e is. (is.0, omega (arith, is.1, c.fill.ensures.same))) c.args.later.now c.requires.opens.near in
       rw counted (all_filter (λ (e : Entry). (c.args.low ≤ e.index) × (e.index - c.args.low + c.args.top ≤ length c.fill.new.window)) (λ e. ltb 0 (weight_of (later_side c.args.direction) e)) c.args.later.now near);
 }
 
 pub pair_window-requires-clause-fits : goal.pair_window-requires-clause-fits
 pair_window-requires-clause-fits g c = λ at inside.
     let counted : c.deref.result.now ≡ filter (λ (e : Entry). ltb 0 (weight_of (later_side c.args.direction) e)) c.args.later.now = c.deref.ensures.0 ∙ rw c.later_side.ensures at c.with_weight-counted.ensures in
-    let near : AllByRecursion (λ (e : Entry). (c.args.low ≤ e.index) × (e.index - c.args.low + c.args.top ≤ length c.fill.new.window)) c.args.later.now = all_weaker (λ (e : Entry). (c.args.low ≤ e.index) × (e.index - c.args.low + c.args.top ≤ length c.args.window.now)) (λ (e : Entry). (c.args.low ≤ e.index) × (e.index - c.args.low + c.args.top ≤ length c.fill.new.window)) (λ e is. (is.0, omega (arith, is.1, c.fill.ensures.same))) c.args.later.now c.requires.near in
+    let near : AllByRecursion (λ (e : Entry). (c.args.low ≤ e.index) × (e.index - c.args.low + c.args.top ≤ length c.fill.new.window)) c.args.later.now = all_weaker (λ (e : Entry). (c.args.low ≤ e.index) × (e.index - c.args.low + c.args.top ≤ length c.args.window.now)) (λ (e : Entry). (c.args.low ≤ e.index) × (e.index - c.args.low + c.args.top ≤ length c.fill.new.window)) (λ e is. (is.0, omega (arith, is.1, c.fill.ensures.same))) c.args.later.now c.requires.opens.near in
     let has : (p : ℕ) → p < length c.fill.new.window → get_or c.fill.new.window p 0 ≡ weight_at (earlier_side c.args.direction) c.args.top c.args.low p (c.args.ring.now.entries ++ c.args.later.now) = λ p within. rw c.earlier_side.ensures at (c.fill.ensures.weights p (omega (arith, within, c.fill.ensures.same))) in
-    rw (counted, window-lags c.args.direction (coincidence_view c.args.set) at c.args.top c.args.low c.fill.new.window (c.args.ring.now.entries ++ c.args.later.now) c.args.later.now c.requires.lags.0 has near) (c.requires.fits at inside)
+    rw (counted, window-lags c.args.direction (coincidence_view c.args.set) at c.args.top c.args.low c.fill.new.window (c.args.ring.now.entries ++ c.args.later.now) c.args.later.now c.requires.opens.lags.0 has near) (c.requires.fits at inside)
 
 pub returns-clause-cells : goal.returns-clause-cells
 returns-clause-cells g c = λ at inside.
     let counted : c.deref.result.now ≡ filter (λ (e : Entry). ltb 0 (weight_of (later_side c.args.direction) e)) c.args.later.now = c.deref.ensures.0 ∙ rw c.later_side.ensures at c.with_weight-counted.ensures in
-    let near : AllByRecursion (λ (e : Entry). (c.args.low ≤ e.index) × (e.index - c.args.low + c.args.top ≤ length c.fill.new.window)) c.args.later.now = all_weaker (λ (e : Entry). (c.args.low ≤ e.index) × (e.index - c.args.low + c.args.top ≤ length c.args.window.now)) (λ (e : Entry). (c.args.low ≤ e.index) × (e.index - c.args.low + c.args.top ≤ length c.fill.new.window)) (λ e is. (is.0, omega (arith, is.1, c.fill.ensures.same))) c.args.later.now c.requires.near in
+    let near : AllByRecursion (λ (e : Entry). (c.args.low ≤ e.index) × (e.index - c.args.low + c.args.top ≤ length c.fill.new.window)) c.args.later.now = all_weaker (λ (e : Entry). (c.args.low ≤ e.index) × (e.index - c.args.low + c.args.top ≤ length c.args.window.now)) (λ (e : Entry). (c.args.low ≤ e.index) × (e.index - c.args.low + c.args.top ≤ length c.fill.new.window)) (λ e is. (is.0, omega (arith, is.1, c.fill.ensures.same))) c.args.later.now c.requires.opens.near in
     let has : (p : ℕ) → p < length c.fill.new.window → get_or c.fill.new.window p 0 ≡ weight_at (earlier_side c.args.direction) c.args.top c.args.low p (c.args.ring.now.entries ++ c.args.later.now) = λ p within. rw c.earlier_side.ensures at (c.fill.ensures.weights p (omega (arith, within, c.fill.ensures.same))) in
-    rw (counted, window-lags c.args.direction (coincidence_view c.args.set) at c.args.top c.args.low c.fill.new.window (c.args.ring.now.entries ++ c.args.later.now) c.args.later.now c.requires.lags.0 has near) at (c.pair_window.ensures.cells at inside)
+    rw (counted, window-lags c.args.direction (coincidence_view c.args.set) at c.args.top c.args.low c.fill.new.window (c.args.ring.now.entries ++ c.args.later.now) c.args.later.now c.requires.opens.lags.0 has near) at (c.pair_window.ensures.cells at inside)

@@ -44,3 +44,9 @@ loop-at-preserved c =
             edge = w.of-bin.ensures.low;
           })
     ]
+
+pub returns-clause-counts : goal.returns-clause-counts
+returns-clause-counts c =
+    let inv = c.loop-at.invariant in
+    let whole : c.loop-at.at ≡ c.args.block.now.len = search (rules, arith) in
+    record { each = rw whole at inv.each; before = rw whole at inv.early; beyond = rw whole at inv.late }

@@ -4,13 +4,15 @@ use Rattle.lag_ring.{specs.declared.ring.Entry.Entry, specs.Ring.Ring}
 use Rattle.fold_count.{specs.Folded.{Parted, as_met, front_of}, proofs.Nested.{joined_none, sets_joined}, proofs.Settled.parted_later, proofs.Sound.sound_later}
 use Rattle.fold_count.proofs.taking.open_at.Goals as goal
 
-pub settle-requires-clause-inside : goal.settle-requires-clause-inside
-settle-requires-clause-inside c = rw c.requires.sound.sized (sets_joined (length (fold_view c.args.set.now).groups) c.args.ring.now.entries c.args.bin c.requires.sound.sets)
+pub settle-requires-clause-held : goal.settle-requires-clause-held
+settle-requires-clause-held c =
+    let sound = c.requires.sound in
+    record { inside = rw sound.sized (sets_joined (length (fold_view c.args.set.now).groups) c.args.ring.now.entries c.args.bin sound.sets); nested = sound.nested; within = sound.within; above = sound.above }
 
 pub returns-clause-sound : goal.returns-clause-sound
 returns-clause-sound c =
     let after : c.args.bin.index < c.args.time = omega (arith, c.if-time-bin.false, c.requires.after.0) in
-    sound_later (fold_view c.args.set.now) c.args.cells.now c.settle.new.cells c.args.ring.now c.settle.new.ring c.args.bin c.saturating_sub-before.result c.args.time c.requires.sound c.settle.ensures.same c.settle.ensures.kept c.settle.ensures.within (λ le. after) c.requires.after.1
+    sound_later (fold_view c.args.set.now) c.args.cells.now c.settle.new.cells c.args.ring.now c.settle.new.ring c.args.bin c.saturating_sub-before.result c.args.time c.requires.sound c.settle.ensures.cells.same c.settle.ensures.kept c.settle.ensures.within (λ le. after) c.requires.after.1
 
 pub returns-clause-follows : goal.returns-clause-follows
 returns-clause-follows c = λ h is.
@@ -26,6 +28,6 @@ returns-clause-follows c = λ h is.
     let entries : c.settle.new.ring.entries ≡ filter (λ e. nat_le before e.index) bins = ap (λ (r : Ring). r.entries) c.settle.ensures.kept in
     let stands : Parted set c.settle.new.cells (filter (λ e. nat_le before e.index) bins ++ opened ∷ []) c.args.time before h =
     parted_later set c.args.cells.now bins bin.index (front_of set bin) h is near before later c.settle.new.cells opened after refl refl
-    (λ s inside. c.settle.ensures.cells s (rw c.requires.sound.sized inside)) in
+    (λ s inside. c.settle.ensures.cells.each s (rw c.requires.sound.sized inside)) in
     subst (λ front. Parted set c.settle.new.cells (as_met c.settle.new.ring opened) c.args.time front h) at_front
     (rw (joined_none c.settle.new.ring.entries, entries) stands)

@@ -18,7 +18,7 @@ returns-clause-sound c =
       within = is.within;
       above = is.above;
       in_time = is.in_time;
-      sets = all_push (λ e. e.b < 2 ^ n) entries put (all_front (λ e. e.b < 2 ^ n) entries (here ∷ []) is.sets) (or_lt n here.b c.args.met (last_of (λ e. e.b < 2 ^ n) entries here is.sets) c.requires.inside);
+      sets = all_push (λ e. e.b < 2 ^ n) entries put (all_front (λ e. e.b < 2 ^ n) entries (here ∷ []) is.sets) (or_lt n here.b c.args.met (last_of (λ e. e.b < 2 ^ n) entries here is.sets) c.requires.can.inside);
       nested = is.nested;
     }
 

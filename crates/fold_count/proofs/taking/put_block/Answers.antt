@@ -6,7 +6,7 @@ pub put_event-last-requires-clause-in_time : goal.put_event-last-requires-clause
 put_event-last-requires-clause-in_time c =
     let b = c.args.block.now in
     let within : c.loop-at.at < b.len = search (rules, arith) in
-    let next = order-at false c.args.bin.index (event_at b) b.len c.loop-at.at within c.requires.in_order in
+    let next = order-at false c.args.bin.index (event_at b) b.len c.loop-at.at within c.requires.comes.in_order in
     rw c.get-groups.ensures (next.0, λ photon. let after = next.1 photon in omega (arith, c.loop-at.invariant.begun, after))
 
 pub loop-at-preserved : goal.loop-at-preserved

@@ -1,4 +1,4 @@
-use Rattle.std.proofs.Common.{◌<◌, [], ◌∷◌, filter, length, ap, arith, length-append, nat_lt, nat_le}
+use Rattle.std.proofs.Common.{◌∙◌, ◌<◌, [], ◌∷◌, filter, length, ap, arith, length-append, nat_lt, nat_le}
 use Rattle.std.proofs.lemmas.List.{length-map}
 use Rattle.lag_ring.{specs.Ring.ring as ring_of, proofs.Lists.all_front}
 use Rattle.fold_count.{specs.Folded.joined, proofs.Bins.{of_push, of_late, where_at_most, photons_push, photons_kept, kept_short, kept_long, below_kept, few_after, room_left}, proofs.Nested.{join, below_joined, photons_joined, last_of}}
@@ -7,7 +7,7 @@ use Rattle.fold_count.proofs.waiting.settle.Goals as goal
 pub count_closed-requires-clause-inside : goal.count_closed-requires-clause-inside
 count_closed-requires-clause-inside c =
     let bin = c.args.bin.now in
-    rw c.meet.ensures.met (all_front (λ e. e.b < length c.args.cells.now) (joined bin.b c.args.ring.now.entries) (bin ∷ []) c.requires.inside)
+    rw c.meet.ensures.met (all_front (λ e. e.b < length c.args.cells.now) (joined bin.b c.args.ring.now.entries) (bin ∷ []) c.requires.held.inside)
 
 pub count_closed-requires-clause-room : goal.count_closed-requires-clause-room
 count_closed-requires-clause-room c =
@@ -18,7 +18,7 @@ count_closed-requires-clause-room c =
 pub count_bin-requires-clause-inside : goal.count_bin-requires-clause-inside
 count_bin-requires-clause-inside c =
     let bin = c.args.bin.now in
-    rw c.count_closed.ensures.same (last_of (λ e. e.b < length c.args.cells.now) (joined bin.b c.args.ring.now.entries) bin c.requires.inside)
+    rw c.count_closed.ensures.same (last_of (λ e. e.b < length c.args.cells.now) (joined bin.b c.args.ring.now.entries) bin c.requires.held.inside)
 
 pub count_bin-requires-clause-room : goal.count_bin-requires-clause-room
 count_bin-requires-clause-room c =
@@ -31,23 +31,27 @@ pub push-requires-clause-above : goal.push-requires-clause-above
 push-requires-clause-above c =
     let bin = c.args.bin.now in
     let bins = c.args.ring.now.entries in
-    rw (c.retire.ensures.kept, c.meet.ensures.met) (below_kept c.args.before bin.index (joined bin.b bins) (below_joined bin.b bin.index bins c.requires.above))
+    rw (c.retire.ensures.kept, c.meet.ensures.met) (below_kept c.args.before bin.index (joined bin.b bins) (below_joined bin.b bin.index bins c.requires.held.above))
 
 pub push-requires-clause-room : goal.push-requires-clause-room
 push-requires-clause-room c =
     let bin = c.args.bin.now in
     let bins = c.args.ring.now.entries in
     let rising = rw (c.retire.ensures.kept, c.meet.ensures.met) at c.retire.ensures.rising in
-    let few = room_left c.args.before bin.index c.args.ring.now.reach (joined bin.b bins) rising (below_joined bin.b bin.index bins c.requires.above) c.if-bin-before.false c.requires.near in
+    let few = room_left c.args.before bin.index c.args.ring.now.reach (joined bin.b bins) rising (below_joined bin.b bin.index bins c.requires.held.above) c.if-bin-before.false c.requires.near in
     rw (c.retire.ensures.kept, c.meet.ensures.met) (omega (arith, few))
 
 pub returns-then-bin-before-clause-cells : goal.returns-then-bin-before-clause-cells
-returns-then-bin-before-clause-cells c = λ s inside.
+returns-then-bin-before-clause-cells c =
     let bin = c.args.bin.now in
     let bins = c.args.ring.now.entries in
-    let counted = rw c.meet.ensures.met at c.count_closed.ensures.cells s inside in
-    let last = c.count_bin.ensures.cells s (rw c.count_closed.ensures.same inside) in
-    omega (arith, counted, last, of_push c.args.before s (joined bin.b bins) bin c.if-bin-before.true)
+    record {
+      each = λ s inside.
+          let counted = rw c.meet.ensures.met at c.count_closed.ensures.cells s inside in
+          let last = c.count_bin.ensures.cells s (rw c.count_closed.ensures.same inside) in
+          omega (arith, counted, last, of_push c.args.before s (joined bin.b bins) bin c.if-bin-before.true);
+      same = c.count_bin.ensures.same ∙ c.count_closed.ensures.same;
+    }
 
 pub returns-then-bin-before-clause-kept : goal.returns-then-bin-before-clause-kept
 returns-then-bin-before-clause-kept c =
@@ -60,7 +64,7 @@ returns-then-bin-before-clause-within c =
     let bin = c.args.bin.now in
     let bins = c.args.ring.now.entries in
     let few = few_after c.args.before (joined bin.b bins) in
-    rw (c.retire.ensures.kept, c.meet.ensures.met) (omega (arith, few, length-map bins (join bin.b), c.requires.within))
+    rw (c.retire.ensures.kept, c.meet.ensures.met) (omega (arith, few, length-map bins (join bin.b), c.requires.held.within))
 
 pub returns-then-bin-before-clause-sum : goal.returns-then-bin-before-clause-sum
 returns-then-bin-before-clause-sum c =
@@ -70,11 +74,15 @@ returns-then-bin-before-clause-sum c =
     rw (c.retire.ensures.kept, c.meet.ensures.met) (omega (arith, c.count_bin.ensures.sum, counted, photons_kept c.args.before (joined bin.b bins), photons_joined bin.b bins, photons_push bins bin))
 
 pub returns-else-bin-before-clause-cells : goal.returns-else-bin-before-clause-cells
-returns-else-bin-before-clause-cells c = λ s inside.
+returns-else-bin-before-clause-cells c =
     let bin = c.args.bin.now in
     let bins = c.args.ring.now.entries in
-    let counted = rw c.meet.ensures.met at c.count_closed.ensures.cells s inside in
-    omega (arith, counted, of_late c.args.before s (joined bin.b bins) bin c.if-bin-before.false)
+    record {
+      each = λ s inside.
+          let counted = rw c.meet.ensures.met at c.count_closed.ensures.cells s inside in
+          omega (arith, counted, of_late c.args.before s (joined bin.b bins) bin c.if-bin-before.false);
+      same = c.count_closed.ensures.same;
+    }
 
 pub returns-else-bin-before-clause-kept : goal.returns-else-bin-before-clause-kept
 returns-else-bin-before-clause-kept c =
@@ -87,7 +95,7 @@ returns-else-bin-before-clause-within c =
     let bin = c.args.bin.now in
     let bins = c.args.ring.now.entries in
     let rising = rw (c.retire.ensures.kept, c.meet.ensures.met) at c.retire.ensures.rising in
-    let few = room_left c.args.before bin.index c.args.ring.now.reach (joined bin.b bins) rising (below_joined bin.b bin.index bins c.requires.above) c.if-bin-before.false c.requires.near in
+    let few = room_left c.args.before bin.index c.args.ring.now.reach (joined bin.b bins) rising (below_joined bin.b bin.index bins c.requires.held.above) c.if-bin-before.false c.requires.near in
     rw (c.push.ensures.pushed, c.retire.ensures.kept, c.meet.ensures.met) (omega (arith, few, length-append (filter (λ e. nat_le c.args.before e.index) (joined bin.b bins)) (bin ∷ [])))
 
 pub returns-else-bin-before-clause-sum : goal.returns-else-bin-before-clause-sum

@@ -15,7 +15,7 @@ returns-then-time-newest-clause-counts g c = λ e groups is_time is.
     let newest = c.args.newest.now in
     let begun : set.origin ≤ e.time = omega (arith, is_time, c.if-time-set.false) in
     CountsOn-in set (state_of newest c.args.closed.now) (e, groups) c.args.lines.now.items c.args.more is begun
-    (ap (λ t. (t - set.origin) / set.width) is_time ∙ same_bin set.origin newest.bin.index set.width newest.bin.low c.args.time c.requires.edge c.if-newest-time.true c.if-time-newest.true)
+    (ap (λ t. (t - set.origin) / set.width) is_time ∙ same_bin set.origin newest.bin.index set.width newest.bin.low c.args.time c.requires.step.edge c.if-newest-time.true c.if-time-newest.true)
 
 pub returns-else-more-gt0-clause-counts : goal.returns-else-more-gt0-clause-counts
 returns-else-more-gt0-clause-counts g c = λ e groups is_time is.

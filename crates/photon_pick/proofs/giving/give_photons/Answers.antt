@@ -11,25 +11,20 @@ is-false : (b : Bool) → (b ≡ true → ⊥) → b ≡ false
 is-false true h = absurd (h refl)
 is-false false h = refl
 
-pub put-requires-clause-photon : goal.put-requires-clause-photon
-put-requires-clause-photon g c =
+pub put-requires : goal.put-requires
+put-requires g c =
     let f : ℕ → Event = λ k. event_at c.args.events.now (slice_index c.args.places.now k) in
     let within : c.loop-k.k < c.args.many = search (rules, arith) in
-    rw c.event.ensures (all-rows (λ e. is_photon e ≡ true) f c.args.many c.loop-k.k within c.requires.photons)
-
-pub put-requires-clause-fits : goal.put-requires-clause-fits
-put-requires-clause-fits g c =
-    let f : ℕ → Event = λ k. event_at c.args.events.now (slice_index c.args.places.now k) in
-    let within : c.loop-k.k < c.args.many = search (rules, arith) in
-    let fits = all-rows (λ e. KindFits (mode_of c.args.picker.now) e.kind) f c.args.many c.loop-k.k within c.requires.fit in
-    rw c.event.ensures (subst (λ m. KindFits m (f c.loop-k.k).kind) (sym c.loop-k.invariant.gave.same_mode) fits)
-
-pub put-requires-clause-in_order : goal.put-requires-clause-in_order
-put-requires-clause-in_order g c =
-    let f : ℕ → Event = λ k. event_at c.args.events.now (slice_index c.args.places.now k) in
-    let within : c.loop-k.k < c.args.many = search (rules, arith) in
-    let order : floor_after true (last_by c.args.picker.now) (rows f c.loop-k.k) ≤ (f c.loop-k.k).time = (order-at true (last_by c.args.picker.now) f c.args.many c.loop-k.k within c.requires.in_order).1 refl in
-    rw c.event.ensures (omega (arith, order, c.loop-k.invariant.gave.last))
+    let can = c.requires.can in
+    let fits = all-rows (λ e. KindFits (mode_of c.args.picker.now) e.kind) f c.args.many c.loop-k.k within can.fit in
+    let order : floor_after true (last_by c.args.picker.now) (rows f c.loop-k.k) ≤ (f c.loop-k.k).time = (order-at true (last_by c.args.picker.now) f c.args.many c.loop-k.k within can.in_order).1 refl in
+    record {
+      next = rw c.event.ensures (record {
+        photon = all-rows (λ e. is_photon e ≡ true) f c.args.many c.loop-k.k within can.are_photons;
+        fits = subst (λ m. KindFits m (f c.loop-k.k).kind) (sym c.loop-k.invariant.gave.same_mode) fits;
+        in_order = omega (arith, order, c.loop-k.invariant.gave.last);
+      });
+    }
 
 pub returns-in_err-put-clause-stopped : goal.returns-in_err-put-clause-stopped
 returns-in_err-put-clause-stopped g c =
@@ -48,7 +43,7 @@ returns-in_err-put-clause-stopped g c =
     (λ cut.
     let is = ap Err cut.0 in
     let soon : is_too_late (mode_of c.loop-k.picker) e.time ≡ false = is-false _ (λ late. let bad = told.late.1 late in let fault = cut.0 in cc) in
-    Stopped-cut _ _ _ e gave _ _ part.0 part.1 _ soon cut.0 cut.1 (λ behind stands. told.cut behind stands is))
+    Stopped-cut _ _ _ e gave _ _ part.0 part.1 _ soon cut.0 cut.1 (λ behind stands. (told.puts behind stands).cuts is))
     told.cause.failed)
 
 pub returns-in_err-put-clause-last : goal.returns-in_err-put-clause-last
@@ -57,7 +52,7 @@ returns-in_err-put-clause-last g c =
     let within : c.loop-k.k < c.args.many = search (rules, arith) in
     let part = rows-part f c.loop-k.k c.args.many within in
     let low = last_by c.args.picker.now in
-    let order = subst (λ l. InOrder true low l) part.1 c.requires.in_order in
+    let order = subst (λ l. InOrder true low l) part.1 c.requires.can.in_order in
     let front : floor_after true low (rows f c.loop-k.k) ≤ floor_after true low (rows f c.args.many) = subst (λ l. floor_after true low (rows f c.loop-k.k) ≤ floor_after true low l) (sym part.1) (floor-front low (rows f c.loop-k.k) (f c.loop-k.k ∷ part.0) order) in
     let same : last_by c.put.new.self ≡ last_by c.loop-k.picker = ap last_by c.in_err-put.ensures.kept in
     omega (arith, front, same, c.loop-k.invariant.gave.last)
@@ -73,5 +68,5 @@ loop-k-preserved g c =
     let mid = pen c.loop-k.picker (g.O.Sink.written c.loop-k.out) c.loop-k.block (g.O.Sink.faults c.loop-k.out) in
     let new = pen c.put.new.self (g.O.Sink.written c.put.new.out) c.put.new.block (g.O.Sink.faults c.put.new.out) in
     record {
-      gave = subst (λ l. Gave old new l) (sym (more_rows f c.loop-k.k)) (Gave-more old mid (rows f c.loop-k.k) e gave new soon told.picked told.words told.same_mode told.last told.cause.kept);
+      gave = subst (λ l. Gave old new l) (sym (more_rows f c.loop-k.k)) (Gave-more old mid (rows f c.loop-k.k) e gave new soon told.picks.picked (λ behind stands. (told.puts behind stands).puts) told.picks.same_mode told.picks.last told.cause.kept);
     }

@@ -9,6 +9,6 @@ invariant-loop-i g l = record {
   few : l.ahead.len ≤ l.i;
   base : l.ahead.base ≤ base_of (clock_in l.walk) + l.i * 2 ^ 50;
   empty : count l.block ≡ 0;
-  unsorted : sorted l.block ≡ sorted l.fn.block;
+  unsorted : sorted l.block ≡ 0;
   gathers : Gathers l.walk (take l.i l.words) l.only_ordered l.ahead.in_order l.ahead.base l.ahead.greatest (written l.block l.ahead.len);
 }

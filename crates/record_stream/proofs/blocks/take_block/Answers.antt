@@ -16,7 +16,7 @@ take_block-requires-clause-room g c =
     let sure : ahead.in_order ≡ true = search rules in
     let all = gathers-all c.args.walk.now c.args.words.now ahead.in_order ahead.base ahead.greatest es c.gather-ahead.ensures.gathers sure in
     let many : length (gathered c.keep.new.self) ≡ ahead.len = ap length c.keep.ensures.kept ∙ length-rows (event_at b) ahead.len in
-    omega (arith, many, c.requires.follows.few, walk.few_given, walk.few, walk.limit, c.gather-ahead.ensures.few, c.kinds-counts.ensures.records, c.if-not-room.false)
+    omega (arith, many, c.requires.ready.follows.few, walk.few_given, walk.few, walk.limit, c.gather-ahead.ensures.few, c.kinds-counts.ensures.records, c.if-not-room.false)
 
 pub take_block-requires-clause-in_order : goal.take_block-requires-clause-in_order
 take_block-requires-clause-in_order g c =
@@ -28,8 +28,8 @@ take_block-requires-clause-in_order g c =
     let es = written b ahead.len in
     let sure : ahead.in_order ≡ true = search rules in
     let all = gathers-all c.args.walk.now c.args.words.now ahead.in_order ahead.base ahead.greatest es c.gather-ahead.ensures.gathers sure in
-    rw (c.keep.ensures.kept, c.requires.follows.mode_is)
-    (order-lower (orders_markers how.mode) (s.floor c.args.taker.now) (greatest_of walk) es c.requires.follows.before all.0.in_order)
+    rw (c.keep.ensures.kept, c.requires.ready.follows.mode_is)
+    (order-lower (orders_markers how.mode) (s.floor c.args.taker.now) (greatest_of walk) es c.requires.ready.follows.before all.0.in_order)
 
 pub returns-then-is_err-clause-fed : goal.returns-then-is_err-clause-fed
 returns-then-is_err-clause-fed g c = λ before h.
@@ -44,70 +44,48 @@ returns-then-is_err-clause-fed g c = λ before h.
     let broke : BrokeAmong s.got s.broke c.args.taker.now c.take_block.new.self (gathered c.keep.new.self) = err_of c.take_block.result (sym c.is_err.ensures.value ∙ c.if-is_err.true) c.take_block.ensures.broken in
     inr (
       refl,
-      block_broke s how c.args.taker.now c.take_block.new.self _ ahead.base ahead.greatest before (before ++ numbers c.args.words.now) es es h.clear (all.1 before h) ((all.1 before h).delivers c.requires.plain)
+      block_broke s how c.args.taker.now c.take_block.new.self _ ahead.base ahead.greatest before (before ++ numbers c.args.words.now) es es h.clear (all.1 before h) ((all.1 before h).delivers c.requires.ready.plain)
           (rw c.keep.ensures.kept at broke) (err_of c.take_block.result (sym c.is_err.ensures.value ∙ c.if-is_err.true) c.take_block.ensures.cause.failed),
     )
 
-pub returns-clause-blank : goal.returns-clause-blank
-returns-clause-blank g c = record {
-  empty = sym (length-rows (event_at c.clear.new.self) c.clear.new.self.len) ∙ ap length c.clear.ensures.empty;
-  unsorted = c.clear.ensures.unsorted;
-}
-
-pub returns-clause-at : goal.returns-clause-at
-returns-clause-at g c = λ before h.
+pub returns : goal.returns
+returns g c =
     let s = g.S.EventTaker in
     let walk = c.args.walk.now in
     let how = how_of walk in
-    let ahead = c.gather-ahead.result in
-    let b = c.gather-ahead.new.block in
-    let es = written b ahead.len in
-    let sure : ahead.in_order ≡ true = search rules in
-    let all = gathers-all c.args.walk.now c.args.words.now ahead.in_order ahead.base ahead.greatest es c.gather-ahead.ensures.gathers sure in
     let words = c.args.words.now in
+    let ahead = c.gather-ahead.result in
     let counts = c.kinds-counts.result in
-    let placed : placed_by c.go_on.new.self ≡ placed_by (clock_in walk) + length words = omega (arith, c.go_on.ensures.count, c.placed.ensures.value, c.kinds-counts.ensures.records) in
-    let sums : summed c.add_block.new.sums ≡ with_block (summed walk.sums) counts es = c.add_block.ensures.value ∙ ap (with_block (summed walk.sums) counts) c.keep.ensures.kept in
-    let kinds : counts ≡ counts_of (map how.meaning (numbers words)) = c.kinds-counts.ensures.value ∙ ap (λ (f : _). counts_of (map f (numbers words))) c.requires.meaning in
-    let counted : walk.given + ahead.len ≡ walk.given + length es = ap (λ (k : ℕ). walk.given + k) (sym (length-rows (event_at b) ahead.len)) in
-    block_at how (clock_in walk) c.go_on.new.self (summed walk.sums) (summed c.add_block.new.sums) walk.given (walk.given + ahead.len) (placed_by (clock_in walk) + length words) ahead.base ahead.greatest before (numbers words) es es counts
-    h (all.1 before h) ((all.1 before h).delivers c.requires.plain) (c.go_on.ensures.same_mode ∙ walk.same_mode) placed c.go_on.ensures.base c.go_on.ensures.greatest sums kinds counted
-
-pub returns-clause-fed : goal.returns-clause-fed
-returns-clause-fed g c = λ before h.
-    let s = g.S.EventTaker in
-    let walk = c.args.walk.now in
-    let how = how_of walk in
-    let ahead = c.gather-ahead.result in
     let b = c.gather-ahead.new.block in
     let es = written b ahead.len in
     let sure : ahead.in_order ≡ true = search rules in
-    let all = gathers-all c.args.walk.now c.args.words.now ahead.in_order ahead.base ahead.greatest es c.gather-ahead.ensures.gathers sure in
-    let got = ok_of c.take_block.result (sym c.is_err.ensures.value ∙ c.if-is_err.false) c.take_block.ensures.follows in
-    block_fed s how c.args.taker.now c.take_block.new.self _ ahead.base ahead.greatest before (before ++ numbers c.args.words.now) es es h.clear (all.1 before h) ((all.1 before h).delivers c.requires.plain)
-    (rw c.keep.ensures.kept at got)
-
-pub returns-clause-goes_on : goal.returns-clause-goes_on
-returns-clause-goes_on g c =
-    let s = g.S.EventTaker in
-    let walk = c.args.walk.now in
-    let how = how_of walk in
-    let ahead = c.gather-ahead.result in
-    let b = c.gather-ahead.new.block in
-    let es = written b ahead.len in
-    let sure : ahead.in_order ≡ true = search rules in
-    let all = gathers-all c.args.walk.now c.args.words.now ahead.in_order ahead.base ahead.greatest es c.gather-ahead.ensures.gathers sure in
-    let fine = sym c.is_err.ensures.value ∙ c.if-is_err.false in
+    let all = gathers-all walk words ahead.in_order ahead.base ahead.greatest es c.gather-ahead.ensures.gathers sure in
     let r = c.take_block.result in
-    let many : length (gathered c.keep.new.self) ≡ ahead.len = ap length c.keep.ensures.kept ∙ length-rows (event_at b) ahead.len in
-    let more = ok_of r fine c.take_block.ensures.more in
-    let moved = rw (c.keep.ensures.kept, c.requires.follows.mode_is) at (ok_of r fine c.take_block.ensures.moved) in
-    let low = floors_below how.mode (s.floor c.args.taker.now) (greatest_of walk) ahead.greatest es c.requires.follows.before all.0.greatest in
+    let fine = sym c.is_err.ensures.value ∙ c.if-is_err.false in
     record {
-      follows = record {
-        mode_is = ok_of r fine c.take_block.ensures.same_mode ∙ c.requires.follows.mode_is;
-        few = omega (arith, many, more, c.requires.follows.few);
-        before = omega (arith, moved, low, c.go_on.ensures.greatest);
-      };
-      counted = search (rules, arith);
+      at = λ before h.
+          let placed : placed_by c.go_on.new.self ≡ placed_by (clock_in walk) + length words = omega (arith, c.go_on.ensures.count, c.placed.ensures.value, c.kinds-counts.ensures.records) in
+          let sums : summed c.add_block.new.sums ≡ with_block (summed walk.sums) counts es = c.add_block.ensures.value ∙ ap (with_block (summed walk.sums) counts) c.keep.ensures.kept in
+          let kinds : counts ≡ counts_of (map how.meaning (numbers words)) = c.kinds-counts.ensures.value ∙ ap (λ (f : _). counts_of (map f (numbers words))) c.requires.meaning in
+          let counted : walk.given + ahead.len ≡ walk.given + length es = ap (λ (k : ℕ). walk.given + k) (sym (length-rows (event_at b) ahead.len)) in
+          block_at how (clock_in walk) c.go_on.new.self (summed walk.sums) (summed c.add_block.new.sums) walk.given (walk.given + ahead.len) (placed_by (clock_in walk) + length words) ahead.base ahead.greatest before (numbers words) es es counts
+          h (all.1 before h) ((all.1 before h).delivers c.requires.ready.plain) (c.go_on.ensures.same_mode ∙ walk.same_mode) placed c.go_on.ensures.base c.go_on.ensures.greatest sums kinds counted;
+      fed = λ before h.
+          block_fed s how c.args.taker.now c.take_block.new.self _ ahead.base ahead.greatest before (before ++ numbers words) es es h.clear (all.1 before h) ((all.1 before h).delivers c.requires.ready.plain)
+          (rw c.keep.ensures.kept at (ok_of r fine c.take_block.ensures.follows));
+      goes_on =
+          let follows = c.requires.ready.follows in
+          let many : length (gathered c.keep.new.self) ≡ ahead.len = ap length c.keep.ensures.kept ∙ length-rows (event_at b) ahead.len in
+          let more = ok_of r fine c.take_block.ensures.more in
+          let moved = rw (c.keep.ensures.kept, follows.mode_is) at (ok_of r fine c.take_block.ensures.moved) in
+          let low = floors_below how.mode (s.floor c.args.taker.now) (greatest_of walk) ahead.greatest es follows.before all.0.greatest in
+          record {
+            follows = record {
+              mode_is = ok_of r fine c.take_block.ensures.same_mode ∙ follows.mode_is;
+              few = omega (arith, many, more, follows.few);
+              before = omega (arith, moved, low, c.go_on.ensures.greatest);
+            };
+            counted = search (rules, arith);
+          };
+      stays = record { same_how = refl; later = c.take_block.ensures.cause.later; same = c.take_block.ensures.same };
     }

@@ -1,7 +1,6 @@
-use Rattle.std.proofs.Common.{◌≡◌, ◌++◌, [], ℕ, List, length, refl, ap, sym, subst, ◌∙◌, Err, append_assoc, append-nil, arith}
+use Rattle.std.proofs.Common.{◌≡◌, ◌++◌, [], ℕ, List, refl, ap, sym, subst, ◌∙◌, Err, append_assoc, append-nil, arith}
 use Rattle.std.{specs.Int.{from_le_bytes, w32}, proofs.lemmas.List.map-append, proofs.lemmas.Result.err_from_is_err_and}
 use Rattle.ptu_definitions.{specs.Fours.numbers, specs.Streams.Reading}
-use Rattle.tally_base.{specs.Columns.event_at, proofs.BlockRows.length-rows}
 use Rattle.record_stream.{specs.Feeding.{GaveOn, Fed}, specs.Walking.{how_of, IsBehind}, proofs.Feeds.{GaveOn-refl, GaveOn-trans, Fed-trans, Fed-more}}
 use Rattle.record_stream.proofs.blocks.take_words.Goals as goal
 
@@ -15,9 +14,7 @@ pub many-init : goal.many-init
 many-init g c = record {
   how = refl;
   counted = refl;
-  empty = sym (length-rows (event_at c.new-block.result) c.new-block.result.len) ∙ ap length c.new-block.ensures.empty;
-  unsorted = c.new-block.ensures.unsorted;
-  follows = c.requires.follows;
+  follows = c.requires.ready.follows;
   so_far = λ before h. ([], refl, rw append-nil h, GaveOn-refl g.S.EventTaker _ _ before (before ++ []) (append-nil before));
   later = omega arith;
   same = g.met.S.EventTaker.same_none _;
@@ -47,8 +44,6 @@ many-preserved g c =
     record {
       how = c.take_block.ensures.stays.same_how ∙ inv.how;
       counted = omega (arith, inv.counted, c.in_ok-take_block.ensures.goes_on.counted, c.split_at.ensures.back_len, c.split_at.ensures.front_len);
-      empty = c.in_ok-take_block.ensures.blank.empty;
-      unsorted = c.in_ok-take_block.ensures.blank.unsorted;
       follows = rw (ap (λ (h : Reading). h.mode) inv.how) at c.in_ok-take_block.ensures.goes_on.follows;
       so_far = λ before h.
           let o = inv.so_far before h in

@@ -39,7 +39,7 @@ loop-at-preserved c =
       in_time = (order-at (orders_markers how.mode) (greatest_of walk) f b.len i within c.requires.comes.in_order).0;
       kind = all-rows (λ e. KindFits how.mode e.kind) f b.len i within c.requires.comes.fit;
     }) in
-    let on : is_ordered how.mode e ≡ true = rw is (each-rows (λ (x : Event). is_ordered how.mode x ≡ true) f b.len i within c.requires.ordered) in
+    let on : is_ordered how.mode e ≡ true = rw is (each-rows (λ (x : Event). is_ordered how.mode x ≡ true) f b.len i within c.requires.comes.ordered) in
     let push = c.push-settled.ensures in
     let new = c.push-settled.new.self in
     let o = c.push-settled.result.emitted in
@@ -48,15 +48,16 @@ loop-at-preserved c =
     record {
       lets_go =
           subst (λ l. LetsGo how.mode low c.args.settle.now new l went') grown
-          (lets_on how.mode low c.args.settle.now old new (rows f i) went e inv.lets_go went' on small push.place push.same_reach push.still_unpopped o late _ c.push_some.ensures.more push.emits push.left_out push.kept push.time push.same_time push.rises);
+          (lets_on how.mode low c.args.settle.now old new (rows f i) went e inv.lets_go went' on small push.stands.place push.stands.same_reach (push.stands.same_popped ∙ inv.lets_go.unpopped) o late _ c.push_some.ensures.more push.keeps.emits push.keeps.left_out push.keeps.kept push.moves.time push.moves.same_time push.moves.rises);
       delivers = λ words h.
           let d = inv.delivers words h in
           let pushed = ordered how.mode (events (map how.meaning words) ++ rows f i) in
           let given = not_marked (events_in how words) ++ went in
           let top_is : greatest_of walk ≡ greatest how.mode (events (map how.meaning words)) = h.behind.placed.greatest ∙ ap (λ m. greatest m (events (map how.meaning words))) walk.same_mode in
+          let tells = push.pushed pushed given d.settled in
           let first = early-row how.policy.settle how.mode (events (map how.meaning words)) f b.len i (greatest_of walk) e within top_is c.requires.comes.in_order is on in
           subst (λ l. IsDelivered how new words l went') grown
-          (delivers_on how old new words (rows f i) went e c.requires.settles d went' o late old.reach (inv.lets_go.reach ∙ c.requires.keeps.reach) on c.push_some.ensures.more first (push.late pushed given d.settled) (push.settles pushed given d.settled) (push.settled pushed given d.settled));
+          (delivers_on how old new words (rows f i) went e c.requires.settles d went' o late old.reach (inv.lets_go.reach ∙ c.requires.keeps.reach) on c.push_some.ensures.more first tells.overtaken tells.tells tells.settled);
       unsorted = c.push_some.ensures.unsorted ∙ inv.unsorted;
     }
 

@@ -24,7 +24,7 @@ loop-word-preserved g c =
     record {
       how = c.settle_word.ensures.stays.same_how ∙ inv.how;
       counted = omega (arith, inv.counted, c.in_ok-settle_word.ensures.goes_on.counted);
-      keeps = c.settle_word.ensures.keeps;
+      keeps = c.settle_word.ensures.stays.keeps;
       follows = rw (ap (λ (h : Reading). h.mode) inv.how) at c.in_ok-settle_word.ensures.goes_on.follows;
       at = λ before h. more_at (IsSettledBehind c.settle_word.new.walk c.settle_word.new.settle) before c.args.words.now c.loop-word.word-index _ _ c.loop-word-test.true c.from_le_bytes.ensures (c.in_ok-settle_word.ensures.at _ (inv.at before h));
       gave = λ before h.

@@ -14,9 +14,8 @@ pub many-init : goal.many-init
 many-init g c = record {
   how = refl;
   counted = refl;
-  blank = c.new-room.ensures;
-  keeps = c.requires.keeps;
-  follows = c.requires.follows;
+  keeps = c.requires.ready.keeps;
+  follows = c.requires.ready.follows;
   so_far = λ before h. ([], refl, rw append-nil h, GaveOn-refl g.S.EventTaker _ _ before (before ++ []) (append-nil before));
   later = omega arith;
   same = g.met.S.EventTaker.same_none _;
@@ -46,8 +45,7 @@ many-preserved g c =
     record {
       how = c.settle_block.ensures.stays.same_how ∙ inv.how;
       counted = omega (arith, inv.counted, c.in_ok-settle_block.ensures.goes_on.counted, c.split_at.ensures.back_len, c.split_at.ensures.front_len);
-      blank = c.in_ok-settle_block.ensures.blank;
-      keeps = c.settle_block.ensures.keeps;
+      keeps = c.settle_block.ensures.stays.keeps;
       follows = rw (ap (λ (h : Reading). h.mode) inv.how) at c.in_ok-settle_block.ensures.goes_on.follows;
       so_far = λ before h.
           let o = inv.so_far before h in

@@ -1,14 +1,13 @@
 use Rattle.std.proofs.Common.{◌≡◌, ◌+◌, ◌≤◌, ◌++◌, List, ℕ, length}
 use Rattle.ptu_definitions.specs.Fours.{numbers}
 use Rattle.settle.specs.Standing.{last_time}
-use Rattle.record_stream.{specs.Feeding.{Follows, GaveOn}, specs.Keeping.IsKeeping, specs.LettingGo.AreBlank, specs.Settling.IsSettledBehind, specs.Walking.{how_of, given_by, records_of}}
+use Rattle.record_stream.{specs.Feeding.{Follows, GaveOn}, specs.Keeping.IsKeeping, specs.Settling.IsSettledBehind, specs.Walking.{how_of, given_by, records_of}}
 use Rattle.record_stream.proofs.settled_blocks.settle_blocks.Given as goal
 
 abbrev pub invariant-many : goal.invariant-many
 invariant-many g l = record {
   how : how_of l.walk ≡ how_of l.fn.walk;
   counted : records_of l.walk + length l.rest ≡ records_of l.fn.walk + length l.words;
-  blank : AreBlank l.room;
   keeps : IsKeeping l.walk l.settle;
   follows : Follows g.S.EventTaker (how_of l.fn.walk).mode (given_by l.walk) (last_time l.settle) l.taker;
   so_far : (before : List ℕ) → IsSettledBehind l.fn.walk l.fn.settle before

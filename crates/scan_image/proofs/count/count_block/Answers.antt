@@ -1,6 +1,6 @@
-use Rattle.std.proofs.Common.{◌≡◌, ◌∙◌, ◌<◌, ◌≤◌, ◌%◌, [], ◌∷◌, ◌++◌, true, false, List, ap, subst, rules, arith, append_assoc, nat_lt, if◌then◌else◌}
+use Rattle.std.proofs.Common.{◌≡◌, ◌∙◌, ◌<◌, ◌≤◌, ◌%◌, [], ◌∷◌, ◌++◌, true, false, List, sym, ap, subst, rules, arith, append_assoc, nat_lt, if◌then◌else◌}
 use Rattle.std.proofs.lemmas.Bool.Decides.{nat_tests}
-use Rattle.tally_base.{specs.declared.event.EventKind.TheVariants.{Photon, Marker}, specs.Settings.image_view, specs.Columns.{item, event_at, rows, code_at, dtime_at, time_at}, proofs.BlockRows.more_rows, proofs.Floors.floor-more}
+use Rattle.tally_base.{specs.declared.event.EventKind.TheVariants.{Photon, Marker}, specs.Settings.image_view, specs.Columns.{item, event_at, rows, code_at, dtime_at, time_at}, proofs.BlockRows.{length-rows, more_rows}, proofs.Floors.floor-more}
 use Rattle.marker_map.{specs.Lines.{Saw, line_start}, specs.Marks.{Mark, mark}}
 use Rattle.scan_image.{specs.Behind.IsBehind, proofs.Steps.marker_step, proofs.Later.{floor-below, floor-rises}}
 use Rattle.scan_image.proofs.count.count_block.Goals as goal
@@ -52,7 +52,12 @@ returns-then-at-len-clause-follows g c = λ h is.
     let end : run.result ≡ b.len = omega (arith, len, run.ensures.stops.1, c.if-at-len.true) in
     subst (λ n. IsBehind (p.over c.args.pixels.now run.new.counts) (image_view (p.image c.args.pixels.now)) c.runs.lines (h ++ rows (item b) n)) end (run.ensures.follows h (c.runs.invariant.counted h is))
 
-pub returns-then-at-len-clause-begun : goal.returns-then-at-len-clause-begun
-returns-then-at-len-clause-begun g c =
+pub returns-then-at-len-clause-lines : goal.returns-then-at-len-clause-lines
+returns-then-at-len-clause-lines g c =
     let b = c.args.block.now in
-    omega (arith, c.runs.invariant.before, floor-rises (line_start c.args.lines.now) (event_at b) b.len c.runs.from c.runs.invariant.within c.requires.in_order)
+    let inv = c.runs.invariant in
+    record {
+      of_set = inv.of_set ∙ sym c.requires.lines.of_set;
+      few = omega (arith, inv.few_markers, inv.within, length-rows (event_at b) b.len);
+      begun = omega (arith, inv.before, floor-rises (line_start c.args.lines.now) (event_at b) b.len c.runs.from inv.within c.requires.in_order);
+    }

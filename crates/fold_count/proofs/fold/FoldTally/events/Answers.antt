@@ -3,8 +3,10 @@ use Rattle.tally_base.{specs.Settings.fold_view, specs.Columns.{item, gathered, 
 use Rattle.fold_count.proofs.Pushed.{open_counts, counts_open}
 use Rattle.fold_count.proofs.fold.FoldTally.events.Goals as goal
 
-pub put_block-self-requires-clause-in_order : goal.put_block-self-requires-clause-in_order
-put_block-self-requires-clause-in_order g c = let t = c.args.self.now in order-lower false t.bin.index t.floor (gathered c.args.block.now) t.begun c.requires.in_order
+pub put_block-self-requires-clause-comes : goal.put_block-self-requires-clause-comes
+put_block-self-requires-clause-comes g c =
+    let t = c.args.self.now in
+    record { sorted = c.requires.sorted; in_order = order-lower false t.bin.index t.floor (gathered c.args.block.now) t.begun c.requires.in_order }
 
 pub invariant_of-self : goal.invariant_of-self
 invariant_of-self g c =

@@ -7,8 +7,14 @@ pub returns-clause-given : goal.returns-clause-given
 returns-clause-given c =
     let t = c.args.self.now in
     let b = c.args.block.now in
-    let done = c.count_block-self.ensures in
+    let done = c.count_block-self.ensures.counted in
     GivenMore-counts t _ (events_in b) _ c.count_block-self.new.lines.items refl done.counts refl done.before (omega (arith, c.len.ensures.count, length-rows (item b) b.len))
     (λ h is.
     let order : InOrder false (greatest_time false h) (gathered b) = rw (← is) c.requires.in_order in
-    done.floor ∙ ap (λ n. floor_after false n (gathered b)) is ∙ sym (greatest-rows false h (item b) b.len order))
+    c.count_block-self.ensures.floor ∙ ap (λ n. floor_after false n (gathered b)) is ∙ sym (greatest-rows false h (item b) b.len order))
+
+pub invariant_of-self-clause-few : goal.invariant_of-self-clause-few
+invariant_of-self-clause-few c = let b = c.args.block.now in omega (arith, c.args.self.now.few, c.count_block-self.ensures.counted.few, c.len.ensures.count, length-rows (item b) b.len)
+
+pub invariant_of-self-clause-filled : goal.invariant_of-self-clause-filled
+invariant_of-self-clause-filled c = let b = c.args.block.now in omega (arith, c.args.self.now.filled, c.count_block-self.ensures.counted.filled, c.len.ensures.count, length-rows (item b) b.len)

@@ -1,33 +1,27 @@
 use Rattle.std.proofs.Common.{◌≡◌, ◌∙◌, ◌+◌, true, All, filter, length, ap, sym, subst, refl}
 use Rattle.std.proofs.lemmas.List.Elements.{All-weaker, All-filter, filter_passes}
-use Rattle.tally_base.{specs.Events.is_photon, specs.Columns.gathered, specs.Floors.InOrder}
+use Rattle.tally_base.{specs.Events.is_photon, specs.Columns.gathered}
 use Rattle.ptu_definitions.specs.Fitting.{KindFits}
 use Rattle.gate_plan.specs.Groups.{sorting_of}
 use Rattle.abs_time.specs.Floors.{orders_markers}
 use Rattle.record_write.specs.Picker.{mode_of, last_by}
-use Rattle.photon_pick.{specs.Chosen.is_chosen, specs.Giving.{pen, Gave, Stopped}, proofs.Wanted.chosen-photon, proofs.BlockTakes.{order-chosen, last-chosen, up_to, Took-block, Refused-block}}
+use Rattle.photon_pick.{specs.Chosen.is_chosen, specs.Giving.{pen, CanBeGiven, Gave, Stopped}, proofs.Wanted.chosen-photon, proofs.BlockTakes.{order-chosen, last-chosen, up_to, Took-block, Refused-block}}
 use Rattle.photon_pick.proofs.taker.PicksEventTaker.take_block.Goals as goal
 
-pub give_photons-given-requires-clause-photons : goal.give_photons-given-requires-clause-photons
-give_photons-given-requires-clause-photons g c =
+pub give_photons-given-requires-clause-can : goal.give_photons-given-requires-clause-can
+give_photons-given-requires-clause-can g c =
     let t = c.args.self.now in
+    let es = gathered c.args.block.now in
     let p = is_chosen (sorting_of t.gates.now) t.group in
-    let all : All (λ e. is_photon e ≡ true) (filter p (gathered c.args.block.now)) = All-weaker (λ e. p e ≡ true) (λ e. is_photon e ≡ true) (λ e is. chosen-photon (sorting_of t.gates.now) t.group e is) _ (filter_passes p (gathered c.args.block.now)) in
-    subst (λ l. All (λ e. is_photon e ≡ true) l) (sym c.choose-many.ensures.chosen) all
-
-pub give_photons-given-requires-clause-fit : goal.give_photons-given-requires-clause-fit
-give_photons-given-requires-clause-fit g c =
-    let t = c.args.self.now in
-    let p = is_chosen (sorting_of t.gates.now) t.group in
-    let fits : All (λ e. KindFits (mode_of t.picker.now) e.kind) (gathered c.args.block.now) = subst (λ m. All (λ e. KindFits m e.kind) (gathered c.args.block.now)) (sym t.of_mode) c.requires.fit in
-    subst (λ l. All (λ e. KindFits (mode_of t.picker.now) e.kind) l) (sym c.choose-many.ensures.chosen) (All-filter p (λ e. KindFits (mode_of t.picker.now) e.kind) (gathered c.args.block.now) fits)
-
-pub give_photons-given-requires-clause-in_order : goal.give_photons-given-requires-clause-in_order
-give_photons-given-requires-clause-in_order g c =
-    let t = c.args.self.now in
-    let p = is_chosen (sorting_of t.gates.now) t.group in
+    let mode = mode_of t.picker.now in
     let low = last_by t.picker.now in
-    subst (λ l. InOrder true low l) (sym c.choose-many.ensures.chosen) (order-chosen p (chosen-photon (sorting_of t.gates.now) t.group) (orders_markers t.mode) low t.floor (gathered c.args.block.now) t.before c.requires.in_order).0
+    let all : All (λ e. is_photon e ≡ true) (filter p es) = All-weaker (λ e. p e ≡ true) (λ e. is_photon e ≡ true) (λ e is. chosen-photon (sorting_of t.gates.now) t.group e is) _ (filter_passes p es) in
+    let fits : All (λ e. KindFits mode e.kind) es = subst (λ m. All (λ e. KindFits m e.kind) es) (sym t.of_mode) c.requires.fit in
+    subst (CanBeGiven t.picker.now) (sym c.choose-many.ensures.chosen) (record {
+      are_photons = all;
+      fit = All-filter p (λ e. KindFits mode e.kind) es fits;
+      in_order = (order-chosen p (chosen-photon (sorting_of t.gates.now) t.group) (orders_markers t.mode) low t.floor es t.before c.requires.in_order).0;
+    })
 
 pub invariant_of-self-in_default-clause-of_mode : goal.invariant_of-self-in_default-clause-of_mode
 invariant_of-self-in_default-clause-of_mode g c = c.give_photons-given.ensures.same_mode ∙ c.args.self.now.of_mode

@@ -4,11 +4,18 @@ use Rattle.ptu_definitions.specs.Streams.{Reading}
 use Rattle.record_stream.{specs.Walking.how_of, proofs.Branches.{plain-is, some-is, plain-settles, follows_to}}
 use Rattle.record_stream.proofs.stream.RecordStream.words.Goals as goal
 
-pub take_words-requires-clause-follows : goal.take_words-requires-clause-follows
-take_words-requires-clause-follows g c = follows_to g.S.EventTaker (how_of c.args.self.now.walk) _ _ _ c.args.taker.now c.requires.follows (sym (plain-is _ _ _ c.if-self-eq0.true))
+pub take_words-requires-clause-ready : goal.take_words-requires-clause-ready
+take_words-requires-clause-ready g c = record {
+  plain = c.if-self-eq0.true;
+  follows = follows_to g.S.EventTaker (how_of c.args.self.now.walk) _ _ _ c.args.taker.now c.requires.follows (sym (plain-is _ _ _ c.if-self-eq0.true));
+}
 
-pub settle_blocks-requires-clause-follows : goal.settle_blocks-requires-clause-follows
-settle_blocks-requires-clause-follows g c = follows_to g.S.EventTaker (how_of c.args.self.now.walk) _ _ _ c.args.taker.now c.requires.follows (sym (some-is _ _ _ c.if-self-eq0.false))
+pub settle_blocks-requires-clause-ready : goal.settle_blocks-requires-clause-ready
+settle_blocks-requires-clause-ready g c = record {
+  settles = c.if-self-eq0.false;
+  keeps = c.args.self.now.keeps;
+  follows = follows_to g.S.EventTaker (how_of c.args.self.now.walk) _ _ _ c.args.taker.now c.requires.follows (sym (some-is _ _ _ c.if-self-eq0.false));
+}
 
 pub returns-then-self-eq0-clause-at : goal.returns-then-self-eq0-clause-at
 returns-then-self-eq0-clause-at g c = λ before h.

@@ -19,7 +19,7 @@ returns-then-stops_late-clause-fed g c = λ words h.
     let placed = c.in_ok-event.ensures.placed words h in
     let answer : place_answer how.mode (map how.meaning words) (how.meaning w) ≡ Ok (Late c.in-Late.event c.in-Late.before) = placed.answer ∙ ap Ok c.in-Late.is in
     let stops : stops_late how.policy.order ≡ true = sym (ap (λ (r : Reading). stops_late r.policy.order) c.place_next.ensures.keeps.same_how) ∙ sym c.stops_late.ensures ∙ c.if-stops_late.true in
-    refused_fed g.S.EventTaker (Unit {0}) how _ words w _ h.clear (placed.refusal ∙ refused-plain how (map how.meaning words) (how.meaning w) (Late c.in-Late.event c.in-Late.before) c.requires.plain answer ∙ rw stops refl)
+    refused_fed g.S.EventTaker (Unit {0}) how _ words w _ h.clear (placed.refusal ∙ refused-plain how (map how.meaning words) (how.meaning w) (Late c.in-Late.event c.in-Late.before) c.requires.ready.plain answer ∙ rw stops refl)
 
 pub returns-in-Event-clause-at : goal.returns-in-Event-clause-at
 returns-in-Event-clause-at g c = λ words h.
@@ -28,10 +28,10 @@ returns-in-Event-clause-at g c = λ words h.
     let e = c.in-Event.event in
     let placed = c.in_ok-event.ensures.placed words h in
     let answer : place_answer how.mode (map how.meaning words) (how.meaning w) ≡ Ok (InOrder e) = placed.answer ∙ ap Ok c.in-Event.is in
-    let none : refusal how words w ≡ None = placed.refusal ∙ refused-plain how (map how.meaning words) (how.meaning w) (InOrder e) c.requires.plain answer in
+    let none : refusal how words w ≡ None = placed.refusal ∙ refused-plain how (map how.meaning words) (how.meaning w) (InOrder e) c.requires.ready.plain answer in
     on_ok_weaker c.give_event.result
-    (λ n. placed_at how _ _ _ _ _ _ _ _ _ words w ((e, false) ∷ []) (c.give_event.ensures.keeps.same_how ∙ c.place_next.ensures.keeps.same_how) c.give_event.ensures.keeps.same_clock h none placed.clock (fresh-plain how words (how.meaning w) (InOrder e) c.requires.plain answer) placed.summary n.summary (n.given ∙ ap (λ k. k + 1) c.place_next.ensures.keeps.same_given))
-    c.give_event.ensures.noted
+    (λ n. placed_at how _ _ _ _ _ _ _ _ _ words w ((e, false) ∷ []) (c.give_event.ensures.keeps.same_how ∙ c.place_next.ensures.keeps.same_how) c.give_event.ensures.keeps.same_clock h none placed.clock (fresh-plain how words (how.meaning w) (InOrder e) c.requires.ready.plain answer) placed.summary n.noted.summary (n.noted.given ∙ ap (λ k. k + 1) c.place_next.ensures.keeps.same_given))
+    c.give_event.ensures.gave
 
 pub returns-in-Event-clause-fed : goal.returns-in-Event-clause-fed
 returns-in-Event-clause-fed g c = λ words h.
@@ -40,8 +40,8 @@ returns-in-Event-clause-fed g c = λ words h.
     let e = c.in-Event.event in
     let placed = c.in_ok-event.ensures.placed words h in
     let answer : place_answer how.mode (map how.meaning words) (how.meaning w) ≡ Ok (InOrder e) = placed.answer ∙ ap Ok c.in-Event.is in
-    let none : refusal how words w ≡ None = placed.refusal ∙ refused-plain how (map how.meaning words) (how.meaning w) (InOrder e) c.requires.plain answer in
-    give_fed g.S.EventTaker how _ _ words w e false _ h.clear none (fresh-plain how words (how.meaning w) (InOrder e) c.requires.plain answer) c.give_event.ensures.got c.give_event.ensures.broken c.give_event.ensures.fault c.give_event.ensures.cause
+    let none : refusal how words w ≡ None = placed.refusal ∙ refused-plain how (map how.meaning words) (how.meaning w) (InOrder e) c.requires.ready.plain answer in
+    give_fed g.S.EventTaker how _ _ _ _ words w e false _ h.clear none (fresh-plain how words (how.meaning w) (InOrder e) c.requires.ready.plain answer) c.give_event.ensures.gave c.give_event.ensures.broken c.give_event.ensures.fault c.give_event.ensures.cause
 
 pub returns-else-stops_late-clause-at : goal.returns-else-stops_late-clause-at
 returns-else-stops_late-clause-at g c = λ words h.
@@ -51,10 +51,10 @@ returns-else-stops_late-clause-at g c = λ words h.
     let placed = c.in_ok-event.ensures.placed words h in
     let answer : place_answer how.mode (map how.meaning words) (how.meaning w) ≡ Ok (Late e c.in-Late.before) = placed.answer ∙ ap Ok c.in-Late.is in
     let stops : stops_late how.policy.order ≡ false = sym (ap (λ (r : Reading). stops_late r.policy.order) c.place_next.ensures.keeps.same_how) ∙ sym c.stops_late.ensures ∙ c.if-stops_late.false in
-    let none : refusal how words w ≡ None = placed.refusal ∙ refused-plain how (map how.meaning words) (how.meaning w) (Late e c.in-Late.before) c.requires.plain answer ∙ rw stops refl in
+    let none : refusal how words w ≡ None = placed.refusal ∙ refused-plain how (map how.meaning words) (how.meaning w) (Late e c.in-Late.before) c.requires.ready.plain answer ∙ rw stops refl in
     on_ok_weaker c.give_event-in-Late.result
-    (λ n. placed_at how _ _ _ _ _ _ _ _ _ words w ((e, true) ∷ []) (c.give_event-in-Late.ensures.keeps.same_how ∙ c.place_next.ensures.keeps.same_how) c.give_event-in-Late.ensures.keeps.same_clock h none placed.clock (fresh-plain how words (how.meaning w) (Late e c.in-Late.before) c.requires.plain answer) placed.summary n.summary (n.given ∙ ap (λ k. k + 1) c.place_next.ensures.keeps.same_given))
-    c.give_event-in-Late.ensures.noted
+    (λ n. placed_at how _ _ _ _ _ _ _ _ _ words w ((e, true) ∷ []) (c.give_event-in-Late.ensures.keeps.same_how ∙ c.place_next.ensures.keeps.same_how) c.give_event-in-Late.ensures.keeps.same_clock h none placed.clock (fresh-plain how words (how.meaning w) (Late e c.in-Late.before) c.requires.ready.plain answer) placed.summary n.noted.summary (n.noted.given ∙ ap (λ k. k + 1) c.place_next.ensures.keeps.same_given))
+    c.give_event-in-Late.ensures.gave
 
 pub returns-else-stops_late-clause-fed : goal.returns-else-stops_late-clause-fed
 returns-else-stops_late-clause-fed g c = λ words h.
@@ -64,8 +64,8 @@ returns-else-stops_late-clause-fed g c = λ words h.
     let placed = c.in_ok-event.ensures.placed words h in
     let answer : place_answer how.mode (map how.meaning words) (how.meaning w) ≡ Ok (Late e c.in-Late.before) = placed.answer ∙ ap Ok c.in-Late.is in
     let stops : stops_late how.policy.order ≡ false = sym (ap (λ (r : Reading). stops_late r.policy.order) c.place_next.ensures.keeps.same_how) ∙ sym c.stops_late.ensures ∙ c.if-stops_late.false in
-    let none : refusal how words w ≡ None = placed.refusal ∙ refused-plain how (map how.meaning words) (how.meaning w) (Late e c.in-Late.before) c.requires.plain answer ∙ rw stops refl in
-    give_fed g.S.EventTaker how _ _ words w e true _ h.clear none (fresh-plain how words (how.meaning w) (Late e c.in-Late.before) c.requires.plain answer) c.give_event-in-Late.ensures.got c.give_event-in-Late.ensures.broken c.give_event-in-Late.ensures.fault c.give_event-in-Late.ensures.cause
+    let none : refusal how words w ≡ None = placed.refusal ∙ refused-plain how (map how.meaning words) (how.meaning w) (Late e c.in-Late.before) c.requires.ready.plain answer ∙ rw stops refl in
+    give_fed g.S.EventTaker how _ _ _ _ words w e true _ h.clear none (fresh-plain how words (how.meaning w) (Late e c.in-Late.before) c.requires.ready.plain answer) c.give_event-in-Late.ensures.gave c.give_event-in-Late.ensures.broken c.give_event-in-Late.ensures.fault c.give_event-in-Late.ensures.cause
 
 pub returns-in-Wrap-clause-at : goal.returns-in-Wrap-clause-at
 returns-in-Wrap-clause-at g c = λ words h.

@@ -1,5 +1,6 @@
+use Rattle.std.proofs.Common.{refl}
 use Rattle.record_write.proofs.Puts.{last_time-push}
 use Rattle.record_write.proofs.picker.Picker.put.Goals as goal
 
-pub returns-clause-picked : goal.returns-clause-picked
-returns-clause-picked g c = λ photons h. last_time-push photons c.args.e.now
+pub returns-clause-picks : goal.returns-clause-picks
+returns-clause-picks g c = record { picked = λ photons h. last_time-push photons c.args.e.now; last = refl; same_mode = refl }

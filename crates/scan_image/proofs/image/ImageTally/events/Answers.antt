@@ -12,11 +12,11 @@ invariant_of-self g c =
     let es = gathered c.args.block.now in
     let e = c.count_block.ensures in
     record {
-      sized = e.fit;
-      small = omega (arith, e.few, t.small, c.len.ensures.value);
-      of_set = e.of_set ∙ t.of_set;
-      few_markers = omega (arith, e.few_markers, t.few_markers, c.len.ensures.value);
-      begun = rw c.floor_after-self.ensures (omega (arith, e.begun, floor-lower true (line_start t.lines) t.floor es t.begun));
+      sized = e.gained.fit;
+      small = omega (arith, e.gained.few, t.small, c.len.ensures.value);
+      of_set = e.lines.of_set ∙ t.of_set;
+      few_markers = omega (arith, e.lines.few, t.few_markers, c.len.ensures.value);
+      begun = rw c.floor_after-self.ensures (omega (arith, e.lines.begun, floor-lower true (line_start t.lines) t.floor es t.begun));
     }
 
 pub returns-clause-follows : goal.returns-clause-follows

@@ -2,35 +2,39 @@ use Rattle.std.proofs.Common.{arith}
 use Rattle.settle.proofs.Steps.{settled-late, settled-wait, settled-emit, answers-late, answers-in_time, tells-late, tells-none, tells-one, least_one, low-put_in, low-rest}
 use Rattle.settle.proofs.settle.Settle.push.Goals as goal
 
-pub returns-then-event-self-clause-settled : goal.returns-then-event-self-clause-settled
-returns-then-event-self-clause-settled c = λ pushed given settled. settled-late _ _ _ _ _ pushed given c.args.event settled c.requires.unpopped c.if-event-self.true c.requires.behind
+pub returns-then-event-self-clause-pushed : goal.returns-then-event-self-clause-pushed
+returns-then-event-self-clause-pushed c = λ pushed given settled.
+    let e = c.args.event in
+    let early = c.if-event-self.true in
+    record {
+      settled = settled-late _ _ _ _ _ pushed given e settled c.requires.unpopped early c.requires.behind;
+      overtaken = answers-late _ _ _ _ _ pushed given e settled c.requires.unpopped early;
+      tells = tells-late _ _ _ _ _ pushed given e settled c.requires.unpopped early;
+      least = tt;
+    }
 
-pub returns-then-event-self-clause-late : goal.returns-then-event-self-clause-late
-returns-then-event-self-clause-late c = λ pushed given settled. answers-late _ _ _ _ _ pushed given c.args.event settled c.requires.unpopped c.if-event-self.true
+pub returns-then-len-self-clause-pushed : goal.returns-then-len-self-clause-pushed
+returns-then-len-self-clause-pushed c = λ pushed given settled.
+    let e = c.args.event in
+    let in_time = c.if-event-self.false in
+    record {
+      settled = settled-wait _ _ _ _ _ _ pushed given e settled c.requires.unpopped in_time c.requires.behind (omega arith) c.put_in.ensures.value;
+      overtaken = answers-in_time _ _ _ _ _ pushed given e settled c.requires.unpopped (omega (arith, c.args.self.now.few)) in_time;
+      tells = tells-none _ _ _ _ _ pushed given e settled c.requires.unpopped in_time (omega arith);
+      least = tt;
+    }
 
-pub returns-then-len-self-clause-settled : goal.returns-then-len-self-clause-settled
-returns-then-len-self-clause-settled c = λ pushed given settled. settled-wait _ _ _ _ _ _ pushed given c.args.event settled c.requires.unpopped c.if-event-self.false c.requires.behind (omega arith) c.put_in.ensures.value
-
-pub returns-then-len-self-clause-late : goal.returns-then-len-self-clause-late
-returns-then-len-self-clause-late c = λ pushed given settled. answers-in_time _ _ _ _ _ pushed given c.args.event settled c.requires.unpopped (omega (arith, c.args.self.now.few)) c.if-event-self.false
-
-pub returns-clause-settled : goal.returns-clause-settled
-returns-clause-settled c = λ pushed given settled. settled-emit _ _ _ _ _ _ pushed given c.args.event _ settled c.requires.unpopped c.if-event-self.false c.requires.behind (omega (arith, c.args.self.now.few)) c.exchange-least.ensures.value
-
-pub returns-clause-late : goal.returns-clause-late
-returns-clause-late c = λ pushed given settled. answers-in_time _ _ _ _ _ pushed given c.args.event settled c.requires.unpopped (omega (arith, c.args.self.now.few)) c.if-event-self.false
-
-pub returns-then-event-self-clause-settles : goal.returns-then-event-self-clause-settles
-returns-then-event-self-clause-settles c = λ pushed given settled. tells-late _ _ _ _ _ pushed given c.args.event settled c.requires.unpopped c.if-event-self.true
-
-pub returns-then-len-self-clause-settles : goal.returns-then-len-self-clause-settles
-returns-then-len-self-clause-settles c = λ pushed given settled. tells-none _ _ _ _ _ pushed given c.args.event settled c.requires.unpopped c.if-event-self.false (omega arith)
-
-pub returns-clause-settles : goal.returns-clause-settles
-returns-clause-settles c = λ pushed given settled. tells-one _ _ _ _ _ _ pushed given c.args.event _ settled c.requires.unpopped c.if-event-self.false (omega (arith, c.args.self.now.few)) c.exchange-least.ensures.as_many c.exchange-least.ensures.value
-
-pub returns-clause-least : goal.returns-clause-least
-returns-clause-least c = λ pushed given settled. least_one _ _ _ _ _ _ pushed given c.args.event _ settled c.requires.behind c.exchange-least.ensures.value
+pub returns-clause-pushed : goal.returns-clause-pushed
+returns-clause-pushed c = λ pushed given settled.
+    let e = c.args.event in
+    let in_time = c.if-event-self.false in
+    let least = c.exchange-least.ensures in
+    record {
+      settled = settled-emit _ _ _ _ _ _ pushed given e _ settled c.requires.unpopped in_time c.requires.behind (omega (arith, c.args.self.now.few)) least.value;
+      overtaken = answers-in_time _ _ _ _ _ pushed given e settled c.requires.unpopped (omega (arith, c.args.self.now.few)) in_time;
+      tells = tells-one _ _ _ _ _ _ pushed given e _ settled c.requires.unpopped in_time (omega (arith, c.args.self.now.few)) least.as_many least.value;
+      least = least_one _ _ _ _ _ _ pushed given e _ settled c.requires.behind least.value;
+    }
 
 pub invariant_of-self-then-len-self-clause-low : goal.invariant_of-self-then-len-self-clause-low
 invariant_of-self-then-len-self-clause-low c = low-put_in c.args.self.now.last c.args.event c.args.self.now.waiting.items _ c.if-event-self.false c.put_in.ensures.value c.args.self.now.low
