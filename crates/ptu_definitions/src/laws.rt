@@ -26,9 +26,9 @@ pub fn fronts_nest()
 /// A header ends the list: each front of the same bytes has its preamble and its first items.
 pub fn a_header_ends()
     ensures { (file : List ℕ) (items : List Item) (front : Front)
-        (h : HasHeader file items) → BeginsWith file front
-        → (front.start ≡ h.start)
-        × ((more : List Item) × (h.inner ≡ front.items ++ more)) }
+        (header : HasHeader file items) → BeginsWith file front
+        → (front.start ≡ header.start)
+        × ((more : List Item) × (header.inner ≡ front.items ++ more)) }
 {}
 
 /// What bytes show: behind whole items the front of a tag shows nothing, and a tag shows as much of
@@ -104,10 +104,10 @@ pub fn first_refusal()
         (least : IsFirst how fault [] words) → given how words ≡ events_in how least.front }
     ensures all { (how : Reading) (words : List ℕ)
         → record_refusal how words ≡ None → given how words ≡ events_in how words }
-    ensures stays { (how : Reading) (ws more : List ℕ) (fault : Fault)
-        → record_refusal how ws ≡ Some fault
-        → (record_refusal how (ws ++ more) ≡ Some fault)
-        × (given how (ws ++ more) ≡ given how ws) }
+    ensures stays { (how : Reading) (words more : List ℕ) (fault : Fault)
+        → record_refusal how words ≡ Some fault
+        → (record_refusal how (words ++ more) ≡ Some fault)
+        × (given how (words ++ more) ≡ given how words) }
 {}
 
 /// The greatest time of the events in order that are not late is that of all events in order.

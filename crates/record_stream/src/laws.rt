@@ -7,12 +7,12 @@ ghost use Rattle.record_stream.{specs.declared.stream.RecordStream.RecordStream,
 /// The two numbers of a stream that has refused nothing: how many events it has given, and the greatest
 /// time of those in order that were not late.
 pub fn stream_numbers()
-    ensures given { (s : RecordStream) (bytes : List ℕ)
-        → HasStreamed s bytes → refused_with s ≡ None
-        → given_by s ≡ length (given (how_of s) (words_of bytes)) }
-    ensures greatest { (s : RecordStream) (bytes : List ℕ)
-        → HasStreamed s bytes → refused_with s ≡ None
-        → greatest_of s ≡ floor_of (how_of s).mode (given (how_of s) (words_of bytes)) }
+    ensures given { (stream : RecordStream) (bytes : List ℕ)
+        → HasStreamed stream bytes → refused_with stream ≡ None
+        → given_by stream ≡ length (given (how_of stream) (words_of bytes)) }
+    ensures greatest { (stream : RecordStream) (bytes : List ℕ)
+        → HasStreamed stream bytes → refused_with stream ≡ None
+        → greatest_of stream ≡ floor_of (how_of stream).mode (given (how_of stream) (words_of bytes)) }
 {}
 
 /// A refusal of records stays, whatever comes behind: that of words, and what their bytes answer. What is
