@@ -2,6 +2,7 @@
 use Rattle.std.specs.Prelude.{ℕ, List, ◌≡◌, ◌≤◌, Bool, None, Some, IsSome}
 use Rattle.std.specs.declared.option.Option.{Option}
 use Rattle.tally_base.{specs.declared.slot.Slot.Slot, specs.declared.slot.Slot.TheVariants.{Plan, Data}}
+use Rattle.bench_io.specs.Given.{Given}
 
 -- the bytes of a file, or None where there is no such file
 abbrev pub File : Type 0
@@ -16,8 +17,10 @@ other Data = Plan
 pub record InputState : Type 0 where
   -- the file of a name, where the inputs tell it
   pub contents : List ℕ → Option File
-  -- the bytes of a slot that are left to read, where the inputs tell them
-  pub rest : Slot → Option (List ℕ)
+  -- the whole file that was opened in a slot, where the inputs tell it
+  pub told : Slot → Option (List ℕ)
+  -- what the reads of a slot have given so far
+  pub given : Slot → Given
   -- how often an opening and a read of a slot have failed
   pub open_faults : Slot → ℕ
   pub read_faults : Slot → ℕ
@@ -27,10 +30,10 @@ pub record InputState : Type 0 where
   -- whether a name is meant for the slot
   pub meant : Slot → List ℕ → Bool
 
--- A file that was opened is there, and all of it is left to read.
+-- A file that was opened is there, and is the one that is told of the slot.
 abbrev pub IsOpened : Option File → Option (List ℕ) → Type 0
-IsOpened None rest = Unit {0}
-IsOpened (Some file) rest = (rest ≡ file) × IsSome file
+IsOpened None told = Unit {0}
+IsOpened (Some file) told = (told ≡ file) × IsSome file
 
 -- Each slot's count stays or rises.
 abbrev pub NoneFalls : (Slot → ℕ) → (Slot → ℕ) → Type 0
@@ -45,7 +48,8 @@ pub record Keeps (old new : InputState) : Type 0 where
 
 -- The other slot stays as it was, with its counts.
 pub record KeepsOther (slot : Slot) (old new : InputState) : Type 0 where
-  pub rest : new.rest (other slot) ≡ old.rest (other slot)
+  pub told : new.told (other slot) ≡ old.told (other slot)
+  pub given : new.given (other slot) ≡ old.given (other slot)
   pub asked : new.asked (other slot) ≡ old.asked (other slot)
   pub opened : new.opened (other slot) ≡ old.opened (other slot)
   pub open_faults : new.open_faults (other slot) ≡ old.open_faults (other slot)
@@ -53,6 +57,7 @@ pub record KeepsOther (slot : Slot) (old new : InputState) : Type 0 where
 
 -- Nothing is asked for or opened, and no opening fails.
 pub record OpensNone (old new : InputState) : Type 0 where
+  pub told : new.told ≡ old.told
   pub asked : new.asked ≡ old.asked
   pub opened : new.opened ≡ old.opened
   pub open_faults : new.open_faults ≡ old.open_faults

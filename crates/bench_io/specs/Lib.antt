@@ -1,4 +1,5 @@
 pub mod CallCounts
+pub mod Given
 pub mod Inputs
 pub mod Sinks
 pub mod NamedBytes
@@ -8,3 +9,4 @@ pub mod MemorySlots
 pub mod SinkState
 pub mod MemorySinks
 pub mod TriesOnce
+pub mod FailsOnce

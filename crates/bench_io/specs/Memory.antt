@@ -1,5 +1,5 @@
 -- Files and inputs in memory.
-use Rattle.std.specs.Prelude.{ℕ, ◌≡◌, List, [], ◌∷◌, true, false, None, Some, drop, slice_get, unwrap_or, if◌then◌else◌}
+use Rattle.std.specs.Prelude.{ℕ, ◌≡◌, List, [], ◌∷◌, true, false, None, Some, drop, length, slice_get, unwrap_or, if◌then◌else◌}
 use Rattle.std.{specs.Str.bytes_eq, specs.declared.option.Option.Option, specs.declared.result.Result.Result}
 use Rattle.bench_io.{specs.NamedBytes.NamedBytes, specs.CallCounts.{one_more, CountsFailure, FailsNext}, specs.Inputs.{File, InputState}, specs.Turns.{next_turn, limited}}
 use Rattle.tally_base.specs.declared.slot.Slot.{Slot}
@@ -37,9 +37,9 @@ pub record MemoryState : Type 0 where
 abbrev pub IsFailing : MemoryState → Type 0
 IsFailing state = FailsNext state.failing state.calls
 
--- the bytes that a slot has left to read, which inputs in memory tell
+-- the bytes that a slot has left to read: the file that is told without what was given of it
 abbrev pub left_of : InputState → Slot → List ℕ
-left_of state slot = unwrap_or (state.rest slot) []
+left_of state slot = drop (length (state.given slot).bytes) (unwrap_or (state.told slot) [])
 
 -- how many of the wanted bytes the next read gives
 abbrev pub given_of : MemoryState → ℕ → ℕ

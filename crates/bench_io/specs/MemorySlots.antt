@@ -1,25 +1,39 @@
 -- What inputs in memory hold, as callers see it.
-use Rattle.std.specs.Prelude.{ℕ, List, [], ◌≡◌, Bool, true, false, Some, slice_get, refl}
+use Rattle.std.specs.Prelude.{ℕ, List, [], ◌∷◌, ◌≡◌, Bool, true, false, None, Some, slice_get, take, refl}
+use Rattle.std.{specs.declared.option.Option.Option, proofs.Common.{sym, ◌∙◌, ◌++◌, append-nil, take-append-drop}, proofs.Math.Seq.take-nil, proofs.lemmas.Option.{none-some, same_Some}}
 use Rattle.tally_base.{specs.declared.slot.Slot.Slot, specs.declared.slot.Slot.TheVariants.{Plan, Data}}
-use Rattle.bench_io.{specs.declared.memory_slot.Reading.Reading, specs.declared.memory_slot.Reading.TheVariants.{Unasked, Refused, Open}, specs.declared.memory_slot.MemorySlot.MemorySlot, specs.declared.memory_inputs.MemoryInputs.MemoryInputs, specs.Inputs.InputState, specs.NamedBytes.NamedBytes, specs.Memory.{file_named, rest_of_file, MemoryState}}
+use Rattle.bench_io.{specs.declared.memory_slot.Reading.Reading, specs.declared.memory_slot.Reading.TheVariants.{Unasked, Refused, Open}, specs.declared.memory_slot.MemorySlot.MemorySlot, specs.declared.memory_inputs.MemoryInputs.MemoryInputs, specs.Given.{Given, gave, no_bytes, is_over, IsOf}}
+use Rattle.bench_io.{specs.Inputs.InputState, specs.NamedBytes.NamedBytes, specs.Memory.{file_named, rest_of_file, MemoryState}}
 
 -- whether the slot was asked for
 abbrev pub was_asked : Reading → Bool
 was_asked Unasked = false
 was_asked Refused = true
-was_asked (Open file at) = true
+was_asked (Open file at ended) = true
 
 -- whether a file was opened in the slot
 abbrev pub was_opened : Reading → Bool
 was_opened Unasked = false
 was_opened Refused = false
-was_opened (Open file at) = true
+was_opened (Open file at ended) = true
 
 -- the bytes that are left to read of the file that was opened
 abbrev pub rest_in : List NamedBytes → Reading → List ℕ
 rest_in files Unasked = []
 rest_in files Refused = []
-rest_in files (Open file at) = rest_of_file (slice_get files file) at
+rest_in files (Open file at ended) = rest_of_file (slice_get files file) at
+
+-- the whole file that was opened
+abbrev pub told_in : List NamedBytes → Reading → Option (List ℕ)
+told_in files Unasked = None
+told_in files Refused = None
+told_in files (Open file at ended) = Some (rest_of_file (slice_get files file) 0)
+
+-- what the reads of the file that was opened have given
+abbrev pub given_in : List NamedBytes → Reading → Given
+given_in files Unasked = no_bytes
+given_in files Refused = no_bytes
+given_in files (Open file at ended) = gave (take at (rest_of_file (slice_get files file) 0)) (is_over (rest_of_file (slice_get files file) at) ended)
 
 -- one slot of the two
 abbrev pub slot_of : MemoryInputs → Slot → MemorySlot
@@ -30,7 +44,8 @@ slot_of inputs Data = inputs.data
 unfoldable pub input_state : MemoryInputs → InputState
 input_state inputs = record {
   contents = λ name. Some (file_named inputs.files.items name);
-  rest = λ slot. Some (rest_in inputs.files.items (slot_of inputs slot).reading);
+  told = λ slot. told_in inputs.files.items (slot_of inputs slot).reading;
+  given = λ slot. given_in inputs.files.items (slot_of inputs slot).reading;
   open_faults = λ slot. (slot_of inputs slot).open_faults;
   read_faults = λ slot. (slot_of inputs slot).read_faults;
   asked = λ slot. was_asked (slot_of inputs slot).reading;
@@ -52,9 +67,33 @@ memory_state inputs = record {
 pub asked_from_opened : (reading : Reading) → was_opened reading ≡ true → was_asked reading ≡ true
 asked_from_opened Unasked p = p
 asked_from_opened Refused p = refl
-asked_from_opened (Open file at) p = refl
+asked_from_opened (Open file at ended) p = refl
 
 pub slots_asked_first : (inputs : MemoryInputs) (slot : Slot) → (input_state inputs).opened slot ≡ true → (input_state inputs).asked slot ≡ true
 unfolding input_state
 slots_asked_first inputs Plan p = asked_from_opened inputs.plan.reading p
 slots_asked_first inputs Data p = asked_from_opened inputs.data.reading p
+
+pub none_over : (rest : List ℕ) (ended : Bool) → is_over rest ended ≡ true → rest ≡ []
+none_over [] ended over = refl
+none_over (x ∷ xs) ended over = cc
+
+pub whole_parts : (whole : Option NamedBytes) (at : ℕ) → rest_of_file whole 0 ≡ take at (rest_of_file whole 0) ++ rest_of_file whole at
+whole_parts None at = sym (append-nil (take at []) ∙ take-nil at)
+whole_parts (Some whole) at = sym (take-append-drop at whole.bytes)
+
+-- the file that is told is one of which the reads gave what they gave
+pub agrees_in : (files : List NamedBytes) (reading : Reading) (file : List ℕ) → told_in files reading ≡ Some file → IsOf (given_in files reading) file
+agrees_in files Unasked file told = absurd (none-some file told)
+agrees_in files Refused file told = absurd (none-some file told)
+agrees_in files (Open place at ended) file told =
+    let whole = slice_get files place in
+    record {
+      more = rest_of_file whole at;
+      parts = sym (same_Some (rest_of_file whole 0) file told) ∙ whole_parts whole at;
+      may_follow = none_over (rest_of_file whole at) ended;
+    }
+
+pub slots_agree : (inputs : MemoryInputs) (slot : Slot) (file : List ℕ) → (input_state inputs).told slot ≡ Some file → IsOf ((input_state inputs).given slot) file
+unfolding input_state
+slots_agree inputs slot file told = agrees_in inputs.files.items (slot_of inputs slot).reading file told

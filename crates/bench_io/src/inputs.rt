@@ -1,15 +1,15 @@
 // Two inputs that count their faults.
-ghost use Rattle.std.specs.Prelude.{◌≡◌, true, false, OnOk, OnErr};
-ghost use Rattle.std.{specs.Io.ReadsAtMost, specs.Io.KnownBytes.ReadConsumes};
+ghost use Rattle.std.specs.Prelude.{◌≡◌, ℕ, List, Some, true, false, OnOk, OnErr};
+ghost use Rattle.std.specs.Io.{ReadsAtMost};
 ghost use Rattle.tally_base.specs.declared.slot.Slot.{Slot};
-ghost use Rattle.bench_io.{specs.TriesOnce.TriesOnce, specs.Inputs.{InputState, IsOpened, Keeps, KeepsOther, OpensNone}};
+ghost use Rattle.bench_io.{specs.FailsOnce.FailsOnce, specs.Given.{no_bytes, ReadGives, IsOf}, specs.Inputs.{InputState, IsOpened, Keeps, KeepsOther, OpensNone}};
 
 use tally_base::{Failed, Slot};
 
 /// Two inputs, one for each slot, of which a file is opened at most once and then read to its end.
 ///
-/// It tells the contents of a name and the unread rest of a slot where it can. It counts for each
-/// slot how often an opening and a read have failed, up to 2^64 - 1.
+/// It tells what its reads have given of each slot, and the contents of a name where it can. It
+/// counts for each slot how often an opening and a read have failed, up to 2^64 - 1.
 pub trait Inputs {
     /// What the inputs hold and what was asked of them.
     ghost state: { Self → InputState };
@@ -20,12 +20,13 @@ pub trait Inputs {
         requires first { (state self.old).asked slot ≡ false }
 
         ensures file { OnOk result
-            (IsOpened ((state self.old).contents name.now) ((state self.new).rest slot)) }
+            (IsOpened ((state self.old).contents name.now) ((state self.new).told slot)) }
+        ensures given { OnOk result ((state self.new).given slot ≡ no_bytes) }
         ensures opened { OnOk result ((state self.new).opened slot ≡ true) }
         ensures unopened { OnErr result
             ((state self.new).opened slot ≡ (state self.old).opened slot) }
         ensures asked { (state self.new).asked slot ≡ true }
-        ensures cause { TriesOnce
+        ensures cause { FailsOnce
             ((state self.old).open_faults slot) ((state self.new).open_faults slot) result }
         ensures reads { (state self.new).read_faults slot ≡ (state self.old).read_faults slot }
         ensures keeps { Keeps (state self.old) (state self.new) }
@@ -37,9 +38,9 @@ pub trait Inputs {
         requires { (state self.old).opened slot ≡ true }
 
         ensures bound { ReadsAtMost result into.new }
-        ensures bytes { ReadConsumes
-            ((state self.old).rest slot) ((state self.new).rest slot) result into.new }
-        ensures cause { TriesOnce
+        ensures gives { ReadGives
+            ((state self.old).given slot) ((state self.new).given slot) result into.new }
+        ensures cause { FailsOnce
             ((state self.old).read_faults slot) ((state self.new).read_faults slot) result }
         ensures keeps { Keeps (state self.old) (state self.new) }
         ensures keeps_other { KeepsOther slot (state self.old) (state self.new) }
@@ -48,4 +49,8 @@ pub trait Inputs {
     /// What was opened was asked for.
     ghost asked_first: { (inputs : Self) (slot : Slot) →
         (state inputs).opened slot ≡ true → (state inputs).asked slot ≡ true };
+
+    /// The file that is told of a slot is one of which the reads gave what they gave.
+    ghost agrees: { (inputs : Self) (slot : Slot) (file : List ℕ) →
+        (state inputs).told slot ≡ Some file → IsOf ((state inputs).given slot) file };
 }

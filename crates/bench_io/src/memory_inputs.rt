@@ -1,7 +1,7 @@
 // Inputs in memory, which tell everything.
 ghost use Rattle.std.specs.Prelude.{◌≡◌, ◌↔◌, true, false, length, min, IsSome, IsOk, IfOk, OnErr, OnOk};
-ghost use Rattle.std.{specs.Io.ReadsAtMost, specs.Io.KnownBytes.ReadConsumes};
-ghost use Rattle.bench_io.{specs.TriesOnce.TriesOnce, specs.Inputs.{IsOpened, Keeps, KeepsOther, OpensNone}, specs.Memory.{file_named, IsFresh, IsFailing, given_of, after_open, after_read, left_of, CountsOpening, CountsReading}, specs.MemorySlots.{input_state, memory_state}};
+ghost use Rattle.std.specs.Io.{ReadsAtMost};
+ghost use Rattle.bench_io.{specs.Given.{no_bytes, ReadGives}, specs.FailsOnce.FailsOnce, specs.Inputs.{IsOpened, Keeps, KeepsOther, OpensNone}, specs.Memory.{file_named, IsFresh, IsFailing, given_of, after_open, after_read, left_of, CountsOpening, CountsReading}, specs.MemorySlots.{input_state, memory_state}};
 
 use crate::failing_calls::FailingCalls;
 use crate::inputs::Inputs;
@@ -49,11 +49,13 @@ impl MemoryInputs {
 
 #[tactic(auto, unfolding(crate::specs::MemorySlots::input_state, crate::specs::MemorySlots::memory_state))]
 impl Inputs for MemoryInputs {
-    ghost use Rattle.bench_io.specs.MemorySlots.{slots_asked_first};
+    ghost use Rattle.bench_io.specs.MemorySlots.{slots_asked_first, slots_agree};
 
     ghost state = { input_state };
 
     ghost asked_first = { slots_asked_first };
+
+    ghost agrees = { slots_agree };
 
     fn open(&mut self, slot: Slot, name: &str) -> Result<(), Failed>
         requires meant { (input_state self.old).meant slot name.now ≡ true }
@@ -61,12 +63,13 @@ impl Inputs for MemoryInputs {
 
         ensures file { OnOk result
             (IsOpened ((input_state self.old).contents name.now)
-            ((input_state self.new).rest slot)) }
+            ((input_state self.new).told slot)) }
+        ensures given { OnOk result ((input_state self.new).given slot ≡ no_bytes) }
         ensures opened { OnOk result ((input_state self.new).opened slot ≡ true) }
         ensures unopened { OnErr result
             ((input_state self.new).opened slot ≡ (input_state self.old).opened slot) }
         ensures asked { (input_state self.new).asked slot ≡ true }
-        ensures cause { TriesOnce
+        ensures cause { FailsOnce
             ((input_state self.old).open_faults slot)
             ((input_state self.new).open_faults slot) result }
         ensures reads { (input_state self.new).read_faults slot
@@ -92,9 +95,10 @@ impl Inputs for MemoryInputs {
         requires { (input_state self.old).opened slot ≡ true }
 
         ensures bound { ReadsAtMost result into.new }
-        ensures bytes { ReadConsumes
-            ((input_state self.old).rest slot) ((input_state self.new).rest slot) result into.new }
-        ensures cause { TriesOnce
+        ensures gives { ReadGives
+            ((input_state self.old).given slot) ((input_state self.new).given slot)
+            result into.new }
+        ensures cause { FailsOnce
             ((input_state self.old).read_faults slot)
             ((input_state self.new).read_faults slot) result }
         ensures keeps { Keeps (input_state self.old) (input_state self.new) }

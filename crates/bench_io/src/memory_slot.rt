@@ -1,7 +1,7 @@
 // One slot of inputs in memory.
-ghost use Rattle.std.specs.Prelude.{◌≡◌, ◌+◌, ◌^◌, ◌<◌, Some, None, true, false, length, take, min, slice_get, IsSome, IfOk, IsOk, ◌↔◌, MatchOption, OnErr, OnOk};
-ghost use Rattle.std.{specs.Io.ReadsAtMost, specs.Io.KnownBytes.ReadConsumes};
-ghost use Rattle.bench_io.{specs.CallCounts.CountsFailure, specs.TriesOnce.TriesOnce, specs.Inputs.IsOpened, specs.Turns.limited, specs.Memory.{file_named, rest_of_file}, specs.MemorySlots.{was_asked, was_opened, rest_in}};
+ghost use Rattle.std.specs.Prelude.{◌≡◌, ◌+◌, ◌^◌, ◌<◌, ◌⊎◌, Some, None, true, false, length, take, min, slice_get, IsSome, IfOk, IsOk, ◌↔◌, MatchOption, OnErr, OnOk};
+ghost use Rattle.std.specs.Io.{ReadsAtMost};
+ghost use Rattle.bench_io.{specs.Given.{no_bytes, ReadGives}, specs.CallCounts.CountsFailure, specs.FailsOnce.FailsOnce, specs.Inputs.IsOpened, specs.Turns.limited, specs.Memory.{file_named, rest_of_file}, specs.MemorySlots.{was_asked, was_opened, rest_in, told_in, given_in}};
 
 use crate::memory_file::MemoryFile;
 use tally_base::Failed;
@@ -10,7 +10,12 @@ use tally_base::Failed;
 pub(crate) enum Reading {
     Unasked,
     Refused,
-    Open { file: usize, at: usize },
+    Open {
+        file: usize,
+        at: usize,
+        /// a read has said the end
+        ended: bool,
+    },
 }
 
 #[derive(Drop)]
@@ -72,6 +77,13 @@ fn copy_front(from: &[u8], into: &mut [u8], entry: Option<usize>) -> usize
     count
 }
 
+/// Whether the end was said, by this read or before: a read that gives bytes says none.
+fn is_end(count: usize, into: &[u8], ended: bool) -> bool
+    ensures { (result ≡ true) ↔ ((count ≡ 0) × ((ended ≡ true) ⊎ (0 < length into.now))) }
+{
+    count == 0 && (ended || !into.is_empty())
+}
+
 impl MemorySlot {
     pub(crate) fn new() -> MemorySlot
         ensures { result ≡ record { reading = Reading.Unasked; open_faults = 0; read_faults = 0 } }
@@ -90,20 +102,24 @@ impl MemorySlot {
         fails: bool,
     ) -> Result<(), Failed>
         ensures file { OnOk result
-            (IsOpened (Some (file_named files.now name.now)) (Some
-            (rest_in files.now self.new.reading))) }
+            (IsOpened (Some (file_named files.now name.now)) (told_in files.now self.new.reading)) }
+        ensures given { OnOk result (given_in files.now self.new.reading ≡ no_bytes) }
         ensures opened { OnOk result (was_opened self.new.reading ≡ true) }
         ensures unopened { OnErr result (was_opened self.new.reading ≡ false) }
         ensures asked { was_asked self.new.reading ≡ true }
         ensures succeeds { IsOk result ↔
             ((fails ≡ false) × IsSome (file_named files.now name.now)) }
-        ensures cause { TriesOnce self.old.open_faults self.new.open_faults result }
+        ensures cause { FailsOnce self.old.open_faults self.new.open_faults result }
         ensures counted { CountsFailure self.old.open_faults self.new.open_faults result }
         ensures read_faults { self.new.read_faults ≡ self.old.read_faults }
     {
         if !fails {
             if let Some(file) = place_of(files, name) {
-                self.reading = Reading::Open { file, at: 0 };
+                self.reading = Reading::Open {
+                    file,
+                    at: 0,
+                    ended: false,
+                };
                 return Ok(());
             }
         }
@@ -121,20 +137,20 @@ impl MemorySlot {
     ) -> Result<usize, Failed>
         requires { was_opened self.old.reading ≡ true }
         ensures bound { ReadsAtMost result into.new }
-        ensures bytes { ReadConsumes
-            (Some (rest_in files.now self.old.reading)) (Some
-            (rest_in files.now self.new.reading)) result into.new }
+        ensures told { told_in files.now self.new.reading ≡ told_in files.now self.old.reading }
+        ensures gives { ReadGives (given_in files.now self.old.reading)
+            (given_in files.now self.new.reading) result into.new }
         ensures opened { was_opened self.new.reading ≡ was_opened self.old.reading }
         ensures asked { was_asked self.new.reading ≡ was_asked self.old.reading }
         ensures succeeds { IsOk result ↔ (fails ≡ false) }
         ensures count { IfOk result (λ n. n ≡
             limited entry
             (min (length (rest_in files.now self.old.reading)) (length into.old))) }
-        ensures cause { TriesOnce self.old.read_faults self.new.read_faults result }
+        ensures cause { FailsOnce self.old.read_faults self.new.read_faults result }
         ensures counted { CountsFailure self.old.read_faults self.new.read_faults result }
         ensures open_faults { self.new.open_faults ≡ self.old.open_faults }
     {
-        let Reading::Open { file, at } = self.reading else {
+        let Reading::Open { file, at, ended } = self.reading else {
             unreachable!()
         };
         if fails {
@@ -145,6 +161,7 @@ impl MemorySlot {
         self.reading = Reading::Open {
             file,
             at: at + count,
+            ended: is_end(count, into, ended),
         };
         Ok(count)
     }

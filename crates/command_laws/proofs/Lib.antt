@@ -13,3 +13,4 @@ pub mod Causes
 pub mod Shown
 pub mod Statuses
 pub mod DemoRuns
+pub mod Tolds

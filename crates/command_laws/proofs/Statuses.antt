@@ -1,9 +1,9 @@
 -- The statuses that the runs of each command end with, by its shape.
 use Rattle.std.proofs.Common.{◌≡◌, ℕ, None, Some, refl, sym, ap, subst, inl, inr, ◌<◌, ◌≤◌, arith, ◌⊎◌}
 use Rattle.std.{specs.declared.option.Option.Option, proofs.lemmas.Bool.{cases_lt, cases_eq}}
-use Rattle.tally_base.{specs.declared.fault.Fault.Fault, specs.declared.slot.Slot.Slot, specs.Faults.status_of}
+use Rattle.tally_base.{specs.declared.fault.Fault.Fault, specs.declared.slot.Slot.Slot, specs.declared.slot.Slot.TheVariants.{Plan, Data}, specs.Faults.status_of}
 use Rattle.bench_io.specs.Inputs.{File}
-use Rattle.ptu_cli.{specs.Runs.{Around, Runs}, specs.Behaviours.behaviour}
+use Rattle.ptu_cli.{specs.Runs.{Around, Runs}, specs.Behaviours.behaviour, proofs.Complete.some-files}
 use Rattle.command_words.specs.Commands.{Request}
 use Rattle.command_work.{specs.Endings.{outcome, Reaches, RunsOut}, specs.Outcomes.status, specs.Behaviours.{Behaviour, NoCommand, Alone, OnFile, ByPlan}}
 use Rattle.command_laws.{specs.Causes.{MayCallFor, MayEndWith}, specs.CommandCases.{CommandCases, IsIn, cases, BadWords, Writes, ReadsHeader, ReadsRecords, ReadsByPlan}, proofs.CaseShapes.MeetsCases, proofs.Causes.{IsNoCommand, no-command, may-call}, proofs.Proved.told}
@@ -22,7 +22,7 @@ ends-in request run result h = elim (cases_lt result 2) [
 ]
   where
     by : (2 ≤ result → 5 < result) → IsIn 2 5 result ⊎ OfFiles request result
-    by further = let some = h.answered further in inr (some.plan_file, some.data_file, some.holds.0)
+    by further = inr (Some (run.after.given Plan).bytes, Some (run.after.given Data).bytes, (h.answered further _ _ (some-files (behaviour request) run.after)).0)
 
 -- without want of memory
 no-memory : (result : ℕ) → IsIn 2 5 result → (result ≡ 5 → ⊥) → IsIn 2 4 result
@@ -36,9 +36,9 @@ no-memory result few never = (
 
 -- what a run says of its faults from outside, by the shape of its command
 pub record Outside (does : Behaviour) (run : Around) (result : ℕ) : Type 0 where
-  pub unopened : result ≡ 2 → (slot : Slot) × Reaches does run.before slot
-  pub unread : result ≡ 3 → (slot : Slot) × Reaches does run.before slot
-  pub memory : result ≡ 5 → RunsOut does run.before run.after run.out_before run.out_after
+  pub unopened : result ≡ 2 → (slot : Slot) × Reaches does run.after slot
+  pub unread : result ≡ 3 → (slot : Slot) × Reaches does run.after slot
+  pub memory : result ≡ 5 → RunsOut does run.after run.out_before run.out_after
 
 outside-in : (does : Behaviour) (shape : CommandCases) (run : Around) (result : ℕ) → MeetsCases does shape → (IsNoCommand shape → ⊥) → Outside does run result → IsIn 2 5 result → MayEndWith shape result
 outside-in NoCommand BadWords run result told real h few = absurd (real tt)

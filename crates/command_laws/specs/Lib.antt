@@ -3,3 +3,4 @@ pub mod CommandCases
 pub mod Written
 pub mod Causes
 pub mod Stays
+pub mod ToldFiles

@@ -16,7 +16,7 @@ ghost use Rattle.command_words.specs.Commands.{Request, Events, Run, Pick, Demo}
 ghost use Rattle.ptu_cli.{specs.Runs.{Around, Runs}, specs.Behaviours.behaviour};
 ghost use Rattle.report_work.specs.Demo.{demo_text};
 ghost use Rattle.command_work.{specs.Outcomes.{Outcome, written}, specs.Endings.outcome};
-ghost use Rattle.command_laws.{specs.CommandCases.{Needs, Suits, cases, IsOutcome}, specs.Cases.HasGroup, specs.Written.photons_written, specs.Causes.{Headed, IsPlanWith, EndsWithFault, StatusIn, Absent, NoPlan, Misfits, NoHeader, Cut, Refused, Lacking, TooLate, IsPickable, MayCallFor, MayEndWith}, specs.Stays.EndsStay};
+ghost use Rattle.command_laws.{specs.CommandCases.{Needs, Suits, cases, IsOutcome}, specs.Cases.HasGroup, specs.Written.photons_written, specs.Causes.{Headed, IsPlanWith, EndsWithFault, StatusIn, Absent, NoPlan, Misfits, NoHeader, Cut, Refused, Lacking, TooLate, IsPickable, MayCallFor, MayEndWith}, specs.Stays.EndsStay, specs.ToldFiles.OverToldFiles};
 
 /// A `demo` ends as `run` does on the text of its plan and the made file.
 pub fn demo_is_a_run()
@@ -123,4 +123,11 @@ pub fn an_end_that_is_shown_stays()
 pub fn statuses_of_runs()
     ensures { (request : Option Request) (run : Around) (result : ℕ) → Runs request run result
         → MayEndWith (cases request) result }
+{}
+
+/// What is promised of a run holds over the files that its inputs tell, as those in memory do: where nothing outside
+/// failed it ends as these files call for, what was taken is the front of a file that is there, and so each fact of `Runs`.
+pub fn over_told_files()
+    ensures { (request : Option Request) (run : Around) (result : ℕ) → Runs request run result
+        → OverToldFiles request run result }
 {}

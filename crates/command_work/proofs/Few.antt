@@ -1,11 +1,11 @@
 -- No more is taken than one read behind bytes that call for no end by themselves.
 use Rattle.std.proofs.Common.{◌≡◌, ◌≤◌, ℕ, List, [], ◌++◌, Bool, true, false, Ok, Err, length, take, sym, subst, arith, append-nil, append_assoc, Result, IfErr}
-use Rattle.std.{specs.declared.option.Option.Option, specs.Io.KnownBytes.Consumes, proofs.lemmas.List.length-take}
+use Rattle.std.proofs.lemmas.List.{length-take}
 use Rattle.tally_base.{specs.declared.fault.Fault.Fault, specs.Faults.is_outside}
-use Rattle.bench_io.proofs.Bytes.{Consumes-trans}
+use Rattle.bench_io.{specs.Given.{Given, Consumes}, proofs.Givens.Consumes-trans}
 use Rattle.command_work.{specs.Behaviours.piece_limit, specs.Works.TakesFew, specs.Pieces.StopsSoon}
 
-pub few-none : (goes_on : List ℕ → Type 0) (front : List ℕ) (before after : Option (List ℕ)) → Consumes before after front → goes_on front → TakesFew goes_on before after
+pub few-none : (goes_on : List ℕ → Type 0) (front : List ℕ) (before after : Given) → Consumes before after front → goes_on front → TakesFew goes_on before after
 few-none goes_on front before after took goes = record {
   front = front;
   last = [];
@@ -14,7 +14,7 @@ few-none goes_on front before after took goes = record {
   few = omega arith;
 }
 
-pub few-piece : (goes_on : List ℕ → Type 0) (front : List ℕ) (len : ℕ) (into : List ℕ) (before after : Option (List ℕ)) → Consumes before after (front ++ take len into) → goes_on front → length into ≤ piece_limit → TakesFew goes_on before after
+pub few-piece : (goes_on : List ℕ → Type 0) (front : List ℕ) (len : ℕ) (into : List ℕ) (before after : Given) → Consumes before after (front ++ take len into) → goes_on front → length into ≤ piece_limit → TakesFew goes_on before after
 few-piece goes_on front len into before after took goes size = record {
   front = front;
   last = take len into;
@@ -23,10 +23,10 @@ few-piece goes_on front len into before after took goes size = record {
   few = let e = length-take len into in omega (arith, e, size);
 }
 
-pub few-map : (p q : List ℕ → Type 0) (before after : Option (List ℕ)) → ((l : List ℕ) → p l → q l) → TakesFew p before after → TakesFew q before after
+pub few-map : (p q : List ℕ → Type 0) (before after : Given) → ((l : List ℕ) → p l → q l) → TakesFew p before after → TakesFew q before after
 few-map p q before after f h = record { front = h.front; last = h.last; consumes = h.consumes; goes = f h.front h.goes; few = h.few }
 
-pub few-behind : (p q : List ℕ → Type 0) (taken : List ℕ) (before mid after : Option (List ℕ)) → Consumes before mid taken → ((l : List ℕ) → p l → q (taken ++ l)) → TakesFew p mid after → TakesFew q before after
+pub few-behind : (p q : List ℕ → Type 0) (taken : List ℕ) (before mid after : Given) → Consumes before mid taken → ((l : List ℕ) → p l → q (taken ++ l)) → TakesFew p mid after → TakesFew q before after
 few-behind p q taken before mid after took f h = record {
   front = taken ++ h.front;
   last = h.last;
@@ -44,10 +44,10 @@ none-unread P (Err fault) inside = λ outside. absurd (not_both (is_outside faul
     not_both b p q = cc
 
 -- a read failed
-pub stops-unread : {A : Type 0} (goes_on : List ℕ → Type 0) (front : List ℕ) (before after : Option (List ℕ)) (fault : Fault) → Consumes before after front → goes_on front → StopsSoon {A = A} goes_on before after (Err fault)
+pub stops-unread : {A : Type 0} (goes_on : List ℕ → Type 0) (front : List ℕ) (before after : Given) (fault : Fault) → Consumes before after front → goes_on front → StopsSoon {A = A} goes_on before after (Err fault)
 stops-unread goes_on front before after fault took goes = record { unread = λ outside. (front, took, goes); few = few-none goes_on front before after took goes }
 
 -- a piece was read behind bytes that go on so, and it ended the work
-pub stops-piece : {A : Type 0} (goes_on : List ℕ → Type 0) (front : List ℕ) (len : ℕ) (into : List ℕ) (before after : Option (List ℕ)) (r : Result A Fault) → Consumes before after (front ++ take len into) → goes_on front → length into ≤ piece_limit
+pub stops-piece : {A : Type 0} (goes_on : List ℕ → Type 0) (front : List ℕ) (len : ℕ) (into : List ℕ) (before after : Given) (r : Result A Fault) → Consumes before after (front ++ take len into) → goes_on front → length into ≤ piece_limit
     → IfErr r (λ fault. is_outside fault ≡ false) → StopsSoon goes_on before after r
 stops-piece goes_on front len into before after r took goes size inside = record { unread = none-unread _ r inside; few = few-piece goes_on front len into before after took goes size }

@@ -2,9 +2,9 @@
 use Rattle.std.proofs.Common.{◌≡◌, ◌∙◌, ℕ, List, [], ◌++◌, Some, Ok, Err, refl, ap, inl, inr, ⊎_elim, append_assoc, append-nil, arith, Result}
 use Rattle.std.{specs.declared.option.Option.Option, proofs.lemmas.Result.IfErr-weaker}
 use Rattle.tally_base.{specs.declared.fault.Fault.Fault, specs.declared.fault.Fault.TheVariants.WriteFault, specs.declared.slot.Slot.TheVariants.Data, specs.Faults.fault_in, proofs.Reasons.HasReason-follows}
-use Rattle.bench_io.{specs.Inputs.InputState, proofs.Bytes.{Consumes-nil, Appends-trans, AppendsShort-behind}}
+use Rattle.bench_io.{specs.Inputs.InputState, specs.Given.MayFollow, proofs.Givens.Consumes-nil, proofs.Bytes.{Appends-trans, AppendsShort-behind}}
 use Rattle.told_text.{specs.Texts.{WroteText, CutText, WritesText}, proofs.Texts.{WroteText-trans, CutText-behind, CutText-more}}
-use Rattle.command_work.{specs.Endings.Span, specs.Tellings.{Telling, IsText, Opens}, specs.Rests.{EndsText, CutsText, ReadsText, ReadsRest}, proofs.Once.{stays-behind, once-refl, Rose-kept}, proofs.Told.some_left, proofs.TellingLaws.end_with, proofs.RestEnds.{writes-reason, writes-once}}
+use Rattle.command_work.{specs.Endings.Span, specs.Tellings.{Telling, IsText, Opens}, specs.Rests.{EndsText, CutsMore, CutsText, ReadsText, ReadsRest}, proofs.Once.{stays-behind, quiet-memory, once-refl, Rose-kept}, proofs.TellingLaws.end_with, proofs.RestEnds.{writes-reason, writes-once, writes-quiet}}
 
 -- a text was written before
 pub WritesText-behind : (shown mid grown : List ℕ) (refused : Option Fault) (a b c : Option (List ℕ)) (before between after : ℕ) (r : Result (Unit {0}) Fault) → WroteText shown mid a b before between → WritesText mid grown refused b c between after r → WritesText shown grown refused a c before after r
@@ -19,8 +19,7 @@ module _ (t : Telling) (is : IsText t) (wants : Type 0) (state : InputState) (a 
   -- it ended before the rest was read
   pub front-fails : (first front more : List ℕ) (fault : Fault) → first ≡ front ++ more → WritesText {X = Unit {0}} [] (t.text front) (t.refuses front) a c before after (Err fault) → ReadsRest t [] first wants (still state a c before after) (Err fault)
   front-fails first front more fault split writes =
-      let some = some_left (state.rest Data) in
-      let whole : (first ++ []) ++ some.0 ≡ front ++ (more ++ some.0) = rw append-nil (ap (λ l. l ++ some.0) split ∙ append_assoc front more some.0) in
+      let whole : (left : List ℕ) → (first ++ []) ++ left ≡ front ++ (more ++ left) = λ left. rw append-nil (ap (λ l. l ++ left) split ∙ append_assoc front more left) in
       record {
         answer =
             ⊎_elim
@@ -30,20 +29,23 @@ module _ (t : Telling) (is : IsText t) (wants : Type 0) (state : InputState) (a 
               consumes = Consumes-nil _;
               more = r.1.more;
               written = r.1.written;
-              left = some.0;
-              may_be = some.1;
-              is = ap t.ends whole ∙ is.refused front (more ++ some.0) fault r.0 ∙ ap (λ l. end_with l (Some fault)) r.1.adds;
+              is = λ left follows. ap t.ends (whole left) ∙ is.refused front (more ++ left) fault r.0 ∙ ap (λ l. end_with l (Some fault)) r.1.adds;
             }))
             (λ (r : (fault ≡ WriteFault) × CutText [] (t.text front) a c before after). inl (rw r.0 refl))
             writes;
         reason = writes-reason _ _ _ _ _ _ _ _ _ (Err fault) (is.inside front) writes
-            (λ short.
-            let tail = is.front front (more ++ some.0) in
-            let cut = CutText-more _ _ _ tail.0 a c _ _ (ap (λ l. (t.ends l).text) whole ∙ tail.1) short in (
+            (λ short. (
               short.rose,
-              record { taken = []; consumes = Consumes-nil _; left = some.0; may_be = some.1; more = cut.more; adds = cut.adds; cut = cut.cut },
+              record {
+                taken = [];
+                consumes = Consumes-nil _;
+                cut = λ left follows.
+                    let tail = is.front front (more ++ left) in
+                    let cut = CutText-more _ _ _ tail.0 a c _ _ (ap (λ l. (t.ends l).text) (whole left) ∙ tail.1) short in
+                    record { more = cut.more; adds = cut.adds; short = cut.cut };
+              },
             ));
-        once = record { inputs = once-refl _ _; out = writes-once _ _ _ _ _ _ _ (Err fault) writes };
+        once = record { inputs = once-refl _ _ (writes-quiet _ _ _ _ _ _ _ (Err fault) (is.inside front) writes); out = writes-once _ _ _ _ _ _ _ (Err fault) writes };
         few = inl refl;
       }
 
@@ -53,7 +55,7 @@ module _ (t : Telling) (is : IsText t) (wants : Type 0) (state : InputState) (a 
   open-fails first fault (inr h) = rw h.0 (record {
     answer = inl refl;
     reason = record { wants = h.1; same = refl; keeps = h.2 };
-    once = record { inputs = once-refl _ _; out = h.3 };
+    once = record { inputs = once-refl _ _ quiet-memory; out = h.3 };
     few = inl refl;
   })
 
@@ -78,13 +80,17 @@ rest-follows t wants first at a before r wrote rest = record {
       consumes = h.consumes;
       more = wrote.more ++ h.more;
       written = Appends-trans _ _ _ _ _ wrote.written h.written;
-      left = h.left;
-      may_be = h.may_be;
-      is = h.is ∙ ap (λ l. end_with (l ++ h.more) (fault_in r)) wrote.adds;
+      is = λ left follows. h.is left follows ∙ ap (λ l. end_with (l ++ h.more) (fault_in r)) wrote.adds;
     }
 
     read : ReadsText t (t.text first) first ⊥ at → ReadsText t [] first wants (record at { old = a; faults_before = before })
     read h = record { taken = h.taken; consumes = h.consumes; more = wrote.more ++ h.more; adds = joined _ h.more h.adds; written = Appends-trans _ _ _ _ _ wrote.written h.written; unrefused = h.unrefused }
 
     cut : CutsText t (t.text first) first ⊥ at → CutsText t [] first wants (record at { old = a; faults_before = before })
-    cut h = record { taken = h.taken; consumes = h.consumes; left = h.left; may_be = h.may_be; more = wrote.more ++ h.more; adds = joined _ h.more h.adds; cut = AppendsShort-behind _ _ _ _ _ wrote.written h.cut }
+    cut h = record {
+      taken = h.taken;
+      consumes = h.consumes;
+      cut = λ left follows.
+          let more = h.cut left follows in
+          record { more = wrote.more ++ more.more; adds = joined _ more.more more.adds; short = AppendsShort-behind _ _ _ _ _ wrote.written more.short };
+    }

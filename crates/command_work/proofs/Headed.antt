@@ -1,8 +1,8 @@
 -- A header, and what reading all data after it leaves.
 use Rattle.std.proofs.Common.{◌≡◌, ◌∙◌, ◌<◌, ℕ, List, [], ◌++◌, None, Some, Ok, Err, refl, sym, ap, subst, inl, inr, ⊎_elim, append_assoc, append-nil, length, ◌⊎◌, true, Result, IfErr, IsErrAnd}
-use Rattle.std.{specs.declared.option.Option.Option, specs.Io.KnownBytes.{Appends, Consumes}, proofs.lemmas.Result.IfErr-weaker}
+use Rattle.std.{specs.declared.option.Option.Option, specs.Io.KnownBytes.Appends, proofs.lemmas.Result.IfErr-weaker}
 use Rattle.tally_base.{specs.declared.fault.Fault.Fault, specs.declared.slot.Slot.TheVariants.Data, specs.declared.header.Header.Header, specs.Faults.{is_outside, fault_in}, proofs.Reasons.{HasReason-follows, HasReason-with}}
-use Rattle.bench_io.{specs.Inputs.{InputState, NoneFalls}, proofs.Bytes.{Appends-nil, Appends-same, AppendsShort-same, Consumes-trans}, proofs.Rises.Rose-behind}
+use Rattle.bench_io.{specs.Given.{Given, Consumes}, specs.Inputs.{InputState, NoneFalls}, proofs.Givens.Consumes-trans, proofs.Bytes.{Appends-nil, Appends-same, AppendsShort-same}, proofs.Rises.Rose-behind}
 use Rattle.ptu_definitions.specs.Headers.{header_answer}
 use Rattle.command_work.{specs.Told.Says, specs.Once.InputsOnce, specs.Outcomes.{Outcome, refused, IsCut}, specs.Behaviours.{piece_limit, Work, Writing}, specs.Endings.Span, specs.Works.{AnswersWork, ReadsWork, CutsWork, WantsWork, WorkReason, TakesFew, LeavesWork}}
 use Rattle.command_work.{specs.Pieces.{ReadReason, StopsSoon}, specs.Tellings.{Telling, headed_end, headed_text, HeadedGoes, Suits}, specs.Rests.{EndsText, ReadsText, CutsText, WantsMemory, ReadsRest}, proofs.Once.{stays-same, once-behind}, proofs.Few.{few-map, few-behind}, proofs.Pieces.ShowsHeader, proofs.Fronts.still}
@@ -12,33 +12,33 @@ module _ (work : Work) (writing : Writing (List ℕ → List ℕ)) (wanting : Li
   cut-goes : (bytes : List ℕ) → IsCut bytes → work.goes_on bytes
   cut-goes bytes cut = suits.goes bytes (subst (HeadedGoes tells) (sym cut) refl)
 
-  module _ (start : InputState) (at : Span) (front behind : List ℕ) (header : Header) (shows : ShowsHeader front header behind) (took : Consumes (start.rest Data) (at.before.rest Data) front) where
+  module _ (start : InputState) (at : Span) (front behind : List ℕ) (header : Header) (shows : ShowsHeader front header behind) (took : Consumes (start.given Data) (at.before.given Data) front) where
     abbrev t : Telling
     t = tells header
 
     abbrev all : Span
     all = record at { before = start }
 
-    taken : (more : List ℕ) → Consumes (at.before.rest Data) (at.after.rest Data) more → Consumes (start.rest Data) (at.after.rest Data) (front ++ more)
+    taken : (more : List ℕ) → Consumes (at.before.given Data) (at.after.given Data) more → Consumes (start.given Data) (at.after.given Data) (front ++ more)
     taken more h = Consumes-trans _ _ _ front more took h
 
     ends-is : (more left : List ℕ) → work.outcome ((front ++ more) ++ left) ≡ t.ends ((behind ++ more) ++ left)
     ends-is more left = ap work.outcome (append_assoc front more left) ∙ suits.ends (front ++ (more ++ left)) ∙ ap (headed_end tells) (shows (more ++ left)) ∙ ap t.ends (sym (append_assoc behind more left))
 
-    answers : (r : Result (Unit {0}) Fault) → IsErrAnd r (λ fault. is_outside fault ≡ true) ⊎ EndsText t [] behind (wants header) at (fault_in r) → AnswersWork work (start.rest Data) (at.after.rest Data) at.old at.new r
+    answers : (r : Result (Unit {0}) Fault) → IsErrAnd r (λ fault. is_outside fault ≡ true) ⊎ EndsText t [] behind (wants header) at (fault_in r) → AnswersWork work (start.given Data) (at.after.given Data) at.old at.new r
     answers r (inl outside) = inl outside
     answers r (inr h) = inr (record {
       taken = front ++ h.taken;
       consumes = taken h.taken h.consumes;
       text = h.more;
       written = h.written;
-      says = record { more = h.left; may_be = h.may_be; means = ends-is h.taken h.left ∙ h.is };
+      says = record { means = λ left follows. ends-is h.taken left ∙ h.is left follows };
     })
 
     goes : (more : List ℕ) → t.refuses (behind ++ more) ≡ None → work.goes_on (front ++ more)
     goes more none = suits.goes (front ++ more) (subst (HeadedGoes tells) (sym (shows more)) none)
 
-    reads : ReadsText t [] behind (wants header) at → ReadsWork writing work (start.rest Data) (at.after.rest Data) at.old at.new
+    reads : ReadsText t [] behind (wants header) at → ReadsWork writing work (start.given Data) (at.after.given Data) at.old at.new
     reads h = record {
       taken = front ++ h.taken;
       consumes = taken h.taken h.consumes;
@@ -46,25 +46,25 @@ module _ (work : Work) (writing : Writing (List ℕ → List ℕ)) (wanting : Li
       goes_on = goes h.taken h.unrefused;
     }
 
-    cuts : CutsText t [] behind (wants header) at → CutsWork writing work (start.rest Data) (at.after.rest Data) at.old at.new
+    cuts : CutsText t [] behind (wants header) at → CutsWork writing work (start.given Data) (at.after.given Data) at.old at.new
     cuts h = record {
       taken = front ++ h.taken;
       consumes = taken h.taken h.consumes;
-      more = h.left;
-      may_be = h.may_be;
-      cut = suits.cuts _ _ _ (AppendsShort-same _ _ _ _ (sym (ap (λ (o : Outcome). o.text) (ends-is h.taken h.left) ∙ h.adds)) h.cut);
+      cut = λ left follows.
+          let more = h.cut left follows in
+          suits.cuts _ _ _ (AppendsShort-same _ _ _ _ (sym (ap (λ (o : Outcome). o.text) (ends-is h.taken left) ∙ more.adds)) more.short);
     }
 
-    wanted : length behind < piece_limit → WantsMemory t [] behind (wants header) at → WantsWork wanting (start.rest Data) (at.after.rest Data) at.old at.new
+    wanted : length behind < piece_limit → WantsMemory t [] behind (wants header) at → WantsWork wanting (start.given Data) (at.after.given Data) at.old at.new
     wanted few h = record {
       keeps = h.keeps;
       taken = front;
-      consumes = subst (λ (rest : Option (List ℕ)). Consumes (start.rest Data) rest front) (sym h.same) took;
+      consumes = subst (λ (now : Given). Consumes (start.given Data) now front) (sym h.same) took;
       wants = suits.wanting front behind header (ap header_answer (sym (append-nil front)) ∙ shows [] ∙ ap (λ l. Ok (header, l)) (append-nil behind)) h.wants few;
     }
 
     -- the rest was read
-    pub leaves-rest : (r : Result (Unit {0}) Fault) → length behind < piece_limit → NoneFalls start.read_faults at.before.read_faults → InputsOnce start at.before None → TakesFew IsCut (start.rest Data) (at.before.rest Data) → ReadsRest t [] behind (wants header) at r → LeavesWork writing wanting work all r
+    pub leaves-rest : (r : Result (Unit {0}) Fault) → length behind < piece_limit → NoneFalls start.read_faults at.before.read_faults → InputsOnce start at.before None → TakesFew IsCut (start.given Data) (at.before.given Data) → ReadsRest t [] behind (wants header) at r → LeavesWork writing wanting work all r
     leaves-rest r small falls once few rest = record {
       answer = answers r rest.answer;
       reason = IfErr-weaker r _ _
@@ -73,8 +73,8 @@ module _ (work : Work) (writing : Writing (List ℕ → List ℕ)) (wanting : Li
           rest.reason;
       once = record { inputs = once-behind _ _ _ _ once rest.once.inputs; out = rest.once.out };
       few = ⊎_elim
-          (λ (same : at.after.rest Data ≡ at.before.rest Data). subst (λ (left : Option (List ℕ)). TakesFew work.goes_on (start.rest Data) left) (sym same) (few-map IsCut work.goes_on _ _ cut-goes few))
-          (λ (h : TakesFew (λ more. t.refuses (behind ++ more) ≡ None) (at.before.rest Data) (at.after.rest Data)). few-behind _ work.goes_on front _ _ _ took goes h)
+          (λ (same : at.after.given Data ≡ at.before.given Data). subst (λ (left : Given). TakesFew work.goes_on (start.given Data) left) (sym same) (few-map IsCut work.goes_on _ _ cut-goes few))
+          (λ (h : TakesFew (λ more. t.refuses (behind ++ more) ≡ None) (at.before.given Data) (at.after.given Data)). few-behind _ work.goes_on front _ _ _ took goes h)
           rest.few;
     }
 
@@ -82,17 +82,17 @@ module _ (work : Work) (writing : Writing (List ℕ → List ℕ)) (wanting : Li
     abbrev unwritten : Span
     unwritten = record (still after a a faults faults) { before = before }
 
-    unheaded : (front : List ℕ) (fault : Fault) → Consumes (before.rest Data) (after.rest Data) front → (is_outside fault ≡ true) ⊎ Says header_answer front (after.rest Data) (Err fault) → AnswersWork work (before.rest Data) (after.rest Data) a a (Err fault)
+    unheaded : (front : List ℕ) (fault : Fault) → Consumes (before.given Data) (after.given Data) front → (is_outside fault ≡ true) ⊎ Says header_answer front (after.given Data) (Err fault) → AnswersWork work (before.given Data) (after.given Data) a a (Err fault)
     unheaded front fault took (inl outside) = inl outside
     unheaded front fault took (inr says) = inr (record {
       taken = front;
       consumes = took;
       text = [];
       written = Appends-nil a;
-      says = record { more = says.more; may_be = says.may_be; means = suits.ends (front ++ says.more) ∙ ap (headed_end tells) says.means };
+      says = record { means = λ more follows. suits.ends (front ++ more) ∙ ap (headed_end tells) (says.means more follows) };
     })
 
-    cut-reads : (front : List ℕ) → Consumes (before.rest Data) (after.rest Data) front → IsCut front → ReadsWork writing work (before.rest Data) (after.rest Data) a a
+    cut-reads : (front : List ℕ) → Consumes (before.given Data) (after.given Data) front → IsCut front → ReadsWork writing work (before.given Data) (after.given Data) a a
     cut-reads front took cut = record {
       taken = front;
       consumes = took;
@@ -101,7 +101,7 @@ module _ (work : Work) (writing : Writing (List ℕ → List ℕ)) (wanting : Li
     }
 
     -- there is no header
-    pub leaves-unheaded : {A : Type 0} (front : List ℕ) (fault : Fault) → Consumes (before.rest Data) (after.rest Data) front → (is_outside fault ≡ true) ⊎ Says header_answer front (after.rest Data) (Err fault) → ReadReason before after fault → InputsOnce before after (Some fault) → StopsSoon {A = A} IsCut (before.rest Data) (after.rest Data) (Err fault)
+    pub leaves-unheaded : {A : Type 0} (front : List ℕ) (fault : Fault) → Consumes (before.given Data) (after.given Data) front → (is_outside fault ≡ true) ⊎ Says header_answer front (after.given Data) (Err fault) → ReadReason before after fault → InputsOnce before after (Some fault) → StopsSoon {A = A} IsCut (before.given Data) (after.given Data) (Err fault)
         → LeavesWork writing wanting work unwritten (Err fault)
     leaves-unheaded front fault took answer reason once stops = record {
       answer = unheaded front fault took answer;

@@ -1,45 +1,31 @@
 -- What a command by a plan leaves, whatever its work is.
-use Rattle.std.proofs.Common.{◌≡◌, ℕ, List, ◌++◌, false, None, Some, Ok, Err, refl, sym, ap, ◌∙◌, subst, inl, inr, Result}
+use Rattle.std.proofs.Common.{◌≡◌, ℕ, List, true, false, None, Some, Ok, Err, refl, sym, ap, ◌∙◌, subst, inl, inr, Result}
 use Rattle.std.specs.declared.option.Option.{Option}
-use Rattle.tally_base.{specs.declared.fault.Fault.Fault, specs.declared.slot.Slot.TheVariants.Plan as PlanSlot, specs.declared.slot.Slot.TheVariants.Data, specs.Faults.{is_outside, fault_in}, proofs.Reasons.{HasReason-follows, HasReason-inside}}
-use Rattle.bench_io.{specs.Inputs.{File, InputState, IsOpened, KeepsOther, NoneFalls}, proofs.Bytes.{Appends-nil, Keeps-from_none}, proofs.Rises.Rose-behind}
+use Rattle.tally_base.{specs.declared.fault.Fault.Fault, specs.declared.slot.Slot.Slot, specs.declared.slot.Slot.TheVariants.Plan as PlanSlot, specs.declared.slot.Slot.TheVariants.Data, specs.Faults.{is_outside, fault_in}, proofs.Reasons.{HasReason-follows, HasReason-inside}}
+use Rattle.bench_io.{specs.Given.{Given, no_bytes, IsOf}, specs.Inputs.{File, InputState, IsOpened, KeepsOther, NoneFalls}, proofs.Bytes.{Appends-nil, Keeps-from_none}, proofs.Rises.Rose-behind}
 use Rattle.plan_text.{specs.declared.plan.Plan.Plan, specs.Plan.PlanView, specs.Reading.{plan_view, plan_answer, plan_seen}}
-use Rattle.command_work.{specs.Outcomes.{Outcome, refused}, specs.PlanPieces.{IsRead, AnswersPlan, PlanReason}, specs.Behaviours.{Work, Writing, AtEnd, AsItReads, under, Memory, Behaviour, ByPlan}, specs.Works.{AnswersWork, WorkReason}, specs.Endings.{TakenOf, IsPlan, HasPlan, TakesPlan, EndsWith, Answers, Cuts, WantsBehind, Span, HasCauses, on_file, outcome}, proofs.WorkTold.{taken-told, may_be_read, stops-told}}
+use Rattle.command_work.{specs.Outcomes.{Outcome, refused}, specs.PlanPieces.{IsRead, AnswersPlan, PlanReason}, specs.Behaviours.{Work, Writing, AtEnd, AsItReads, under, Memory, Behaviour, ByPlan}, specs.Works.{AnswersWork, WorkReason}, specs.Endings.{FileOf, IsPlan, HasPlan, OpensAs, ToldAreIts, TakesPlan, EndsWith, Answers, Cuts, WantsBehind, Span, HasCauses, on_file, outcome}, proofs.Told.{all-taken, FileOf-kept}, proofs.WorkTold.{told-is-its, ends-told, stops-told, cuts-told}}
 
--- a plan that was read is that of a file
-pub has-plan : (state : InputState) (name : List ℕ) (lacks : PlanView → Option Fault) (plan : Plan) → AnswersPlan state name (Ok plan) → lacks (plan_view plan) ≡ None → HasPlan state name lacks (plan_view plan)
-has-plan state name lacks plan (inl outside) whole = absurd outside
-has-plan state name lacks plan (inr read) whole = record { plan_file = read.0; may_be = read.1; is_plan = record { text = read.2.text; present = read.2.present; answer = read.2.answer }; whole = whole }
+-- a plan that was read is that of each file that may be the one read
+pub has-plan : (after : InputState) (lacks : PlanView → Option Fault) (plan : Plan) → AnswersPlan after (Ok plan) → lacks (plan_view plan) ≡ None → HasPlan after lacks (plan_view plan)
+has-plan after lacks plan (inl outside) whole = absurd outside
+has-plan after lacks plan (inr read) whole = record { is_plan = λ plan_file may. let is = read plan_file may in record { text = is.text; present = is.present; answer = is.answer }; whole = whole }
 
--- a file is one plan
-one-plan : (plan_file : File) (view : PlanView) (r : Result Plan Fault) → IsPlan plan_file view → IsRead plan_file r → plan_seen r ≡ Ok view
-one-plan plan_file view r is read =
-    let present = is.present in
-    let there = read.present in
-    let same : read.text ≡ is.text = cc in
-    sym read.answer ∙ ap plan_answer same ∙ is.answer
-
-not-plan : (plan_file : File) (view : PlanView) (fault : Fault) → IsRead plan_file (Err fault) → IsPlan plan_file view → ⊥
-not-plan plan_file view fault read is = let bad = one-plan plan_file view (Err fault) is read in cc
-
--- a plan that lacks something is none that lacks nothing
-not-whole : (lacks : PlanView → Option Fault) (plan_file : File) (view : PlanView) (plan : Plan) (fault : Fault) → IsRead plan_file (Ok plan) → lacks (plan_view plan) ≡ Some fault → IsPlan plan_file view → lacks view ≡ None → ⊥
-not-whole lacks plan_file view plan fault read lacking is whole =
-    let seen = one-plan plan_file view (Ok plan) is read in
-    let same : plan_view plan ≡ view = cc in
-    let bad : Some fault ≡ None = sym lacking ∙ ap lacks same ∙ whole in
-    cc
+-- it stays so while the data are opened and read
+pub has-later : (mid after : InputState) (lacks : PlanView → Option Fault) (view : PlanView) → KeepsOther Data mid after → HasPlan mid lacks view → HasPlan after lacks view
+has-later mid after lacks view kept has = record { is_plan = λ plan_file may. has.is_plan plan_file (FileOf-kept mid after PlanSlot plan_file kept.opened kept.given may); whole = has.whole }
 
 -- an answer that is no fault is none
 pub none-lacking : (lack told : Option Fault) → told ≡ lack → ((fault : Fault) → told ≡ Some fault → ⊥) → lack ≡ None
 none-lacking None told is never = refl
 none-lacking (Some fault) told is never = absurd (never fault is)
 
--- what was taken of a plan stays so while the data are opened and read
-pub takes-later : (before mid after : InputState) (plan : List ℕ) → TakesPlan before mid plan → KeepsOther Data mid after → TakesPlan before after plan
-takes-later before mid after plan takes kept opened =
-    let h = takes (sym kept.opened ∙ opened) in
-    (h.0, λ known told. subst (λ (r : Option (List ℕ)). TakenOf known r h.0) (sym kept.rest) (h.1 known told), h.2)
+pub names-later : (before mid after : InputState) (name : List ℕ) → OpensAs PlanSlot before mid name → KeepsOther Data mid after → OpensAs PlanSlot before after name
+names-later before mid after name names kept opened = subst (λ (told : Option (List ℕ)). IsOpened (before.contents name) told) (sym kept.told) (names (sym kept.opened ∙ opened))
+
+-- what was read of a plan stays so while the data are opened and read
+pub takes-later : (mid after : InputState) → TakesPlan mid → KeepsOther Data mid after → TakesPlan after
+takes-later mid after takes kept opened = let few = takes (sym kept.opened ∙ opened) in rw (← kept.given) at few
 
 module _ (plan_name name : List ℕ) (writing : Writing (PlanView → List ℕ → List ℕ)) (memory : Memory) (lacks : PlanView → Option Fault) (work : PlanView → Work) where
   abbrev does : Behaviour
@@ -53,24 +39,20 @@ module _ (plan_name name : List ℕ) (writing : Writing (PlanView → List ℕ �
       rw (same, read.answer) refl
 
   -- a plan that is refused ends the run
-  pub answers-unplanned : (before after : InputState) (fault : Fault) (old : Option (List ℕ)) → AnswersPlan before plan_name (Err fault) → Answers does before after (Err fault) old old
-  answers-unplanned before after fault old (inl outside) = inl outside
-  answers-unplanned before after fault old (inr read) = inr (record {
-    plan_file = read.0;
-    data_file = None;
-    may_be = (read.1, λ view is whole. absurd (not-plan read.0 view fault read.2 is));
-    holds = subst (λ (end : Outcome). EndsWith end (Some fault) old old) (sym (outcome-read read.0 None fault read.2)) (record { same = refl; text = Appends-nil old });
-  })
+  pub answers-unplanned : (after : InputState) (fault : Fault) (old : Option (List ℕ)) → AnswersPlan after (Err fault) → Answers does after (Err fault) old old
+  answers-unplanned after fault old (inl outside) = inl outside
+  answers-unplanned after fault old (inr read) = inr (λ plan_file data_file may.
+      subst (λ (end : Outcome). EndsWith end (Some fault) old old) (sym (outcome-read plan_file data_file fault (read plan_file may.0))) (record { same = refl; text = Appends-nil old }))
 
   -- why there is no plan
-  pub unplanned-causes : (before after : InputState) (old : Option (List ℕ)) (faults : ℕ) (fault : Fault) → KeepsOther PlanSlot before after → before.asked Data ≡ false → PlanReason before after plan_name fault
+  pub unplanned-causes : (before after : InputState) (old : Option (List ℕ)) (faults : ℕ) (fault : Fault) → KeepsOther PlanSlot before after → before.asked Data ≡ false → PlanReason before after fault
       → HasCauses does (record { before = before; after = after; old = old; new = old; faults_before = faults; faults_after = faults }) fault
   unfolding HasCauses
   unplanned-causes before after old faults fault other first reason =
       let kept = Keeps-from_none old old (Appends-nil old) in
       HasReason-follows _ _ _ _ _ _ _ _ fault
       (λ slot h. (rw h.0 tt, h.1, kept))
-      (λ slot h. (rw h.0 tt, h.1, rw h.0 (kept, h.2)))
+      (λ slot h. (rw h.0 tt, h.1, h.2, rw h.0 (kept, h.3)))
       (λ h. absurd h)
       (λ h. (kept, inl (other.asked ∙ first)))
       reason
@@ -83,16 +65,12 @@ module _ (plan_name name : List ℕ) (writing : Writing (PlanView → List ℕ �
       let same : text ≡ is.text = let e = is.present in cc in
       rw (same, is.answer, lacking) refl
 
-  pub answers-lacking : (before after : InputState) (plan : Plan) (fault : Fault) (old : Option (List ℕ)) → AnswersPlan before plan_name (Ok plan) → lacks (plan_view plan) ≡ Some fault → Answers does before after (Err fault) old old
-  answers-lacking before after plan fault old (inl outside) lacking = absurd outside
-  answers-lacking before after plan fault old (inr read) lacking =
-      let is_plan : IsPlan read.0 (plan_view plan) = record { text = read.2.text; present = read.2.present; answer = read.2.answer } in
-      inr (record {
-        plan_file = read.0;
-        data_file = None;
-        may_be = (read.1, λ view is whole. absurd (not-whole lacks read.0 view plan fault read.2 lacking is whole));
-        holds = subst (λ (end : Outcome). EndsWith end (Some fault) old old) (sym (outcome-lacking read.0 None (plan_view plan) fault is_plan lacking)) (record { same = refl; text = Appends-nil old });
-      })
+  pub answers-lacking : (after : InputState) (plan : Plan) (fault : Fault) (old : Option (List ℕ)) → AnswersPlan after (Ok plan) → lacks (plan_view plan) ≡ Some fault → Answers does after (Err fault) old old
+  answers-lacking after plan fault old (inl outside) lacking = absurd outside
+  answers-lacking after plan fault old (inr read) lacking = inr (λ plan_file data_file may.
+      let is = read plan_file may.0 in
+      let is_plan : IsPlan plan_file (plan_view plan) = record { text = is.text; present = is.present; answer = is.answer } in
+      subst (λ (end : Outcome). EndsWith end (Some fault) old old) (sym (outcome-lacking plan_file data_file (plan_view plan) fault is_plan lacking)) (record { same = refl; text = Appends-nil old }))
 
   -- a plan that lacks nothing leaves the end to the data
   pub outcome-planned : (plan_file data_file : File) (view : PlanView) → IsPlan plan_file view → lacks view ≡ None → outcome does plan_file data_file ≡ on_file (work view) data_file
@@ -102,18 +80,12 @@ module _ (plan_name name : List ℕ) (writing : Writing (PlanView → List ℕ �
       let same : text ≡ is.text = let e = is.present in cc in
       rw (same, is.answer, whole) refl
 
-  -- work that ended is that of the file
-  pub plan-answers : (before after : InputState) (view : PlanView) (contents : Option File) (rest old new : Option (List ℕ)) (r : Result (Unit {0}) Fault) → HasPlan before plan_name lacks view → before.contents name ≡ contents → IsOpened contents rest
-      → AnswersWork (work view) rest (after.rest Data) old new r → Answers does before after r old new
-  plan-answers before after view contents rest old new r has same opened (inl outside) = inl outside
-  plan-answers before after view contents rest old new r has same opened (inr ends) =
-      let data_file : File = Some (ends.taken ++ ends.says.more) in
-      inr (record {
-        plan_file = has.plan_file;
-        data_file = data_file;
-        may_be = (has.may_be, λ other is whole. may_be_read contents before after name rest ends.taken ends.says.more same opened ends.consumes ends.says.may_be);
-        holds = subst (λ (end : Outcome). EndsWith end (fault_in r) old new) (sym (outcome-planned has.plan_file data_file view has.is_plan has.whole ∙ ends.says.means)) (record { same = refl; text = ends.written });
-      })
+  -- work that ended is that of each such file
+  pub plan-answers : (after : InputState) (view : PlanView) (start : Given) (old new : Option (List ℕ)) (r : Result (Unit {0}) Fault) → HasPlan after lacks view → start ≡ no_bytes → after.opened Data ≡ true → AnswersWork (work view) start (after.given Data) old new r
+      → Answers does after r old new
+  plan-answers after view start old new r has none opened (inl outside) = inl outside
+  plan-answers after view start old new r has none opened (inr ends) = inr (λ plan_file data_file may.
+      subst (λ (end : Outcome). EndsWith end (fault_in r) old new) (sym (outcome-planned plan_file data_file view (has.is_plan plan_file may.0) has.whole)) (ends-told (work view) after start old new (fault_in r) data_file none opened ends may.1))
 
 -- a text that is cut by a plan is cut
 cuts-under : (writing : Writing (PlanView → List ℕ → List ℕ)) (view : PlanView) (end : Outcome) (old new : Option (List ℕ)) → Cuts (under view writing) end old new → Cuts writing end old new
@@ -121,30 +93,21 @@ cuts-under AtEnd view end old new h = h
 cuts-under (AsItReads text) view end old new h = h
 
 -- why a command by a plan ended by a fault from outside
-pub plan-causes : (plan_name name : List ℕ) (writing : Writing (PlanView → List ℕ → List ℕ)) (memory : Memory) (lacks : PlanView → Option Fault) (work : PlanView → Work) (view : PlanView) (contents : Option File) (before : InputState) (span : Span) (fault : Fault)
-    → HasPlan before plan_name lacks view → before.contents name ≡ contents → IsOpened contents (span.before.rest Data) → NoneFalls before.read_faults span.before.read_faults → WorkReason (under view writing) (WantsBehind memory view) (work view) span fault
+pub plan-causes : (plan_name name : List ℕ) (writing : Writing (PlanView → List ℕ → List ℕ)) (memory : Memory) (lacks : PlanView → Option Fault) (work : PlanView → Work) (view : PlanView) (before : InputState) (span : Span) (fault : Fault)
+    → HasPlan span.after lacks view → span.before.given Data ≡ no_bytes → span.after.opened Data ≡ true → NoneFalls before.read_faults span.before.read_faults → WorkReason (under view writing) (WantsBehind memory view) (work view) span fault
     → HasCauses (ByPlan plan_name name writing memory lacks work) (record span { before = before }) fault
 unfolding HasCauses
-plan-causes plan_name name writing memory lacks work view contents before span fault has same is_opened later reason =
+plan-causes plan_name name writing memory lacks work view before span fault has none opened later reason =
     HasReason-follows _ _ _ _ _ _ _ _ fault
-    (λ slot none. absurd none)
-    (λ slot r. (
-      rw r.0 (view, has),
-      Rose-behind _ _ _ (later slot) r.1,
-      rw r.0 (view, has, stops-told (under view writing) (work view) contents before span.before span.after name span.old span.new same is_opened r.2),
-    ))
-    (λ w.
-    let bytes = w.1.taken ++ w.1.more in (
+    (λ slot no. absurd no)
+    (λ slot r. (rw r.0 (view, has), rw r.0 opened, Rose-behind _ _ _ (later slot) r.1, rw r.0 (view, has, stops-told (under view writing) (work view) span.after (span.before.given Data) span.old span.new none r.2)))
+    (λ w. (
       w.0,
-      record {
-        plan_file = has.plan_file;
-        data_file = Some bytes;
-        may_be = (has.may_be, λ other is whole. may_be_read contents before span.after name _ w.1.taken w.1.more same is_opened w.1.consumes w.1.may_be);
-        holds = subst (λ (end : Outcome). Cuts writing end span.old span.new) (sym (outcome-planned plan_name name writing memory lacks work has.plan_file (Some bytes) view has.is_plan has.whole))
-            (cuts-under writing view ((work view).outcome bytes) span.old span.new w.1.cut);
-      },
+      λ plan_file data_file may.
+          subst (λ (end : Outcome). Cuts writing end span.old span.new) (sym (outcome-planned plan_name name writing memory lacks work plan_file data_file view (has.is_plan plan_file may.0) has.whole))
+          (cuts-told (under view writing) writing (work view) span.after (span.before.given Data) span.old span.new data_file (λ end h. cuts-under writing view end span.old span.new h) none opened w.1 may.1),
     ))
-    (λ want. (want.keeps, inr (view, has, record { taken = want.taken; is_taken = λ known told. taken-told contents _ _ want.taken known is_opened want.consumes (sym same ∙ told); wants = want.wants })))
+    (λ want. (want.keeps, inr (view, has, opened, subst (WantsBehind memory view) (sym (all-taken (span.before.given Data) (span.after.given Data) want.taken none want.consumes)) want.wants)))
     reason
 
 -- a plan that lacks something has no cause outside
@@ -152,3 +115,15 @@ pub lacking-causes : (plan_name name : List ℕ) (writing : Writing (PlanView �
     → HasCauses (ByPlan plan_name name writing memory lacks work) span fault
 unfolding HasCauses
 lacking-causes plan_name name writing memory lacks work span fault inside = HasReason-inside _ _ _ _ fault inside
+
+-- the files that are told are among those that may be the run's
+pub plan-files : (plan_name name : List ℕ) (writing : Writing (PlanView → List ℕ → List ℕ)) (memory : Memory) (lacks : PlanView → Option Fault) (work : PlanView → Work) (before after : InputState)
+    → OpensAs PlanSlot before after plan_name → (after.opened Data ≡ true → IsOpened (before.contents name) (after.told Data) × ((view : PlanView) × HasPlan after lacks view))
+    → ((slot : Slot) (bytes : List ℕ) → after.told slot ≡ Some bytes → IsOf (after.given slot) bytes) → ToldAreIts (ByPlan plan_name name writing memory lacks work) before after
+plan-files plan_name name writing memory lacks work before after is_plan is_data agrees plan_file data_file tells =
+    let plan = told-is-its (before.contents plan_name) after PlanSlot plan_file is_plan (agrees PlanSlot) tells.0 in (
+      plan,
+      λ opened.
+          let was = is_data opened in
+          told-is-its (before.contents name) after Data data_file (λ o. was.0) (agrees Data) (tells.1 was.1.0 (was.1.1.is_plan plan_file plan) was.1.1.whole) opened,
+    )

@@ -1,10 +1,10 @@
 -- The text of bytes that grow, and how a call of the loop's body ends it.
 use Rattle.std.proofs.Common.{◌≡◌, ◌∙◌, ◌≤◌, ℕ, List, [], ◌++◌, None, Some, Ok, Err, refl, ap, inl, inr, ⊎_elim, append_assoc, append-nil, length, take, arith, ◌⊎◌, true, false, Result, IfErr, IsErrAnd}
-use Rattle.std.{specs.declared.option.Option.Option, specs.Io.KnownBytes.{Keeps, Consumes, IsAtEnd}, proofs.lemmas.List.length-take}
+use Rattle.std.{specs.declared.option.Option.Option, proofs.lemmas.List.length-take}
 use Rattle.tally_base.{specs.declared.fault.Fault.Fault, specs.declared.fault.Fault.TheVariants.{ReadFault, WriteFault}, specs.declared.slot.Slot.Slot, specs.declared.slot.Slot.TheVariants.Data, specs.FaultCounts.Rose, specs.Faults.{is_outside, fault_in, HasReason}, proofs.Reasons.HasReason-inside}
-use Rattle.bench_io.{specs.Inputs.{InputState, KeepsOther, OpensNone, NoneFalls}, proofs.Bytes.{Consumes-nil, Consumes-kept, Consumes-trans}, proofs.Rises.Rose-behind}
+use Rattle.bench_io.{specs.CallCounts.one_more, specs.Given.{Consumes, IsAtEnd, MayFollow}, specs.Inputs.{InputState, KeepsOther, OpensNone, NoneFalls}, proofs.Givens.{Consumes-nil, Consumes-kept, Consumes-trans}, proofs.Rises.Rose-behind}
 use Rattle.told_text.{specs.Texts.{WroteText, CutText, WritesText}, proofs.Texts.{WroteText-none, WroteText-trans, CutText-behind, CutText-more}}
-use Rattle.command_work.{specs.Once.{tells_writing, InputsOnce, OutOnce}, specs.Behaviours.piece_limit, specs.Endings.{Span, Once}, specs.Works.TakesFew, specs.Tellings.{Telling, IsText, WritesPiece, WritesEnd}, specs.Rests.{EndsText, ReadsRest}, proofs.Once.{stays-same, stays-behind, once-refl, once-none, once-read, once-unread, Rose-kept}, proofs.Told.{some_left, none_left}, proofs.TellingLaws.{end_with, same-end}}
+use Rattle.command_work.{specs.Once.{tells_writing, InputsOnce, OutOnce}, specs.Behaviours.piece_limit, specs.Endings.{Span, Once}, specs.Works.TakesFew, specs.Tellings.{Telling, IsText, WritesPiece, WritesEnd}, specs.Rests.{EndsText, ReadsRest}, proofs.Once.{stays-same, stays-behind, IsQuiet, quiet-none, quiet-write, quiet-inside, once-refl, once-read, once-unread, Rose-kept}, proofs.TellingLaws.{end_with, same-end}}
 
 abbrev pub later : Span → InputState → Option (List ℕ) → ℕ → Span
 later at after new faults = record at { after = after; new = new; faults_after = faults }
@@ -14,7 +14,7 @@ pub record SoFar (t : Telling) (shown bytes so_far : List ℕ) (at : Span) : Typ
   pub is : IsText t
   pub once : InputsOnce at.before at.after None
   pub falls : NoneFalls at.before.read_faults at.after.read_faults
-  pub took : Consumes (at.before.rest Data) (at.after.rest Data) so_far
+  pub took : Consumes (at.before.given Data) (at.after.given Data) so_far
   pub wrote : WroteText shown (t.text (bytes ++ so_far)) at.old at.new at.faults_before at.faults_after
   pub clear : t.refuses (bytes ++ so_far) ≡ None
 
@@ -27,7 +27,7 @@ pub record Read (before after : InputState) : Type 0 where
 pub so-none : (t : Telling) (bytes : List ℕ) (state : InputState) (old : Option (List ℕ)) (faults : ℕ) → IsText t → t.refuses bytes ≡ None → SoFar t (t.text bytes) bytes [] (record { before = state; after = state; old = old; new = old; faults_before = faults; faults_after = faults })
 so-none t bytes state old faults is clear = record {
   is = is;
-  once = once-refl _ _;
+  once = once-refl _ _ quiet-none;
   falls = λ slot. omega arith;
   took = Consumes-nil _;
   wrote = rw append-nil (WroteText-none _ _ _);
@@ -46,10 +46,15 @@ writes-once shown grown refused b c faults now (Ok x) h = h.1.kept
 writes-once shown grown refused b c faults now (Err fault) (inl h) = stays-same (tells_writing (Some fault)) _ _ h.1.kept
 writes-once shown grown refused b c faults now (Err fault) (inr h) = rw h.0 tt
 
+pub writes-quiet : (shown grown : List ℕ) (refused : Option Fault) (b c : Option (List ℕ)) (faults now : ℕ) (r : Result (Unit {0}) Fault) → ((fault : Fault) → refused ≡ Some fault → is_outside fault ≡ false) → WritesText shown grown refused b c faults now r → IsQuiet (fault_in r)
+writes-quiet shown grown refused b c faults now (Ok x) inside h = quiet-none
+writes-quiet shown grown refused b c faults now (Err fault) inside (inl h) = quiet-inside fault (inside fault h.0)
+writes-quiet shown grown refused b c faults now (Err fault) inside (inr h) = rw h.0 quiet-write
+
 module _ {t : Telling} {shown bytes so_far : List ℕ} {at : Span} {s2 : InputState} (memory : Type 0) (so : SoFar t shown bytes so_far at) (read : Read at.after s2) where
   -- a read failed
-  pub rest-unread : Keeps (at.after.rest Data) (s2.rest Data) → Rose (at.after.read_faults Data) (s2.read_faults Data) → ReadsRest t shown bytes memory (later at s2 at.new at.faults_after) (Err (ReadFault Data))
-  rest-unread keeps rose =
+  pub rest-unread : s2.given Data ≡ at.after.given Data → Rose (at.after.read_faults Data) (s2.read_faults Data) → s2.read_faults Data ≡ one_more (at.after.read_faults Data) → ReadsRest t shown bytes memory (later at s2 at.new at.faults_after) (Err (ReadFault Data))
+  rest-unread keeps rose once =
       let took = Consumes-kept _ _ _ so_far so.took keeps in
       record {
         answer = inl refl;
@@ -58,28 +63,28 @@ module _ {t : Telling} {shown bytes so_far : List ℕ} {at : Span} {s2 : InputSt
           Rose-behind _ _ _ (so.falls Data) rose,
           record { taken = so_far; consumes = took; more = so.wrote.more; adds = so.wrote.adds; written = so.wrote.written; unrefused = so.clear },
         );
-        once = record { inputs = once-unread Data _ _ _ so.once read.other read.none; out = so.wrote.kept };
+        once = record { inputs = once-unread Data _ _ _ so.once read.other read.none once; out = so.wrote.kept };
         few = inr (record { front = so_far; last = []; consumes = rw append-nil took; goes = so.clear; few = omega arith });
       }
 
-  module _ (len : ℕ) (into : List ℕ) (small : length into ≤ piece_limit) (next : Consumes (at.after.rest Data) (s2.rest Data) (take len into)) (kept : s2.read_faults Data ≡ at.after.read_faults Data) (c : Option (List ℕ)) (now : ℕ) where
+  module _ (len : ℕ) (into : List ℕ) (small : length into ≤ piece_limit) (next : Consumes (at.after.given Data) (s2.given Data) (take len into)) (kept : s2.read_faults Data ≡ at.after.read_faults Data) (c : Option (List ℕ)) (now : ℕ) where
     abbrev piece : List ℕ
     piece = take len into
 
     abbrev all : List ℕ
     all = (bytes ++ so_far) ++ piece
 
-    took : Consumes (at.before.rest Data) (s2.rest Data) (so_far ++ piece)
+    took : Consumes (at.before.given Data) (s2.given Data) (so_far ++ piece)
     took = Consumes-trans _ _ _ so_far piece so.took next
 
-    few : TakesFew (λ more. t.refuses (bytes ++ more) ≡ None) (at.before.rest Data) (s2.rest Data)
+    few : TakesFew (λ more. t.refuses (bytes ++ more) ≡ None) (at.before.given Data) (s2.given Data)
     few = record { front = so_far; last = piece; consumes = took; goes = so.clear; few = let e = length-take len into in omega (arith, e, small) }
 
     -- a piece was taken
     pub so-piece : NoneFalls at.after.read_faults s2.read_faults → WritesPiece t (bytes ++ so_far) piece at.new c at.faults_after now (Ok tt) → SoFar t shown bytes (so_far ++ piece) (later at s2 c now)
     so-piece falls writes = record {
       is = so.is;
-      once = once-read Data _ _ _ _ so.once read.other read.none kept;
+      once = once-read Data _ _ _ _ quiet-none so.once read.other read.none kept;
       falls = λ slot. omega (arith, so.falls slot, falls slot);
       took = took;
       wrote = rw (← append_assoc bytes so_far piece) (WroteText-trans _ _ _ _ _ _ _ _ _ so.wrote writes.1);
@@ -89,7 +94,6 @@ module _ {t : Telling} {shown bytes so_far : List ℕ} {at : Span} {s2 : InputSt
     -- a piece was refused, or was cut short
     pub rest-piece : (fault : Fault) → WritesPiece t (bytes ++ so_far) piece at.new c at.faults_after now (Err fault) → ReadsRest t shown bytes memory (later at s2 c now) (Err fault)
     rest-piece fault writes =
-        let some = some_left (s2.rest Data) in
         record {
           answer =
               ⊎_elim
@@ -100,35 +104,30 @@ module _ {t : Telling} {shown bytes so_far : List ℕ} {at : Span} {s2 : InputSt
                 consumes = took;
                 more = both.more;
                 written = both.written;
-                left = some.0;
-                may_be = some.1;
-                is = rw (← append_assoc bytes so_far piece) (so.is.refused all some.0 fault r.0 ∙ ap (λ l. end_with l (Some fault)) both.adds);
+                is = λ left follows. rw (← append_assoc bytes so_far piece) (so.is.refused all left fault r.0 ∙ ap (λ l. end_with l (Some fault)) both.adds);
               }))
               (λ (r : (fault ≡ WriteFault) × CutText (t.text (bytes ++ so_far)) (t.text all) at.new c at.faults_after now). inl (rw r.0 refl))
               writes;
           reason = writes-reason _ _ _ _ _ _ _ _ _ (Err fault) (so.is.inside _) writes
-              (λ short.
-              let front = so.is.front all some.0 in
-              let cut = CutText-more _ _ (t.ends (all ++ some.0)).text front.0 at.old c _ _ front.1 (CutText-behind _ _ _ at.old at.new c _ _ _ so.wrote short) in (
+              (λ short. (
                 Rose-kept _ _ _ so.wrote.kept short.rose,
                 record {
                   taken = so_far ++ piece;
                   consumes = took;
-                  left = some.0;
-                  may_be = some.1;
-                  more = cut.more;
-                  adds = rw (← append_assoc bytes so_far piece) cut.adds;
-                  cut = cut.cut;
+                  cut = λ left follows.
+                      let front = so.is.front all left in
+                      let cut = CutText-more _ _ (t.ends (all ++ left)).text front.0 at.old c _ _ front.1 (CutText-behind _ _ _ at.old at.new c _ _ _ so.wrote short) in
+                      record { more = cut.more; adds = rw (← append_assoc bytes so_far piece) cut.adds; short = cut.cut };
                 },
               ));
-          once = record { inputs = once-read Data _ _ _ _ so.once read.other read.none kept; out = stays-behind _ _ _ _ so.wrote.kept (writes-once _ _ _ _ _ _ _ (Err fault) writes) };
+          once = record { inputs = once-read Data _ _ _ _ (writes-quiet _ _ _ _ _ _ _ (Err fault) (so.is.inside _) writes) so.once read.other read.none kept; out = stays-behind _ _ _ _ so.wrote.kept (writes-once _ _ _ _ _ _ _ (Err fault) writes) };
           few = inr few;
         }
 
     -- the end of the data
-    pub rest-end : (r : Result (Unit {0}) Fault) → piece ≡ [] → IsAtEnd (s2.rest Data) → WritesEnd t (bytes ++ so_far) at.new c at.faults_after now r → ReadsRest t shown bytes memory (later at s2 c now) r
+    pub rest-end : (r : Result (Unit {0}) Fault) → piece ≡ [] → IsAtEnd (s2.given Data) → WritesEnd t (bytes ++ so_far) at.new c at.faults_after now r → ReadsRest t shown bytes memory (later at s2 c now) r
     rest-end r none end writes =
-        let took_all : Consumes (at.before.rest Data) (s2.rest Data) so_far = rw (none, append-nil) at took in
+        let took_all : Consumes (at.before.given Data) (s2.given Data) so_far = rw (none, append-nil) at took in
         record {
           answer = ended r took_all writes;
           reason = writes-reason _ _ _ _ _ _ _ _ _ r (so.is.end_inside _) writes
@@ -138,18 +137,17 @@ module _ {t : Telling} {shown bytes so_far : List ℕ} {at : Span} {s2 : InputSt
                 record {
                   taken = so_far;
                   consumes = took_all;
-                  left = [];
-                  may_be = none_left _ end;
-                  more = cut.more;
-                  adds = ap (λ l. (t.ends l).text) (append-nil (bytes ++ so_far)) ∙ cut.adds;
-                  cut = cut.cut;
+                  cut = λ left follows. record { more = cut.more; adds = ap (λ l. (t.ends l).text) (none_behind left (follows end)) ∙ cut.adds; short = cut.cut };
                 },
               ));
-          once = record { inputs = once-none _ _ _ (once-read Data _ _ _ None so.once read.other read.none kept); out = stays-behind _ _ _ _ so.wrote.kept (writes-once _ _ _ _ _ _ _ r writes) };
+          once = record { inputs = once-read Data _ _ _ _ (writes-quiet _ _ _ _ _ _ _ r (so.is.end_inside _) writes) so.once read.other read.none kept; out = stays-behind _ _ _ _ so.wrote.kept (writes-once _ _ _ _ _ _ _ r writes) };
           few = inr few;
         }
       where
-        with_end : (fault : Option Fault) → Consumes (at.before.rest Data) (s2.rest Data) so_far → (t.ends (bytes ++ so_far)).fault ≡ fault → WroteText (t.text (bytes ++ so_far)) (t.ends (bytes ++ so_far)).text at.new c at.faults_after now → EndsText t shown bytes memory (later at s2 c now) fault
+        none_behind : (left : List ℕ) → left ≡ [] → (bytes ++ so_far) ++ left ≡ bytes ++ so_far
+        none_behind left none = ap (λ l. (bytes ++ so_far) ++ l) none ∙ append-nil (bytes ++ so_far)
+
+        with_end : (fault : Option Fault) → Consumes (at.before.given Data) (s2.given Data) so_far → (t.ends (bytes ++ so_far)).fault ≡ fault → WroteText (t.text (bytes ++ so_far)) (t.ends (bytes ++ so_far)).text at.new c at.faults_after now → EndsText t shown bytes memory (later at s2 c now) fault
         with_end fault all_took same h =
             let both = WroteText-trans _ _ _ at.old at.new c _ _ _ so.wrote h in
             record {
@@ -157,12 +155,10 @@ module _ {t : Telling} {shown bytes so_far : List ℕ} {at : Span} {s2 : InputSt
               consumes = all_took;
               more = both.more;
               written = both.written;
-              left = [];
-              may_be = none_left _ end;
-              is = ap t.ends (append-nil (bytes ++ so_far)) ∙ same-end (t.ends (bytes ++ so_far)) _ fault both.adds same;
+              is = λ left follows. ap t.ends (none_behind left (follows end)) ∙ same-end (t.ends (bytes ++ so_far)) _ fault both.adds same;
             }
 
-        ended : (r : Result (Unit {0}) Fault) → Consumes (at.before.rest Data) (s2.rest Data) so_far → WritesEnd t (bytes ++ so_far) at.new c at.faults_after now r → IsErrAnd r (λ fault. is_outside fault ≡ true) ⊎ EndsText t shown bytes memory (later at s2 c now) (fault_in r)
+        ended : (r : Result (Unit {0}) Fault) → Consumes (at.before.given Data) (s2.given Data) so_far → WritesEnd t (bytes ++ so_far) at.new c at.faults_after now r → IsErrAnd r (λ fault. is_outside fault ≡ true) ⊎ EndsText t shown bytes memory (later at s2 c now) (fault_in r)
         ended (Ok done) all_took h = inr (with_end None all_took h.0 h.1)
         ended (Err fault) all_took (inl h) = inr (with_end (Some fault) all_took h.0 h.1)
         ended (Err fault) all_took (inr h) = inl (rw h.0 refl)

@@ -1,36 +1,41 @@
 -- What the bytes taken say of the whole.
-use Rattle.std.proofs.Common.{◌≡◌, ℕ, List, [], ◌++◌, None, Some, refl, sym, ap, ◌∙◌, subst, append-nil}
-use Rattle.std.{specs.declared.option.Option.Option, specs.Io.KnownBytes.{Consumes, IsAtEnd}}
-use Rattle.bench_io.specs.Inputs.{File, IsOpened}
+use Rattle.std.proofs.Common.{◌≡◌, ℕ, List, [], ◌++◌, true, false, Some, refl, sym, ap, ◌∙◌, subst, append-nil}
+use Rattle.tally_base.specs.declared.slot.Slot.{Slot}
+use Rattle.bench_io.{specs.Inputs.{File, InputState}, specs.Given.{Given, no_bytes, Consumes, IsAtEnd, MayFollow, IsOf}}
 use Rattle.ptu_definitions.specs.Shown.{Shows}
-use Rattle.command_work.specs.Told.{MayBe, Says}
+use Rattle.command_work.{specs.Told.Says, specs.Endings.FileOf}
 
--- some bytes may be those that are left
-pub some_left : (left : Option (List ℕ)) → (more : List ℕ) × MayBe left more
-some_left None = ([], λ known e. cc)
-some_left (Some more) = (more, λ known e. cc)
+-- at the end nothing stands behind
+pub Says-at_end : {A : Type 0} (meaning : List ℕ → A) (taken : List ℕ) (given : Given) (answer : A) → IsAtEnd given → meaning taken ≡ answer → Says meaning taken given answer
+Says-at_end meaning taken given answer end h = record { means = λ more follows. ap (λ l. meaning (taken ++ l)) (follows end) ∙ ap meaning (append-nil taken) ∙ h }
 
--- at the end none are left
-pub none_left : (left : Option (List ℕ)) → IsAtEnd left → MayBe left []
-none_left None end = λ known e. cc
-none_left (Some more) end = λ known e. cc
+-- what bytes show they say, whatever stands behind
+pub Says-shown : {A : Type 0} (meaning : List ℕ → A) (taken : List ℕ) (given : Given) (answer : A) → Shows meaning taken answer → Says meaning taken given answer
+Says-shown meaning taken given answer shown = record { means = λ more follows. shown more }
 
-pub Says-at_end : {A : Type 0} (meaning : List ℕ → A) (taken : List ℕ) (left : Option (List ℕ)) (answer : A) → IsAtEnd left → meaning taken ≡ answer → Says meaning taken left answer
-Says-at_end meaning taken left answer end h = record { more = []; may_be = none_left left end; means = ap meaning (append-nil taken) ∙ h }
+-- all bytes that were given were taken since the file was opened
+pub all-taken : (start given : Given) (taken : List ℕ) → start ≡ no_bytes → Consumes start given taken → given.bytes ≡ taken
+all-taken start given taken none took = took.adds ∙ ap (λ (g : Given). g.bytes ++ taken) none
 
--- what bytes show they say, whatever is left
-pub Says-shown : {A : Type 0} (meaning : List ℕ → A) (taken : List ℕ) (left : Option (List ℕ)) (answer : A) → Shows meaning taken answer → Says meaning taken left answer
-Says-shown meaning taken left answer shown =
-    let some = some_left left in
-    record { more = some.0; may_be = some.1; means = shown some.0 }
+-- a file that may be the slot's is the bytes taken with some behind them
+pub record Splits (given : Given) (taken : List ℕ) (file : File) : Type 0 where
+  pub more : List ℕ
+  pub follows : MayFollow given more
+  pub parts : file ≡ Some (taken ++ more)
 
--- a file that was opened is the bytes taken and those left
-pub file-parts : (contents : Option File) (rest left : Option (List ℕ)) (taken more : List ℕ) → IsOpened contents rest → Consumes rest left taken → MayBe left more → MayBe contents (Some (taken ++ more))
-file-parts None rest left taken more opened took may_be = λ known e. cc
-file-parts (Some None) rest left taken more opened took may_be = let none = opened.1 in λ known e. cc
-file-parts (Some (Some bytes)) rest None taken more opened took may_be = absurd (subst (λ (r : Option (List ℕ)). Consumes r None taken) opened.0 took)
-file-parts (Some (Some bytes)) rest (Some kept) taken more opened took may_be = λ known e.
-    let split : bytes ≡ taken ++ kept = subst (λ (r : Option (List ℕ)). Consumes r (Some kept) taken) opened.0 took in
-    let same : more ≡ kept = may_be kept refl in
-    let file : Some bytes ≡ known = cc in
-    ap (λ (l : List ℕ). Some (taken ++ l)) same ∙ ap (λ (l : List ℕ). Some l) (sym split) ∙ file
+pub file-splits : (after : InputState) (slot : Slot) (file : File) (start : Given) (taken : List ℕ) → FileOf after slot file → after.opened slot ≡ true → start ≡ no_bytes → Consumes start (after.given slot) taken → Splits (after.given slot) taken file
+file-splits after slot file start taken may opened none took =
+    let is = may opened in
+    record {
+      more = is.2.more;
+      follows = is.2.may_follow;
+      parts = is.1 ∙ ap (λ (l : List ℕ). Some l) (is.2.parts ∙ ap (λ l. l ++ is.2.more) (all-taken start (after.given slot) taken none took));
+    }
+
+-- a slot that stays as it was has the same files
+pub FileOf-kept : (mid after : InputState) (slot : Slot) (file : File) → after.opened slot ≡ mid.opened slot → after.given slot ≡ mid.given slot → FileOf after slot file → FileOf mid slot file
+FileOf-kept mid after slot file opened given may was = let is = may (opened ∙ was) in (is.0, is.1, subst (λ (g : Given). IsOf g is.0) given is.2)
+
+-- The bytes that were given may be the whole file: so some files always may be those of a run.
+pub some-file : (after : InputState) (slot : Slot) → FileOf after slot (Some (after.given slot).bytes)
+some-file after slot opened = ((after.given slot).bytes, refl, record { more = []; parts = sym (append-nil _); may_follow = λ end. refl })

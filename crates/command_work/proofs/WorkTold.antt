@@ -1,77 +1,60 @@
--- What the work on a file leaves where the inputs tell the file.
-use Rattle.std.proofs.Common.{◌≡◌, ℕ, List, [], ◌++◌, true, None, Some, Ok, Err, refl, sym, ◌∙◌, subst, inl, inr, ◌⊎◌, Result, IsSome, OnOk, OnErr, IfErr}
-use Rattle.std.{specs.declared.option.Option.Option, specs.Io.KnownBytes.{Appends, Consumes}}
-use Rattle.tally_base.{specs.declared.fault.Fault.Fault, specs.declared.fault.Fault.TheVariants.WriteFault, specs.FaultCounts.Rose, specs.declared.slot.Slot.TheVariants.Data, specs.Faults.{is_outside, fault_in, HasReason}, proofs.Reasons.HasReason-follows}
-use Rattle.bench_io.{specs.Inputs.{File, InputState, IsOpened, NoneFalls}, specs.Sinks.AppendsShort, proofs.Bytes.{Appends-nil, Keeps-from_none}, proofs.Rises.Rose-behind}
-use Rattle.command_work.{specs.Told.{MayBe, Says}, specs.Outcomes.{Outcome, refused, written}, specs.Behaviours.{Work, Writing, AtEnd, OnFile}, specs.Works.{AnswersWork, ReadsWork, WantsNone, WorkReason, TakesFew}, specs.Endings.{TakenOf, MayBeRead, outcome, Answers, EndsWith, StopsIn, Cuts, Span, TakesData, HasCauses}, proofs.Told.file-parts}
+-- What the work on a file leaves of the whole run.
+use Rattle.std.proofs.Common.{◌≡◌, ℕ, List, [], ◌++◌, true, None, Some, Ok, Err, refl, sym, ap, ◌∙◌, subst, inl, inr, ◌⊎◌, Result, IsSome, OnOk, OnErr, IfErr}
+use Rattle.std.{specs.declared.option.Option.Option, specs.Io.KnownBytes.Appends}
+use Rattle.tally_base.{specs.declared.fault.Fault.Fault, specs.declared.fault.Fault.TheVariants.WriteFault, specs.FaultCounts.Rose, specs.declared.slot.Slot.Slot, specs.declared.slot.Slot.TheVariants.Data, specs.Faults.{is_outside, fault_in, HasReason}, proofs.Reasons.HasReason-follows}
+use Rattle.bench_io.{specs.Inputs.{File, InputState, IsOpened, NoneFalls}, specs.Given.{Given, no_bytes, Consumes, IsOf}, specs.Sinks.AppendsShort, proofs.Bytes.{Appends-nil, Keeps-from_none}, proofs.Rises.Rose-behind}
+use Rattle.command_work.{specs.Told.Says, specs.Outcomes.{Outcome, refused, written}, specs.Behaviours.{Work, Writing, AtEnd, so_far, OnFile}, specs.Works.{AnswersWork, EndsWork, ReadsWork, CutsWork, WantsNone, WorkReason, TakesFew}, specs.Endings.{FileOf, outcome, on_file, Answers, EndsWith, StopsIn, Cuts, Span, TakesData, HasCauses}, proofs.Told.{Splits, all-taken, file-splits}}
 
--- the bytes taken from a file that is told
-pub taken-told : (contents : Option File) (rest new : Option (List ℕ)) (taken : List ℕ) (file : File) → IsOpened contents rest → Consumes rest new taken → contents ≡ Some file → TakenOf file new taken
-taken-told None rest new taken file opened took known = cc
-taken-told (Some own) rest new taken None opened took known = let same : own ≡ None = cc in let there = subst IsSome same opened.1 in cc
-taken-told (Some own) rest new taken (Some bytes) opened took known =
+-- a file that is told may be the slot's
+pub told-is-its : (contents : Option File) (after : InputState) (slot : Slot) (file : File) → (after.opened slot ≡ true → IsOpened contents (after.told slot)) → ((bytes : List ℕ) → after.told slot ≡ Some bytes → IsOf (after.given slot) bytes) → contents ≡ Some file → FileOf after slot file
+told-is-its None after slot file is agrees known = cc
+told-is-its (Some own) after slot None is agrees known = λ opened.
+    let there = is opened in
+    let same : own ≡ None = cc in
+    let bad = subst IsSome same there.1 in
+    cc
+told-is-its (Some own) after slot (Some bytes) is agrees known = λ opened.
+    let there = is opened in
     let same : own ≡ Some bytes = cc in
-    subst (λ (r : Option (List ℕ)). Consumes r new taken) (opened.0 ∙ same) took
+    (bytes, refl, agrees bytes (there.0 ∙ same))
 
--- the bytes taken and some behind them may be the file
-pub may_be_read : (contents : Option File) (before after : InputState) (name : List ℕ) (rest : Option (List ℕ)) (taken more : List ℕ) → before.contents name ≡ contents → IsOpened contents rest → Consumes rest (after.rest Data) taken → MayBe (after.rest Data) more
-    → MayBeRead before after name (Some (taken ++ more))
-may_be_read contents before after name rest taken more same opened took may_be = record {
-  may_be = λ known e. file-parts contents rest (after.rest Data) taken more opened took may_be known (sym same ∙ e);
-  taken = taken;
-  is_taken = λ known told. taken-told contents rest (after.rest Data) taken known opened took (sym same ∙ told);
-  more = more;
-  is_left = may_be;
-  parts = refl;
-}
+-- work that ended is that of each such file
+pub ends-told : (work : Work) (after : InputState) (start : Given) (old new : Option (List ℕ)) (fault : Option Fault) (data_file : File) → start ≡ no_bytes → after.opened Data ≡ true → EndsWork work start (after.given Data) old new fault → FileOf after Data data_file → EndsWith (on_file work data_file) fault old new
+ends-told work after start old new fault data_file none opened ends may =
+    let split = file-splits after Data data_file start ends.taken may opened none ends.consumes in
+    subst (λ (end : Outcome). EndsWith end fault old new) (sym (ap (on_file work) split.parts ∙ ends.says.means split.more split.follows)) (record { same = refl; text = ends.written })
 
-pub file-answers : (file : List ℕ) (writing : Writing (List ℕ → List ℕ)) (work : Work) (before after : InputState) (rest old new : Option (List ℕ)) (r : Result (Unit {0}) Fault) → IsOpened (before.contents file) rest → AnswersWork work rest (after.rest Data) old new r
-    → Answers (OnFile file writing work) before after r old new
+pub file-answers : (file : List ℕ) (writing : Writing (List ℕ → List ℕ)) (work : Work) (after : InputState) (start : Given) (old new : Option (List ℕ)) (r : Result (Unit {0}) Fault) → start ≡ no_bytes → after.opened Data ≡ true → AnswersWork work start (after.given Data) old new r
+    → Answers (OnFile file writing work) after r old new
 unfolding outcome
-file-answers file writing work before after rest old new r opened (inl outside) = inl outside
-file-answers file writing work before after rest old new r opened (inr ends) = inr (record {
-  plan_file = None;
-  data_file = Some (ends.taken ++ ends.says.more);
-  may_be = may_be_read (before.contents file) before after file rest ends.taken ends.says.more refl opened ends.consumes ends.says.may_be;
-  holds = subst (λ (end : Outcome). EndsWith end (fault_in r) old new) (sym ends.says.means) (record { same = refl; text = ends.written });
-})
+file-answers file writing work after start old new r none opened (inl outside) = inl outside
+file-answers file writing work after start old new r none opened (inr ends) = inr (λ plan_file data_file may. ends-told work after start old new (fault_in r) data_file none opened ends may)
 
 -- work that stops where a read failed
-pub stops-told : (writing : Writing (List ℕ → List ℕ)) (work : Work) (contents : Option File) (before opened after : InputState) (file : List ℕ) (old new : Option (List ℕ)) → before.contents file ≡ contents → IsOpened contents (opened.rest Data)
-    → ReadsWork writing work (opened.rest Data) (after.rest Data) old new → StopsIn writing work before after file old new
-stops-told writing work contents before opened after file old new same is_opened h = record {
-  taken = h.taken;
-  is_taken = λ known told. taken-told contents _ _ h.taken known is_opened h.consumes (sym same ∙ told);
-  goes_on = h.goes_on;
-  text = h.written;
-}
+pub stops-told : (writing : Writing (List ℕ → List ℕ)) (work : Work) (after : InputState) (start : Given) (old new : Option (List ℕ)) → start ≡ no_bytes → ReadsWork writing work start (after.given Data) old new → StopsIn writing work after old new
+stops-told writing work after start old new none h =
+    let all = sym (all-taken start (after.given Data) h.taken none h.consumes) in
+    record { goes_on = subst work.goes_on all h.goes_on; text = subst (λ (l : List ℕ). Appends old new (so_far writing l)) all h.written }
+
+-- a text that is cut is cut of each such file
+pub cuts-told : {A : Type 0} (writing : Writing (List ℕ → List ℕ)) (whole : Writing A) (work : Work) (after : InputState) (start : Given) (old new : Option (List ℕ)) (data_file : File) → ((end : Outcome) → Cuts writing end old new → Cuts whole end old new) → start ≡ no_bytes → after.opened Data ≡ true
+    → CutsWork writing work start (after.given Data) old new → FileOf after Data data_file → Cuts whole (on_file work data_file) old new
+cuts-told writing whole work after start old new data_file cuts none opened h may =
+    let split = file-splits after Data data_file start h.taken may opened none h.consumes in
+    subst (λ (end : Outcome). Cuts whole end old new) (sym (ap (on_file work) split.parts)) (cuts (work.outcome (h.taken ++ split.more)) (h.cut split.more split.follows))
 
 -- why a command on a file alone ended by a fault from outside
-pub file-causes : (file : List ℕ) (writing : Writing (List ℕ → List ℕ)) (work : Work) (before : InputState) (span : Span) (fault : Fault) → IsOpened (before.contents file) (span.before.rest Data) → NoneFalls before.read_faults span.before.read_faults → WorkReason writing WantsNone work span fault
+pub file-causes : (file : List ℕ) (writing : Writing (List ℕ → List ℕ)) (work : Work) (before : InputState) (span : Span) (fault : Fault) → span.before.given Data ≡ no_bytes → span.after.opened Data ≡ true → NoneFalls before.read_faults span.before.read_faults → WorkReason writing WantsNone work span fault
     → HasCauses (OnFile file writing work) (record span { before = before }) fault
 unfolding HasCauses outcome
-file-causes file writing work before span fault is_opened later reason =
+file-causes file writing work before span fault none opened later reason =
     HasReason-follows _ _ _ _ _ _ _ _ fault
     (λ slot none. absurd none)
-    (λ slot r. (rw r.0 tt, Rose-behind _ _ _ (later slot) r.1, stops-told writing work (before.contents file) before span.before span.after file span.old span.new refl is_opened r.2))
-    (λ w. (
-      w.0,
-      record {
-        plan_file = None;
-        data_file = Some (w.1.taken ++ w.1.more);
-        may_be = may_be_read (before.contents file) before span.after file _ w.1.taken w.1.more refl is_opened w.1.consumes w.1.may_be;
-        holds = w.1.cut;
-      },
-    ))
+    (λ slot r. (rw r.0 tt, rw r.0 opened, Rose-behind _ _ _ (later slot) r.1, stops-told writing work span.after (span.before.given Data) span.old span.new none r.2))
+    (λ w. (w.0, λ plan_file data_file may. cuts-told writing writing work span.after (span.before.given Data) span.old span.new data_file (λ end h. h) none opened w.1 may))
     (λ want. absurd want.wants)
     reason
 
--- few bytes taken are few of the file
-pub few-told : (work : Work) (contents : Option File) (before opened after : InputState) (file : List ℕ) → before.contents file ≡ contents → IsOpened contents (opened.rest Data) → TakesFew work.goes_on (opened.rest Data) (after.rest Data) → TakesData work before after file
-few-told work contents before opened after file same is_opened h = record {
-  front = h.front;
-  last = h.last;
-  is_taken = λ known told. taken-told contents _ _ (h.front ++ h.last) known is_opened h.consumes (sym same ∙ told);
-  goes_on = h.goes;
-  few = h.few;
-}
+-- few bytes taken are few of all that were given
+pub few-told : (work : Work) (after : InputState) (start : Given) → start ≡ no_bytes → TakesFew work.goes_on start (after.given Data) → TakesData work after
+few-told work after start none h = record { front = h.front; last = h.last; all = all-taken start (after.given Data) (h.front ++ h.last) none h.consumes; goes_on = h.goes; few = h.few }

@@ -1,11 +1,11 @@
 -- What a run of the program leaves, by what its command does.
 use Rattle.std.specs.Prelude.{ℕ, ◌≡◌, ◌⊎◌, ◌+◌, ◌≤◌, ◌<◌, List, ◌++◌, length, true, false, None, Some, Result, Ok, Err, IsErrAnd, IfErr}
-use Rattle.std.{specs.declared.option.Option.Option, specs.Io.KnownBytes.{Keeps, Appends, Consumes}}
+use Rattle.std.{specs.declared.option.Option.Option, specs.Io.KnownBytes.{Keeps, Appends}}
 use Rattle.tally_base.{specs.declared.slot.Slot.Slot, specs.declared.slot.Slot.TheVariants.{Plan, Data}, specs.declared.fault.Fault.Fault, specs.declared.fault.Fault.TheVariants.{Usage, OpenFault}, specs.Faults.{line_of, is_outside, fault_in, HasReason}, specs.FaultCounts.Rose, specs.declared.header.Header.Header, specs.RecordTypes.mode_of}
-use Rattle.bench_io.{specs.Sinks.AppendsShort, specs.Inputs.{File, InputState}, specs.declared.inputs.Inputs.Ghosts as InputGhosts, specs.declared.sink.Sink.Ghosts as SinkGhosts}
+use Rattle.bench_io.{specs.Sinks.AppendsShort, specs.Given.IsOf, specs.Inputs.{File, InputState, IsOpened}, specs.declared.inputs.Inputs.Ghosts as InputGhosts, specs.declared.sink.Sink.Ghosts as SinkGhosts}
 use Rattle.ptu_definitions.specs.Headers.{header_answer}
 use Rattle.plan_text.{specs.Plan.PlanView, specs.Reading.{text_limit, plan_answer}, specs.Fits.fits}
-use Rattle.command_work.{specs.Told.MayBe, specs.Once.{InputsOnce, OutOnce}, specs.Outcomes.{Outcome, refused, status}, specs.Behaviours.{piece_limit, Work, Writing, AtEnd, AsItReads, so_far, under, Memory, ForPlan, ForTables, Behaviour, NoCommand, Alone, OnFile, ByPlan}}
+use Rattle.command_work.{specs.Once.{InputsOnce, OutOnce}, specs.Outcomes.{Outcome, refused, status}, specs.Behaviours.{piece_limit, Work, Writing, AtEnd, AsItReads, so_far, under, Memory, ForPlan, ForTables, Behaviour, NoCommand, Alone, OnFile, ByPlan}}
 
 -- ## What the files call for
 
@@ -43,48 +43,29 @@ pub record IsPlan (plan_file : File) (plan : PlanView) : Type 0 where
   pub present : plan_file ≡ Some text
   pub answer : plan_answer text ≡ Ok plan
 
--- A file that may be that of a name is this plan, and it lacks nothing.
-pub record HasPlan (state : InputState) (name : List ℕ) (lacks : PlanView → Option Fault) (plan : PlanView) : Type 0 where
-  pub plan_file : File
-  pub may_be : MayBe (state.contents name) plan_file
-  pub is_plan : IsPlan plan_file plan
+-- ## The files of a run, by what its calls gave
+
+-- This may be the file of a slot: where the slot was opened, the file is there, and its bytes are those that the reads gave with any behind them, or with none where a read said the end. Of a slot that was not opened nothing is known.
+abbrev pub FileOf : InputState → Slot → File → Type 0
+FileOf after slot file = after.opened slot ≡ true → (bytes : List ℕ) × (file ≡ Some bytes) × IsOf (after.given slot) bytes
+
+-- These may be the files of the words PLAN and FILE.
+abbrev pub AreItsFiles : Behaviour → InputState → File → File → Type 0
+AreItsFiles NoCommand after plan_file data_file = Unit {0}
+AreItsFiles (Alone end) after plan_file data_file = Unit {0}
+AreItsFiles (OnFile file writing work) after plan_file data_file = FileOf after Data data_file
+AreItsFiles (ByPlan plan file writing memory lacks work) after plan_file data_file = FileOf after Plan plan_file × FileOf after Data data_file
+
+-- This holds of the outcome over all such files, whatever stands behind the bytes that were read.
+abbrev pub ForItsFiles : Behaviour → InputState → (Outcome → Type 0) → Type 0
+ForItsFiles does after holds_of = (plan_file data_file : File) → AreItsFiles does after plan_file data_file → holds_of (outcome does plan_file data_file)
+
+-- What the reads of PLAN gave is this plan, whatever stands behind it, and it lacks nothing.
+pub record HasPlan (after : InputState) (lacks : PlanView → Option Fault) (plan : PlanView) : Type 0 where
+  pub is_plan : (plan_file : File) → FileOf after Plan plan_file → IsPlan plan_file plan
   pub whole : lacks plan ≡ None
 
--- These bytes were taken from a file: it is there, and they are its first, with those that are left behind them. Nothing is taken from a file that isn't there.
-abbrev pub TakenOf : File → Option (List ℕ) → List ℕ → Type 0
-TakenOf None left taken = ⊥
-TakenOf (Some bytes) left taken = Consumes (Some bytes) left taken
-
--- These are the bytes that were taken from the file of a name, where the inputs tell it.
-abbrev pub IsTakenFrom : Slot → InputState → InputState → List ℕ → List ℕ → Type 0
-IsTakenFrom slot before after name taken = (file : File) → before.contents name ≡ Some file → TakenOf file (after.rest slot) taken
-
-abbrev pub IsTaken : InputState → InputState → List ℕ → List ℕ → Type 0
-IsTaken = IsTakenFrom Data
-
--- This may be the file of the word FILE, which was opened: it is the one that the inputs tell, where they tell one. It is the bytes that were taken from it and some behind them, which are those that are left, where the inputs tell these.
-pub record MayBeRead (before after : InputState) (name : List ℕ) (file : File) : Type 0 where
-  pub may_be : MayBe (before.contents name) file
-  pub taken : List ℕ
-  pub is_taken : IsTaken before after name taken
-  pub more : List ℕ
-  pub is_left : MayBe (after.rest Data) more
-  pub parts : file ≡ Some (taken ++ more)
-
--- These may be the files of the words PLAN and FILE. Behind a plan that is refused or lacks something FILE is not looked at.
-abbrev pub MayBeFiles : Behaviour → InputState → InputState → File → File → Type 0
-MayBeFiles NoCommand before after plan_file data_file = Unit {0}
-MayBeFiles (Alone end) before after plan_file data_file = Unit {0}
-MayBeFiles (OnFile file writing work) before after plan_file data_file = MayBeRead before after file data_file
-MayBeFiles (ByPlan plan file writing memory lacks work) before after plan_file data_file =
-    MayBe (before.contents plan) plan_file × ((view : PlanView) → IsPlan plan_file view → lacks view ≡ None → MayBeRead before after file data_file)
-
--- This holds of the outcome over some files that may be those of the words. Where the inputs tell the files, it is the outcome over these.
-pub record ForSomeFiles (does : Behaviour) (before after : InputState) (holds_of : Outcome → Type 0) : Type 0 where
-  pub plan_file : File
-  pub data_file : File
-  pub may_be : MayBeFiles does before after plan_file data_file
-  pub holds : holds_of (outcome does plan_file data_file)
+-- ## Files that are told
 
 -- The inputs tell this file for the word FILE, if the command comes to it by such a file of PLAN: that of a plan that is refused or lacks something never does.
 abbrev pub TellsData : InputState → Behaviour → File → File → Type 0
@@ -104,6 +85,14 @@ TellsPlan state (ByPlan plan file writing memory lacks work) plan_file = state.c
 abbrev pub Tells : InputState → Behaviour → File → File → Type 0
 Tells state does plan_file data_file = TellsPlan state does plan_file × TellsData state does plan_file data_file
 
+-- A slot that was opened has the file of this name, where the inputs tell that.
+abbrev pub OpensAs : Slot → InputState → InputState → List ℕ → Type 0
+OpensAs slot before after name = after.opened slot ≡ true → IsOpened (before.contents name) (after.told slot)
+
+-- files that are told are among those that may be the run's
+abbrev pub ToldAreIts : Behaviour → InputState → InputState → Type 0
+ToldAreIts does before after = (plan_file data_file : File) → Tells before does plan_file data_file → AreItsFiles does after plan_file data_file
+
 -- ## What a run leaves
 
 -- the run ended so, and its text was written
@@ -112,34 +101,32 @@ pub record EndsWith (outcome : Outcome) (fault : Option Fault) (old new : Option
   pub text : Appends old new outcome.text
 
 -- what a command leaves where the fault is not from outside: it ends as its files call for
-abbrev pub Answers : Behaviour → InputState → InputState → Result (Unit {0}) Fault → Option (List ℕ) → Option (List ℕ) → Type 0
-Answers does before after result old new =
+abbrev pub Answers : Behaviour → InputState → Result (Unit {0}) Fault → Option (List ℕ) → Option (List ℕ) → Type 0
+Answers does after result old new =
     IsErrAnd result (λ fault. is_outside fault ≡ true)
-    ⊎ ForSomeFiles does before after (λ end. EndsWith end (fault_in result) old new)
+    ⊎ ForItsFiles does after (λ end. EndsWith end (fault_in result) old new)
 
 -- The command asks for this slot, and no earlier case ends the run.
 abbrev pub Reaches : Behaviour → InputState → Slot → Type 0
-Reaches NoCommand state slot = ⊥
-Reaches (Alone end) state slot = ⊥
-Reaches (OnFile file writing work) state Plan = ⊥
-Reaches (OnFile file writing work) state Data = Unit {0}
-Reaches (ByPlan plan file writing memory lacks work) state Plan = Unit {0}
-Reaches (ByPlan plan file writing memory lacks work) state Data = (view : PlanView) × HasPlan state plan lacks view
+Reaches NoCommand after slot = ⊥
+Reaches (Alone end) after slot = ⊥
+Reaches (OnFile file writing work) after Plan = ⊥
+Reaches (OnFile file writing work) after Data = Unit {0}
+Reaches (ByPlan plan file writing memory lacks work) after Plan = Unit {0}
+Reaches (ByPlan plan file writing memory lacks work) after Data = (view : PlanView) × HasPlan after lacks view
 
--- The bytes taken from FILE call for no end by themselves, and what the command writes of them meanwhile was written.
-pub record StopsIn (writing : Writing (List ℕ → List ℕ)) (work : Work) (before after : InputState) (file : List ℕ) (old new : Option (List ℕ)) : Type 0 where
-  pub taken : List ℕ
-  pub is_taken : IsTaken before after file taken
-  pub goes_on : work.goes_on taken
-  pub text : Appends old new (so_far writing taken)
+-- The bytes that the reads of FILE gave call for no end by themselves, and what the command writes of them meanwhile was written.
+pub record StopsIn (writing : Writing (List ℕ → List ℕ)) (work : Work) (after : InputState) (old new : Option (List ℕ)) : Type 0 where
+  pub goes_on : work.goes_on (after.given Data).bytes
+  pub text : Appends old new (so_far writing (after.given Data).bytes)
 
 -- What a run leaves on standard output where a read failed.
-abbrev pub LeavesUnread : Behaviour → Slot → InputState → InputState → Option (List ℕ) → Option (List ℕ) → Type 0
-LeavesUnread NoCommand slot before after old new = ⊥
-LeavesUnread (Alone end) slot before after old new = ⊥
-LeavesUnread (OnFile file writing work) slot before after old new = StopsIn writing work before after file old new
-LeavesUnread (ByPlan plan file writing memory lacks work) Plan before after old new = Keeps old new × ((taken : List ℕ) × IsTakenFrom Plan before after plan taken × (length taken ≤ text_limit))
-LeavesUnread (ByPlan plan file writing memory lacks work) Data before after old new = (view : PlanView) × HasPlan before plan lacks view × StopsIn (under view writing) (work view) before after file old new
+abbrev pub LeavesUnread : Behaviour → Slot → InputState → Option (List ℕ) → Option (List ℕ) → Type 0
+LeavesUnread NoCommand slot after old new = ⊥
+LeavesUnread (Alone end) slot after old new = ⊥
+LeavesUnread (OnFile file writing work) slot after old new = StopsIn writing work after old new
+LeavesUnread (ByPlan plan file writing memory lacks work) Plan after old new = Keeps old new × (length (after.given Plan).bytes ≤ text_limit)
+LeavesUnread (ByPlan plan file writing memory lacks work) Data after old new = (view : PlanView) × HasPlan after lacks view × StopsIn (under view writing) (work view) after old new
 
 -- A text was cut short. One that is written at the end is cut only where the run would have ended well.
 abbrev pub Cuts : {A : Type 0} → Writing A → Outcome → Option (List ℕ) → Option (List ℕ) → Type 0
@@ -165,29 +152,23 @@ abbrev pub WantsBehind : Memory → PlanView → List ℕ → Type 0
 WantsBehind ForPlan plan taken = ⊥
 WantsBehind ForTables plan taken = StopsAtHeader plan taken
 
--- No more was taken of FILE than the read gave behind which memory may be wanting.
-pub record StopsAtTables (memory : Memory) (plan : PlanView) (before after : InputState) (file : List ℕ) : Type 0 where
-  pub taken : List ℕ
-  pub is_taken : IsTaken before after file taken
-  pub wants : WantsBehind memory plan taken
+-- What a run leaves where memory was refused: nothing is written, and the data were not asked for, or the tables take memory and the plan suits the header that the reads of FILE gave.
+abbrev pub RunsOut : Behaviour → InputState → Option (List ℕ) → Option (List ℕ) → Type 0
+RunsOut NoCommand after old new = ⊥
+RunsOut (Alone end) after old new = Keeps old new
+RunsOut (OnFile file writing work) after old new = ⊥
+RunsOut (ByPlan plan file writing memory lacks work) after old new =
+    Keeps old new × ((after.asked Data ≡ false) ⊎ ((view : PlanView) × HasPlan after lacks view × (after.opened Data ≡ true) × WantsBehind memory view (after.given Data).bytes))
 
--- What a run leaves where memory was refused: nothing is written, and the data were not opened, or the tables take memory and the plan suits their header.
-abbrev pub RunsOut : Behaviour → InputState → InputState → Option (List ℕ) → Option (List ℕ) → Type 0
-RunsOut NoCommand before after old new = ⊥
-RunsOut (Alone end) before after old new = Keeps old new
-RunsOut (OnFile file writing work) before after old new = ⊥
-RunsOut (ByPlan plan file writing memory lacks work) before after old new =
-    Keeps old new × ((after.asked Data ≡ false) ⊎ ((view : PlanView) × HasPlan before plan lacks view × StopsAtTables memory view before after file))
+-- No more of a plan is read than one byte more than a plan may have.
+abbrev pub TakesPlan : InputState → Type 0
+TakesPlan after = after.opened Plan ≡ true → length (after.given Plan).bytes ≤ text_limit + 1
 
--- No more of a plan is taken than one byte more than a plan may have.
-abbrev pub TakesPlan : InputState → InputState → List ℕ → Type 0
-TakesPlan before after plan = after.opened Plan ≡ true → (taken : List ℕ) × IsTakenFrom Plan before after plan taken × (length taken ≤ text_limit + 1)
-
--- The bytes taken from FILE are some that call for no end by themselves, and no more behind them than one read gives.
-pub record TakesData (work : Work) (before after : InputState) (file : List ℕ) : Type 0 where
+-- The bytes that the reads of FILE gave are some that call for no end by themselves, and no more behind them than one read gives.
+pub record TakesData (work : Work) (after : InputState) : Type 0 where
   pub front : List ℕ
   pub last : List ℕ
-  pub is_taken : IsTaken before after file (front ++ last)
+  pub all : (after.given Data).bytes ≡ front ++ last
   pub goes_on : work.goes_on front
   pub few : length last ≤ piece_limit
 
@@ -196,14 +177,14 @@ pub record TakesData (work : Work) (before after : InputState) (file : List ℕ)
 abbrev pub Asks : Behaviour → InputState → InputState → Type 0
 Asks NoCommand before after = after ≡ before
 Asks (Alone end) before after = after ≡ before
-Asks (OnFile file writing work) before after = (after.asked Plan ≡ false) × (after.opened Data ≡ true → TakesData work before after file)
+Asks (OnFile file writing work) before after = (after.asked Plan ≡ false) × (after.opened Data ≡ true → TakesData work after)
 Asks (ByPlan plan file writing memory lacks work) before after =
-    TakesPlan before after plan × (after.asked Data ≡ true → (view : PlanView) × HasPlan before plan lacks view × (after.opened Data ≡ true → TakesData (work view) before after file))
+    TakesPlan after × (after.asked Data ≡ true → (view : PlanView) × HasPlan after lacks view × (after.opened Data ≡ true → TakesData (work view) after))
 
--- A fault has its line on standard error, or a prefix of it where a write there failed.
+-- A fault has its line on standard error, and no write there failed; or a prefix of it where a write did.
 abbrev pub TellsFault : Option (List ℕ) → Option (List ℕ) → ℕ → ℕ → Option Fault → Type 0
-TellsFault old new before now None = Keeps old new
-TellsFault old new before now (Some fault) = Appends old new (line_of fault) ⊎ (Rose before now × AppendsShort old new (line_of fault))
+TellsFault old new before now None = Keeps old new × (now ≡ before)
+TellsFault old new before now (Some fault) = (Appends old new (line_of fault) × (now ≡ before)) ⊎ (Rose before now × AppendsShort old new (line_of fault))
 
 -- The top call ended so: by the status of the fault, with the whole text on standard output, and the fault's line on standard error.
 abbrev pub EndsBy : Outcome → ℕ → Option (List ℕ) → Option (List ℕ) → Option (List ℕ) → Option (List ℕ) → ℕ → ℕ → Type 0
@@ -247,30 +228,31 @@ pub record Once (span : Span) (fault : Option Fault) : Type 0 where
 
 -- An opening failed: the command came to the slot, the count of its openings that failed rose, and nothing was written.
 abbrev pub FailsOpening : Behaviour → Slot → InputState → InputState → Option (List ℕ) → Option (List ℕ) → Type 0
-FailsOpening does slot before after old new = Reaches does before slot × Rose (before.open_faults slot) (after.open_faults slot) × Keeps old new
+FailsOpening does slot before after old new = Reaches does after slot × Rose (before.open_faults slot) (after.open_faults slot) × Keeps old new
 
--- A read failed: the command came to the slot, the count of its reads that failed rose, and standard output holds what was called for so far.
+-- A read failed: the command came to the slot, which was opened, the count of its reads that failed rose, and standard output holds what was called for so far.
 abbrev pub FailsReading : Behaviour → Slot → InputState → InputState → Option (List ℕ) → Option (List ℕ) → Type 0
-FailsReading does slot before after old new = Reaches does before slot × Rose (before.read_faults slot) (after.read_faults slot) × LeavesUnread does slot before after old new
+FailsReading does slot before after old new = Reaches does after slot × (after.opened slot ≡ true) × Rose (before.read_faults slot) (after.read_faults slot) × LeavesUnread does slot after old new
 
--- The text that the files call for was cut short.
-abbrev pub CutsOutcome : Behaviour → InputState → InputState → Option (List ℕ) → Option (List ℕ) → Type 0
-CutsOutcome does before after old new = ForSomeFiles does before after (λ end. CutsShort does end old new)
+-- The text that its files call for was cut short.
+abbrev pub CutsOutcome : Behaviour → InputState → Option (List ℕ) → Option (List ℕ) → Type 0
+CutsOutcome does after old new = ForItsFiles does after (λ end. CutsShort does end old new)
 
 -- what a command's fault from outside says: which count rose, and what was written
 unfoldable pub HasCauses : Behaviour → Span → Fault → Type 0
 HasCauses does span = HasReason
     (λ slot. FailsOpening does slot span.before span.after span.old span.new)
     (λ slot. FailsReading does slot span.before span.after span.old span.new)
-    (Rose span.faults_before span.faults_after × CutsOutcome does span.before span.after span.old span.new)
-    (RunsOut does span.before span.after span.old span.new)
+    (Rose span.faults_before span.faults_after × CutsOutcome does span.after span.old span.new)
+    (RunsOut does span.after span.old span.new)
 
 -- all that a command does
 pub record Does (behaves : Behaviour) (span : Span) (result : Result (Unit {0}) Fault) : Type 0 where
-  pub answer : Answers behaves span.before span.after result span.old span.new
+  pub answer : Answers behaves span.after result span.old span.new
   pub causes : IfErr result (HasCauses behaves span)
   pub asks : Asks behaves span.before span.after
   pub once : Once span (fault_in result)
+  pub files : ToldAreIts behaves span.before span.after
 
 -- ## Good words and files
 

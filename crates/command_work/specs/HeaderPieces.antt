@@ -1,6 +1,6 @@
 -- What reading the header in pieces leaves.
 use Rattle.std.specs.Prelude.{ℕ, ◌≡◌, ◌⊎◌, ◌+◌, ◌≤◌, ◌<◌, List, [], ◌++◌, take, drop, length, slice_range, true, false, Result, Ok, Err}
-use Rattle.std.specs.declared.option.Option.{Option}
+use Rattle.bench_io.specs.Given.{Given}
 use Rattle.tally_base.{specs.declared.fault.Fault.Fault, specs.Faults.is_outside}
 use Rattle.ptu_definitions.{specs.Headers.header_answer, specs.Shown.Shows}
 use Rattle.ptu_header.{specs.declared.reader.HeaderReader.HeaderReader, specs.Reading.{HasRead, is_open, bytes_taken}}
@@ -32,6 +32,6 @@ pub record EndsIn (buffer : List ℕ) (found : FoundHeader) : Type 0 where
   pub within : found.len ≤ length buffer
 
 -- The header of the bytes taken, with the part of the buffer behind it; or a fault.
-abbrev pub HeaderEnds : List ℕ → List ℕ → Option (List ℕ) → Result FoundHeader Fault → Type 0
-HeaderEnds buffer taken left (Ok found) = (more : List ℕ) → header_answer (taken ++ more) ≡ Ok (found.header, slice_range buffer found.used found.len ++ more)
-HeaderEnds buffer taken left (Err fault) = (is_outside fault ≡ true) ⊎ Says header_answer taken left (Err fault)
+abbrev pub HeaderEnds : List ℕ → List ℕ → Given → Result FoundHeader Fault → Type 0
+HeaderEnds buffer taken given (Ok found) = (more : List ℕ) → header_answer (taken ++ more) ≡ Ok (found.header, slice_range buffer found.used found.len ++ more)
+HeaderEnds buffer taken given (Err fault) = (is_outside fault ≡ true) ⊎ Says header_answer taken given (Err fault)

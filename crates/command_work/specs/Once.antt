@@ -2,7 +2,7 @@
 use Rattle.std.specs.Prelude.{ℕ, ◌≡◌, Bool, true, false, None, Some}
 use Rattle.std.specs.declared.option.Option.{Option}
 use Rattle.tally_base.{specs.declared.slot.Slot.Slot, specs.declared.slot.Slot.TheVariants.{Plan, Data}, specs.declared.fault.Fault.Fault, specs.declared.fault.Fault.TheVariants.{OpenFault, ReadFault, WriteFault}}
-use Rattle.bench_io.specs.Inputs.{InputState}
+use Rattle.bench_io.{specs.Inputs.InputState, specs.CallCounts.one_more}
 
 -- whether the fault says that an opening of the slot failed
 abbrev pub tells_opening : Option Fault → Slot → Bool
@@ -28,10 +28,15 @@ abbrev pub StaysUnless : Bool → ℕ → ℕ → Type 0
 StaysUnless true before now = Unit {0}
 StaysUnless false before now = now ≡ before
 
--- No count of the inputs moved but the one that the fault tells of: no other opening and no other read failed.
+-- The count is one greater where the fault tells of it, and stays as it was else.
+abbrev pub CountsIf : Bool → ℕ → ℕ → Type 0
+CountsIf true before now = now ≡ one_more before
+CountsIf false before now = now ≡ before
+
+-- No count of the inputs moved but the one that the fault tells of, by one: no other opening and no other read failed, and this one failed once.
 pub record InputsOnce (before after : InputState) (fault : Option Fault) : Type 0 where
-  pub openings : (slot : Slot) → StaysUnless (tells_opening fault slot) (before.open_faults slot) (after.open_faults slot)
-  pub reads : (slot : Slot) → StaysUnless (tells_reading fault slot) (before.read_faults slot) (after.read_faults slot)
+  pub openings : (slot : Slot) → CountsIf (tells_opening fault slot) (before.open_faults slot) (after.open_faults slot)
+  pub reads : (slot : Slot) → CountsIf (tells_reading fault slot) (before.read_faults slot) (after.read_faults slot)
 
 -- The count of writes that failed stays, unless the fault tells of it.
 abbrev pub OutOnce : Option Fault → ℕ → ℕ → Type 0

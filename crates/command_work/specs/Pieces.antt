@@ -1,8 +1,7 @@
 -- What reading the data in pieces leaves.
 use Rattle.std.specs.Prelude.{ℕ, ◌≡◌, ◌≤◌, ◌<◌, List, length, true, Result, IfErr}
-use Rattle.std.{specs.Io.KnownBytes.Consumes, specs.declared.option.Option.Option}
 use Rattle.tally_base.{specs.declared.slot.Slot.TheVariants.Data, specs.declared.fault.Fault.Fault, specs.Faults.{is_outside, HasReason}, specs.FaultCounts.Rose}
-use Rattle.bench_io.specs.Inputs.{InputState}
+use Rattle.bench_io.{specs.Inputs.InputState, specs.Given.{Given, Consumes}}
 use Rattle.command_work.{specs.Behaviours.piece_limit, specs.Works.TakesFew}
 
 -- The only fault from outside is that a read of the data failed, where its count rose.
@@ -22,6 +21,6 @@ pub record HoldsPart (state : InputState) (buffer : List ℕ) (used len : ℕ) :
   pub within : len ≤ length buffer
 
 -- A read fails only behind bytes that go on so, and no more is taken behind such than one read gives.
-pub record StopsSoon {A : Type 0} (goes_on : List ℕ → Type 0) (rest_before rest_after : Option (List ℕ)) (result : Result A Fault) : Type 0 where
-  pub unread : IfErr result (λ fault. is_outside fault ≡ true → (taken : List ℕ) × Consumes rest_before rest_after taken × goes_on taken)
-  pub few : TakesFew goes_on rest_before rest_after
+pub record StopsSoon {A : Type 0} (goes_on : List ℕ → Type 0) (start now : Given) (result : Result A Fault) : Type 0 where
+  pub unread : IfErr result (λ fault. is_outside fault ≡ true → (taken : List ℕ) × Consumes start now taken × goes_on taken)
+  pub few : TakesFew goes_on start now

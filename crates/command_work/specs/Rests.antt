@@ -1,45 +1,45 @@
 -- What reading the rest of the data leaves.
 use Rattle.std.specs.Prelude.{ℕ, ◌≡◌, ◌⊎◌, List, ◌++◌, true, None, Result, IsErrAnd, IfErr}
-use Rattle.std.{specs.declared.option.Option.Option, specs.Io.KnownBytes.{Keeps, Appends, Consumes}}
+use Rattle.std.{specs.declared.option.Option.Option, specs.Io.KnownBytes.{Keeps, Appends}}
 use Rattle.tally_base.{specs.declared.fault.Fault.Fault, specs.declared.slot.Slot.TheVariants.Data, specs.FaultCounts.Rose, specs.Faults.{is_outside, fault_in, HasReason}}
-use Rattle.bench_io.specs.Sinks.{AppendsShort}
-use Rattle.command_work.{specs.Told.MayBe, specs.Endings.{Span, Once}, specs.Tellings.Telling, specs.Works.TakesFew}
+use Rattle.bench_io.{specs.Sinks.AppendsShort, specs.Given.{Consumes, MayFollow}}
+use Rattle.command_work.{specs.Endings.{Span, Once}, specs.Tellings.Telling, specs.Works.TakesFew}
 
 -- Bytes were given before, of which this text is shown; `memory` says why memory may be refused.
 module _ (t : Telling) (shown bytes : List ℕ) (memory : Type 0) (at : Span) where
-  -- The bytes taken end so with some after them, which may be those that are left, and after the text that is shown the rest was written.
+  -- The bytes taken end so, whatever may stand behind them, and after the text that is shown the rest was written.
   pub record EndsText (fault : Option Fault) : Type 0 where
     pub taken : List ℕ
-    pub consumes : Consumes (at.before.rest Data) (at.after.rest Data) taken
+    pub consumes : Consumes (at.before.given Data) (at.after.given Data) taken
     pub more : List ℕ
     pub written : Appends at.old at.new more
-    pub left : List ℕ
-    pub may_be : MayBe (at.after.rest Data) left
-    pub is : t.ends ((bytes ++ taken) ++ left) ≡ record { text = shown ++ more; fault = fault }
+    pub is : (left : List ℕ) → MayFollow (at.after.given Data) left → t.ends ((bytes ++ taken) ++ left) ≡ record { text = shown ++ more; fault = fault }
 
   -- The text of the bytes taken was written, and these are not refused.
   pub record ReadsText : Type 0 where
     pub taken : List ℕ
-    pub consumes : Consumes (at.before.rest Data) (at.after.rest Data) taken
+    pub consumes : Consumes (at.before.given Data) (at.after.given Data) taken
     pub more : List ℕ
     pub adds : t.text (bytes ++ taken) ≡ shown ++ more
     pub written : Appends at.old at.new more
     pub unrefused : t.refuses (bytes ++ taken) ≡ None
 
-  -- The text that the bytes end with was cut short.
+  -- After what is shown, this text was cut short.
+  pub record CutsMore (text : List ℕ) : Type 0 where
+    pub more : List ℕ
+    pub adds : text ≡ shown ++ more
+    pub short : AppendsShort at.old at.new more
+
+  -- The text that the bytes end with was cut short, whatever may stand behind them.
   pub record CutsText : Type 0 where
     pub taken : List ℕ
-    pub consumes : Consumes (at.before.rest Data) (at.after.rest Data) taken
-    pub left : List ℕ
-    pub may_be : MayBe (at.after.rest Data) left
-    pub more : List ℕ
-    pub adds : (t.ends ((bytes ++ taken) ++ left)).text ≡ shown ++ more
-    pub cut : AppendsShort at.old at.new more
+    pub consumes : Consumes (at.before.given Data) (at.after.given Data) taken
+    pub cut : (left : List ℕ) → MayFollow (at.after.given Data) left → CutsMore (t.ends ((bytes ++ taken) ++ left)).text
 
   -- Memory was refused, and nothing was read or written.
   pub record WantsMemory : Type 0 where
     pub wants : memory
-    pub same : at.after.rest Data ≡ at.before.rest Data
+    pub same : at.after.given Data ≡ at.before.given Data
     pub keeps : Keeps at.old at.new
 
   -- What reading all data after these bytes leaves.
@@ -55,4 +55,4 @@ module _ (t : Telling) (shown bytes : List ℕ) (memory : Type 0) (at : Span) wh
     -- no count moved but the one that the fault tells of
     pub once : Once at (fault_in result)
     -- nothing was read, or no more after bytes that are not refused than one read gives
-    pub few : (at.after.rest Data ≡ at.before.rest Data) ⊎ TakesFew (λ more. t.refuses (bytes ++ more) ≡ None) (at.before.rest Data) (at.after.rest Data)
+    pub few : (at.after.given Data ≡ at.before.given Data) ⊎ TakesFew (λ more. t.refuses (bytes ++ more) ≡ None) (at.before.given Data) (at.after.given Data)

@@ -1,42 +1,41 @@
 -- What a command's work on the bytes of FILE leaves.
 use Rattle.std.specs.Prelude.{ℕ, ◌≡◌, ◌⊎◌, ◌≤◌, List, ◌++◌, length, true, Result, IsErrAnd, IfErr}
-use Rattle.std.{specs.declared.option.Option.Option, specs.Io.KnownBytes.{Keeps, Appends, Consumes}}
+use Rattle.std.{specs.declared.option.Option.Option, specs.Io.KnownBytes.{Keeps, Appends}}
 use Rattle.tally_base.{specs.declared.slot.Slot.TheVariants.Data, specs.declared.fault.Fault.Fault, specs.FaultCounts.Rose, specs.Faults.{is_outside, fault_in, HasReason}}
+use Rattle.bench_io.specs.Given.{Given, Consumes, MayFollow}
 use Rattle.plan_text.specs.Plan.{PlanView}
-use Rattle.command_work.{specs.Told.{MayBe, Says}, specs.Behaviours.{piece_limit, Work, Writing, so_far, under, Memory}, specs.Endings.{Cuts, Span, Once, WantsBehind}}
+use Rattle.command_work.{specs.Told.Says, specs.Behaviours.{piece_limit, Work, Writing, so_far, under, Memory}, specs.Endings.{Cuts, Span, Once, WantsBehind}}
 
--- The bytes taken and those left end so, and this text was written.
-pub record EndsWork (work : Work) (rest_before rest_after old new : Option (List ℕ)) (fault : Option Fault) : Type 0 where
+-- The bytes taken end so, whatever may stand behind them, and this text was written.
+pub record EndsWork (work : Work) (start now : Given) (old new : Option (List ℕ)) (fault : Option Fault) : Type 0 where
   pub taken : List ℕ
-  pub consumes : Consumes rest_before rest_after taken
+  pub consumes : Consumes start now taken
   pub text : List ℕ
   pub written : Appends old new text
-  pub says : Says work.outcome taken rest_after (record { text = text; fault = fault })
+  pub says : Says work.outcome taken now (record { text = text; fault = fault })
 
 -- A fault from outside, or the end that the bytes call for.
-abbrev pub AnswersWork : Work → Option (List ℕ) → Option (List ℕ) → Option (List ℕ) → Option (List ℕ) → Result (Unit {0}) Fault → Type 0
-AnswersWork work rest_before rest_after old new result = IsErrAnd result (λ fault. is_outside fault ≡ true) ⊎ EndsWork work rest_before rest_after old new (fault_in result)
+abbrev pub AnswersWork : Work → Given → Given → Option (List ℕ) → Option (List ℕ) → Result (Unit {0}) Fault → Type 0
+AnswersWork work start now old new result = IsErrAnd result (λ fault. is_outside fault ≡ true) ⊎ EndsWork work start now old new (fault_in result)
 
 -- What is written of the bytes taken was written, and more of them may change the end.
-pub record ReadsWork (writing : Writing (List ℕ → List ℕ)) (work : Work) (rest_before rest_after old new : Option (List ℕ)) : Type 0 where
+pub record ReadsWork (writing : Writing (List ℕ → List ℕ)) (work : Work) (start now : Given) (old new : Option (List ℕ)) : Type 0 where
   pub taken : List ℕ
-  pub consumes : Consumes rest_before rest_after taken
+  pub consumes : Consumes start now taken
   pub written : Appends old new (so_far writing taken)
   pub goes_on : work.goes_on taken
 
--- The text was cut short of the bytes taken with some behind them, which may be those that are left.
-pub record CutsWork (writing : Writing (List ℕ → List ℕ)) (work : Work) (rest_before rest_after old new : Option (List ℕ)) : Type 0 where
+-- The text of the bytes taken was cut short, whatever may stand behind them.
+pub record CutsWork (writing : Writing (List ℕ → List ℕ)) (work : Work) (start now : Given) (old new : Option (List ℕ)) : Type 0 where
   pub taken : List ℕ
-  pub consumes : Consumes rest_before rest_after taken
-  pub more : List ℕ
-  pub may_be : MayBe rest_after more
-  pub cut : Cuts writing (work.outcome (taken ++ more)) old new
+  pub consumes : Consumes start now taken
+  pub cut : (more : List ℕ) → MayFollow now more → Cuts writing (work.outcome (taken ++ more)) old new
 
 -- Nothing was written, and the bytes taken are some behind which memory may be wanting.
-pub record WantsWork (wanting : List ℕ → Type 0) (rest_before rest_after old new : Option (List ℕ)) : Type 0 where
+pub record WantsWork (wanting : List ℕ → Type 0) (start now : Given) (old new : Option (List ℕ)) : Type 0 where
   pub keeps : Keeps old new
   pub taken : List ℕ
-  pub consumes : Consumes rest_before rest_after taken
+  pub consumes : Consumes start now taken
   pub wants : wanting taken
 
 -- memory is never wanting
@@ -47,25 +46,25 @@ WantsNone taken = ⊥
 abbrev pub WorkReason : Writing (List ℕ → List ℕ) → (List ℕ → Type 0) → Work → Span → Fault → Type 0
 WorkReason writing wanting work span = HasReason
     (λ slot. ⊥)
-    (λ slot. (slot ≡ Data) × Rose (span.before.read_faults slot) (span.after.read_faults slot) × ReadsWork writing work (span.before.rest Data) (span.after.rest Data) span.old span.new)
-    (Rose span.faults_before span.faults_after × CutsWork writing work (span.before.rest Data) (span.after.rest Data) span.old span.new)
-    (WantsWork wanting (span.before.rest Data) (span.after.rest Data) span.old span.new)
+    (λ slot. (slot ≡ Data) × Rose (span.before.read_faults slot) (span.after.read_faults slot) × ReadsWork writing work (span.before.given Data) (span.after.given Data) span.old span.new)
+    (Rose span.faults_before span.faults_after × CutsWork writing work (span.before.given Data) (span.after.given Data) span.old span.new)
+    (WantsWork wanting (span.before.given Data) (span.after.given Data) span.old span.new)
 
 -- The bytes taken are some that call for no end by themselves, and no more behind them than one read gives.
-pub record TakesFew (goes_on : List ℕ → Type 0) (rest_before rest_after : Option (List ℕ)) : Type 0 where
+pub record TakesFew (goes_on : List ℕ → Type 0) (start now : Given) : Type 0 where
   pub front : List ℕ
   pub last : List ℕ
-  pub consumes : Consumes rest_before rest_after (front ++ last)
+  pub consumes : Consumes start now (front ++ last)
   pub goes : goes_on front
   pub few : length last ≤ piece_limit
 
 -- What the work leaves.
 pub record LeavesWork (writing : Writing (List ℕ → List ℕ)) (wanting : List ℕ → Type 0) (work : Work) (span : Span) (result : Result (Unit {0}) Fault) : Type 0 where
   -- how it ended
-  pub answer : AnswersWork work (span.before.rest Data) (span.after.rest Data) span.old span.new result
+  pub answer : AnswersWork work (span.before.given Data) (span.after.given Data) span.old span.new result
   -- why it ended by a fault from outside
   pub reason : IfErr result (WorkReason writing wanting work span)
   -- no count moved but the one that the fault tells of
   pub once : Once span (fault_in result)
   -- few bytes were taken
-  pub few : TakesFew work.goes_on (span.before.rest Data) (span.after.rest Data)
+  pub few : TakesFew work.goes_on (span.before.given Data) (span.after.given Data)

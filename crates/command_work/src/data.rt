@@ -1,8 +1,7 @@
 // Reads the data up to the end of its header.
 ghost use Rattle.std.specs.Prelude.{List, ℕ, IfErr, IfOk};
-ghost use Rattle.std.specs.Io.KnownBytes.{Consumes};
 ghost use Rattle.tally_base.{specs.declared.slot.Slot.TheVariants.Data, specs.Faults.fault_in};
-ghost use Rattle.bench_io.specs.Inputs.{OnlyReads};
+ghost use Rattle.bench_io.{specs.Given.Consumes, specs.Inputs.OnlyReads};
 ghost use Rattle.command_work.{specs.Once.InputsOnce, specs.Outcomes.IsCut, specs.Pieces.{ReadReason, IsReady, StopsSoon}, specs.HeaderPieces.{EndsIn, HeaderEnds}};
 
 use crate::header::{Fed, feed_piece};
@@ -33,10 +32,10 @@ pub fn read_header<I: Inputs>(inputs: &mut I, buffer: &mut [u8]) -> Result<Found
     ensures once { InputsOnce (I.state inputs.old) (I.state inputs.new) (fault_in result) }
     ensures part { IfOk result (EndsIn buffer.new) }
     ensures answer { (taken : List ℕ)
-        × Consumes ((I.state inputs.old).rest Data) ((I.state inputs.new).rest Data) taken
-        × HeaderEnds buffer.new taken ((I.state inputs.new).rest Data) result }
-    ensures stops { StopsSoon IsCut ((I.state inputs.old).rest Data)
-        ((I.state inputs.new).rest Data) result }
+        × Consumes ((I.state inputs.old).given Data) ((I.state inputs.new).given Data) taken
+        × HeaderEnds buffer.new taken ((I.state inputs.new).given Data) result }
+    ensures stops { StopsSoon IsCut ((I.state inputs.old).given Data)
+        ((I.state inputs.new).given Data) result }
 {
     let mut reader = HeaderReader::new();
     'pieces: loop {

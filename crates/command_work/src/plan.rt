@@ -1,10 +1,9 @@
 // Reads the plan of a command.
 ghost use Rattle.std.specs.Prelude.{◌≡◌, ◌≤◌, ◌<◌, List, ℕ, length, true, IfErr, IfOk};
-ghost use Rattle.std.specs.Io.KnownBytes.{Consumes};
 ghost use Rattle.tally_base.{specs.declared.slot.Slot.TheVariants.Plan as PlanSlot, specs.declared.fault.Fault.TheVariants.ReadFault, specs.FaultCounts.Rose, specs.Faults.fault_in};
-ghost use Rattle.bench_io.specs.Inputs.{OnlyReads};
+ghost use Rattle.bench_io.{specs.Given.Consumes, specs.Inputs.OnlyReads};
 ghost use Rattle.ptu_definitions.specs.Counted.{record_limit};
-ghost use Rattle.command_work.{specs.Once.InputsOnce, specs.Endings.TakesPlan, specs.PlanPieces.{MayOpen, OnlyUses, IsFilled, AnswersPlan, PlanReason}};
+ghost use Rattle.command_work.{specs.Once.InputsOnce, specs.Endings.{OpensAs, TakesPlan}, specs.PlanPieces.{MayOpen, OnlyUses, IsFilled, AnswersPlan, PlanReason}};
 
 use bench_io::Inputs;
 use plan_text::{Plan, TEXT_LIMIT, read_plan};
@@ -28,8 +27,8 @@ fn read_text<I: Inputs>(inputs: &mut I, text: &mut [u8]) -> Result<usize, Fault>
         ((I.state inputs.new).read_faults PlanSlot)) }
     ensures once { InputsOnce (I.state inputs.old) (I.state inputs.new) (fault_in result) }
     ensures unread { IfErr result (λ fault. (taken : List ℕ)
-        × Consumes ((I.state inputs.old).rest PlanSlot)
-        ((I.state inputs.new).rest PlanSlot) taken
+        × Consumes ((I.state inputs.old).given PlanSlot)
+        ((I.state inputs.new).given PlanSlot) taken
         × (length taken < length text.old)) }
 {
     let mut len = 0;
@@ -55,10 +54,11 @@ fn plan_in<I: Inputs>(
     requires unasked { MayOpen (I.state inputs.old) PlanSlot name.now }
     requires size { length text.old ≡ TEXT_SIZE }
     ensures uses { OnlyUses PlanSlot (I.state inputs.old) (I.state inputs.new) }
-    ensures answer { AnswersPlan (I.state inputs.old) name.now result }
-    ensures reason { IfErr result (PlanReason (I.state inputs.old) (I.state inputs.new) name.now) }
+    ensures answer { AnswersPlan (I.state inputs.new) result }
+    ensures reason { IfErr result (PlanReason (I.state inputs.old) (I.state inputs.new)) }
     ensures once { InputsOnce (I.state inputs.old) (I.state inputs.new) (fault_in result) }
-    ensures takes { TakesPlan (I.state inputs.old) (I.state inputs.new) name.now }
+    ensures takes { TakesPlan (I.state inputs.new) }
+    ensures names { OpensAs PlanSlot (I.state inputs.old) (I.state inputs.new) name.now }
     ensures records { IfOk result (λ plan. (0 < plan.policy.records)
         × (plan.policy.records ≤ record_limit)) }
 {
@@ -74,10 +74,11 @@ fn plan_in<I: Inputs>(
 pub(crate) fn plan_of<I: Inputs>(alloc: Global, inputs: &mut I, name: &str) -> Result<Plan, Fault>
     requires { MayOpen (I.state inputs.old) PlanSlot name.now }
     ensures uses { OnlyUses PlanSlot (I.state inputs.old) (I.state inputs.new) }
-    ensures answer { AnswersPlan (I.state inputs.old) name.now result }
-    ensures reason { IfErr result (PlanReason (I.state inputs.old) (I.state inputs.new) name.now) }
+    ensures answer { AnswersPlan (I.state inputs.new) result }
+    ensures reason { IfErr result (PlanReason (I.state inputs.old) (I.state inputs.new)) }
     ensures once { InputsOnce (I.state inputs.old) (I.state inputs.new) (fault_in result) }
-    ensures takes { TakesPlan (I.state inputs.old) (I.state inputs.new) name.now }
+    ensures takes { TakesPlan (I.state inputs.new) }
+    ensures names { OpensAs PlanSlot (I.state inputs.old) (I.state inputs.new) name.now }
     ensures records { IfOk result (λ plan. (0 < plan.policy.records)
         × (plan.policy.records ≤ record_limit)) }
 {

@@ -15,12 +15,12 @@ use tally_base::{Failed, Fault, Slot};
 pub(crate) fn print_data<I: Inputs, O: Sink>(inputs: &mut I, out: &mut O) -> Result<(), Fault>
     requires { (I.state inputs.old).opened Data ≡ true }
     ensures reads { OnlyReads Data (I.state inputs.old) (I.state inputs.new) }
-    ensures answer { AnswersWork printing ((I.state inputs.old).rest Data)
-        ((I.state inputs.new).rest Data) (O.written out.old) (O.written out.new) result }
+    ensures answer { AnswersWork printing ((I.state inputs.old).given Data)
+        ((I.state inputs.new).given Data) (O.written out.old) (O.written out.new) result }
     ensures reason { IfErr result (WorkReason (AsItReads header_text) WantsNone printing
         (span I.Inputs O.Sink inputs.old inputs.new out.old out.new)) }
-    ensures few { TakesFew IsCut ((I.state inputs.old).rest Data)
-        ((I.state inputs.new).rest Data) }
+    ensures few { TakesFew IsCut ((I.state inputs.old).given Data)
+        ((I.state inputs.new).given Data) }
     ensures once { Once (span I.Inputs O.Sink inputs.old inputs.new out.old out.new)
         (fault_in result) }
 {

@@ -1,12 +1,12 @@
 -- Good words and files end well, and only words that are no command end as a bad command line.
-use Rattle.std.proofs.Common.{◌≡◌, ◌≤◌, ◌<◌, ℕ, List, true, None, Some, Ok, Err, refl, sym, ap, ◌∙◌, subst, arith, inl, inr, ◌≢◌, ◌⊎◌, Result}
+use Rattle.std.proofs.Common.{◌≡◌, ◌≤◌, ◌<◌, ℕ, List, true, None, Some, Ok, Err, refl, sym, ap, ◌∙◌, subst, arith, inl, inr, ◌≢◌, ◌⊎◌, Result, IfErr}
 use Rattle.std.specs.declared.option.Option.{Option}
-use Rattle.tally_base.{specs.declared.slot.Slot.Slot, specs.declared.fault.Fault.Fault, specs.declared.fault.Fault.TheVariants.{Usage, OpenFault, ReadFault, WriteFault, OutOfMemory}, specs.Faults.{is_outside, status_of, HasReason}, specs.FaultCounts.Rose}
+use Rattle.tally_base.{specs.declared.slot.Slot.Slot, specs.declared.slot.Slot.TheVariants.{Plan, Data}, specs.declared.fault.Fault.Fault, specs.declared.fault.Fault.TheVariants.{Usage, OpenFault, ReadFault, WriteFault, OutOfMemory}, specs.Faults.{is_outside, fault_in, status_of, HasReason}, specs.FaultCounts.Rose}
 use Rattle.bench_io.{specs.Inputs.{File, InputState}, proofs.Bytes.{Appends-nil, Keeps-from_none}}
 use Rattle.plan_text.{specs.Plan.PlanView, specs.Reading.plan_answer}
 use Rattle.command_words.specs.Commands.{Request}
 use Rattle.ptu_cli.{specs.Behaviours.behaviour, proofs.ByteFaults.IsOfBytes, proofs.RunFaults.plan_answer-bytes, proofs.Sound.{WorkIsSound, IsSound, sound}}
-use Rattle.command_work.{specs.Outcomes.{Outcome, status}, specs.Behaviours.{Work, Behaviour, NoCommand, Alone, OnFile, ByPlan}, specs.Endings.{on_file, unless, by_plan, outcome, Span, HasCauses, NoneRose, IsGood, IsGoodFor, ForSomeFiles, Answers, Tells, TellsFault, EndsBy, RunsOut, LacksMemory}, proofs.PlanTold.outcome-planned, proofs.Answers.{files-map, holds-told}}
+use Rattle.command_work.{specs.Outcomes.{Outcome, status}, specs.Behaviours.{Work, Behaviour, NoCommand, Alone, OnFile, ByPlan}, specs.Endings.{on_file, unless, by_plan, outcome, Span, HasCauses, NoneRose, IsGood, IsGoodFor, AreItsFiles, ForItsFiles, Answers, TellsFault, EndsWith, EndsBy, Does, RunsOut, LacksMemory}, proofs.PlanTold.outcome-planned, proofs.Answers.files-map, proofs.Told.some-file, proofs.Once.{IsQuiet, quiet-none}}
 
 -- ## Good files
 
@@ -57,11 +57,21 @@ outside-status WriteFault e = λ one. omega arith
 outside-status OutOfMemory e = λ one. omega arith
 outside-status _ e = cc
 
+-- Some files always may be those of a run.
+pub some-files : (does : Behaviour) (after : InputState) → AreItsFiles does after (Some (after.given Plan).bytes) (Some (after.given Data).bytes)
+some-files NoCommand after = tt
+some-files (Alone end) after = tt
+some-files (OnFile file writing work) after = some-file after Data
+some-files (ByPlan plan file writing memory lacks work) after = (some-file after Plan, some-file after Data)
+
 -- A run that ends so had words that are no command.
-pub bad-words : (request : Option Request) (fault : Fault) (before after : InputState) (old new : Option (List ℕ)) → Answers (behaviour request) before after (Err fault) old new → status_of fault ≡ 1 → request ≡ None
-bad-words None fault before after old new answers one = refl
-bad-words (Some request) fault before after old new (inl outside) one = absurd (outside-status fault outside one)
-bad-words (Some request) fault before after old new (inr some) one = absurd (outcome-words (behaviour (Some request)) some.plan_file some.data_file (sound request) (sym (ap status some.holds.same) ∙ one))
+pub bad-words : (request : Option Request) (fault : Fault) (after : InputState) (old new : Option (List ℕ)) → Answers (behaviour request) after (Err fault) old new → status_of fault ≡ 1 → request ≡ None
+bad-words None fault after old new answers one = refl
+bad-words (Some request) fault after old new (inl outside) one = absurd (outside-status fault outside one)
+bad-words (Some request) fault after old new (inr all) one =
+    let does = behaviour (Some request) in
+    let ends = all _ _ (some-files does after) in
+    absurd (outcome-words does (Some (after.given Plan).bytes) (Some (after.given Data).bytes) (sound request) (sym (ap status ends.same) ∙ one))
 
 -- ## The end that the files call for
 
@@ -74,20 +84,20 @@ outside-answered OutOfMemory e own = omega arith
 outside-answered _ e own = cc
 
 -- a run whose status is none of a fault from outside ends by its files
-pub ends-answered : (does : Behaviour) (before after : InputState) (fault : Fault) (result : ℕ) (old new err_old err_new : Option (List ℕ)) (faults now : ℕ) → result ≡ status_of fault → Answers does before after (Err fault) old new
-    → TellsFault err_old err_new faults now (Some fault) → (2 ≤ result → 5 < result) → ForSomeFiles does before after (λ end. EndsBy end result old new err_old err_new faults now)
-ends-answered does before after fault result old new err_old err_new faults now is (inl outside) told own =
+pub ends-answered : (does : Behaviour) (after : InputState) (fault : Fault) (result : ℕ) (old new err_old err_new : Option (List ℕ)) (faults now : ℕ) → result ≡ status_of fault → Answers does after (Err fault) old new
+    → TellsFault err_old err_new faults now (Some fault) → (2 ≤ result → 5 < result) → ForItsFiles does after (λ end. EndsBy end result old new err_old err_new faults now)
+ends-answered does after fault result old new err_old err_new faults now is (inl outside) told own =
     absurd (outside-answered fault outside (subst (λ (n : ℕ). 2 ≤ n → 5 < n) is own))
-ends-answered does before after fault result old new err_old err_new faults now is (inr some) told own =
-    files-map does before after _ (λ (end : Outcome). EndsBy end result old new err_old err_new faults now)
+ends-answered does after fault result old new err_old err_new faults now is (inr some) told own =
+    files-map does after (λ (end : Outcome). EndsWith end (Some fault) old new) (λ (end : Outcome). EndsBy end result old new err_old err_new faults now)
     (λ end ends. (is ∙ ap status ends.same, ends.text, subst (λ (o : Option Fault). TellsFault err_old err_new faults now o) ends.same told)) some
 
 -- a run without a fault ends by its files, and tells nothing
-pub ok-answered : (does : Behaviour) (before after : InputState) (old new err : Option (List ℕ)) (faults now : ℕ) → Answers does before after (Ok tt) old new → ForSomeFiles does before after (λ end. EndsBy end 0 old new err err faults now)
-ok-answered does before after old new err faults now (inl none) = absurd none
-ok-answered does before after old new err faults now (inr some) =
-    files-map does before after _ (λ (end : Outcome). EndsBy end 0 old new err err faults now)
-    (λ end ends. (ap status ends.same, ends.text, subst (λ (o : Option Fault). TellsFault err err faults now o) ends.same (Keeps-from_none err err (Appends-nil err)))) some
+pub ok-answered : (does : Behaviour) (after : InputState) (old new err : Option (List ℕ)) (faults : ℕ) → Answers does after (Ok tt) old new → ForItsFiles does after (λ end. EndsBy end 0 old new err err faults faults)
+ok-answered does after old new err faults (inl none) = absurd none
+ok-answered does after old new err faults (inr some) =
+    files-map does after (λ (end : Outcome). EndsWith end None old new) (λ (end : Outcome). EndsBy end 0 old new err err faults faults)
+    (λ end ends. (ap status ends.same, ends.text, subst (λ (o : Option Fault). TellsFault err err faults faults o) ends.same (Keeps-from_none err err (Appends-nil err), refl))) some
 
 -- ## Nothing but memory is wanting
 
@@ -100,36 +110,46 @@ only_memory o r w m WriteFault e no_o no_r no_w h = absurd (no_w h)
 only_memory o r w m OutOfMemory e no_o no_r no_w h = (refl, h)
 only_memory o r w m _ e no_o no_r no_w h = cc
 
-may_want : (does : Behaviour) (span : Span) (fault : Fault) → fault ≡ OutOfMemory → RunsOut does span.before span.after span.old span.new → LacksMemory does (status_of fault)
+may_want : (does : Behaviour) (span : Span) (fault : Fault) → fault ≡ OutOfMemory → RunsOut does span.after span.old span.new → LacksMemory does (status_of fault)
 may_want NoCommand span fault is h = absurd h
 may_want (Alone end) span fault is h = ap status_of is
 may_want (OnFile file writing work) span fault is h = absurd h
 may_want (ByPlan plan file writing memory lacks work) span fault is h = ap status_of is
 
 -- The status is that of want of memory, or the one that the files call for.
-abbrev pub Completes : Behaviour → InputState → InputState → ℕ → Type 0
-Completes does before after result = LacksMemory does result ⊎ ForSomeFiles does before after (λ end. result ≡ status end.fault)
+abbrev pub Completes : Behaviour → InputState → ℕ → Type 0
+Completes does after result = LacksMemory does result ⊎ ForItsFiles does after (λ end. result ≡ status end.fault)
 
-pub completes_as : (does : Behaviour) (before after : InputState) (result now : ℕ) → result ≡ now → Completes does before after now → Completes does before after result
-completes_as does before after result now e h = subst (λ (n : ℕ). Completes does before after n) (sym e) h
+pub completes_as : (does : Behaviour) (after : InputState) (result now : ℕ) → result ≡ now → Completes does after now → Completes does after result
+completes_as does after result now e h = subst (λ (n : ℕ). Completes does after n) (sym e) h
 
--- a fault without a cause is that of the outcome, or want of memory
-pub inside-ends : (does : Behaviour) (span : Span) (fault : Fault) → NoneRose span.before span.after → ¬ (Rose span.faults_before span.faults_after) → HasCauses does span fault
-    → Answers does span.before span.after (Err fault) span.old span.new → Completes does span.before span.after (status_of fault)
+ends-or-wants : (does : Behaviour) (span : Span) (fault : Fault) → NoneRose span.before span.after → ¬ (Rose span.faults_before span.faults_after) → HasCauses does span fault → Answers does span.after (Err fault) span.old span.new → Completes does span.after (status_of fault)
 unfolding HasCauses
-inside-ends does span fault none quiet causes (inr some) = inr (files-map does span.before span.after _ (λ (end : Outcome). status_of fault ≡ status end.fault) (λ end ends. ap status ends.same) some)
-inside-ends does span fault none quiet causes (inl outside) =
-    let want = only_memory _ _ _ _ fault outside (λ slot h. (none slot).0 h.1) (λ slot h. (none slot).1 h.1) (λ h. quiet h.0) causes in
+ends-or-wants does span fault none quiet causes (inr some) =
+    inr (files-map does span.after (λ (end : Outcome). EndsWith end (Some fault) span.old span.new) (λ (end : Outcome). status_of fault ≡ status end.fault) (λ end ends. ap status ends.same) some)
+ends-or-wants does span fault none quiet causes (inl outside) =
+    let want = only_memory _ _ _ _ fault outside (λ slot h. (none slot).0 h.1) (λ slot h. (none slot).1 h.2) (λ h. quiet h.0) causes in
     inl (may_want does span fault want.0 want.1)
 
--- a run without a fault is one that is called for
-pub ok-ends : (does : Behaviour) (before after : InputState) (old new : Option (List ℕ)) → Answers does before after (Ok tt) old new → Completes does before after 0
-ok-ends does before after old new (inl none) = absurd none
-ok-ends does before after old new (inr some) = inr (files-map does before after _ (λ (end : Outcome). 0 ≡ status end.fault) (λ end ends. ap status ends.same) some)
+-- a fault without a cause is that of the outcome, or want of memory
+pub inside-ends : (does : Behaviour) (span : Span) (fault : Fault) → NoneRose span.before span.after → ¬ (Rose span.faults_before span.faults_after) → Does does span (Err fault) → Completes does span.after (status_of fault)
+inside-ends does span fault none quiet all = ends-or-wants does span fault none quiet all.causes all.answer
 
--- where the files are told and good, the run ends well
-pub good-told : (request : Option Request) (before after : InputState) (result : ℕ) (plan_file data_file : File) → Completes (behaviour request) before after result → Tells before (behaviour request) plan_file data_file → IsGood (behaviour request) plan_file data_file
+-- a run without a fault is one that is called for
+pub ok-ends : (does : Behaviour) (after : InputState) (old new : Option (List ℕ)) → Answers does after (Ok tt) old new → Completes does after 0
+ok-ends does after old new (inl none) = absurd none
+ok-ends does after old new (inr some) = inr (files-map does after (λ (end : Outcome). EndsWith end None old new) (λ (end : Outcome). 0 ≡ status end.fault) (λ end ends. ap status ends.same) some)
+
+-- where files that may be its are good, the run ends well
+pub good-its : (request : Option Request) (after : InputState) (result : ℕ) (plan_file data_file : File) → Completes (behaviour request) after result → AreItsFiles (behaviour request) after plan_file data_file → IsGood (behaviour request) plan_file data_file
     → LacksMemory (behaviour request) result ⊎ (result ≡ 0)
-good-told request before after result plan_file data_file (inl lacks) tells good = inl lacks
-good-told request before after result plan_file data_file (inr some) tells good =
-    inr (holds-told (behaviour request) before after (λ (end : Outcome). result ≡ status end.fault) plan_file data_file some tells ∙ ap status (good-ends request plan_file data_file good))
+good-its request after result plan_file data_file (inl lacks) may good = inl lacks
+good-its request after result plan_file data_file (inr all) may good = inr (all plan_file data_file may ∙ ap status (good-ends request plan_file data_file good))
+
+-- a command that needs no files tells of no call of the inputs
+pub alone-quiet : (end : Outcome) (span : Span) (r : Result (Unit {0}) Fault) → IfErr r (HasCauses (Alone end) span) → IsQuiet (fault_in r)
+unfolding HasCauses
+alone-quiet end span (Ok done) causes = quiet-none
+alone-quiet end span (Err (OpenFault slot)) causes = absurd causes.0
+alone-quiet end span (Err (ReadFault slot)) causes = absurd causes.0
+alone-quiet end span (Err _) causes = record { openings = λ slot. refl; reads = λ slot. refl }

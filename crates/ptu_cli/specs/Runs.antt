@@ -5,7 +5,7 @@ use Rattle.tally_base.{specs.declared.slot.Slot.Slot, specs.declared.fault.Fault
 use Rattle.bench_io.{specs.Inputs.{File, InputState}, specs.declared.inputs.Inputs.Ghosts as InputGhosts, specs.declared.sink.Sink.Ghosts as SinkGhosts}
 use Rattle.command_words.specs.Commands.{Request}
 use Rattle.ptu_cli.specs.Behaviours.{behaviour}
-use Rattle.command_work.{specs.Once.{InputsOnce, OutOnce}, specs.Outcomes.{Outcome, status}, specs.Endings.{ForSomeFiles, Tells, TellsFault, EndsBy, FailsOpening, FailsReading, CutsOutcome, RunsOut, Asks, LacksMemory, NoneRose, IsGood}}
+use Rattle.command_work.{specs.Once.{InputsOnce, OutOnce}, specs.Outcomes.{Outcome, status}, specs.Endings.{AreItsFiles, ForItsFiles, ToldAreIts, TellsFault, EndsBy, FailsOpening, FailsReading, CutsOutcome, RunsOut, Asks, LacksMemory, NoneRose, IsGood}}
 
 -- The states before a run and behind it: of the inputs, of standard output and of standard error, each with the count of its failed writes.
 pub record Around : Type 0 where
@@ -35,7 +35,7 @@ around i o e before after out_before out_after err_before err_after = record {
   err_faults_after = e.faults err_after;
 }
 
--- this fault's line is on standard error, or a prefix of it where a write there failed; without a fault nothing is
+-- this fault's line is on standard error and no write there failed, or a prefix of it where one did; without a fault nothing is
 abbrev pub TellsOn : Around → Option Fault → Type 0
 TellsOn run fault = TellsFault run.err_before run.err_after run.err_faults_before run.err_faults_after fault
 
@@ -53,8 +53,8 @@ NothingFailed run = NoneRose run.before run.after × ¬ (Rose run.out_faults_bef
 
 -- The promise of the whole program.
 pub record Runs (request : Option Request) (run : Around) (result : ℕ) : Type 0 where
-  -- Where nothing outside failed, it ends as some files of PLAN and FILE call for: those that are told, where they are told.
-  pub answered : (2 ≤ result → 5 < result) → ForSomeFiles (behaviour request) run.before run.after (λ end. EndsIn run result end)
+  -- Where nothing outside failed, it ends as its files call for: all that may be them by what the calls gave, whatever stands behind.
+  pub answered : (2 ≤ result → 5 < result) → ForItsFiles (behaviour request) run.after (λ end. EndsIn run result end)
   -- The status is 0, or that of one fault, whose line is told. With 0 nothing is told.
   pub told : (fault : Option Fault) × (result ≡ status fault) × TellsOn run fault
   -- The command line is bad exactly where the words are no command.
@@ -64,13 +64,15 @@ pub record Runs (request : Option Request) (run : Around) (result : ℕ) : Type 
   -- A read failed.
   pub unread : result ≡ 3 → (slot : Slot) × FailsReading (behaviour request) slot run.before run.after run.out_before run.out_after × TellsOn run (Some (ReadFault slot))
   -- A write failed.
-  pub unwritten : result ≡ 4 → Rose run.out_faults_before run.out_faults_after × CutsOutcome (behaviour request) run.before run.after run.out_before run.out_after × TellsOn run (Some WriteFault)
+  pub unwritten : result ≡ 4 → Rose run.out_faults_before run.out_faults_after × CutsOutcome (behaviour request) run.after run.out_before run.out_after × TellsOn run (Some WriteFault)
   -- Memory was refused.
-  pub memory : result ≡ 5 → RunsOut (behaviour request) run.before run.after run.out_before run.out_after × TellsOn run (Some OutOfMemory)
+  pub memory : result ≡ 5 → RunsOut (behaviour request) run.after run.out_before run.out_after × TellsOn run (Some OutOfMemory)
   -- What it asked for and took, whatever its status is.
   pub asks : Asks (behaviour request) run.before run.after
   -- It does not go on behind a call that failed: with status 0 no count of the inputs and of standard output moved, and else none but the one of the fault whose line is told.
   pub once : (fault : Option Fault) × (result ≡ status fault) × TellsOn run fault × MovesOnly run fault
-  -- Where no count of the inputs and of standard output rose, it ends as the files call for or for want of memory, and well where they are told and good.
-  pub complete : NothingFailed run → LacksMemory (behaviour request) result ⊎ ForSomeFiles (behaviour request) run.before run.after (λ end. result ≡ status end.fault)
-  pub good : (plan_file data_file : File) → Tells run.before (behaviour request) plan_file data_file → IsGood (behaviour request) plan_file data_file → NothingFailed run → LacksMemory (behaviour request) result ⊎ (result ≡ 0)
+  -- Where no count of the inputs and of standard output rose, it ends as its files call for or for want of memory, and well where they are good.
+  pub complete : NothingFailed run → LacksMemory (behaviour request) result ⊎ ForItsFiles (behaviour request) run.after (λ end. result ≡ status end.fault)
+  pub good : (plan_file data_file : File) → AreItsFiles (behaviour request) run.after plan_file data_file → IsGood (behaviour request) plan_file data_file → NothingFailed run → LacksMemory (behaviour request) result ⊎ (result ≡ 0)
+  -- Files that the inputs tell are among those that may be its.
+  pub files : ToldAreIts (behaviour request) run.before run.after

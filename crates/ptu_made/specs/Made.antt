@@ -1,12 +1,12 @@
 -- A made file as inputs.
-use Rattle.std.specs.Prelude.{ℕ, List, [], ◌≡◌, true, false, Some, is_some}
-use Rattle.std.specs.declared.option.Option.{Option}
+use Rattle.std.specs.Prelude.{ℕ, List, ◌++◌, ◌≡◌, true, false, None, Some, is_some}
+use Rattle.std.{specs.declared.option.Option.Option, proofs.Common.sym, proofs.lemmas.Option.{none-some, same_Some}}
 use Rattle.tally_base.{specs.declared.slot.Slot.Slot, specs.declared.slot.Slot.TheVariants.{Plan, Data}}
-use Rattle.bench_io.specs.Inputs.{InputState}
-use Rattle.ptu_made.{specs.declared.made.Made.Made, specs.declared.unread.Unread.Unread, specs.MadeFile.made_file, specs.Unread.rest_in}
+use Rattle.bench_io.{specs.Inputs.InputState, specs.Given.{IsOf, no_bytes}, proofs.Givens.IsOf-left}
+use Rattle.ptu_made.{specs.declared.made.Made.Made, specs.declared.slot.Begun.Begun, specs.MadeFile.made_file, specs.Unread.{bytes_left, told_in, given_in}}
 
 -- one slot of the two
-abbrev pub slot_of : Made → Slot → Option Unread
+abbrev pub slot_of : Made → Slot → Option Begun
 slot_of made Plan = made.plan
 slot_of made Data = made.data
 
@@ -14,7 +14,8 @@ slot_of made Data = made.data
 unfoldable pub made_state : Made → InputState
 made_state made = record {
   contents = λ name. Some (Some (made_file made.seed made.count));
-  rest = λ slot. Some (rest_in (slot_of made slot));
+  told = λ slot. told_in (slot_of made slot);
+  given = λ slot. given_in (slot_of made slot);
   open_faults = λ slot. 0;
   read_faults = λ slot. 0;
   asked = λ slot. is_some (slot_of made slot);
@@ -26,12 +27,20 @@ pub made_asked_first : (made : Made) (slot : Slot) → (made_state made).opened 
 unfolding made_state
 made_asked_first made slot opened = opened
 
+agrees_in : (slot : Option Begun) (file : List ℕ) → told_in slot ≡ Some file → IsOf (given_in slot) file
+agrees_in None file told = absurd (none-some file told)
+agrees_in (Some begun) file told = IsOf-left file begun.given.bytes _ begun.ended (sym (same_Some (begun.given.bytes ++ bytes_left begun.unread) file told))
+
+pub made_agrees : (made : Made) (slot : Slot) (file : List ℕ) → (made_state made).told slot ≡ Some file → IsOf ((made_state made).given slot) file
+unfolding made_state
+made_agrees made slot file told = agrees_in (slot_of made slot) file told
+
 -- Each name is that of this file, neither slot was asked for or opened, and no call has failed.
 pub record IsUnopened (file : List ℕ) (state : InputState) : Type 0 where
   pub contents : (name : List ℕ) → state.contents name ≡ Some (Some file)
   pub asked : (slot : Slot) → state.asked slot ≡ false
   pub opened : (slot : Slot) → state.opened slot ≡ false
-  pub rest : (slot : Slot) → state.rest slot ≡ Some []
+  pub given : (slot : Slot) → state.given slot ≡ no_bytes
   pub open_faults : (slot : Slot) → state.open_faults slot ≡ 0
   pub read_faults : (slot : Slot) → state.read_faults slot ≡ 0
   pub meant : (slot : Slot) (name : List ℕ) → state.meant slot name ≡ true

@@ -1,7 +1,8 @@
--- The bytes that are still to come of a made file.
+-- The bytes that are still to come of a made file, and those that its reads gave.
 use Rattle.std.specs.Prelude.{ℕ, List, [], ◌++◌, None, Some, slice_range}
 use Rattle.std.specs.declared.option.Option.{Option}
-use Rattle.ptu_made.{specs.declared.unread.Unread.Unread, specs.Left.words_left}
+use Rattle.bench_io.specs.Given.{Given, gave, no_bytes, is_over}
+use Rattle.ptu_made.{specs.declared.unread.Unread.Unread, specs.declared.slot.Begun.Begun, specs.Left.words_left}
 use Rattle.short_file.specs.ShortFiles.{bytes_in}
 
 -- the bytes that are held
@@ -12,6 +13,16 @@ abbrev pub bytes_left : Unread → List ℕ
 bytes_left unread = held_in unread ++ bytes_in (words_left unread.photons)
 
 -- the bytes that are left to read in a slot
-abbrev pub rest_in : Option Unread → List ℕ
+abbrev pub rest_in : Option Begun → List ℕ
 rest_in None = []
-rest_in (Some unread) = bytes_left unread
+rest_in (Some begun) = bytes_left begun.unread
+
+-- the whole file of a slot: what was given of it and what is left
+abbrev pub told_in : Option Begun → Option (List ℕ)
+told_in None = None
+told_in (Some begun) = Some (begun.given.bytes ++ bytes_left begun.unread)
+
+-- what the reads of a slot have given
+abbrev pub given_in : Option Begun → Given
+given_in None = no_bytes
+given_in (Some begun) = gave begun.given.bytes (is_over (bytes_left begun.unread) begun.ended)

@@ -1,10 +1,10 @@
 // A made file as inputs.
 ghost use Rattle.std.specs.Prelude.{◌≡◌, ◌≤◌, true, false, length, min, unwrap_or, [], IsOk, IfOk, OnErr, OnOk};
-ghost use Rattle.std.{specs.Io.ReadsAtMost, specs.Io.KnownBytes.ReadConsumes};
-ghost use Rattle.bench_io.{specs.TriesOnce.TriesOnce, specs.Inputs.{IsOpened, Keeps, KeepsOther, OpensNone}, specs.Memory.left_of};
+ghost use Rattle.std.specs.Io.{ReadsAtMost};
+ghost use Rattle.bench_io.{specs.Given.{ReadGives, no_bytes}, specs.FailsOnce.FailsOnce, specs.Inputs.{IsOpened, Keeps, KeepsOther, OpensNone}, specs.Memory.left_of};
 ghost use Rattle.ptu_made.{specs.MadeFile.made_file, specs.Generator.photon_limit};
 
-use crate::slot::read_in;
+use crate::slot::{Begun, read_in};
 use crate::unread::Unread;
 use bench_io::Inputs;
 use tally_base::{Failed, Slot};
@@ -18,9 +18,9 @@ pub const PHOTON_LIMIT: u64 = 10_000_000;
 pub struct Made {
     seed: u64,
     count: u64,
-    /// What is left to read in the slots that were opened.
-    plan: Option<Unread>,
-    data: Option<Unread>,
+    /// The slots that were opened.
+    plan: Option<Begun>,
+    data: Option<Begun>,
     ghost few: { count ≤ photon_limit },
 }
 
@@ -45,11 +45,13 @@ impl Made {
 
 #[tactic(auto, unfolding(crate::specs::Made::made_state))]
 impl Inputs for Made {
-    ghost use Rattle.ptu_made.specs.Made.{made_state, made_asked_first};
+    ghost use Rattle.ptu_made.specs.Made.{made_state, made_asked_first, made_agrees};
 
     ghost state = { made_state };
 
     ghost asked_first = { made_asked_first };
+
+    ghost agrees = { made_agrees };
 
     fn open(&mut self, slot: Slot, name: &str) -> Result<(), Failed>
         requires meant { (made_state self.old).meant slot name.now ≡ true }
@@ -57,12 +59,13 @@ impl Inputs for Made {
 
         ensures file { OnOk result
             (IsOpened ((made_state self.old).contents name.now)
-            ((made_state self.new).rest slot)) }
+            ((made_state self.new).told slot)) }
+        ensures given { OnOk result ((made_state self.new).given slot ≡ no_bytes) }
         ensures opened { OnOk result ((made_state self.new).opened slot ≡ true) }
         ensures unopened { OnErr result
             ((made_state self.new).opened slot ≡ (made_state self.old).opened slot) }
         ensures asked { (made_state self.new).asked slot ≡ true }
-        ensures cause { TriesOnce
+        ensures cause { FailsOnce
             ((made_state self.old).open_faults slot)
             ((made_state self.new).open_faults slot) result }
         ensures reads { (made_state self.new).read_faults slot
@@ -73,10 +76,10 @@ impl Inputs for Made {
         // No opening fails.
         ensures succeeds { IsOk result }
     {
-        let unread = Some(Unread::new(self.seed, self.count));
+        let begun = Some(Begun::new(Unread::new(self.seed, self.count)));
         match slot {
-            Slot::Plan => self.plan = unread,
-            Slot::Data => self.data = unread,
+            Slot::Plan => self.plan = begun,
+            Slot::Data => self.data = begun,
         }
         Ok(())
     }
@@ -85,9 +88,10 @@ impl Inputs for Made {
         requires { (made_state self.old).opened slot ≡ true }
 
         ensures bound { ReadsAtMost result into.new }
-        ensures bytes { ReadConsumes
-            ((made_state self.old).rest slot) ((made_state self.new).rest slot) result into.new }
-        ensures cause { TriesOnce
+        ensures gives { ReadGives
+            ((made_state self.old).given slot) ((made_state self.new).given slot)
+            result into.new }
+        ensures cause { FailsOnce
             ((made_state self.old).read_faults slot)
             ((made_state self.new).read_faults slot) result }
         ensures keeps { Keeps (made_state self.old) (made_state self.new) }

@@ -1,6 +1,6 @@
 // The command that needs no files.
 ghost use Rattle.std.specs.Prelude.{◌≡◌, ◌≤◌, true, Some, IfErr};
-ghost use Rattle.bench_io.specs.Inputs.{InputState};
+ghost use Rattle.bench_io.{specs.Given.no_bytes, specs.Inputs.InputState};
 ghost use Rattle.tally_base.{specs.declared.slot.Slot.TheVariants.Data, specs.Faults.fault_in};
 ghost use Rattle.ptu_made.{specs.MadeFile.made_file, specs.Made.made_state, specs.Generator.photon_limit};
 ghost use Rattle.command_work.{specs.Outcomes.written, specs.Behaviours.Alone, specs.Once.OutOnce, specs.Endings.{Answers, HasCauses, alone_span}};
@@ -44,7 +44,8 @@ levels = 8
 fn made_data(seed: u64, count: u64) -> Made
     requires { count ≤ photon_limit }
     ensures opened { (made_state result).opened Data ≡ true }
-    ensures rest { (made_state result).rest Data ≡ Some (made_file seed count) }
+    ensures told { (made_state result).told Data ≡ Some (made_file seed count) }
+    ensures given { (made_state result).given Data ≡ no_bytes }
 {
     let mut made = Made::new(seed, count);
     // No name is looked at, and no call fails.
@@ -57,7 +58,7 @@ fn made_data(seed: u64, count: u64) -> Made
 #[tactic(auto, unfolding(command_work::specs::Endings::outcome, command_work::specs::Endings::HasCauses))]
 pub fn demo<O: Sink>(alloc: Global, out: &mut O, seed: u64, count: u64) -> Result<(), Fault>
     requires { count ≤ photon_limit }
-    ensures answer { (state : InputState) → Answers (Alone (written (demo_report seed count))) state state
+    ensures answer { (state : InputState) → Answers (Alone (written (demo_report seed count))) state
         result (O.written out.old) (O.written out.new) }
     ensures causes { (state : InputState)
         → IfErr result (HasCauses (Alone (written (demo_report seed count)))

@@ -13,11 +13,13 @@ struct Counted {
 }
 
 impl Inputs for Counted {
-    ghost use Rattle.bench_io.specs.MemorySlots.{slots_asked_first};
+    ghost use Rattle.bench_io.specs.MemorySlots.{slots_asked_first, slots_agree};
 
     ghost state = { λ counted. ⟦<MemoryInputs as Inputs>⟧.state counted.inputs };
 
     ghost asked_first = { λ counted. slots_asked_first counted.inputs };
+
+    ghost agrees = { λ counted. slots_agree counted.inputs };
 
     fn open(&mut self, slot: Slot, name: &str) -> Result<(), Failed> {
         self.inputs.open(slot, name)

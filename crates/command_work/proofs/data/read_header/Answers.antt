@@ -1,8 +1,8 @@
 use Rattle.std.proofs.Common.{◌≡◌, arith, [], ◌++◌, Ok, Err, take, refl, sym, ap, ◌∙◌, append-nil, inr}
 use Rattle.std.{proofs.lemmas.List.length-take, proofs.lemmas.Slice.between_is}
 use Rattle.tally_base.{specs.declared.slot.Slot.TheVariants.Data, proofs.Reasons.HasReason-inside}
-use Rattle.bench_io.{proofs.Bytes.{Consumes-nil, Consumes-kept, Consumes-trans}, proofs.States.OnlyReads-refl}
-use Rattle.command_work.{proofs.Pieces.{IsCut-nil, some_used}, specs.Outcomes.IsCut, proofs.Told.{Says-at_end, Says-shown}, proofs.Few.{stops-unread, stops-piece}, proofs.Once.{once-refl, once-read, once-unread}}
+use Rattle.bench_io.{proofs.Givens.{Consumes-nil, Consumes-kept, Consumes-trans}, proofs.States.OnlyReads-refl}
+use Rattle.command_work.{proofs.Pieces.{IsCut-nil, some_used}, specs.Outcomes.IsCut, proofs.Told.{Says-at_end, Says-shown}, proofs.Few.{stops-unread, stops-piece}, proofs.Once.{quiet-none, quiet-inside, once-refl, once-read, once-unread}}
 use Rattle.ptu_definitions.specs.Headers.{header_answer}
 use Rattle.command_work.proofs.data.read_header.Goals as goal
 
@@ -18,7 +18,7 @@ returns-in-Done-clause-answer g c =
     let piece = take c.in-Ok.len c.read.new.into in
     let step = c.in-Done.ensures.ends so_far.0 so_far.2 in (
       so_far.0 ++ piece,
-      Consumes-trans _ _ _ so_far.0 piece so_far.1 c.in-Ok.ensures.bytes.0,
+      Consumes-trans _ _ _ so_far.0 piece so_far.1 c.in-Ok.ensures.gives.0,
       λ more. step.1 more ∙ ap (λ l. Ok (c.in-Done.header, l ++ more)) (sym (between_is c.read.new.into c.in-Done.used c.in-Ok.len)),
     )
 
@@ -37,7 +37,7 @@ returns-in-Refused-clause-answer g c =
     let so_far = c.pieces.invariant.taken in
     let piece = take c.in-Ok.len c.read.new.into in (
       so_far.0 ++ piece,
-      Consumes-trans _ _ _ so_far.0 piece so_far.1 c.in-Ok.ensures.bytes.0,
+      Consumes-trans _ _ _ so_far.0 piece so_far.1 c.in-Ok.ensures.gives.0,
       inr (Says-shown header_answer (so_far.0 ++ piece) _ (Err c.in-Refused.fault) (c.in-Refused.ensures.ends so_far.0 so_far.2)),
     )
 
@@ -48,45 +48,45 @@ returns-then-len-eq0-clause-answer g c =
     let none : piece ≡ [] = rw c.if-len-eq0.true refl in
     let all : so_far.0 ++ piece ≡ so_far.0 = ap (λ l. so_far.0 ++ l) none ∙ append-nil so_far.0 in (
       so_far.0 ++ piece,
-      Consumes-trans _ _ _ so_far.0 piece so_far.1 c.in-Ok.ensures.bytes.0,
-      inr (Says-at_end header_answer (so_far.0 ++ piece) _ (Err c.finish.result) (c.in-Ok.ensures.bytes.1 c.if-len-eq0.true (omega (arith, c.requires.room, c.pieces.auto.buffer, c.read.auto.into)))
+      Consumes-trans _ _ _ so_far.0 piece so_far.1 c.in-Ok.ensures.gives.0,
+      inr (Says-at_end header_answer (so_far.0 ++ piece) _ (Err c.finish.result) (c.in-Ok.ensures.gives.1.1 (inr (c.if-len-eq0.true, omega (arith, c.requires.room, c.pieces.auto.buffer, c.read.auto.into))))
           (ap header_answer all ∙ c.finish.ensures.answer so_far.0 so_far.2)),
     )
 
 pub pieces-init : goal.pieces-init
-pieces-init g c = record { reads = OnlyReads-refl _ _; taken = ([], Consumes-nil _, c.new-reader.ensures.start, IsCut-nil); is_open = c.new-reader.ensures.is_open; once = once-refl _ _ }
+pieces-init g c = record { reads = OnlyReads-refl _ _; taken = ([], Consumes-nil _, c.new-reader.ensures.start, IsCut-nil); is_open = c.new-reader.ensures.is_open; once = once-refl _ _ quiet-none }
 
 pub returns-in_default-clause-stops : goal.returns-in_default-clause-stops
 returns-in_default-clause-stops g c =
     let so_far = c.pieces.invariant.taken in
-    stops-unread IsCut so_far.0 _ _ _ (Consumes-kept _ _ _ so_far.0 so_far.1 c.in_default.ensures.bytes) so_far.3
+    stops-unread IsCut so_far.0 _ _ _ (Consumes-kept _ _ _ so_far.0 so_far.1 c.in_default.ensures.gives) so_far.3
 
 pub returns-then-len-eq0-clause-stops : goal.returns-then-len-eq0-clause-stops
 returns-then-len-eq0-clause-stops g c =
     let so_far = c.pieces.invariant.taken in
-    stops-piece IsCut so_far.0 c.in-Ok.len c.read.new.into _ _ _ (Consumes-trans _ _ _ so_far.0 (take c.in-Ok.len c.read.new.into) so_far.1 c.in-Ok.ensures.bytes.0) so_far.3
+    stops-piece IsCut so_far.0 c.in-Ok.len c.read.new.into _ _ _ (Consumes-trans _ _ _ so_far.0 (take c.in-Ok.len c.read.new.into) so_far.1 c.in-Ok.ensures.gives.0) so_far.3
     (omega (arith, c.requires.small, c.pieces.auto.buffer, c.read.auto.into)) c.finish.ensures.inside
 
 pub returns-in-Done-clause-stops : goal.returns-in-Done-clause-stops
 returns-in-Done-clause-stops g c =
     let so_far = c.pieces.invariant.taken in
-    stops-piece IsCut so_far.0 c.in-Ok.len c.read.new.into _ _ _ (Consumes-trans _ _ _ so_far.0 (take c.in-Ok.len c.read.new.into) so_far.1 c.in-Ok.ensures.bytes.0) so_far.3
+    stops-piece IsCut so_far.0 c.in-Ok.len c.read.new.into _ _ _ (Consumes-trans _ _ _ so_far.0 (take c.in-Ok.len c.read.new.into) so_far.1 c.in-Ok.ensures.gives.0) so_far.3
     (omega (arith, c.requires.small, c.pieces.auto.buffer, c.read.auto.into)) tt
 
 pub returns-in-Refused-clause-stops : goal.returns-in-Refused-clause-stops
 returns-in-Refused-clause-stops g c =
     let so_far = c.pieces.invariant.taken in
-    stops-piece IsCut so_far.0 c.in-Ok.len c.read.new.into _ _ _ (Consumes-trans _ _ _ so_far.0 (take c.in-Ok.len c.read.new.into) so_far.1 c.in-Ok.ensures.bytes.0) so_far.3
+    stops-piece IsCut so_far.0 c.in-Ok.len c.read.new.into _ _ _ (Consumes-trans _ _ _ so_far.0 (take c.in-Ok.len c.read.new.into) so_far.1 c.in-Ok.ensures.gives.0) so_far.3
     (omega (arith, c.requires.small, c.pieces.auto.buffer, c.read.auto.into)) c.in-Refused.ensures.inside
 
 pub returns-in_default-clause-once : goal.returns-in_default-clause-once
-returns-in_default-clause-once g c = once-unread Data _ _ _ c.pieces.invariant.once c.read.ensures.keeps_other c.read.ensures.opens_none
+returns-in_default-clause-once g c = once-unread Data _ _ _ c.pieces.invariant.once c.read.ensures.keeps_other c.read.ensures.opens_none c.in_default.ensures.cause.once
 
 pub returns-then-len-eq0-clause-once : goal.returns-then-len-eq0-clause-once
-returns-then-len-eq0-clause-once g c = once-read Data _ _ _ _ c.pieces.invariant.once c.read.ensures.keeps_other c.read.ensures.opens_none c.in-Ok.ensures.cause.kept
+returns-then-len-eq0-clause-once g c = once-read Data _ _ _ _ (quiet-inside c.finish.result c.finish.ensures.inside) c.pieces.invariant.once c.read.ensures.keeps_other c.read.ensures.opens_none c.in-Ok.ensures.cause.kept
 
 pub returns-in-Done-clause-once : goal.returns-in-Done-clause-once
-returns-in-Done-clause-once g c = once-read Data _ _ _ _ c.pieces.invariant.once c.read.ensures.keeps_other c.read.ensures.opens_none c.in-Ok.ensures.cause.kept
+returns-in-Done-clause-once g c = once-read Data _ _ _ _ quiet-none c.pieces.invariant.once c.read.ensures.keeps_other c.read.ensures.opens_none c.in-Ok.ensures.cause.kept
 
 pub returns-in-Refused-clause-once : goal.returns-in-Refused-clause-once
-returns-in-Refused-clause-once g c = once-read Data _ _ _ _ c.pieces.invariant.once c.read.ensures.keeps_other c.read.ensures.opens_none c.in-Ok.ensures.cause.kept
+returns-in-Refused-clause-once g c = once-read Data _ _ _ _ (quiet-inside c.in-Refused.fault c.in-Refused.ensures.inside) c.pieces.invariant.once c.read.ensures.keeps_other c.read.ensures.opens_none c.in-Ok.ensures.cause.kept

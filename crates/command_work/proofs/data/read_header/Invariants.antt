@@ -1,7 +1,6 @@
 use Rattle.std.proofs.Common.{◌≡◌, List, ℕ, ◌-◌, ◌^◌, true, None}
-use Rattle.std.specs.Io.KnownBytes.{Consumes}
 use Rattle.tally_base.specs.declared.slot.Slot.TheVariants.{Data}
-use Rattle.bench_io.specs.Inputs.{OnlyReads}
+use Rattle.bench_io.{specs.Given.Consumes, specs.Inputs.OnlyReads}
 use Rattle.ptu_header.specs.Reading.{HasRead, bytes_taken, is_open}
 use Rattle.command_work.{specs.Outcomes.IsCut, specs.Once.InputsOnce}
 use Rattle.command_work.proofs.data.read_header.Given as goal
@@ -13,7 +12,7 @@ invariant-pieces g l =
     record {
       reads : OnlyReads Data (state l.initial.inputs) (state l.inputs);
       once : InputsOnce (state l.initial.inputs) (state l.inputs) None;
-      taken : (taken : List ℕ) × Consumes ((state l.initial.inputs).rest Data) ((state l.inputs).rest Data) taken × HasRead l.reader taken × IsCut taken;
+      taken : (taken : List ℕ) × Consumes ((state l.initial.inputs).given Data) ((state l.inputs).given Data) taken × HasRead l.reader taken × IsCut taken;
       is_open : is_open l.reader ≡ true;
     }
 

@@ -1,8 +1,9 @@
-use Rattle.std.proofs.Common.{◌≡◌, ◌+◌, rules, None, take, length, arith, sym, ◌∙◌}
-use Rattle.std.{proofs.lemmas.Result.{IfErr-weaker, err_from_is_err_and}, proofs.lemmas.List.length-take-le}
+use Rattle.std.proofs.Common.{ℕ, List, subst, ◌≡◌, ◌+◌, rules, None, take, length, arith, refl, sym, ap, ◌∙◌}
+use Rattle.bench_io.{specs.Inputs.IsOpened, proofs.Rises.Rose-behind}
+use Rattle.std.{specs.declared.option.Option.Option, proofs.lemmas.Result.{IfErr-weaker, err_from_is_err_and}, proofs.lemmas.List.length-take-le}
 use Rattle.tally_base.specs.declared.slot.Slot.TheVariants.{Plan as PlanSlot}
 use Rattle.plan_text.specs.Reading.{text_limit}
-use Rattle.command_work.{proofs.Plans.{uses-read, plan_told, plan_reason, ended_short}, proofs.WorkTold.taken-told, proofs.Once.{once-refl, once-none, once-behind, once-opened, once-unopened}}
+use Rattle.command_work.{proofs.Plans.{uses-read, plan_told, plan_reason, plan-quiet, ended_short}, proofs.Told.all-taken, proofs.Once.{quiet-none, once-refl, once-none, once-behind, once-opened, once-unopened}}
 use Rattle.command_work.proofs.plan.plan_in.Goals as goal
 
 pub returns-in-Err-clause-uses : goal.returns-in-Err-clause-uses
@@ -16,8 +17,9 @@ returns-clause-uses g c = uses-read _ _ _ _ c.in-Ok.ensures.keeps c.in-Ok.ensure
 
 pub returns-clause-answer : goal.returns-clause-answer
 returns-clause-answer g c =
-    plan_told _ _ _ (take c.in_ok-len.len c.read_text.new.text) c.read_plan.result c.in-Ok.ensures.file c.in_ok-len.ensures.filled.taken
-    (ended_short (text_limit + 1) c.in_ok-len.len c.read_text.new.text _ (Prim.search rules) c.in_ok-len.ensures.filled.room c.in_ok-len.ensures.filled.ended)
+    let after = g.I.Inputs.state c.read_text.new.inputs in
+    plan_told after ((g.I.Inputs.state c.open.new.self).given PlanSlot) (take c.in_ok-len.len c.read_text.new.text) c.read_plan.result c.in-Ok.ensures.given (ap (λ f. f PlanSlot) c.read_text.ensures.reads.opens_none.opened ∙ c.in-Ok.ensures.opened) c.in_ok-len.ensures.filled.taken
+    (ended_short (text_limit + 1) c.in_ok-len.len c.read_text.new.text (after.given PlanSlot) (Prim.search rules) c.in_ok-len.ensures.filled.room c.in_ok-len.ensures.filled.ended)
     c.read_plan.ensures.answer
 
 pub returns-clause-reason : goal.returns-clause-reason
@@ -33,7 +35,8 @@ pub returns-in_err-len-clause-takes : goal.returns-in_err-len-clause-takes
 returns-in_err-len-clause-takes g c = λ opened.
     let h = c.in_err-len.ensures.unread in
     let size = c.requires.size in
-    (h.0, λ known told. taken-told _ _ _ _ known c.in-Ok.ensures.file h.1 told, omega (arith, h.2, size))
+    let all = all-taken _ _ h.0 c.in-Ok.ensures.given h.1 in
+    rw all (omega (arith, h.2, size))
 
 pub returns-clause-takes : goal.returns-clause-takes
 returns-clause-takes g c = λ opened.
@@ -41,15 +44,40 @@ returns-clause-takes g c = λ opened.
     let size : length text ≡ text_limit + 1 = Prim.search rules in
     let room = c.in_ok-len.ensures.filled.room in
     let short : length (take c.in_ok-len.len text) ≡ c.in_ok-len.len = length-take-le c.in_ok-len.len text room in
-    (take c.in_ok-len.len text, λ known told. taken-told _ _ _ _ known c.in-Ok.ensures.file c.in_ok-len.ensures.filled.taken told, omega (arith, size, room, short))
+    let all = all-taken _ _ (take c.in_ok-len.len text) c.in-Ok.ensures.given c.in_ok-len.ensures.filled.taken in
+    rw all (omega (arith, size, room, short))
 
 pub returns-in-Err-clause-once : goal.returns-in-Err-clause-once
-returns-in-Err-clause-once g c = once-unopened PlanSlot _ _ _ (once-refl _ None) c.in-Err.ensures.keeps_other c.open.ensures.reads
+returns-in-Err-clause-once g c = once-unopened PlanSlot _ _ _ (once-refl _ None quiet-none) c.in-Err.ensures.keeps_other c.open.ensures.reads c.in-Err.ensures.cause.once
 
 pub returns-in_err-len-clause-once : goal.returns-in_err-len-clause-once
 returns-in_err-len-clause-once g c =
     let p = err_from_is_err_and c.from_residual.result c.from_residual.ensures.1 in
-    rw (p.1, p.2) (once-behind _ _ _ _ (once-opened PlanSlot _ _ _ (once-refl _ None) c.in-Ok.ensures.keeps_other c.open.ensures.reads c.in-Ok.ensures.cause.kept) c.in_err-len.ensures.once)
+    rw (p.1, p.2) (once-behind _ _ _ _ (once-opened PlanSlot _ _ _ (once-refl _ None quiet-none) c.in-Ok.ensures.keeps_other c.open.ensures.reads c.in-Ok.ensures.cause.kept) c.in_err-len.ensures.once)
 
 pub returns-clause-once : goal.returns-clause-once
-returns-clause-once g c = once-none _ _ _ (once-behind _ _ _ None (once-opened PlanSlot _ _ _ (once-refl _ None) c.in-Ok.ensures.keeps_other c.open.ensures.reads c.in-Ok.ensures.cause.kept) c.in_ok-len.ensures.once)
+returns-clause-once g c = once-none _ _ _ (plan-quiet c.read_plan.result c.read_plan.ensures.inside) (once-behind _ _ _ None (once-opened PlanSlot _ _ _ (once-refl _ None quiet-none) c.in-Ok.ensures.keeps_other c.open.ensures.reads c.in-Ok.ensures.cause.kept) c.in_ok-len.ensures.once)
+
+pub returns-in-Err-clause-names : goal.returns-in-Err-clause-names
+returns-in-Err-clause-names g c = λ opened.
+    let asked = g.met.I.Inputs.asked_first c.args.inputs.now PlanSlot (sym c.in-Err.ensures.unopened ∙ opened) in
+    let first = c.requires.unasked.first in
+    cc
+
+pub returns-in_err-len-clause-names : goal.returns-in_err-len-clause-names
+returns-in_err-len-clause-names g c = λ opened.
+    subst (λ (told : Option (List ℕ)). IsOpened ((g.I.Inputs.state c.args.inputs.now).contents c.args.name.now) told) (sym (ap (λ f. f PlanSlot) c.read_text.ensures.reads.opens_none.told)) c.in-Ok.ensures.file
+
+pub returns-clause-names : goal.returns-clause-names
+returns-clause-names g c = λ opened.
+    subst (λ (told : Option (List ℕ)). IsOpened ((g.I.Inputs.state c.args.inputs.now).contents c.args.name.now) told) (sym (ap (λ f. f PlanSlot) c.read_text.ensures.reads.opens_none.told)) c.in-Ok.ensures.file
+
+pub returns-in_err-len-clause-reason : goal.returns-in_err-len-clause-reason
+returns-in_err-len-clause-reason g c =
+    let p = err_from_is_err_and c.from_residual.result c.from_residual.ensures.1 in
+    let h = c.in_err-len.ensures.unread in
+    let size = c.requires.size in
+    let why = c.in_err-len.ensures.reason in
+    let all = all-taken _ _ h.0 c.in-Ok.ensures.given h.1 in
+    let is_open = ap (λ f. f PlanSlot) c.read_text.ensures.reads.opens_none.opened ∙ c.in-Ok.ensures.opened in
+    rw (p.1, p.2, why.0) (refl, is_open, Rose-behind _ _ _ (c.in-Ok.ensures.keeps.read_faults PlanSlot) why.1, rw all (omega (arith, h.2, size)))

@@ -1,23 +1,22 @@
 use Rattle.std.proofs.Common.{rules, sym, subst, List, ℕ, length, take, ◌-◌}
-use Rattle.std.specs.Io.KnownBytes.{Consumes}
 use Rattle.tally_base.specs.declared.slot.Slot.TheVariants.{Plan as PlanSlot}
-use Rattle.bench_io.{proofs.Bytes.Consumes-trans, proofs.States.OnlyReads-trans}
-use Rattle.command_work.{proofs.Texts.read_behind, proofs.Once.{once-read, once-unread}}
+use Rattle.bench_io.{specs.Given.Consumes, proofs.Givens.Consumes-trans, proofs.States.OnlyReads-trans}
+use Rattle.command_work.{proofs.Texts.read_behind, proofs.Once.{quiet-none, once-read, once-unread}}
 use Rattle.command_work.proofs.plan.read_text.Goals as goal
 
 pub pieces-preserved : goal.pieces-preserved
 pieces-preserved g c =
-    let read = Consumes-trans _ _ _ (take c.pieces.len c.pieces.text) (take c.in-Ok.more c.read.new.into) c.pieces.invariant.taken c.in-Ok.ensures.bytes.0 in
+    let read = Consumes-trans _ _ _ (take c.pieces.len c.pieces.text) (take c.in-Ok.more c.read.new.into) c.pieces.invariant.taken c.in-Ok.ensures.gives.0 in
     record {
       reads = OnlyReads-trans _ _ _ _ c.pieces.invariant.reads (record { keeps = c.read.ensures.keeps; keeps_other = c.read.ensures.keeps_other; opens_none = c.read.ensures.opens_none });
-      once = once-read PlanSlot _ _ _ _ c.pieces.invariant.once c.read.ensures.keeps_other c.read.ensures.opens_none c.in-Ok.ensures.cause.kept;
+      once = once-read PlanSlot _ _ _ _ quiet-none c.pieces.invariant.once c.read.ensures.keeps_other c.read.ensures.opens_none c.in-Ok.ensures.cause.kept;
       fits = Prim.search rules;
       size = Prim.search rules;
-      taken = subst (λ (l : List ℕ). Consumes ((g.I.Inputs.state c.args.inputs.now).rest PlanSlot) ((g.I.Inputs.state c.read.new.self).rest PlanSlot) l) (sym (read_behind c.pieces.len (length c.pieces.text - c.pieces.len) c.in-Ok.more c.pieces.text c.read.new.into c.pieces.invariant.fits (Prim.search rules))) read;
+      taken = subst (λ (l : List ℕ). Consumes ((g.I.Inputs.state c.args.inputs.now).given PlanSlot) ((g.I.Inputs.state c.read.new.self).given PlanSlot) l) (sym (read_behind c.pieces.len (length c.pieces.text - c.pieces.len) c.in-Ok.more c.pieces.text c.read.new.into c.pieces.invariant.fits (Prim.search rules))) read;
     }
 
 pub returns-in_default-clause-once : goal.returns-in_default-clause-once
-returns-in_default-clause-once g c = once-unread PlanSlot _ _ _ c.pieces.invariant.once c.read.ensures.keeps_other c.read.ensures.opens_none
+returns-in_default-clause-once g c = once-unread PlanSlot _ _ _ c.pieces.invariant.once c.read.ensures.keeps_other c.read.ensures.opens_none c.in_default.ensures.cause.once
 
 pub returns-then-more-eq0-clause-once : goal.returns-then-more-eq0-clause-once
-returns-then-more-eq0-clause-once g c = once-read PlanSlot _ _ _ _ c.pieces.invariant.once c.read.ensures.keeps_other c.read.ensures.opens_none c.in-Ok.ensures.cause.kept
+returns-then-more-eq0-clause-once g c = once-read PlanSlot _ _ _ _ quiet-none c.pieces.invariant.once c.read.ensures.keeps_other c.read.ensures.opens_none c.in-Ok.ensures.cause.kept

@@ -1,7 +1,6 @@
 use Rattle.std.proofs.Common.{◌≡◌, ◌-◌, ◌≤◌, length, take, None}
-use Rattle.std.specs.Io.KnownBytes.{Consumes}
 use Rattle.tally_base.specs.declared.slot.Slot.TheVariants.{Plan as PlanSlot}
-use Rattle.bench_io.specs.Inputs.{OnlyReads}
+use Rattle.bench_io.{specs.Given.Consumes, specs.Inputs.OnlyReads}
 use Rattle.command_work.specs.Once.{InputsOnce}
 use Rattle.command_work.proofs.plan.read_text.Given as goal
 
@@ -14,7 +13,7 @@ invariant-pieces g l =
       once : InputsOnce (state l.initial.inputs) (state l.inputs) None;
       fits : l.len ≤ length l.text;
       size : length l.text ≡ length l.initial.text;
-      taken : Consumes ((state l.initial.inputs).rest PlanSlot) ((state l.inputs).rest PlanSlot) (take l.len l.text);
+      taken : Consumes ((state l.initial.inputs).given PlanSlot) ((state l.inputs).given PlanSlot) (take l.len l.text);
     }
 
 abbrev pub decreases-pieces : goal.decreases-pieces

@@ -1,4 +1,4 @@
-use Rattle.std.proofs.Common.{[], ◌++◌, refl, ◌∙◌, arith, take, append-nil, append_assoc}
+use Rattle.std.proofs.Common.{[], ◌++◌, inr, refl, ◌∙◌, arith, take, append-nil, append_assoc}
 use Rattle.std.proofs.lemmas.Result.{err_from_is_err_and}
 use Rattle.bench_io.proofs.States.{OnlyReads-refl, OnlyReads-trans}
 use Rattle.command_work.proofs.RestEnds.{so-none, so-piece, rest-unread, rest-piece, rest-end}
@@ -24,7 +24,7 @@ pieces-preserved g c =
             let at = inv.so_far.1 bytes h in (
               rw (← append_assoc bytes taken (take c.in-Ok.len c.read.new.into)) (c.in_ok-piece.ensures.takes (bytes ++ taken) at.0),
               so-piece ⊥ at.1 (record { other = c.read.ensures.keeps_other; none = c.read.ensures.opens_none }) c.in-Ok.len c.read.new.into
-                  (omega (arith, c.requires.ready.small, c.pieces.auto.buffer, c.read.auto.into)) c.in-Ok.ensures.bytes.0 c.in-Ok.ensures.cause.kept _ _ c.read.ensures.keeps.read_faults
+                  (omega (arith, c.requires.ready.small, c.pieces.auto.buffer, c.read.auto.into)) c.in-Ok.ensures.gives.0 c.in-Ok.ensures.cause.kept _ _ c.read.ensures.keeps.read_faults
                   (rw inv.same at (c.in_ok-piece.ensures.writes (bytes ++ taken) at.0)),
             ),
       );
@@ -33,15 +33,15 @@ pieces-preserved g c =
 pub returns-in_default-clause-rest : goal.returns-in_default-clause-rest
 returns-in_default-clause-rest g c = λ bytes h.
     let at = c.pieces.invariant.so_far.1 bytes h in
-    rest-unread ⊥ at.1 (record { other = c.read.ensures.keeps_other; none = c.read.ensures.opens_none }) c.in_default.ensures.bytes c.in_default.ensures.cause.failed
+    rest-unread ⊥ at.1 (record { other = c.read.ensures.keeps_other; none = c.read.ensures.opens_none }) c.in_default.ensures.gives c.in_default.ensures.cause.failed c.in_default.ensures.cause.once
 
 pub returns-then-len-eq0-clause-rest : goal.returns-then-len-eq0-clause-rest
 returns-then-len-eq0-clause-rest g c = λ bytes h.
     let inv = c.pieces.invariant in
     let at = inv.so_far.1 bytes h in
     rest-end ⊥ at.1 (record { other = c.read.ensures.keeps_other; none = c.read.ensures.opens_none }) c.in-Ok.len c.read.new.into
-    (omega (arith, c.requires.ready.small, c.pieces.auto.buffer, c.read.auto.into)) c.in-Ok.ensures.bytes.0 c.in-Ok.ensures.cause.kept _ _ c.end.result (rw c.if-len-eq0.true refl)
-    (c.in-Ok.ensures.bytes.1 c.if-len-eq0.true (omega (arith, c.requires.ready.room, c.pieces.auto.buffer, c.read.auto.into)))
+    (omega (arith, c.requires.ready.small, c.pieces.auto.buffer, c.read.auto.into)) c.in-Ok.ensures.gives.0 c.in-Ok.ensures.cause.kept _ _ c.end.result (rw c.if-len-eq0.true refl)
+    (c.in-Ok.ensures.gives.1.1 (inr (c.if-len-eq0.true, omega (arith, c.requires.ready.room, c.pieces.auto.buffer, c.read.auto.into))))
     (rw inv.same at (c.end.ensures (bytes ++ inv.so_far.0) at.0))
 
 pub returns-in_err-piece-clause-rest : goal.returns-in_err-piece-clause-rest
@@ -51,7 +51,7 @@ returns-in_err-piece-clause-rest g c = λ bytes h.
     let p = err_from_is_err_and c.from_residual.result c.from_residual.ensures.1 in
     rw (p.1, p.2)
     (rest-piece ⊥ at.1 (record { other = c.read.ensures.keeps_other; none = c.read.ensures.opens_none }) c.in-Ok.len c.read.new.into
-    (omega (arith, c.requires.ready.small, c.pieces.auto.buffer, c.read.auto.into)) c.in-Ok.ensures.bytes.0 c.in-Ok.ensures.cause.kept _ _ c.in_err-piece.field-0.0
+    (omega (arith, c.requires.ready.small, c.pieces.auto.buffer, c.read.auto.into)) c.in-Ok.ensures.gives.0 c.in-Ok.ensures.cause.kept _ _ c.in_err-piece.field-0.0
     (rw inv.same at (c.in_err-piece.ensures.writes (bytes ++ inv.so_far.0) at.0)))
 
 pub piece-requires : goal.piece-requires

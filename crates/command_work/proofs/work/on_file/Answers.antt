@@ -1,8 +1,8 @@
-use Rattle.std.proofs.Common.{None, refl, sym, ap, ◌∙◌, inl}
-use Rattle.std.proofs.lemmas.Result.{IfErr-weaker}
+use Rattle.std.proofs.Common.{ℕ, List, None, refl, sym, ap, ◌∙◌, subst, inl}
+use Rattle.std.{specs.declared.option.Option.Option, proofs.lemmas.Result.IfErr-weaker}
 use Rattle.tally_base.specs.declared.slot.Slot.TheVariants.{Plan, Data}
-use Rattle.bench_io.proofs.Bytes.{Appends-nil, Keeps-from_none}
-use Rattle.command_work.{specs.Endings.{Span, HasCauses}, proofs.WorkTold.{file-answers, file-causes, few-told}, proofs.Once.{once-refl, once-behind, once-opened, once-unopened}}
+use Rattle.bench_io.{specs.Inputs.IsOpened, proofs.Bytes.{Appends-nil, Keeps-from_none}}
+use Rattle.command_work.{specs.Endings.{Span, HasCauses}, proofs.WorkTold.{told-is-its, file-answers, file-causes, few-told}, proofs.Once.{quiet-none, once-refl, once-behind, once-opened, once-unopened}}
 use Rattle.command_work.proofs.work.on_file.Goals as goal
 
 pub returns-in-Err : goal.returns-in-Err
@@ -17,7 +17,11 @@ returns-in-Err g c = record {
         let first = c.requires.first Data in
         cc,
   );
-  once = record { inputs = once-unopened Data _ _ _ (once-refl _ None) c.open.ensures.keeps_other c.open.ensures.reads; out = refl };
+  once = record { inputs = once-unopened Data _ _ _ (once-refl _ None quiet-none) c.open.ensures.keeps_other c.open.ensures.reads c.in-Err.ensures.cause.once; out = refl };
+  files = λ plan_file data_file tells opened.
+      let asked = g.met.I.Inputs.asked_first c.args.inputs.now Data (sym c.in-Err.ensures.unopened ∙ opened) in
+      let first = c.requires.first Data in
+      cc;
 }
 
 pub returns-in-Ok : goal.returns-in-Ok
@@ -26,6 +30,7 @@ returns-in-Ok g c =
     let opened = g.I.Inputs.state c.open.new.self in
     let after = g.I.Inputs.state c.read.new.inputs in
     let writing = g.W.FileWork.writing in
+    let is_open = ap (λ f. f Data) c.read.ensures.reads.opens_none.opened ∙ c.in-Ok.ensures.opened in
     let work = g.W.FileWork.work in
     let span : Span = record {
       before = opened;
@@ -36,14 +41,17 @@ returns-in-Ok g c =
       faults_after = g.O.Sink.faults c.read.new.out;
     } in
     record {
-      answer = file-answers c.args.file.now writing work before after _ _ _ _ c.in-Ok.ensures.file c.read.ensures.leaves.answer;
-      causes = IfErr-weaker c.read.result _ _ (λ fault h. file-causes c.args.file.now writing work before span fault c.in-Ok.ensures.file c.in-Ok.ensures.keeps.read_faults h) c.read.ensures.leaves.reason;
+      answer = file-answers c.args.file.now writing work after _ _ _ _ c.in-Ok.ensures.given is_open c.read.ensures.leaves.answer;
+      causes = IfErr-weaker c.read.result _ _ (λ fault h. file-causes c.args.file.now writing work before span fault c.in-Ok.ensures.given is_open c.in-Ok.ensures.keeps.read_faults h) c.read.ensures.leaves.reason;
       asks = (
         ap (λ f. f Plan) c.read.ensures.reads.opens_none.asked ∙ c.open.ensures.keeps_other.asked ∙ c.requires.first Plan,
-        λ was. few-told work (before.contents c.args.file.now) before opened after c.args.file.now refl c.in-Ok.ensures.file c.read.ensures.leaves.few,
+        λ was. few-told work after _ c.in-Ok.ensures.given c.read.ensures.leaves.few,
       );
       once = record {
-        inputs = once-behind before opened after _ (once-opened Data before before opened (once-refl before None) c.open.ensures.keeps_other c.open.ensures.reads c.in-Ok.ensures.cause.kept) c.read.ensures.leaves.once.inputs;
+        inputs = once-behind before opened after _ (once-opened Data before before opened (once-refl before None quiet-none) c.open.ensures.keeps_other c.open.ensures.reads c.in-Ok.ensures.cause.kept) c.read.ensures.leaves.once.inputs;
         out = c.read.ensures.leaves.once.out;
       };
+      files = λ plan_file data_file tells. told-is-its (before.contents c.args.file.now) after Data data_file
+          (λ o. subst (λ (told : Option (List ℕ)). IsOpened (before.contents c.args.file.now) told) (sym (ap (λ f. f Data) c.read.ensures.reads.opens_none.told)) c.in-Ok.ensures.file)
+          (g.met.I.Inputs.agrees c.read.new.inputs Data) tells.1;
     }

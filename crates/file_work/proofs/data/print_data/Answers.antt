@@ -1,7 +1,7 @@
 use Rattle.std.proofs.Common.{◌≡◌, length, rules, ◌++◌, [], take, refl, sym, ap, ◌∙◌, append-nil, arith, inr}
-use Rattle.bench_io.{proofs.Bytes.{Appends-nil, Appends-same, Consumes-nil, Consumes-kept, Consumes-trans}, proofs.States.{OnlyReads-refl, OnlyReads-trans}}
+use Rattle.bench_io.{proofs.Bytes.{Appends-nil, Appends-same}, proofs.Givens.{Consumes-nil, Consumes-kept, Consumes-trans}, proofs.States.{OnlyReads-refl, OnlyReads-trans}}
 use Rattle.list_out.{specs.HeaderText.header_text, proofs.StepTexts.header_text-nil}
-use Rattle.command_work.{proofs.Pieces.IsCut-nil, specs.Outcomes.IsCut, proofs.Told.{some_left, Says-at_end, Says-shown}, proofs.Few.{few-none, few-piece}, proofs.Once.{stays-same, once-refl, once-read, once-unread, Rose-kept}}
+use Rattle.command_work.{proofs.Pieces.IsCut-nil, specs.Outcomes.IsCut, proofs.Told.{Says-at_end, Says-shown}, proofs.Few.{few-none, few-piece}, proofs.Once.{quiet-none, quiet-write, quiet-inside, stays-same, once-refl, once-read, once-unread, Rose-kept}}
 use Rattle.file_work.{proofs.HeaderEnds.{text-appended, text-cut, outcome-done, outcome-refused, outcome-ended}, specs.FileOutcomes.header_outcome}
 use Rattle.tally_base.specs.declared.slot.Slot.TheVariants.{Data}
 use Rattle.file_work.proofs.data.print_data.Goals as goal
@@ -9,7 +9,7 @@ use Rattle.file_work.proofs.data.print_data.Goals as goal
 pub pieces-init : goal.pieces-init
 pieces-init g c = record {
   reads = OnlyReads-refl _ _;
-  once = once-refl _ _;
+  once = once-refl _ _ quiet-none;
   taken = ([], Consumes-nil _, c.new-printer.ensures.start, Appends-same _ _ _ _ (sym header_text-nil) (Appends-nil _), IsCut-nil);
   is_open = c.new-printer.ensures.is_open;
   kept = refl;
@@ -18,15 +18,12 @@ pieces-init g c = record {
 pub returns-in-Err-clause-reason : goal.returns-in-Err-clause-reason
 returns-in-Err-clause-reason g c =
     let so_far = c.pieces.invariant.taken in
-    let piece = take c.in-Ok.len c.read.new.into in
-    let some = some_left ((g.I.Inputs.state c.read.new.self).rest Data) in (
+    let piece = take c.in-Ok.len c.read.new.into in (
       Rose-kept _ _ _ c.pieces.invariant.kept c.in-Err.ensures.cause.failed,
       record {
         taken = so_far.0 ++ piece;
-        consumes = Consumes-trans _ _ _ so_far.0 piece so_far.1 c.in-Ok.ensures.bytes.0;
-        more = some.0;
-        may_be = some.1;
-        cut = text-cut so_far.0 piece some.0 _ _ _ so_far.3 (c.in-Err.ensures.short so_far.0 so_far.2);
+        consumes = Consumes-trans _ _ _ so_far.0 piece so_far.1 c.in-Ok.ensures.gives.0;
+        cut = λ more follows. text-cut so_far.0 piece more _ _ _ so_far.3 (c.in-Err.ensures.short so_far.0 so_far.2);
       },
     )
 
@@ -37,10 +34,10 @@ pieces-preserved g c =
     let leaves = rw c.in-Ok-More.field-0-is at (c.in-Ok-More.ensures.leaves so_far.0 so_far.2) in
     record {
       reads = OnlyReads-trans _ _ _ _ c.pieces.invariant.reads (record { keeps = c.read.ensures.keeps; keeps_other = c.read.ensures.keeps_other; opens_none = c.read.ensures.opens_none });
-      once = once-read Data _ _ _ _ c.pieces.invariant.once c.read.ensures.keeps_other c.read.ensures.opens_none c.in-Ok.ensures.cause.kept;
+      once = once-read Data _ _ _ _ quiet-none c.pieces.invariant.once c.read.ensures.keeps_other c.read.ensures.opens_none c.in-Ok.ensures.cause.kept;
       taken = (
         so_far.0 ++ piece,
-        Consumes-trans _ _ _ so_far.0 piece so_far.1 c.in-Ok.ensures.bytes.0,
+        Consumes-trans _ _ _ so_far.0 piece so_far.1 c.in-Ok.ensures.gives.0,
         leaves.0,
         text-appended so_far.0 piece _ _ _ so_far.3 (c.in-Ok-More.ensures.text so_far.0 so_far.2),
         leaves.2,
@@ -58,10 +55,10 @@ returns-then-len-eq0-clause-answer g c =
     let size : length c.read.new.into ≡ 8192 = Prim.search rules in
     inr (record {
       taken = so_far.0 ++ piece;
-      consumes = Consumes-trans _ _ _ so_far.0 piece so_far.1 c.in-Ok.ensures.bytes.0;
+      consumes = Consumes-trans _ _ _ so_far.0 piece so_far.1 c.in-Ok.ensures.gives.0;
       text = header_text so_far.0;
       written = so_far.3;
-      says = Says-at_end header_outcome (so_far.0 ++ piece) _ _ (c.in-Ok.ensures.bytes.1 c.if-len-eq0.true (omega (arith, size)))
+      says = Says-at_end header_outcome (so_far.0 ++ piece) _ _ (c.in-Ok.ensures.gives.1.1 (inr (c.if-len-eq0.true, omega (arith, size))))
           (ap header_outcome all ∙ outcome-ended so_far.0 c.finish.result (c.finish.ensures.answer so_far.0 so_far.2));
     })
 
@@ -72,7 +69,7 @@ returns-in-Ok-Done-clause-answer g c =
     let leaves = rw c.in-Ok-Done.field-0-is at (c.in-Ok-Done.ensures.leaves so_far.0 so_far.2) in
     inr (record {
       taken = so_far.0 ++ piece;
-      consumes = Consumes-trans _ _ _ so_far.0 piece so_far.1 c.in-Ok.ensures.bytes.0;
+      consumes = Consumes-trans _ _ _ so_far.0 piece so_far.1 c.in-Ok.ensures.gives.0;
       text = header_text (so_far.0 ++ piece);
       written = text-appended so_far.0 piece _ _ _ so_far.3 (c.in-Ok-Done.ensures.text so_far.0 so_far.2);
       says = Says-shown header_outcome (so_far.0 ++ piece) _ _ (λ more. outcome-done (so_far.0 ++ piece) more leaves.1 leaves.0 leaves.2);
@@ -84,7 +81,7 @@ returns-in-Ok-Refused-clause-answer g c =
     let piece = take c.in-Ok.len c.read.new.into in
     inr (record {
       taken = so_far.0 ++ piece;
-      consumes = Consumes-trans _ _ _ so_far.0 piece so_far.1 c.in-Ok.ensures.bytes.0;
+      consumes = Consumes-trans _ _ _ so_far.0 piece so_far.1 c.in-Ok.ensures.gives.0;
       text = header_text (so_far.0 ++ piece);
       written = text-appended so_far.0 piece _ _ _ so_far.3 (c.in-Ok-Refused.ensures.text so_far.0 so_far.2);
       says = Says-shown header_outcome (so_far.0 ++ piece) _ _ (λ more. outcome-refused (so_far.0 ++ piece) more c.in-Ok-Refused.fault (rw c.in-Ok-Refused.field-0-is at (c.in-Ok-Refused.ensures.leaves so_far.0 so_far.2)));
@@ -93,39 +90,39 @@ returns-in-Ok-Refused-clause-answer g c =
 pub returns-in_default-clause-few : goal.returns-in_default-clause-few
 returns-in_default-clause-few g c =
     let so_far = c.pieces.invariant.taken in
-    few-none IsCut so_far.0 _ _ (Consumes-kept _ _ _ so_far.0 so_far.1 c.in_default.ensures.bytes) so_far.4
+    few-none IsCut so_far.0 _ _ (Consumes-kept _ _ _ so_far.0 so_far.1 c.in_default.ensures.gives) so_far.4
 
 pub returns-then-len-eq0-clause-few : goal.returns-then-len-eq0-clause-few
 returns-then-len-eq0-clause-few g c =
     let so_far = c.pieces.invariant.taken in
-    few-piece IsCut so_far.0 c.in-Ok.len c.read.new.into _ _ (Consumes-trans _ _ _ so_far.0 (take c.in-Ok.len c.read.new.into) so_far.1 c.in-Ok.ensures.bytes.0) so_far.4 (let size : length c.read.new.into ≡ 8192 = Prim.search rules in omega (arith, size))
+    few-piece IsCut so_far.0 c.in-Ok.len c.read.new.into _ _ (Consumes-trans _ _ _ so_far.0 (take c.in-Ok.len c.read.new.into) so_far.1 c.in-Ok.ensures.gives.0) so_far.4 (let size : length c.read.new.into ≡ 8192 = Prim.search rules in omega (arith, size))
 
 pub returns-in-Err-clause-few : goal.returns-in-Err-clause-few
 returns-in-Err-clause-few g c =
     let so_far = c.pieces.invariant.taken in
-    few-piece IsCut so_far.0 c.in-Ok.len c.read.new.into _ _ (Consumes-trans _ _ _ so_far.0 (take c.in-Ok.len c.read.new.into) so_far.1 c.in-Ok.ensures.bytes.0) so_far.4 (let size : length c.read.new.into ≡ 8192 = Prim.search rules in omega (arith, size))
+    few-piece IsCut so_far.0 c.in-Ok.len c.read.new.into _ _ (Consumes-trans _ _ _ so_far.0 (take c.in-Ok.len c.read.new.into) so_far.1 c.in-Ok.ensures.gives.0) so_far.4 (let size : length c.read.new.into ≡ 8192 = Prim.search rules in omega (arith, size))
 
 pub returns-in-Ok-Done-clause-few : goal.returns-in-Ok-Done-clause-few
 returns-in-Ok-Done-clause-few g c =
     let so_far = c.pieces.invariant.taken in
-    few-piece IsCut so_far.0 c.in-Ok.len c.read.new.into _ _ (Consumes-trans _ _ _ so_far.0 (take c.in-Ok.len c.read.new.into) so_far.1 c.in-Ok.ensures.bytes.0) so_far.4 (let size : length c.read.new.into ≡ 8192 = Prim.search rules in omega (arith, size))
+    few-piece IsCut so_far.0 c.in-Ok.len c.read.new.into _ _ (Consumes-trans _ _ _ so_far.0 (take c.in-Ok.len c.read.new.into) so_far.1 c.in-Ok.ensures.gives.0) so_far.4 (let size : length c.read.new.into ≡ 8192 = Prim.search rules in omega (arith, size))
 
 pub returns-in-Ok-Refused-clause-few : goal.returns-in-Ok-Refused-clause-few
 returns-in-Ok-Refused-clause-few g c =
     let so_far = c.pieces.invariant.taken in
-    few-piece IsCut so_far.0 c.in-Ok.len c.read.new.into _ _ (Consumes-trans _ _ _ so_far.0 (take c.in-Ok.len c.read.new.into) so_far.1 c.in-Ok.ensures.bytes.0) so_far.4 (let size : length c.read.new.into ≡ 8192 = Prim.search rules in omega (arith, size))
+    few-piece IsCut so_far.0 c.in-Ok.len c.read.new.into _ _ (Consumes-trans _ _ _ so_far.0 (take c.in-Ok.len c.read.new.into) so_far.1 c.in-Ok.ensures.gives.0) so_far.4 (let size : length c.read.new.into ≡ 8192 = Prim.search rules in omega (arith, size))
 
 pub returns-in_default-clause-once : goal.returns-in_default-clause-once
-returns-in_default-clause-once g c = record { inputs = once-unread Data _ _ _ c.pieces.invariant.once c.read.ensures.keeps_other c.read.ensures.opens_none; out = c.pieces.invariant.kept }
+returns-in_default-clause-once g c = record { inputs = once-unread Data _ _ _ c.pieces.invariant.once c.read.ensures.keeps_other c.read.ensures.opens_none c.in_default.ensures.cause.once; out = c.pieces.invariant.kept }
 
 pub returns-then-len-eq0-clause-once : goal.returns-then-len-eq0-clause-once
-returns-then-len-eq0-clause-once g c = record { inputs = once-read Data _ _ _ _ c.pieces.invariant.once c.read.ensures.keeps_other c.read.ensures.opens_none c.in-Ok.ensures.cause.kept; out = stays-same _ _ _ c.pieces.invariant.kept }
+returns-then-len-eq0-clause-once g c = record { inputs = once-read Data _ _ _ _ (quiet-inside c.finish.result c.finish.ensures.inside) c.pieces.invariant.once c.read.ensures.keeps_other c.read.ensures.opens_none c.in-Ok.ensures.cause.kept; out = stays-same _ _ _ c.pieces.invariant.kept }
 
 pub returns-in-Err-clause-once : goal.returns-in-Err-clause-once
-returns-in-Err-clause-once g c = record { inputs = once-read Data _ _ _ _ c.pieces.invariant.once c.read.ensures.keeps_other c.read.ensures.opens_none c.in-Ok.ensures.cause.kept; out = tt }
+returns-in-Err-clause-once g c = record { inputs = once-read Data _ _ _ _ quiet-write c.pieces.invariant.once c.read.ensures.keeps_other c.read.ensures.opens_none c.in-Ok.ensures.cause.kept; out = tt }
 
 pub returns-in-Ok-Done-clause-once : goal.returns-in-Ok-Done-clause-once
-returns-in-Ok-Done-clause-once g c = record { inputs = once-read Data _ _ _ _ c.pieces.invariant.once c.read.ensures.keeps_other c.read.ensures.opens_none c.in-Ok.ensures.cause.kept; out = c.in-Ok-Done.ensures.cause.kept ∙ c.pieces.invariant.kept }
+returns-in-Ok-Done-clause-once g c = record { inputs = once-read Data _ _ _ _ quiet-none c.pieces.invariant.once c.read.ensures.keeps_other c.read.ensures.opens_none c.in-Ok.ensures.cause.kept; out = c.in-Ok-Done.ensures.cause.kept ∙ c.pieces.invariant.kept }
 
 pub returns-in-Ok-Refused-clause-once : goal.returns-in-Ok-Refused-clause-once
-returns-in-Ok-Refused-clause-once g c = record { inputs = once-read Data _ _ _ _ c.pieces.invariant.once c.read.ensures.keeps_other c.read.ensures.opens_none c.in-Ok.ensures.cause.kept; out = stays-same _ _ _ (c.in-Ok-Refused.ensures.cause.kept ∙ c.pieces.invariant.kept) }
+returns-in-Ok-Refused-clause-once g c = record { inputs = once-read Data _ _ _ _ (quiet-inside c.in-Ok-Refused.fault (rw c.in-Ok-Refused.field-0-is at c.in-Ok-Refused.ensures.ends)) c.pieces.invariant.once c.read.ensures.keeps_other c.read.ensures.opens_none c.in-Ok.ensures.cause.kept; out = stays-same _ _ _ (c.in-Ok-Refused.ensures.cause.kept ∙ c.pieces.invariant.kept) }

@@ -1,7 +1,7 @@
 use Rattle.std.proofs.Common.{◌≡◌, List, ℕ, ◌-◌, ◌^◌, true, None}
-use Rattle.std.specs.Io.KnownBytes.{Appends, Consumes}
+use Rattle.std.specs.Io.KnownBytes.{Appends}
 use Rattle.tally_base.specs.declared.slot.Slot.TheVariants.{Data}
-use Rattle.bench_io.specs.Inputs.{OnlyReads}
+use Rattle.bench_io.{specs.Given.Consumes, specs.Inputs.OnlyReads}
 use Rattle.ptu_header.specs.Reading.{bytes_taken, is_open}
 use Rattle.list_out.specs.HeaderText.{header_text}
 use Rattle.command_work.{specs.Outcomes.IsCut, specs.Once.InputsOnce}
@@ -16,7 +16,7 @@ invariant-pieces g l =
     record {
       reads : OnlyReads Data (state l.initial.inputs) (state l.inputs);
       once : InputsOnce (state l.initial.inputs) (state l.inputs) None;
-      taken : (taken : List ℕ) × Consumes ((state l.initial.inputs).rest Data) ((state l.inputs).rest Data) taken × Prints l.printer taken × Appends (written l.initial.out) (written l.out) (header_text taken) × IsCut taken;
+      taken : (taken : List ℕ) × Consumes ((state l.initial.inputs).given Data) ((state l.inputs).given Data) taken × Prints l.printer taken × Appends (written l.initial.out) (written l.out) (header_text taken) × IsCut taken;
       is_open : is_open l.printer.reader ≡ true;
       kept : g.O.Sink.faults l.out ≡ g.O.Sink.faults l.initial.out;
     }

@@ -1,5 +1,6 @@
-use Rattle.std.proofs.Common.{◌≡◌, refl, inl}
+use Rattle.std.proofs.Common.{◌≡◌, refl, ap, ◌∙◌, inl}
 use Rattle.std.proofs.lemmas.Result.{err_from_is_err_and}
+use Rattle.tally_base.specs.declared.slot.Slot.TheVariants.{Data}
 use Rattle.bench_io.proofs.Bytes.{Appends-nil, Keeps-from_none}
 use Rattle.plan_text.specs.Reading.{plan_view}
 use Rattle.report_work.{specs.Demo.demo_plan, proofs.Demos.{demo-view, plan-wanted, ends-demo, demo-causes}}
@@ -25,12 +26,14 @@ returns-in_err-plan-clause-once g c = stays-same _ _ _ refl
 pub returns-clause-answer : goal.returns-clause-answer
 returns-clause-answer g c = λ state.
     let view : plan_view c.in_ok-plan.plan ≡ demo_plan = demo-view c.in_ok-plan.plan c.in_ok-plan.ensures.answer in
-    alone-answers _ state state _ _ _ (ends-demo c.args.seed c.args.count (plan_view c.in_ok-plan.plan) c.requires view _ _ _ _ c.read_file.result c.made_data-made.ensures.rest c.read_file.ensures.leaves.answer)
+    let told = ap (λ f. f Data) c.read_file.ensures.reads.opens_none.told ∙ c.made_data-made.ensures.told in
+    alone-answers _ state _ _ _ (ends-demo c.args.seed c.args.count (plan_view c.in_ok-plan.plan) c.requires view c.read_file.new.inputs _ _ _ c.read_file.result c.made_data-made.ensures.given told c.read_file.ensures.leaves.answer)
 
 pub returns-clause-causes : goal.returns-clause-causes
 returns-clause-causes g c = λ state.
     let view : plan_view c.in_ok-plan.plan ≡ demo_plan = demo-view c.in_ok-plan.plan c.in_ok-plan.ensures.answer in
-    demo-causes c.args.seed c.args.count (plan_view c.in_ok-plan.plan) c.requires view c.made_data-made.result c.read_file.new.inputs state _ _ _ _ c.read_file.result c.made_data-made.ensures.rest c.read_file.ensures.leaves.reason
+    let told = ap (λ f. f Data) c.read_file.ensures.reads.opens_none.told ∙ c.made_data-made.ensures.told in
+    demo-causes c.args.seed c.args.count (plan_view c.in_ok-plan.plan) c.requires view c.made_data-made.result c.read_file.new.inputs state _ _ _ _ c.read_file.result c.made_data-made.ensures.given told c.read_file.ensures.leaves.reason
 
 pub returns-clause-once : goal.returns-clause-once
 returns-clause-once g c = c.read_file.ensures.leaves.once.out

@@ -1,0 +1,92 @@
+-- What a run leaves over files that its inputs tell.
+use Rattle.std.specs.Prelude.{ℕ, ◌≡◌, ◌⊎◌, ◌+◌, ◌≤◌, ◌<◌, List, ◌++◌, length, true, false, None, Some}
+use Rattle.std.{specs.declared.option.Option.Option, specs.Io.KnownBytes.{Keeps, Appends}}
+use Rattle.tally_base.{specs.declared.slot.Slot.Slot, specs.declared.slot.Slot.TheVariants.{Plan, Data}, specs.declared.fault.Fault.Fault, specs.declared.fault.Fault.TheVariants.{OpenFault, ReadFault, WriteFault, OutOfMemory}, specs.FaultCounts.Rose}
+use Rattle.bench_io.specs.Inputs.{File, InputState}
+use Rattle.plan_text.{specs.Plan.PlanView, specs.Reading.text_limit}
+use Rattle.command_words.specs.Commands.{Request}
+use Rattle.ptu_cli.{specs.Runs.{Around, Runs, TellsOn, EndsIn, NothingFailed}, specs.Behaviours.behaviour}
+use Rattle.command_work.{specs.Outcomes.{Outcome, status}, specs.Behaviours.{piece_limit, Work, Writing, so_far, under, Behaviour, NoCommand, Alone, OnFile, ByPlan}, specs.Endings.{outcome, IsPlan, Tells, CutsShort, WantsBehind, LacksMemory, IsGood}}
+
+-- The file is there, and begins with these bytes.
+pub record BeginsWith (file : File) (taken : List ℕ) : Type 0 where
+  pub more : List ℕ
+  pub parts : file ≡ Some (taken ++ more)
+
+-- The file is this plan, and it lacks nothing.
+abbrev pub IsGoodPlan : File → (PlanView → Option Fault) → PlanView → Type 0
+IsGoodPlan plan_file lacks view = IsPlan plan_file view × (lacks view ≡ None)
+
+-- The command asks for this slot, and no earlier case ends the run.
+abbrev pub ReachesBy : Behaviour → File → Slot → Type 0
+ReachesBy NoCommand plan_file slot = ⊥
+ReachesBy (Alone end) plan_file slot = ⊥
+ReachesBy (OnFile file writing work) plan_file Plan = ⊥
+ReachesBy (OnFile file writing work) plan_file Data = Unit {0}
+ReachesBy (ByPlan plan file writing memory lacks work) plan_file Plan = Unit {0}
+ReachesBy (ByPlan plan file writing memory lacks work) plan_file Data = (view : PlanView) × IsGoodPlan plan_file lacks view
+
+-- The bytes taken are the first of the file and call for no end by themselves, and what the command writes of them meanwhile was written.
+pub record StopsBy (writing : Writing (List ℕ → List ℕ)) (work : Work) (data_file : File) (old new : Option (List ℕ)) : Type 0 where
+  pub taken : List ℕ
+  pub first : BeginsWith data_file taken
+  pub goes_on : work.goes_on taken
+  pub text : Appends old new (so_far writing taken)
+
+-- no more than so many bytes were taken of the file, and they are its first
+abbrev pub TakesFirst : File → ℕ → Type 0
+TakesFirst file most = (taken : List ℕ) × BeginsWith file taken × (length taken ≤ most)
+
+-- What a run leaves on standard output where a read failed.
+abbrev pub LeavesBy : Behaviour → File → File → Slot → Option (List ℕ) → Option (List ℕ) → Type 0
+LeavesBy NoCommand plan_file data_file slot old new = ⊥
+LeavesBy (Alone end) plan_file data_file slot old new = ⊥
+LeavesBy (OnFile file writing work) plan_file data_file slot old new = StopsBy writing work data_file old new
+LeavesBy (ByPlan plan file writing memory lacks work) plan_file data_file Plan old new = Keeps old new × TakesFirst plan_file text_limit
+LeavesBy (ByPlan plan file writing memory lacks work) plan_file data_file Data old new = (view : PlanView) × IsGoodPlan plan_file lacks view × StopsBy (under view writing) (work view) data_file old new
+
+-- What a run leaves where memory was refused.
+abbrev pub RunsOutBy : Behaviour → File → File → InputState → Option (List ℕ) → Option (List ℕ) → Type 0
+RunsOutBy NoCommand plan_file data_file after old new = ⊥
+RunsOutBy (Alone end) plan_file data_file after old new = Keeps old new
+RunsOutBy (OnFile file writing work) plan_file data_file after old new = ⊥
+RunsOutBy (ByPlan plan file writing memory lacks work) plan_file data_file after old new =
+    Keeps old new × ((after.asked Data ≡ false) ⊎ ((view : PlanView) × IsGoodPlan plan_file lacks view × ((taken : List ℕ) × BeginsWith data_file taken × WantsBehind memory view taken)))
+
+-- The bytes taken of the file are some that call for no end by themselves, and no more behind them than one read gives.
+pub record TakesBy (work : Work) (data_file : File) : Type 0 where
+  pub front : List ℕ
+  pub last : List ℕ
+  pub first : BeginsWith data_file (front ++ last)
+  pub goes_on : work.goes_on front
+  pub few : length last ≤ piece_limit
+
+-- What a command asks for and takes, however it ends.
+abbrev pub AsksBy : Behaviour → File → File → InputState → InputState → Type 0
+AsksBy NoCommand plan_file data_file before after = after ≡ before
+AsksBy (Alone end) plan_file data_file before after = after ≡ before
+AsksBy (OnFile file writing work) plan_file data_file before after = (after.asked Plan ≡ false) × (after.opened Data ≡ true → TakesBy work data_file)
+AsksBy (ByPlan plan file writing memory lacks work) plan_file data_file before after =
+    (after.opened Plan ≡ true → TakesFirst plan_file (text_limit + 1)) × (after.asked Data ≡ true → (view : PlanView) × IsGoodPlan plan_file lacks view × (after.opened Data ≡ true → TakesBy (work view) data_file))
+
+-- What a run leaves whose inputs tell these files. (That its status names one fault, that a bad command line is told exactly where the words are none, and that it makes no call again are in `Runs`, which speaks of no file there.)
+pub record RunsOver (does : Behaviour) (plan_file data_file : File) (run : Around) (result : ℕ) : Type 0 where
+  -- Where nothing outside failed, it ends as its files call for.
+  pub answered : (2 ≤ result → 5 < result) → EndsIn run result (outcome does plan_file data_file)
+  -- An opening failed.
+  pub unopened : result ≡ 2 → (slot : Slot) × ReachesBy does plan_file slot × Rose (run.before.open_faults slot) (run.after.open_faults slot) × Keeps run.out_before run.out_after × TellsOn run (Some (OpenFault slot))
+  -- A read failed.
+  pub unread : result ≡ 3 → (slot : Slot) × ReachesBy does plan_file slot × Rose (run.before.read_faults slot) (run.after.read_faults slot) × LeavesBy does plan_file data_file slot run.out_before run.out_after × TellsOn run (Some (ReadFault slot))
+  -- A write failed.
+  pub unwritten : result ≡ 4 → Rose run.out_faults_before run.out_faults_after × CutsShort does (outcome does plan_file data_file) run.out_before run.out_after × TellsOn run (Some WriteFault)
+  -- Memory was refused.
+  pub memory : result ≡ 5 → RunsOutBy does plan_file data_file run.after run.out_before run.out_after × TellsOn run (Some OutOfMemory)
+  -- What it asked for and took, whatever its status is.
+  pub asks : AsksBy does plan_file data_file run.before run.after
+  -- Where no count of the inputs and of standard output rose, it ends as its files call for or for want of memory, and well where they are good.
+  pub complete : NothingFailed run → LacksMemory does result ⊎ (result ≡ status (outcome does plan_file data_file).fault)
+  pub good : IsGood does plan_file data_file → NothingFailed run → LacksMemory does result ⊎ (result ≡ 0)
+
+-- so it is for each run, over all files that its inputs tell
+abbrev pub OverToldFiles : Option Request → Around → ℕ → Type 0
+OverToldFiles request run result = (plan_file data_file : File) → Tells run.before (behaviour request) plan_file data_file → RunsOver (behaviour request) plan_file data_file run result
