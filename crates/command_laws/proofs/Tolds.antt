@@ -1,5 +1,5 @@
 -- What a run leaves over all files that may be its, it leaves over those that are told.
-use Rattle.std.proofs.Common.{◌≡◌, ℕ, List, ◌++◌, length, true, Some, sym, ap, ◌∙◌, subst, inl, inr, ◌≤◌}
+use Rattle.std.proofs.Common.{◌≡◌, ℕ, List, ◌++◌, length, true, Some, sym, ap, ◌∙◌, inl, inr, ◌≤◌}
 use Rattle.std.specs.declared.option.Option.{Option}
 use Rattle.tally_base.{specs.declared.slot.Slot.Slot, specs.declared.slot.Slot.TheVariants.{Plan, Data}, specs.declared.fault.Fault.Fault}
 use Rattle.bench_io.specs.Inputs.{File, InputState}
@@ -24,15 +24,15 @@ reaches (OnFile file writing work) after plan_file data_file Data may h = h
 reaches (ByPlan plan file writing memory lacks work) after plan_file data_file Plan may h = h
 reaches (ByPlan plan file writing memory lacks work) after plan_file data_file Data may h = (h.0, good-plan after lacks h.0 plan_file may.0 h.1)
 
-stops : (writing : Writing (List ℕ → List ℕ)) (work : Work) (after : InputState) (data_file : File) (old new : Option (List ℕ)) → FileOf after Data data_file → after.opened Data ≡ true → StopsIn writing work after old new → StopsBy writing work data_file old new
-stops writing work after data_file old new may opened h = record { taken = (after.given Data).bytes; first = begins after Data data_file may opened; goes_on = h.goes_on; text = h.text }
+stops : (writing : Writing (List ℕ → List ℕ)) (work : Work) (after : InputState) (data_file : File) (old new : Option (List ℕ)) → FileOf after Data data_file → after.opened Data ≡ true → StopsIn writing work after old new → StopsBy writing work data_file (after.given Data).bytes old new
+stops writing work after data_file old new may opened h = record { first = begins after Data data_file may opened; goes_on = h.goes_on; text = h.text }
 
-leaves : (does : Behaviour) (after : InputState) (plan_file data_file : File) (slot : Slot) (old new : Option (List ℕ)) → AreItsFiles does after plan_file data_file → after.opened slot ≡ true → Reaches does after slot → LeavesUnread does slot after old new → LeavesBy does plan_file data_file slot old new
+leaves : (does : Behaviour) (after : InputState) (plan_file data_file : File) (slot : Slot) (old new : Option (List ℕ)) → AreItsFiles does after plan_file data_file → after.opened slot ≡ true → Reaches does after slot → LeavesUnread does slot after old new → LeavesBy does plan_file data_file after slot old new
 leaves NoCommand after plan_file data_file slot old new may opened at h = h
 leaves (Alone end) after plan_file data_file slot old new may opened at h = h
 leaves (OnFile file writing work) after plan_file data_file Plan old new may opened at h = absurd at
 leaves (OnFile file writing work) after plan_file data_file Data old new may opened at h = stops writing work after data_file old new may opened h
-leaves (ByPlan plan file writing memory lacks work) after plan_file data_file Plan old new may opened at h = (h.0, ((after.given Plan).bytes, begins after Plan plan_file may.0 opened, h.1))
+leaves (ByPlan plan file writing memory lacks work) after plan_file data_file Plan old new may opened at h = (h.0, (begins after Plan plan_file may.0 opened, h.1))
 leaves (ByPlan plan file writing memory lacks work) after plan_file data_file Data old new may opened at h = (h.0, good-plan after lacks h.0 plan_file may.0 h.1, stops _ (work h.0) after data_file old new may.1 opened h.2)
 
 runs-out : (does : Behaviour) (after : InputState) (plan_file data_file : File) (old new : Option (List ℕ)) → AreItsFiles does after plan_file data_file → RunsOut does after old new → RunsOutBy does plan_file data_file after old new
@@ -43,19 +43,19 @@ runs-out (ByPlan plan file writing memory lacks work) after plan_file data_file 
   h.0,
   elim h.1 [
     | inl unasked ↦ inl unasked
-    | inr w ↦ inr (w.0, good-plan after lacks w.0 plan_file may.0 w.1, ((after.given Data).bytes, begins after Data data_file may.1 w.2, w.3))
+    | inr w ↦ inr (w.0, good-plan after lacks w.0 plan_file may.0 w.1, w.2, begins after Data data_file may.1 w.2, w.3)
   ],
 )
 
-takes : (work : Work) (after : InputState) (data_file : File) → FileOf after Data data_file → after.opened Data ≡ true → TakesData work after → TakesBy work data_file
-takes work after data_file may opened h = record { front = h.front; last = h.last; first = subst (BeginsWith data_file) h.all (begins after Data data_file may opened); goes_on = h.goes_on; few = h.few }
+takes : (work : Work) (after : InputState) (data_file : File) → FileOf after Data data_file → after.opened Data ≡ true → TakesData work after → TakesBy work data_file (after.given Data).bytes
+takes work after data_file may opened h = record { front = h.front; last = h.last; all = h.all; first = begins after Data data_file may opened; goes_on = h.goes_on; few = h.few }
 
 asks : (does : Behaviour) (before after : InputState) (plan_file data_file : File) → AreItsFiles does after plan_file data_file → Asks does before after → AsksBy does plan_file data_file before after
 asks NoCommand before after plan_file data_file may h = h
 asks (Alone end) before after plan_file data_file may h = h
 asks (OnFile file writing work) before after plan_file data_file may h = (h.0, λ opened. takes work after data_file may opened (h.1 opened))
 asks (ByPlan plan file writing memory lacks work) before after plan_file data_file may h = (
-  λ opened. ((after.given Plan).bytes, begins after Plan plan_file may.0 opened, h.0 opened),
+  λ opened. (begins after Plan plan_file may.0 opened, h.0 opened),
   λ asked. let w = h.1 asked in (w.0, good-plan after lacks w.0 plan_file may.0 w.1, λ opened. takes (work w.0) after data_file may.1 opened (w.2 opened)),
 )
 
@@ -66,7 +66,7 @@ over-told request run result h plan_file data_file tells =
     record {
       answered = λ further. h.answered further plan_file data_file may;
       unopened = λ two. let f = h.unopened two in (f.0, reaches does run.after plan_file data_file f.0 may f.1.0, f.1.1, f.1.2, f.2);
-      unread = λ three. let f = h.unread three in (f.0, reaches does run.after plan_file data_file f.0 may f.1.0, f.1.2, leaves does run.after plan_file data_file f.0 _ _ may f.1.1 f.1.0 f.1.3, f.2);
+      unread = λ three. let f = h.unread three in (f.0, reaches does run.after plan_file data_file f.0 may f.1.0, f.1.1, f.1.2, leaves does run.after plan_file data_file f.0 _ _ may f.1.1 f.1.0 f.1.3, f.2);
       unwritten = λ four. let f = h.unwritten four in (f.0, f.1 plan_file data_file may, f.2);
       memory = λ five. let f = h.memory five in (runs-out does run.after plan_file data_file _ _ may f.0, f.1);
       asks = asks does run.before run.after plan_file data_file may h.asks;

@@ -26,24 +26,24 @@ ReachesBy (OnFile file writing work) plan_file Data = Unit {0}
 ReachesBy (ByPlan plan file writing memory lacks work) plan_file Plan = Unit {0}
 ReachesBy (ByPlan plan file writing memory lacks work) plan_file Data = (view : PlanView) × IsGoodPlan plan_file lacks view
 
--- The bytes taken are the first of the file and call for no end by themselves, and what the command writes of them meanwhile was written.
-pub record StopsBy (writing : Writing (List ℕ → List ℕ)) (work : Work) (data_file : File) (old new : Option (List ℕ)) : Type 0 where
-  pub taken : List ℕ
-  pub first : BeginsWith data_file taken
-  pub goes_on : work.goes_on taken
-  pub text : Appends old new (so_far writing taken)
+-- The bytes that were given are the first of the file and call for no end by themselves, and what the command writes of them meanwhile was written.
+pub record StopsBy (writing : Writing (List ℕ → List ℕ)) (work : Work) (data_file : File) (given : List ℕ) (old new : Option (List ℕ)) : Type 0 where
+  pub first : BeginsWith data_file given
+  pub goes_on : work.goes_on given
+  pub text : Appends old new (so_far writing given)
 
--- no more than so many bytes were taken of the file, and they are its first
-abbrev pub TakesFirst : File → ℕ → Type 0
-TakesFirst file most = (taken : List ℕ) × BeginsWith file taken × (length taken ≤ most)
+-- no more than so many bytes were given of the file, and they are its first
+abbrev pub TakesFirst : File → List ℕ → ℕ → Type 0
+TakesFirst file given most = BeginsWith file given × (length given ≤ most)
 
 -- What a run leaves on standard output where a read failed.
-abbrev pub LeavesBy : Behaviour → File → File → Slot → Option (List ℕ) → Option (List ℕ) → Type 0
-LeavesBy NoCommand plan_file data_file slot old new = ⊥
-LeavesBy (Alone end) plan_file data_file slot old new = ⊥
-LeavesBy (OnFile file writing work) plan_file data_file slot old new = StopsBy writing work data_file old new
-LeavesBy (ByPlan plan file writing memory lacks work) plan_file data_file Plan old new = Keeps old new × TakesFirst plan_file text_limit
-LeavesBy (ByPlan plan file writing memory lacks work) plan_file data_file Data old new = (view : PlanView) × IsGoodPlan plan_file lacks view × StopsBy (under view writing) (work view) data_file old new
+abbrev pub LeavesBy : Behaviour → File → File → InputState → Slot → Option (List ℕ) → Option (List ℕ) → Type 0
+LeavesBy NoCommand plan_file data_file after slot old new = ⊥
+LeavesBy (Alone end) plan_file data_file after slot old new = ⊥
+LeavesBy (OnFile file writing work) plan_file data_file after slot old new = StopsBy writing work data_file (after.given Data).bytes old new
+LeavesBy (ByPlan plan file writing memory lacks work) plan_file data_file after Plan old new = Keeps old new × TakesFirst plan_file (after.given Plan).bytes text_limit
+LeavesBy (ByPlan plan file writing memory lacks work) plan_file data_file after Data old new =
+    (view : PlanView) × IsGoodPlan plan_file lacks view × StopsBy (under view writing) (work view) data_file (after.given Data).bytes old new
 
 -- What a run leaves where memory was refused.
 abbrev pub RunsOutBy : Behaviour → File → File → InputState → Option (List ℕ) → Option (List ℕ) → Type 0
@@ -51,13 +51,14 @@ RunsOutBy NoCommand plan_file data_file after old new = ⊥
 RunsOutBy (Alone end) plan_file data_file after old new = Keeps old new
 RunsOutBy (OnFile file writing work) plan_file data_file after old new = ⊥
 RunsOutBy (ByPlan plan file writing memory lacks work) plan_file data_file after old new =
-    Keeps old new × ((after.asked Data ≡ false) ⊎ ((view : PlanView) × IsGoodPlan plan_file lacks view × ((taken : List ℕ) × BeginsWith data_file taken × WantsBehind memory view taken)))
+    Keeps old new × ((after.asked Data ≡ false) ⊎ ((view : PlanView) × IsGoodPlan plan_file lacks view × (after.opened Data ≡ true) × BeginsWith data_file (after.given Data).bytes × WantsBehind memory view (after.given Data).bytes))
 
--- The bytes taken of the file are some that call for no end by themselves, and no more behind them than one read gives.
-pub record TakesBy (work : Work) (data_file : File) : Type 0 where
+-- The bytes that were given are the first of the file: some that call for no end by themselves, and no more after them than one read gives.
+pub record TakesBy (work : Work) (data_file : File) (given : List ℕ) : Type 0 where
   pub front : List ℕ
   pub last : List ℕ
-  pub first : BeginsWith data_file (front ++ last)
+  pub all : given ≡ front ++ last
+  pub first : BeginsWith data_file given
   pub goes_on : work.goes_on front
   pub few : length last ≤ piece_limit
 
@@ -65,9 +66,10 @@ pub record TakesBy (work : Work) (data_file : File) : Type 0 where
 abbrev pub AsksBy : Behaviour → File → File → InputState → InputState → Type 0
 AsksBy NoCommand plan_file data_file before after = after ≡ before
 AsksBy (Alone end) plan_file data_file before after = after ≡ before
-AsksBy (OnFile file writing work) plan_file data_file before after = (after.asked Plan ≡ false) × (after.opened Data ≡ true → TakesBy work data_file)
+AsksBy (OnFile file writing work) plan_file data_file before after = (after.asked Plan ≡ false) × (after.opened Data ≡ true → TakesBy work data_file (after.given Data).bytes)
 AsksBy (ByPlan plan file writing memory lacks work) plan_file data_file before after =
-    (after.opened Plan ≡ true → TakesFirst plan_file (text_limit + 1)) × (after.asked Data ≡ true → (view : PlanView) × IsGoodPlan plan_file lacks view × (after.opened Data ≡ true → TakesBy (work view) data_file))
+    (after.opened Plan ≡ true → TakesFirst plan_file (after.given Plan).bytes (text_limit + 1))
+    × (after.asked Data ≡ true → (view : PlanView) × IsGoodPlan plan_file lacks view × (after.opened Data ≡ true → TakesBy (work view) data_file (after.given Data).bytes))
 
 -- What a run leaves whose inputs tell these files. (That its status names one fault, that a bad command line is told exactly where the words are none, and that it makes no call again are in `Runs`, which speaks of no file there.)
 pub record RunsOver (does : Behaviour) (plan_file data_file : File) (run : Around) (result : ℕ) : Type 0 where
@@ -76,7 +78,7 @@ pub record RunsOver (does : Behaviour) (plan_file data_file : File) (run : Aroun
   -- An opening failed.
   pub unopened : result ≡ 2 → (slot : Slot) × ReachesBy does plan_file slot × Rose (run.before.open_faults slot) (run.after.open_faults slot) × Keeps run.out_before run.out_after × TellsOn run (Some (OpenFault slot))
   -- A read failed.
-  pub unread : result ≡ 3 → (slot : Slot) × ReachesBy does plan_file slot × Rose (run.before.read_faults slot) (run.after.read_faults slot) × LeavesBy does plan_file data_file slot run.out_before run.out_after × TellsOn run (Some (ReadFault slot))
+  pub unread : result ≡ 3 → (slot : Slot) × ReachesBy does plan_file slot × (run.after.opened slot ≡ true) × Rose (run.before.read_faults slot) (run.after.read_faults slot) × LeavesBy does plan_file data_file run.after slot run.out_before run.out_after × TellsOn run (Some (ReadFault slot))
   -- A write failed.
   pub unwritten : result ≡ 4 → Rose run.out_faults_before run.out_faults_after × CutsShort does (outcome does plan_file data_file) run.out_before run.out_after × TellsOn run (Some WriteFault)
   -- Memory was refused.
