@@ -23,7 +23,16 @@ run() {
 }
 
 if [ -x "$out/ptu" ] && [ "$level" = "$there" ] && ! command -v rt >/dev/null 2>&1; then
-    run 2>/dev/null || changed='; a source has changed since it was built, and there is no rt to build it anew'
+    status=0
+    run 2>/dev/null || status=$?
+    case $status in
+    0) ;;
+    127) changed='; a source has changed since it was built, and there is no rt to build it anew' ;;
+    *)
+        printf 'install: the program in %s does not run here (status %s)\n' "$out" "$status" >&2
+        exit "$status"
+        ;;
+    esac
 else
     run
 fi
