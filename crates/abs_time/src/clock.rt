@@ -7,7 +7,7 @@ use ptu_definitions::Raw;
 use tally_base::{Event, EventKind, Fault, Mode, WRAP_LIMIT};
 
 /// What a record is, with its absolute time.
-#[derive(Clone, Copy, Debug, PartialEq, Eq)]
+#[derive(Clone, Copy, PartialEq, Eq)]
 pub enum Placed {
     /// An event that is not late. Where it must come in order of time, no earlier one has a greater time.
     Event(Event),

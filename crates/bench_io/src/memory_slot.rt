@@ -6,7 +6,7 @@ ghost use Rattle.bench_io.{specs.Given.{no_bytes, ReadGives}, specs.CallCounts.C
 use crate::memory_file::MemoryFile;
 use tally_base::Failed;
 
-#[derive(Clone, Copy, Debug)]
+#[derive(Clone, Copy)]
 pub(crate) enum Reading {
     Unasked,
     Refused,

@@ -11,7 +11,7 @@ use std::sync::ledger::Ledger;
 use tally_base::{CoincidenceSet, Steps};
 
 /// The photons of one tick.
-#[derive(Clone, Copy, Debug, Default)]
+#[derive(Clone, Copy, Default)]
 pub struct Bin {
     /// The tick, and how many of its photons are in each group.
     pub weights: Entry,
@@ -56,7 +56,7 @@ impl Bin {
 }
 
 /// Which photon of a pair is the earlier one.
-#[derive(Clone, Copy, Debug)]
+#[derive(Clone, Copy)]
 pub enum Direction {
     /// That of the first group: the difference is positive.
     Forward,

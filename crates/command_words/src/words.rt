@@ -7,7 +7,7 @@ ghost use Rattle.command_words.{specs.Commands.{demo_of, number_in, pick_of, req
 use ptu_made::PHOTON_LIMIT;
 
 /// What the program is asked to do.
-#[derive(Clone, Copy, Debug)]
+#[derive(Clone, Copy)]
 pub enum Command<'a> {
     /// Counts the records of a file by kind.
     Count {

@@ -17,7 +17,7 @@ pub const READ_FAULT: Fault = Fault::ReadFault { slot: Slot::Data };
 
 /// A header, and the bytes behind it that were read with its last ones: those of the buffer from
 /// `used` to `len`.
-#[derive(Clone, Copy, Debug)]
+#[derive(Clone, Copy)]
 pub struct FoundHeader {
     pub header: Header,
     pub used: usize,

@@ -7,7 +7,7 @@ use ptu_header::{HeaderReader, HeaderStep};
 use tally_base::{Fault, Header};
 
 /// How a piece leaves a header reader.
-#[derive(Clone, Copy, Debug)]
+#[derive(Clone, Copy)]
 pub(crate) enum Fed {
     /// The reader has taken the whole piece and goes on.
     More,

@@ -21,7 +21,7 @@ impl FileWork for Counting {
 }
 
 /// Prints the header of a file while it is read.
-#[derive(Clone, Copy, Debug)]
+#[derive(Clone, Copy)]
 pub struct Printing;
 
 impl FileWork for Printing {

@@ -37,7 +37,7 @@ impl Reader for CountReader {
 }
 
 /// Counts the records of a file by kind.
-#[derive(Clone, Copy, Debug)]
+#[derive(Clone, Copy)]
 pub struct Counting;
 
 impl Job for Counting {

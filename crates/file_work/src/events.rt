@@ -187,7 +187,7 @@ impl Reader for EventReader {
 }
 
 /// Lists the events of a file while it is read.
-#[derive(Clone, Copy, Debug)]
+#[derive(Clone, Copy)]
 pub struct Listing;
 
 impl Job for Listing {

@@ -23,7 +23,7 @@ pub(crate) struct HeaderPrinter {
 }
 
 /// How a piece leaves a printer.
-#[derive(Clone, Copy, Debug)]
+#[derive(Clone, Copy)]
 pub(crate) enum Printed {
     /// The printer has taken the whole piece and goes on.
     More,

@@ -9,7 +9,7 @@ use ptu_tag::TagKind;
 use tally_base::put_hexadecimal;
 
 /// How the next byte of a body is printed.
-#[derive(Clone, Copy, Debug)]
+#[derive(Clone, Copy)]
 enum Printing {
     /// As two digits.
     Digits,
@@ -21,7 +21,7 @@ enum Printing {
 
 /// What the body of a tag is printed as, byte by byte: a text up to its first NUL, and any other body as
 /// two hexadecimal digits a byte.
-#[derive(Clone, Copy, Debug)]
+#[derive(Clone, Copy)]
 pub struct BodyText {
     printing: Printing,
 }

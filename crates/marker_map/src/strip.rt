@@ -5,7 +5,7 @@ ghost use Rattle.tally_base.specs.Divisors.{divisor_of, IsShort};
 use tally_base::Divisor;
 
 /// Which way a line runs.
-#[derive(Clone, Copy, Debug, PartialEq, Eq)]
+#[derive(Clone, Copy, PartialEq, Eq)]
 pub enum Way {
     /// From the first column to the last.
     Forwards,

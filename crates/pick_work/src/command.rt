@@ -14,7 +14,7 @@ use tally_base::Fault;
 
 /// Writes the photons of the plan's group of this number to a file of their own, while a file is read. The tables
 /// of the plan count nothing.
-#[derive(Clone, Copy, Debug)]
+#[derive(Clone, Copy)]
 pub struct Picking {
     /// The number of the group, from 1 on. A plan may have no such group.
     pub group: u64,

@@ -1,5 +1,5 @@
 /// What one record says. Times count ticks in T2 and sync periods in T3.
-#[derive(Clone, Copy, Debug, PartialEq, Eq)]
+#[derive(Clone, Copy, PartialEq, Eq)]
 pub enum Raw {
     /// A photon of an input, 0 to 64. `time` is below 2^28. `dtime` counts ticks after its sync, at
     /// most 32,767, and is 0 in T2.
@@ -14,7 +14,7 @@ pub enum Raw {
 }
 
 /// How many records there are, and of each kind.
-#[derive(Clone, Copy, Debug, PartialEq, Eq)]
+#[derive(Clone, Copy, PartialEq, Eq)]
 pub struct KindCounts {
     /// All records.
     pub records: u64,
@@ -29,7 +29,7 @@ pub struct KindCounts {
 }
 
 /// What the records of a whole file are, and its events.
-#[derive(Clone, Copy, Debug, PartialEq, Eq)]
+#[derive(Clone, Copy, PartialEq, Eq)]
 pub struct Summary {
     pub records: u64,
     /// The photons, with those that are late.

@@ -20,7 +20,7 @@ use tally_base::Fault;
 pub const HEADER_LIMIT: u64 = 1 << 24;
 
 /// What comes next.
-#[derive(Clone, Copy, Debug)]
+#[derive(Clone, Copy)]
 pub enum Phase {
     /// The 16 bytes of magic and version.
     Preamble,

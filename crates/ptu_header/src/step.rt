@@ -4,7 +4,7 @@ use tally_base::{Fault, Header};
 
 /// One step through a header. But for More and Refused, a step took `used` bytes from the front of the
 /// piece. The caller feeds what is behind them next, which may be nothing.
-#[derive(Clone, Copy, Debug)]
+#[derive(Clone, Copy)]
 pub enum HeaderStep {
     /// Took the whole piece, and completed neither the preamble nor a tag. The header goes on.
     More,

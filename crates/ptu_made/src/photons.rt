@@ -15,7 +15,7 @@ const UNIT: u64 = 33_554_432;
 pub(crate) const WRAP: u32 = 0xFE00_0001;
 
 /// The photons of a seed that are still to come.
-#[derive(Clone, Copy, Debug)]
+#[derive(Clone, Copy)]
 pub(crate) struct Photons {
     /// The state of the generator at the last photon, or the seed.
     state: u64,

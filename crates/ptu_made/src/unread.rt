@@ -10,7 +10,7 @@ use short_file::{HEADER_SIZE, short_header};
 use tally_base::Mode;
 
 /// The bytes of a made file that are still to come: some that are held, and those of the photons.
-#[derive(Clone, Copy, Debug)]
+#[derive(Clone, Copy)]
 pub(crate) struct Unread {
     photons: Photons,
     /// The bytes from `next` to `end` are held.

@@ -7,7 +7,7 @@ use byteorder::{ByteOrder, LittleEndian};
 
 /// The 48 bytes of one tag of PicoQuant's unified TTTR format. All numbers in them are
 /// little-endian.
-#[derive(Clone, Copy, Debug, PartialEq, Eq)]
+#[derive(Clone, Copy, PartialEq, Eq)]
 pub struct TagHead {
     /// Bytes 0 to 31: the identifier, padded with NUL.
     pub ident: [u8; 32],

@@ -1,5 +1,5 @@
 /// The parts of the word of a record.
-#[derive(Clone, Copy, Debug, PartialEq, Eq)]
+#[derive(Clone, Copy, PartialEq, Eq)]
 pub struct Fields {
     /// The highest bits of the word, with the channel and what tells photons from the rest: 0 to 127.
     pub top: u8,

@@ -2,7 +2,7 @@
 
 /// A record by its parts, of which each is there whatever the record is, so that no code has to test its
 /// kind first.
-#[derive(Clone, Copy, Debug, PartialEq, Eq)]
+#[derive(Clone, Copy, PartialEq, Eq)]
 pub struct Row {
     /// The input of a photon, or 256 and the bits of a marker, or 512 of a wrap, or 513 of a reserved record.
     pub code: u16,

@@ -15,7 +15,7 @@ use tally_base::{Event, EventKind, Failed, Fault, Mode};
 /// Writes a file of photons: first its header, and then the photons in order of time. A T2 file has the
 /// record type HydraHarp2T2 and a T3 file HydraHarp2T3. Before a photon come the wraps that lead to its
 /// time. It takes no memory.
-#[derive(Clone, Copy, Debug)]
+#[derive(Clone, Copy)]
 pub struct Picker {
     mode: Mode,
     /// The time of the last photon, or 0 where there is none.

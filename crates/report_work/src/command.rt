@@ -11,7 +11,7 @@ use tally_base::Fault;
 
 /// Counts what a plan asks for in a file, and writes the report. Nothing is written before the data
 /// are read to their end.
-#[derive(Clone, Copy, Debug)]
+#[derive(Clone, Copy)]
 pub struct Reporting;
 
 impl PlanWork for Reporting {

@@ -10,7 +10,7 @@ use arrayvec::ArrayVec;
 use tally_base::Event;
 
 /// What becomes of an event that is pushed.
-#[derive(Clone, Copy, Debug, PartialEq, Eq)]
+#[derive(Clone, Copy, PartialEq, Eq)]
 pub struct Settled {
     /// The event that no later one can come before any more, if there is one.
     pub emitted: Option<Event>,

@@ -3,7 +3,7 @@ ghost use Rattle.std.specs.Prelude.{◌≡◌, ◌<◌, ◌≤◌};
 ghost use Rattle.tally_base.specs.Events.{is_photon, is_in};
 
 /// What an event is.
-#[derive(Clone, Copy, Debug, PartialEq, Eq)]
+#[derive(Clone, Copy, PartialEq, Eq)]
 pub enum EventKind {
     /// A photon of an input channel. In T3 `dtime` counts ticks after its sync, at most 32,767. In T2 it
     /// is 0. In the T2 layout of HydraHarp and later devices the input 0 is the sync input.
@@ -13,7 +13,7 @@ pub enum EventKind {
 }
 
 /// A photon or a marker at its absolute time.
-#[derive(Clone, Copy, Debug, PartialEq, Eq)]
+#[derive(Clone, Copy, PartialEq, Eq)]
 pub struct Event {
     /// The number of its record in the file, where the first record has the number 1.
     pub place: u64,

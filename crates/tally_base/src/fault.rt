@@ -10,7 +10,7 @@ use crate::slot::Slot;
 use arrayvec::ArrayVec;
 
 /// Why a run ends with a status other than 0. Tags and records are numbered from 1.
-#[derive(Clone, Copy, Debug, PartialEq, Eq)]
+#[derive(Clone, Copy, PartialEq, Eq)]
 pub enum Fault {
     /// The words are no command.
     Usage,

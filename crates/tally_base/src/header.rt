@@ -3,7 +3,7 @@ ghost use Rattle.std.specs.Prelude.{◌≡◌, ◌≤◌, length};
 ghost use Rattle.tally_base.specs.RecordTypes.{name_of, mode_of, code_of, type_of};
 
 /// What the time of a record counts.
-#[derive(Clone, Copy, Debug, PartialEq, Eq)]
+#[derive(Clone, Copy, PartialEq, Eq)]
 pub enum Mode {
     /// Ticks of the device.
     T2,
@@ -12,7 +12,7 @@ pub enum Mode {
 }
 
 /// The record types of PicoQuant's unified TTTR format.
-#[derive(Clone, Copy, Debug, PartialEq, Eq)]
+#[derive(Clone, Copy, PartialEq, Eq)]
 pub enum RecordType {
     PicoHarpT2,
     PicoHarpT3,
@@ -115,7 +115,7 @@ impl RecordType {
 }
 
 /// What the program takes from the header of a file.
-#[derive(Clone, Copy, Debug, PartialEq, Eq)]
+#[derive(Clone, Copy, PartialEq, Eq)]
 pub struct Header {
     /// How the words of its records are laid out (`TTResultFormat_TTTRRecType`).
     pub record_type: RecordType,

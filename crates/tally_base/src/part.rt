@@ -1,5 +1,5 @@
 /// A part of a plan that may not suit the mode of a file.
-#[derive(Clone, Copy, Debug, PartialEq, Eq)]
+#[derive(Clone, Copy, PartialEq, Eq)]
 pub enum PartKind {
     Gate,
     Shift,

@@ -14,7 +14,7 @@ use tally_base::{Fault, TraceSet};
 
 /// Prints the first trace of a plan while a file is read. Its number of bins isn't looked at, and the other
 /// parts of the plan count nothing.
-#[derive(Clone, Copy, Debug)]
+#[derive(Clone, Copy)]
 pub struct Tracing;
 
 impl PlanWork for Tracing {
