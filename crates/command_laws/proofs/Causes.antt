@@ -12,7 +12,7 @@ use Rattle.file_work.specs.FileOutcomes.{header_outcome}
 use Rattle.ptu_cli.specs.Behaviours.{behaviour}
 use Rattle.command_words.specs.Commands.{Request, Pick, Events}
 use Rattle.pick_work.specs.PickOutcomes.{records_picked}
-use Rattle.command_laws.{specs.Causes.{OfRecords, IsValidPlan, Headed, Unheaded, IsPlanWith, Absent, NoPlan, Misfits, NoHeader, Lacking, TooLate, IsPickable, EndsWithFault, StatusIn, MayCallFor}, specs.Cases.{FileCase, HeaderCase, PrintCase, HasGroup, settled_photons, kept_photons, FirstLate, LateAtEnd, AllPicked, PickedCase}, specs.CommandCases.{RecordCases, Need, CommandCases, NamesLate, pick_cases, cases, Lacks, Has, Suits, SuitCase, NeedCase, PlanCase, ShapeCase, Needs, BadWords, Writes, ReadsHeader, ReadsRecords, ReadsByPlan}, proofs.FaultStatuses.{some-same, of-refused, of-written, range-as, wider, called-status, misfit-status, unheaded-status, cut_behind-status}, proofs.CaseShapes.{Call, IsCut, IsRefused, IsLate, CallsBy, RecordsMeet, MeetsCases}, proofs.Prints.print-holds, proofs.PickPhotons.none-or-late, proofs.PickCases.{first-settled, picked-holds}, proofs.Proved.{told, one-outcome}, proofs.PickedFiles.listed-picked, specs.Written.photons_written}
+use Rattle.command_laws.{specs.Ends.{ends_with, ListsWritten, EndsWellOrLate}, specs.Causes.{OfRecords, IsValidPlan, Headed, Unheaded, IsPlanWith, Absent, NoPlan, Misfits, NoHeader, Lacking, TooLate, IsPickable, EndsWithFault, StatusIn, MayCallFor}, specs.Cases.{FileCase, HeaderCase, PrintCase, HasGroup, settled_photons, kept_photons, FirstLate, LateAtEnd, AllPicked, PickedCase}, specs.CommandCases.{RecordCases, Need, CommandCases, NamesLate, pick_cases, cases, Lacks, Has, Suits, SuitCase, NeedCase, PlanCase, ShapeCase, Needs, BadWords, Writes, ReadsHeader, ReadsRecords, ReadsByPlan}, proofs.FaultStatuses.{some-same, of-refused, of-written, range-as, wider, called-status, misfit-status, unheaded-status, cut_behind-status}, proofs.CaseShapes.{Call, IsCut, IsRefused, IsLate, CallsBy, RecordsMeet, MeetsCases}, proofs.Prints.print-holds, proofs.PickPhotons.none-or-late, proofs.PickCases.{first-settled, picked-holds}, proofs.Proved.{told, one-outcome}, proofs.PickedFiles.listed-picked, specs.Written.photons_written}
 use Rattle.gate_plan.specs.Shifting.{sorting}
 use Rattle.list_out.specs.EventText.{events_text}
 use Rattle.short_file.specs.ShortFiles.{short_file}
@@ -268,20 +268,17 @@ module _ (plan_name : List ℕ) (group : ℕ) (file : List ℕ) (plan_file data_
   picked-end view header behind end usable headed suits h =
       (one-outcome asked plan_file data_file end).0 (suited-there (Needs (HasGroup group) (NoGroup group)) (pick_cases group) plan_file data_file view header behind end usable headed (inr (suits, h)))
 
-  abbrev EndsWellOrLate : Type 0
-  EndsWellOrLate = ((outcome (behaviour asked) plan_file data_file).fault ≡ None) ⊎ ((fault : Fault) × EndsWithFault asked plan_file data_file fault × TooLate (cases asked) plan_file data_file fault)
-
   -- a file that is read whole ends `pick` well, or by a photon that is too late
-  pub pick-ends : IsPickable group plan_file data_file → EndsWellOrLate
+  pub pick-ends : IsPickable group plan_file data_file → EndsWellOrLate (Pick plan_name group file) plan_file data_file
   pick-ends h = by (none-or-late (mode_of h.1.record_type) (settled_photons h.0 group h.1 (words_of h.2))) (none-or-late (mode_of h.1.record_type) (kept_photons h.0 group h.1 (words_of h.2)))
     where
-      named : (fault : Fault) → NamesLate group h.0 h.1 h.2 fault → EndsWellOrLate
+      named : (fault : Fault) → NamesLate group h.0 h.1 h.2 fault → EndsWellOrLate (Pick plan_name group file) plan_file data_file
       named fault names =
           let cause : TooLate (cases asked) plan_file data_file fault = (h.0, h.1, h.2, (h.3, h.5), h.4, (h.6, names)) in
           inr (fault, fault-of (AtRecords IsLate) asked plan_file data_file fault cause, cause)
 
       by : (too_late (mode_of h.1.record_type) (settled_photons h.0 group h.1 (words_of h.2)) ≡ []) ⊎ FirstLate (mode_of h.1.record_type) (settled_photons h.0 group h.1 (words_of h.2))
-          → (too_late (mode_of h.1.record_type) (kept_photons h.0 group h.1 (words_of h.2)) ≡ []) ⊎ FirstLate (mode_of h.1.record_type) (kept_photons h.0 group h.1 (words_of h.2)) → EndsWellOrLate
+          → (too_late (mode_of h.1.record_type) (kept_photons h.0 group h.1 (words_of h.2)) ≡ []) ⊎ FirstLate (mode_of h.1.record_type) (kept_photons h.0 group h.1 (words_of h.2)) → EndsWellOrLate (Pick plan_name group file) plan_file data_file
       by (inr s) kept =
           let late = first-settled h.0 group h.1 h.2 (words_of h.2) [] (sym (append-nil (words_of h.2))) h.7 s in
           named (PickTime late.first.photon.place) (inl (late, refl))
@@ -293,10 +290,8 @@ module _ (plan_name : List ℕ) (group : ℕ) (file : List ℕ) (plan_file data_
           inl (ap (λ (o : Outcome). o.fault) (picked-end h.0 h.1 h.2 _ (h.3, h.5) h.4 h.6 (inr (inr (inr (inr (all, refl)))))))
 
 -- what it writes of a file with a header is listed
-pub pick-is-listed : (plan_name : List ℕ) (group : ℕ) (file name : List ℕ) (plan_file data_file : File) (view : PlanView) (header : Header) (behind : List ℕ)
-    → IsPlanWith (Needs (HasGroup group) (NoGroup group)) plan_file view → Headed data_file header behind → Suits view header → length (picked_words (mode_of header.record_type) (photons_written group view header behind)) ≤ record_limit
-    → outcome (behaviour (Some (Events name))) None (Some (outcome (behaviour (Some (Pick plan_name group file))) plan_file data_file).text)
-    ≡ written (events_text (map (λ e. (e, false)) (picked_events (mode_of header.record_type) (photons_written group view header behind))))
+pub pick-is-listed : (plan_name : List ℕ) (group : ℕ) (file name : List ℕ) (plan_file data_file : File)
+    → ListsWritten group plan_file data_file name (ends_with (Pick plan_name group file) plan_file data_file).text
 unfolding short_file
 pick-is-listed plan_name group file name plan_file data_file view header behind usable headed suits few =
     let end = records_picked view group header behind in

@@ -8,10 +8,11 @@ use Rattle.list_out.specs.EventText.{events_text}
 use Rattle.command_words.specs.Commands.{Events}
 use Rattle.ptu_cli.specs.Behaviours.{behaviour}
 use Rattle.command_work.{specs.Outcomes.written, specs.Endings.outcome}
+use Rattle.command_laws.specs.Ends.{Lists}
 use Rattle.file_work.specs.FileOutcomes.{listing_policy}
 
 pub listed-picked : (name : List ℕ) (mode : Mode) (photons : List Event) → CanBePicked mode photons → length (picked_words mode photons) ≤ record_limit
-    → outcome (behaviour (Some (Events name))) None (Some (picked_file mode photons)) ≡ written (events_text (map (λ e. (e, false)) (picked_events mode photons)))
+    → Lists name (picked_file mode photons) mode photons
 unfolding outcome streamed short_file
 listed-picked name T2 photons can few =
     let words = picked_words T2 photons in

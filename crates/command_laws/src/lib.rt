@@ -3,27 +3,24 @@
 //! `specs/CommandCases.antt`.
 #![tactic(auto)]
 
-ghost use Rattle.std.specs.Prelude.{◌≡◌, ◌≤◌, ◌↔◌, ◌⊎◌, ℕ, List, None, Some, false, length, map};
+ghost use Rattle.std.specs.Prelude.{◌≡◌, ◌≤◌, ◌↔◌, ℕ, List, None, Some, length};
 ghost use Rattle.std.specs.declared.option.Option.{Option};
 ghost use Rattle.bench_io.specs.Inputs.{File};
 ghost use Rattle.ptu_definitions.specs.Counted.{record_limit};
-ghost use Rattle.record_write.specs.Picked.{CanBePicked, picked_words, picked_file, picked_events};
-ghost use Rattle.list_out.specs.EventText.{events_text};
+ghost use Rattle.record_write.specs.Picked.{CanBePicked, picked_words, picked_file};
 ghost use Rattle.ptu_made.{specs.MadeFile.made_file, specs.Generator.photon_limit};
-ghost use Rattle.tally_base.{specs.declared.event.Event.Event, specs.declared.header.Mode.Mode, specs.declared.fault.Fault.Fault, specs.declared.fault.Fault.TheVariants.{Usage, NoGroup}, specs.declared.header.Header.Header, specs.RecordTypes.mode_of};
-ghost use Rattle.plan_text.specs.Plan.{PlanView};
-ghost use Rattle.command_words.specs.Commands.{Request, Events, Run, Pick, Demo};
+ghost use Rattle.tally_base.{specs.declared.event.Event.Event, specs.declared.header.Mode.Mode, specs.declared.fault.Fault.Fault, specs.declared.fault.Fault.TheVariants.Usage};
+ghost use Rattle.command_words.specs.Commands.{Request, Run, Pick, Demo};
 ghost use Rattle.ptu_cli.{specs.Runs.{Around, Runs}, specs.Behaviours.behaviour};
 ghost use Rattle.report_work.specs.Demo.{demo_text};
-ghost use Rattle.command_work.{specs.Outcomes.{Outcome, written}, specs.Endings.outcome};
-ghost use Rattle.command_laws.{specs.CommandCases.{Needs, Suits, cases, IsOutcome}, specs.Cases.HasGroup, specs.Written.photons_written, specs.Causes.{Headed, IsPlanWith, EndsWithFault, StatusIn, Absent, NoPlan, Misfits, NoHeader, Cut, Refused, Lacking, TooLate, IsPickable, MayCallFor, MayEndWith}, specs.Stays.EndsStay, specs.ToldFiles.OverToldFiles};
+ghost use Rattle.command_work.{specs.Outcomes.Outcome, specs.Endings.outcome};
+ghost use Rattle.command_laws.{specs.CommandCases.{cases, IsOutcome}, specs.Causes.{EndsWithFault, Absent, NoPlan, Misfits, NoHeader, Cut, Refused, Lacking, TooLate, IsPickable, MayCallFor, MayEndWith}, specs.Ends.{ends_with, EndsWhere, Lists, ListsWritten, EndsWellOrLate}, specs.Stays.EndsStay, specs.ToldFiles.OverToldFiles};
 
 /// A `demo` ends as `run` does on the text of its plan and the made file.
 pub fn demo_is_a_run()
     ensures { (plan_name name : List ℕ) (seed count : ℕ) → count ≤ photon_limit
-        → outcome (behaviour (Some (Run plan_name name))) (Some demo_text)
-        (Some (made_file seed count))
-        ≡ outcome (behaviour (Some (Demo seed count))) None None }
+        → ends_with (Run plan_name name) (Some demo_text) (Some (made_file seed count))
+        ≡ ends_with (Demo seed count) None None }
 {}
 
 /// `events` lists the file of photons that can be written as these photons, at their places in this file, and
@@ -31,8 +28,7 @@ pub fn demo_is_a_run()
 pub fn picked_photons_are_listed()
     ensures { (name : List ℕ) (mode : Mode) (photons : List Event) → CanBePicked mode photons
         → length (picked_words mode photons) ≤ record_limit
-        → outcome (behaviour (Some (Events name))) None (Some (picked_file mode photons))
-        ≡ written (events_text (map (λ e. (e, false)) (picked_events mode photons))) }
+        → Lists name (picked_file mode photons) mode photons }
 {}
 
 /// What `pick` writes of a file with a header, by a plan that has the group and suits the file, and whatever its records
@@ -40,15 +36,8 @@ pub fn picked_photons_are_listed()
 /// them as late, where its words are at most 2^40.
 pub fn what_is_picked_is_listed()
     ensures { (plan_name : List ℕ) (group : ℕ) (file name : List ℕ) (plan_file data_file : File)
-        (view : PlanView) (header : Header) (behind : List ℕ)
-        → IsPlanWith (Needs (HasGroup group) (NoGroup group)) plan_file view
-        → Headed data_file header behind → Suits view header
-        → length (picked_words (mode_of header.record_type)
-        (photons_written group view header behind)) ≤ record_limit
-        → outcome (behaviour (Some (Events name))) None
-        (Some (outcome (behaviour (Some (Pick plan_name group file))) plan_file data_file).text)
-        ≡ written (events_text (map (λ e. (e, false)) (picked_events (mode_of header.record_type)
-        (photons_written group view header behind)))) }
+        → ListsWritten group plan_file data_file name
+        (ends_with (Pick plan_name group file) plan_file data_file).text }
 {}
 
 /// The outcome of a command over its files is the one that the table of cases calls for, and no other.
@@ -66,30 +55,15 @@ pub fn one_outcome()
 pub fn exactly_where()
     ensures words { (request : Option Request) (plan_file data_file : File)
         → EndsWithFault request plan_file data_file Usage ↔ (request ≡ None) }
-    ensures absent { (request : Option Request) (plan_file data_file : File) (fault : Fault)
-        → StatusIn 2 2 fault → EndsWithFault request plan_file data_file fault
-        ↔ Absent (cases request) plan_file data_file fault }
-    ensures plan { (request : Option Request) (plan_file data_file : File) (fault : Fault)
-        → StatusIn 6 8 fault → EndsWithFault request plan_file data_file fault
-        ↔ NoPlan (cases request) plan_file fault }
-    ensures lacking { (request : Option Request) (plan_file data_file : File) (fault : Fault)
-        → StatusIn 22 23 fault → EndsWithFault request plan_file data_file fault
-        ↔ Lacking (cases request) plan_file fault }
-    ensures mode { (request : Option Request) (plan_file data_file : File) (fault : Fault)
-        → StatusIn 9 9 fault → EndsWithFault request plan_file data_file fault
-        ↔ Misfits (cases request) plan_file data_file fault }
-    ensures header { (request : Option Request) (plan_file data_file : File) (fault : Fault)
-        → StatusIn 10 16 fault → EndsWithFault request plan_file data_file fault
-        ↔ NoHeader (cases request) plan_file data_file fault }
-    ensures cut { (request : Option Request) (plan_file data_file : File) (fault : Fault)
-        → StatusIn 17 17 fault → EndsWithFault request plan_file data_file fault
-        ↔ Cut (cases request) plan_file data_file fault }
-    ensures refused { (request : Option Request) (plan_file data_file : File) (fault : Fault)
-        → StatusIn 18 21 fault → EndsWithFault request plan_file data_file fault
-        ↔ Refused (cases request) plan_file data_file fault }
-    ensures late { (request : Option Request) (plan_file data_file : File) (fault : Fault)
-        → StatusIn 24 24 fault → EndsWithFault request plan_file data_file fault
-        ↔ TooLate (cases request) plan_file data_file fault }
+    ensures absent { EndsWhere 2 2 Absent }
+    ensures plan { EndsWhere 6 8 (λ of plan_file data_file fault. NoPlan of plan_file fault) }
+    ensures lacking { EndsWhere 22 23
+        (λ of plan_file data_file fault. Lacking of plan_file fault) }
+    ensures mode { EndsWhere 9 9 Misfits }
+    ensures header { EndsWhere 10 16 NoHeader }
+    ensures cut { EndsWhere 17 17 Cut }
+    ensures refused { EndsWhere 18 21 Refused }
+    ensures late { EndsWhere 24 24 TooLate }
 {}
 
 /// `pick` ends well by a plan that has the group, over a file that suits it and whose records are whole and not refused,
@@ -97,9 +71,7 @@ pub fn exactly_where()
 pub fn pick_ends_well_or_late()
     ensures { (plan_name : List ℕ) (group : ℕ) (file : List ℕ) (plan_file data_file : File)
         → IsPickable group plan_file data_file
-        → ((outcome (behaviour (Some (Pick plan_name group file))) plan_file data_file).fault ≡ None)
-        ⊎ ((fault : Fault) × EndsWithFault (Some (Pick plan_name group file)) plan_file data_file fault
-        × TooLate (cases (Some (Pick plan_name group file))) plan_file data_file fault) }
+        → EndsWellOrLate (Pick plan_name group file) plan_file data_file }
 {}
 
 /// The faults that the words and files of each command may call for, by their statuses: usage where there is no command,

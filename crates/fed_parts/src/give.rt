@@ -3,7 +3,7 @@ ghost use Rattle.std.specs.Prelude.{◌≡◌, ◌+◌, ◌<◌, ◌≤◌, ◌+
 ghost use Rattle.tally_base.{specs.declared.event.Event.Event, specs.Events.is_ordered, specs.Limits.record_limit, specs.Columns.{sorted, gathered, events_in, IsSorted}};
 ghost use Rattle.gate_plan.{specs.Groups.sorting_of, specs.Histories.with_groups};
 ghost use Rattle.abs_time.specs.Floors.{moved_floor};
-ghost use Rattle.fed_parts.{specs.Ahead.{taken_with, floor_with, IsAt, NoneWaits}, specs.Give.{Each, Moves, Closed, kept_of}, specs.Tables.{MayTake, HasTaken}};
+ghost use Rattle.fed_parts.{specs.Ahead.{taken_with, floor_with, floor_with_one, IsAt, NoneWaits}, specs.Give.{Each, Moves, Closed, kept_of}, specs.Tables.{MayTake, HasTaken}};
 
 use crate::reached::Reached;
 use gate_plan::{Gates, sort_events};
@@ -60,8 +60,7 @@ fn gather_one<L: Ledger>(
         (gathered block.new) (event.now ∷ [])) parts.old parts.new }
     ensures stands { IsAt mode reached.new block.new
         (taken_with reached.old (gathered block.old) + 1)
-        (if is_ordered mode event.now then event.now.time
-        else floor_with mode reached.old (gathered block.old)) }
+        (floor_with_one mode reached.old (gathered block.old) event.now) }
 {
     make_room(gates, mode, parts, reached, block, steps);
     block.push(event);

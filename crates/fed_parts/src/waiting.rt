@@ -3,7 +3,7 @@ ghost use Rattle.std.specs.Prelude.{◌≡◌, ◌+◌, ◌<◌, ◌≤◌, ◌+
 ghost use Rattle.tally_base.{specs.Limits.record_limit, specs.Columns.{sorted, gathered}, specs.Floors.floor_after};
 ghost use Rattle.gate_plan.{specs.Groups.sorting_of, specs.Histories.with_groups};
 ghost use Rattle.abs_time.specs.Floors.{orders_markers};
-ghost use Rattle.fed_parts.{specs.Ahead.{taken_with, floor_with, NoneWaits}, specs.Give.{Each, Moves}, specs.Tables.{MayTake, HasTaken}};
+ghost use Rattle.fed_parts.{specs.Ahead.{taken_with, floor_with, floor_behind, NoneWaits}, specs.Give.{Each, Moves}, specs.Tables.{MayTake, HasTaken}};
 
 use crate::give::flush;
 use crate::reached::Reached;
@@ -31,8 +31,7 @@ pub fn give_behind<L: Ledger>(
         (gathered block.new) (gathered more.old)) parts.old parts.new }
     ensures given { NoneWaits reached.new block.new
         (taken_with reached.old (gathered block.old) + length (gathered more.old))
-        (floor_after (orders_markers mode) (floor_with mode reached.old (gathered block.old))
-        (gathered more.old)) }
+        (floor_behind mode reached.old (gathered block.old) (gathered more.old)) }
 {
     if parts.is_empty() {
         reached.pass_block(mode, more);

@@ -14,6 +14,12 @@ pub record BeginsWith (file : List ℕ) (front : Front) : Type 0 where
   pub rest : List ℕ
   pub parts : file ≡ front.bytes ++ rest
 
+-- It has this preamble, and begins these items.
+pub record IsFrontOf (front : Front) (start : List ℕ) (items : List Item) : Type 0 where
+  pub same_start : front.start ≡ start
+  pub more : List Item
+  pub goes_on : items ≡ front.items ++ more
+
 -- Of two fronts of one file one goes on as the other.
 pub record Nest (one other : Front) : Type 0 where
   pub same_start : one.start ≡ other.start

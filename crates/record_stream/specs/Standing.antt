@@ -1,7 +1,7 @@
 -- What a stream stands for.
 use Rattle.std.specs.Prelude.{ℕ, ◌≡◌, ◌≢◌, ◌+◌, ◌*◌, ◌≤◌, ◌==◌, List, length, None, Some, if◌then◌else◌}
 use Rattle.std.specs.declared.option.Option.{Option}
-use Rattle.ptu_definitions.{specs.declared.records.Summary.Summary, specs.Streams.{Reading, reading, record_refusal}, specs.Words.{words_of, rest_of}}
+use Rattle.ptu_definitions.{specs.declared.records.Summary.Summary, specs.Streams.{Reading, reading, record_refusal, given}, specs.Kept.Marked, specs.Words.{words_of, rest_of}}
 use Rattle.tally_base.{specs.declared.fault.Fault.Fault, specs.declared.fault.Fault.TheVariants.WriteFault, specs.declared.event.Event.Event}
 use Rattle.record_layout.specs.Begun.{begun_in}
 use Rattle.abs_time.{specs.declared.clock.Clock.Clock, specs.Placing.greatest_by}
@@ -10,6 +10,10 @@ use Rattle.record_stream.{specs.Feeding.Follows, specs.Keeping.StandsAt, specs.d
 
 abbrev pub how_of : RecordStream → Reading
 how_of stream = reading stream.walk.record_type stream.walk.policy
+
+-- what is given of these bytes, as it reads
+abbrev pub given_in : RecordStream → List ℕ → Marked
+given_in stream bytes = given (how_of stream) (words_of bytes)
 
 -- how many events it has given
 abbrev pub given_by : RecordStream → ℕ

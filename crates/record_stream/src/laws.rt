@@ -1,18 +1,18 @@
 // Laws of streams, each as the contract of a function that does nothing.
 ghost use Rattle.std.specs.Prelude.{◌≡◌, ◌++◌, ℕ, List, length, None, Some, Err};
 ghost use Rattle.tally_base.specs.declared.fault.Fault.{Fault};
-ghost use Rattle.ptu_definitions.{specs.Words.words_of, specs.Kept.floor_of, specs.Shown.Shows, specs.Streams.{Reading, given, record_refusal, streamed}};
-ghost use Rattle.record_stream.{specs.declared.stream.RecordStream.RecordStream, specs.Standing.{how_of, given_by, greatest_of, refused_with, HasStreamed}};
+ghost use Rattle.ptu_definitions.{specs.Words.words_of, specs.Kept.floor_of, specs.Shown.Shows, specs.Streams.{Reading, record_refusal, streamed}};
+ghost use Rattle.record_stream.{specs.declared.stream.RecordStream.RecordStream, specs.Standing.{how_of, given_in, given_by, greatest_of, refused_with, HasStreamed}};
 
 /// The two numbers of a stream that has refused nothing: how many events it has given, and the greatest
 /// time of those in order that were not late.
 pub fn stream_numbers()
     ensures given { (stream : RecordStream) (bytes : List ℕ)
         → HasStreamed stream bytes → refused_with stream ≡ None
-        → given_by stream ≡ length (given (how_of stream) (words_of bytes)) }
+        → given_by stream ≡ length (given_in stream bytes) }
     ensures greatest { (stream : RecordStream) (bytes : List ℕ)
         → HasStreamed stream bytes → refused_with stream ≡ None
-        → greatest_of stream ≡ floor_of (how_of stream).mode (given (how_of stream) (words_of bytes)) }
+        → greatest_of stream ≡ floor_of (how_of stream).mode (given_in stream bytes) }
 {}
 
 /// A refusal of records stays, whatever comes behind: that of words, and what their bytes answer. What is

@@ -3,7 +3,7 @@ use Rattle.std.specs.Str.{bytes_eq}
 use Rattle.std.specs.Prelude.{ℕ, ◌≡◌, ◌+◌, Bool, List, [], ◌∷◌, ◌++◌, count_by, map, codes, decimal}
 use Rattle.tally_base.{specs.declared.header.Header.Header, specs.RecordTypes.name_of, specs.Settings.PartSettings, specs.Settings.PartSettings.{HistSettings, TraceSettings, StartStopSettings, CoincidenceSettings, ImageSettings, CorrelationSettings, CubeSettings, FoldSettings}, specs.Tally.History}
 use Rattle.ptu_definitions.{specs.declared.records.Summary.Summary, specs.Prefixes.each}
-use Rattle.plan_parts.{specs.declared.part.Part.Part, specs.contracts.part.PartTally.TheImpl.ghosts}
+use Rattle.plan_parts.{specs.declared.part.Part.Part, specs.declared.results.Results.Results, specs.contracts.part.PartTally.TheImpl.ghosts}
 use Rattle.list_out.specs.Lines.{line, announced, bits_text, time_text}
 use Rattle.table_out.{specs.Printed.{Printed, table_lines}, specs.Histogram.histogram_printed, specs.Trace.trace_printed, specs.StartStop.startstop_printed, specs.Coincidence.coincidence_printed, specs.Image.image_printed, specs.Correlation.correlation_printed, specs.Cube.cube_printed, specs.Fold.fold_printed}
 
@@ -57,6 +57,9 @@ parts_text tables = each table_text tables
 -- the report of a run: its head, and its tables
 unfoldable pub report : Header → Summary → List Table → List ℕ
 report header summary tables = head_text header summary ++ parts_text tables
+
+abbrev pub report_of : Results → List Table → List ℕ
+report_of results tables = report results.header results.summary tables
 
 -- tables that all stand for the same events
 abbrev pub with_events : List PartSettings → History → List Table

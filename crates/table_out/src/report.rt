@@ -3,7 +3,7 @@ ghost use Rattle.std.specs.Prelude.{◌≡◌, ◌+◌, ◌≤◌, true, List, c
 ghost use Rattle.std.specs.Io.KnownBytes.{Appends};
 ghost use Rattle.bench_io.{specs.TriesOnce.TriesOnce, specs.Sinks.AppendsShort};
 ghost use Rattle.plan_parts.specs.Parts.{settings_in, AllClosed};
-ghost use Rattle.table_out.{specs.Report.{Table, EachHolds, printed, same_kind, part_text, parts_text, report}, specs.Puts.{PutsText, CutsText}};
+ghost use Rattle.table_out.{specs.Report.{Table, EachHolds, printed, same_kind, part_text, parts_text, report_of}, specs.Puts.{PutsText, CutsText}};
 
 use crate::cells::{Prints, put_table};
 use crate::report_head::report_head;
@@ -93,10 +93,10 @@ fn put_report<O: Sink>(results: &Results, out: &mut O) -> Result<(), Failed>
     requires closed { AllClosed results.now.parts.items }
     ensures text { OnOk result ((tables : List Table) → EachHolds results.now.parts.items tables
         → Appends (O.written out.old) (O.written out.new)
-        (report results.now.header results.now.summary tables)) }
+        (report_of results.now tables)) }
     ensures short { OnErr result ((tables : List Table) → EachHolds results.now.parts.items tables
         → AppendsShort (O.written out.old) (O.written out.new)
-        (report results.now.header results.now.summary tables)) }
+        (report_of results.now tables)) }
     ensures cause { TriesOnce (O.faults out.old) (O.faults out.new) result }
 {
     let mut block = Block::new();
@@ -118,10 +118,10 @@ pub fn write_report<O: Sink>(results: &Results, out: &mut O) -> Result<(), Fault
     requires closed { AllClosed results.now.parts.items }
     ensures text { OnOk result ((tables : List Table) → EachHolds results.now.parts.items tables
         → Appends (O.written out.old) (O.written out.new)
-        (report results.now.header results.now.summary tables)) }
+        (report_of results.now tables)) }
     ensures short { OnErr result ((tables : List Table) → EachHolds results.now.parts.items tables
         → AppendsShort (O.written out.old) (O.written out.new)
-        (report results.now.header results.now.summary tables)) }
+        (report_of results.now tables)) }
     ensures fault { IfErr result (λ fault. fault ≡ Fault.WriteFault) }
     ensures cause { TriesOnce (O.faults out.old) (O.faults out.new) result }
 {

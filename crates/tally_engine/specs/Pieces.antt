@@ -1,11 +1,12 @@
 -- What a piece of the bytes does to a stream and to the tables behind it.
-use Rattle.std.specs.Prelude.{◌≡◌, ◌≢◌, ◌+◌, ℕ, List, ◌++◌, All, Result, Err, OnOk, IfErr, Ok}
-use Rattle.tally_base.{specs.declared.fault.Fault.Fault, specs.declared.fault.Fault.TheVariants.WriteFault, specs.declared.header.Mode.Mode, specs.Faults.fault_in}
+use Rattle.std.specs.Prelude.{◌≡◌, ◌≢◌, ◌+◌, ◌*◌, ◌≤◌, ℕ, List, ◌++◌, All, Result, Err, OnOk, IfErr, Ok}
+use Rattle.tally_base.{specs.declared.fault.Fault.Fault, specs.declared.fault.Fault.TheVariants.WriteFault, specs.declared.header.Mode.Mode, specs.Faults.fault_in, specs.Limits.record_limit}
 use Rattle.ptu_definitions.{specs.Shown.Shows, specs.Streams.{record_refusal, streamed, Reading}, specs.Words.words_of, specs.declared.records.Summary.Summary}
 use Rattle.record_stream.{specs.declared.stream.RecordStream.RecordStream, specs.Standing.{how_of, given_by, greatest_of, bytes_in, HasStreamed}}
 use Rattle.gate_plan.{specs.Shifting.Sorting, specs.Histories.{history, settled_history}}
 use Rattle.plan_parts.{specs.declared.part.Part.Part, specs.contracts.part.PartTally.TheImpl.ghosts, specs.Parts.AllHold}
 use Rattle.fed_parts.specs.Taker.{Standing}
+use Rattle.tally_engine.specs.Same.{SameTables}
 
 -- Where the old tables hold the events of these words, the new ones hold those of more words.
 abbrev pub HoldOn : Sorting → Reading → List ℕ → List ℕ → List Part → List Part → Type 0
@@ -32,3 +33,9 @@ pub record AnswersPiece (by : Sorting) (old new : RecordStream) (bytes piece : L
 pub record TablesFollow (mode : Mode) (old new : RecordStream) (parts : List Part) (more : ℕ) : Type 0 where
   pub standing : All (Standing ghosts mode (given_by new) (greatest_of new)) parts
   pub counted : bytes_in new ≡ bytes_in old + more
+
+-- Whatever is answered, the stream reads as before and within its limit, and each table keeps its settings.
+pub record StaysSame (old new : RecordStream) (parts parts' : List Part) : Type 0 where
+  pub limit : bytes_in new ≤ 4 * record_limit + 3
+  pub same_how : how_of new ≡ how_of old
+  pub tables : SameTables ghosts parts parts'

@@ -2,7 +2,7 @@
 ghost use Rattle.std.specs.Prelude.{◌≡◌, ℕ, ◌+◌, ◌*◌, ◌<◌, ◌≤◌, [], List, All, length, false, None, OnOk, IfErr};
 ghost use Rattle.record_stream.specs.Standing.{how_of, given_by, greatest_of, refused_with, bytes_in, HasStreamed};
 ghost use Rattle.tally_base.{specs.Faults.{fault_in, is_outside}, specs.Limits.record_limit, specs.Columns.{sorted, gathered}, proofs.Props.in_order-prop};
-ghost use Rattle.tally_engine.{specs.Pieces.{Ends, AnswersPiece, TablesFollow}, specs.Same.SameTables};
+ghost use Rattle.tally_engine.{specs.Pieces.{Ends, AnswersPiece, StaysSame, TablesFollow}, specs.Same.SameTables};
 ghost use Rattle.fed_parts.{specs.Ahead.{taken_with, floor_with}, specs.Taker.{Standing, Waits}};
 ghost use Rattle.gate_plan.specs.Groups.{sorting_of};
 ghost use Rattle.std.proofs.Props.{props};
@@ -113,9 +113,7 @@ pub(crate) fn feed_parts<L: Ledger>(
     ensures refused { refused_with stream.new ≡ fault_in result }
     ensures follow { OnOk result
         (TablesFollow mode stream.old stream.new parts.new (length piece.now)) }
-    ensures limit { bytes_in stream.new ≤ 4 * record_limit + 3 }
-    ensures same_how { how_of stream.new ≡ how_of stream.old }
-    ensures same_tables { SameTables ⟦<Part as Tally>⟧ parts.old parts.new }
+    ensures stays { StaysSame stream.old stream.new parts.old parts.new }
 {
     let mut taker = PartTaker {
         gates,

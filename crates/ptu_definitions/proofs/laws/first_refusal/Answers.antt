@@ -17,4 +17,7 @@ pub returns-clause-all : goal.returns-clause-all
 returns-clause-all c = given-all
 
 pub returns-clause-stays : goal.returns-clause-stays
-returns-clause-stays c = λ how words more fault h. (refused-more how words more fault h, given-stays how words more fault h)
+returns-clause-stays c = refused-more
+
+pub returns-clause-no_more : goal.returns-clause-no_more
+returns-clause-no_more c = given-stays

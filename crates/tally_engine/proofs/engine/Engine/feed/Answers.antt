@@ -34,7 +34,7 @@ returns-clause-taken g c = λ bytes h.
     let going : refused_with c.args.self.now.stream ≡ None = search rules in
     let count : length c.feed_parts.new.parts ≡ length c.args.self.now.parts.items = search rules in
     let all : c.args.self.now.parts.len ≡ length c.args.self.now.parts.items = search rules in
-    (answers.taken, λ none. rw (fed.same_how, whole_slice _ _ _ count all) (where_taken c.feed_parts.result _ fed.refused answers.counts none (h.1 going)))
+    (answers.taken, λ none. rw (fed.stays.same_how, whole_slice _ _ _ count all) (where_taken c.feed_parts.result _ fed.refused answers.counts none (h.1 going)))
 
 pub returns-clause-answer : goal.returns-clause-answer
 returns-clause-answer g c = λ none bytes h. (c.feed_parts.ensures.answers bytes h.0).answer
@@ -54,14 +54,14 @@ returns-in-Some-clause-shown g c = λ bytes h.
 
 pub returns-clause-same : goal.returns-clause-same
 returns-clause-same g c =
-    let tables = c.feed_parts.ensures.same_tables in
+    let tables = c.feed_parts.ensures.stays.tables in
     let count : length c.feed_parts.new.parts ≡ length c.args.self.now.parts.items = search rules in
     let all : c.args.self.now.parts.len ≡ length c.args.self.now.parts.items = search rules in
     record {
       same_header = refl;
       same_sorting = refl;
       same_parts = rw (whole_slice _ _ _ count all) (same_map _ _ _ count (rw c.deref_mut.ensures.value at tables.settings));
-      same_reading = c.feed_parts.ensures.same_how;
+      same_reading = c.feed_parts.ensures.stays.same_how;
     }
 
 pub returns-clause-within : goal.returns-clause-within
