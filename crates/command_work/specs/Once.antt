@@ -1,8 +1,8 @@
 -- Which counts of faults a call moved.
 use Rattle.std.specs.Prelude.{ℕ, ◌≡◌, Bool, true, false, None, Some}
 use Rattle.std.specs.declared.option.Option.{Option}
-use Rattle.tally_base.{specs.declared.slot.Slot.Slot, specs.declared.slot.Slot.TheVariants.{Plan, Data}, specs.declared.fault.Fault.Fault, specs.declared.fault.Fault.TheVariants.{OpenFault, ReadFault, WriteFault}}
-use Rattle.bench_io.{specs.Inputs.InputState, specs.CallCounts.one_more}
+use Rattle.tally_base.{specs.declared.slot.Slot.Slot, specs.declared.slot.Slot.TheVariants.{Plan, Data}, specs.declared.fault.Fault.Fault, specs.declared.fault.Fault.TheVariants.{OpenFault, ReadFault, WriteFault}, specs.FaultCounts.one_more}
+use Rattle.bench_io.specs.Inputs.{InputState}
 
 -- whether the fault says that an opening of the slot failed
 abbrev pub tells_opening : Option Fault → Slot → Bool

@@ -1,7 +1,8 @@
 // A trace without end.
 ghost use Rattle.std.specs.Prelude.{◌≡◌, ◌+◌, ◌*◌, ◌<◌, ◌≤◌, ◌&&◌, if◌then◌else◌, IfErr, OnOk, OnErr, max, slice_index, sum};
 ghost use Rattle.std.specs.Io.KnownBytes.{Appends};
-ghost use Rattle.bench_io.{specs.TriesOnce.TriesOnce, specs.Sinks.AppendsShort};
+ghost use Rattle.bench_io.specs.Sinks.{AppendsShort};
+ghost use Rattle.tally_base.specs.FaultCounts.{FailsOnce};
 ghost use Rattle.tally_base.specs.Events.{is_photon, is_in};
 
 use crate::closed::Closed;
@@ -73,7 +74,7 @@ impl LongTrace {
         ensures short { OnErr result (AppendsShort (O.written out.old) (O.written out.new)
             (first_line (trace_view (set_of self.old)))) }
         ensures fault { IfErr result (λ fault. fault ≡ Fault.WriteFault) }
-        ensures cause { TriesOnce (O.faults out.old) (O.faults out.new) result }
+        ensures cause { FailsOnce (O.faults out.old) (O.faults out.new) result }
         ensures same { self.new ≡ self.old }
         ensures held { held self.new ≤ 1032 }
     {
@@ -148,7 +149,7 @@ impl LongTrace {
             (O.written out.old) (O.written out.new) (printed_by self.old h)
             (printed_by self.old (h ++ (e.now, groups) ∷ []))) }
         ensures fault { IfErr result (λ fault. fault ≡ Fault.WriteFault) }
-        ensures cause { TriesOnce (O.faults out.old) (O.faults out.new) result }
+        ensures cause { FailsOnce (O.faults out.old) (O.faults out.new) result }
         ensures set { set_of self.new ≡ set_of self.old }
         ensures follows { (h : History) → Holds self.old h
             → Holds self.new (h ++ (e.now, groups) ∷ []) }
@@ -174,7 +175,7 @@ impl LongTrace {
             (O.written out.old) (O.written out.new) (printed_by self h)
             (whole_text (trace_view (set_of self)) h)) }
         ensures fault { IfErr result (λ fault. fault ≡ Fault.WriteFault) }
-        ensures cause { TriesOnce (O.faults out.old) (O.faults out.new) result }
+        ensures cause { FailsOnce (O.faults out.old) (O.faults out.new) result }
     {
         let closed = closed_with(&self.newest, self.closed);
         match put_end(&self.newest, self.before, &closed, out) {
@@ -198,7 +199,7 @@ fn write_or_refuse<O: Sink>(out: &mut O, bytes: &[u8]) -> Result<(), Fault>
     ensures text { OnOk result (Appends (O.written out.old) (O.written out.new) bytes.now) }
     ensures short { OnErr result (AppendsShort (O.written out.old) (O.written out.new) bytes.now) }
     ensures fault { IfErr result (λ fault. fault ≡ Fault.WriteFault) }
-    ensures cause { TriesOnce (O.faults out.old) (O.faults out.new) result }
+    ensures cause { FailsOnce (O.faults out.old) (O.faults out.new) result }
 {
     match write_all(out, bytes) {
         Ok(()) => Ok(()),

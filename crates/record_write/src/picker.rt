@@ -1,8 +1,8 @@
 // Writes photons one after another.
 ghost use Rattle.std.specs.Prelude.{◌≡◌, ◌≤◌, ◌↔◌, ◌++◌, ◌∷◌, [], List, Err, true, OnOk, OnErr, IfErr};
 ghost use Rattle.std.specs.Io.KnownBytes.{Appends};
-ghost use Rattle.tally_base.{specs.declared.event.Event.Event, specs.declared.fault.Fault.TheVariants.{PickTime, WriteFault}, specs.Events.is_photon};
-ghost use Rattle.bench_io.{specs.TriesOnce.TriesOnce, specs.Sinks.AppendsShort};
+ghost use Rattle.tally_base.{specs.declared.event.Event.Event, specs.declared.fault.Fault.TheVariants.{PickTime, WriteFault}, specs.Events.is_photon, specs.FaultCounts.FailsOnce};
+ghost use Rattle.bench_io.specs.Sinks.{AppendsShort};
 ghost use Rattle.ptu_definitions.specs.Fitting.{KindFits};
 ghost use Rattle.short_file.specs.ShortFiles.{bytes_in, short_header};
 ghost use Rattle.record_write.{specs.Picked.is_too_late, specs.Writing.{PutsOrCuts, WritesOrCuts, PickCause}};
@@ -47,7 +47,7 @@ impl Picker {
         ensures short { OnErr result (AppendsShort (O.written out.old) (O.written out.new)
             (short_header (mode_of self.now))) }
         ensures fault { IfErr result (λ fault. fault ≡ WriteFault) }
-        ensures cause { TriesOnce (O.faults out.old) (O.faults out.new) result }
+        ensures cause { FailsOnce (O.faults out.old) (O.faults out.new) result }
     {
         match write_all(out, &short_header(self.mode)) {
             Ok(()) => Ok(()),

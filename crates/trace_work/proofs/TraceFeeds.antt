@@ -1,9 +1,9 @@
 -- What a piece, and the end of a stream, write of a trace.
 use Rattle.std.proofs.Common.{◌≡◌, ◌≢◌, ◌∙◌, ◌≤◌, ◌<◌, ◌⊎◌, ℕ, List, [], ◌++◌, None, Some, Ok, Err, refl, sym, ap, subst, inl, inr, ⊎_elim, append_assoc, arith, length, length-append, Result, OnOk, OnErr, IfErr, false}
 use Rattle.std.{specs.declared.option.Option.Option, specs.Io.KnownBytes.{Appends, Keeps}}
-use Rattle.tally_base.{specs.declared.fault.Fault.Fault, specs.declared.fault.Fault.TheVariants.WriteFault, specs.Faults.{is_outside, fault_in}, specs.FaultCounts.Rose, specs.Settings.{TraceView, trace_view}, specs.Tally.History, specs.declared.slot.Failed.Failed}
+use Rattle.tally_base.{specs.declared.fault.Fault.Fault, specs.declared.fault.Fault.TheVariants.WriteFault, specs.Faults.{is_outside, fault_in}, specs.Settings.{TraceView, trace_view}, specs.Tally.History, specs.declared.slot.Failed.Failed, specs.FaultCounts.{FailsOnce, Rose}}
 use Rattle.told_text.specs.Texts.{WroteText, WritesText}
-use Rattle.bench_io.{specs.TriesOnce.TriesOnce, specs.Sinks.{AppendsShort, PassesOn}, specs.declared.sink.Sink.Ghosts as SinkGhosts, proofs.Bytes.{Appends-flushed, AppendsShort-flushed, AppendsShort-more, AppendsShort-kept, Keeps-from_none}}
+use Rattle.bench_io.{specs.Sinks.{AppendsShort, PassesOn}, specs.declared.sink.Sink.Ghosts as SinkGhosts, proofs.Bytes.{Appends-flushed, AppendsShort-flushed, AppendsShort-more, AppendsShort-kept, Keeps-from_none}}
 use Rattle.ptu_definitions.{specs.declared.records.Summary.Summary, specs.Kept.Marked, specs.Settled.not_marked, specs.Words.{words_of, rest_of}, specs.Streams.{Reading, record_refusal, last_in, streamed}, proofs.DeliveredLaws.not_marked-append}
 use Rattle.record_stream.{specs.declared.taker.EventTaker.Ghosts, specs.Feeding.{GaveOn, BrokeOn, Fed}, specs.Ending.{GaveRest, BrokeFirst, Ended}}
 use Rattle.gate_plan.{specs.Shifting.Sorting, specs.Histories.{with_groups, history}, proofs.Histories.with_groups-more}
@@ -165,15 +165,15 @@ module _ {T : Type 0} (g : Ghosts T) (trace : T → LongTrace) (told : T → Opt
     ends-short fault clear empty short (inr r) = let it = broke-last clear r.1 in AppendsShort-none (told b) c (rw it.3 at short)
 
     pub ends-both : (finished : Result Summary Fault) (flushed : Result (Unit {0}) Failed) → IfErr finished (λ fault. fault ≢ WriteFault → is_outside fault ≡ false) → record_refusal how (words_of bytes) ≡ None → held a ≡ []
-        → OnOk flushed (Appends (told b) c (held b)) → OnErr flushed (AppendsShort (told b) c (held b)) → TriesOnce (g.faults b) faults flushed → g.faults a ≤ g.faults b → Ended g how a b bytes finished
+        → OnOk flushed (Appends (told b) c (held b)) → OnErr flushed (AppendsShort (told b) c (held b)) → FailsOnce (g.faults b) faults flushed → g.faults a ≤ g.faults b → Ended g how a b bytes finished
         → WritesLast o by how (trace a) (trace b) out out' bytes (both_ended finished flushed)
     ends-both (Ok summary) (Ok done) inside clear empty flushed short cause later ended = ends-well summary flushed ended
     ends-both (Err fault) (Ok done) inside clear empty flushed short cause later ended = ends-refused fault inside clear empty flushed cause.later ended
-    ends-both (Ok summary) (Err failed) inside clear empty flushed short cause later ended = let rose = cause.failed in inr (refl, ends-cut summary short (omega (arith, later, rose)) ended)
+    ends-both (Ok summary) (Err failed) inside clear empty flushed short cause later ended = let rose = cause.once in inr (refl, ends-cut summary short (omega (arith, later, rose)) ended)
     ends-both (Err fault) (Err failed) inside clear empty flushed short cause later ended = absurd (ends-short fault clear empty short ended)
 
 -- no write is tried again that failed
-pub both-once : {T : Type 0} (g : Ghosts T) (how : Reading) (a b : T) (bytes : List ℕ) (faults : ℕ) (finished : Result Summary Fault) (flushed : Result (Unit {0}) Failed) → g.got a a [] → ((l : Marked) → g.got a b l → g.faults b ≡ g.faults a) → TriesOnce (g.faults b) faults flushed → Ended g how a b bytes finished
+pub both-once : {T : Type 0} (g : Ghosts T) (how : Reading) (a b : T) (bytes : List ℕ) (faults : ℕ) (finished : Result Summary Fault) (flushed : Result (Unit {0}) Failed) → g.got a a [] → ((l : Marked) → g.got a b l → g.faults b ≡ g.faults a) → FailsOnce (g.faults b) faults flushed → Ended g how a b bytes finished
     → OutOnce (fault_in (both_ended finished flushed)) (g.faults a) faults
 both-once g how a b bytes faults (Ok summary) (Ok done) none keeps cause ended = cause.kept ∙ keeps (last_in how (words_of bytes)) (ended.follows a [] none)
 both-once g how a b bytes faults (Err fault) (Ok done) none keeps cause (inl ended) = stays-same (tells_writing (Some fault)) _ _ (cause.kept ∙ ap g.faults ended.1)

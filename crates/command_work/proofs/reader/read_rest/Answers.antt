@@ -33,7 +33,7 @@ pieces-preserved g c =
 pub returns-in_default-clause-rest : goal.returns-in_default-clause-rest
 returns-in_default-clause-rest g c = λ bytes h.
     let at = c.pieces.invariant.so_far.1 bytes h in
-    rest-unread ⊥ at.1 (record { other = c.read.ensures.keeps_other; none = c.read.ensures.opens_none }) c.in_default.ensures.gives c.in_default.ensures.cause.failed c.in_default.ensures.cause.once
+    rest-unread ⊥ at.1 (record { other = c.read.ensures.keeps_other; none = c.read.ensures.opens_none }) c.in_default.ensures.gives c.in_default.ensures.cause.once c.in_default.ensures.cause.once
 
 pub returns-then-len-eq0-clause-rest : goal.returns-then-len-eq0-clause-rest
 returns-then-len-eq0-clause-rest g c = λ bytes h.

@@ -61,7 +61,7 @@ returns-in-Err g c =
     let has = has-later planned after (does.lacking it) view c.open.ensures.keeps_other (has-plan planned (does.lacking it) c.in_ok-plan.plan c.in_ok-plan.ensures.answer (none-lacking _ c.lacks.result c.lacks.ensures.answer c.in_default.not-Some)) in
     record {
       answer = inl refl;
-      causes = ((view, has), Rose-behind _ _ _ (c.plan_of.ensures.uses.keeps.open_faults Data) c.in-Err.ensures.cause.failed, Keeps-from_none _ _ (Appends-nil _));
+      causes = ((view, has), Rose-behind _ _ _ (c.plan_of.ensures.uses.keeps.open_faults Data) c.in-Err.ensures.cause.once, Keeps-from_none _ _ (Appends-nil _));
       asks = (
         takes-later planned after c.plan_of.ensures.takes c.open.ensures.keeps_other,
         λ asked. (

@@ -9,7 +9,7 @@ pub returns-in-Err : goal.returns-in-Err
 unfolding HasCauses
 returns-in-Err g c = record {
   answer = inl refl;
-  causes = (tt, c.in-Err.ensures.cause.failed, Keeps-from_none _ _ (Appends-nil _));
+  causes = (tt, c.in-Err.ensures.cause.once, Keeps-from_none _ _ (Appends-nil _));
   asks = (
     c.open.ensures.keeps_other.asked ∙ c.requires.first Plan,
     λ opened.

@@ -19,7 +19,7 @@ pub returns-in-Err-clause-reason : goal.returns-in-Err-clause-reason
 returns-in-Err-clause-reason g c =
     let so_far = c.pieces.invariant.taken in
     let piece = take c.in-Ok.len c.read.new.into in (
-      Rose-kept _ _ _ c.pieces.invariant.kept c.in-Err.ensures.cause.failed,
+      Rose-kept _ _ _ c.pieces.invariant.kept c.in-Err.ensures.cause.once,
       record {
         taken = so_far.0 ++ piece;
         consumes = Consumes-trans _ _ _ so_far.0 piece so_far.1 c.in-Ok.ensures.gives.0;

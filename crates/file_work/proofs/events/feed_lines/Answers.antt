@@ -10,7 +10,7 @@ returns-in-Ok-clause-writes g c = λ going bytes h.
 pub returns-in-Err-clause-writes : goal.returns-in-Err-clause-writes
 returns-in-Err-clause-writes g c = λ going bytes h.
     let later = c.feed-fed.ensures.later in
-    let rose = c.in-Err.ensures.cause.failed in
+    let rose = c.in-Err.ensures.cause.once in
     writes_cut _ (λ t. g.O.Sink.written t.out.now) (λ t. t.block) _ _ _ _ _ _ _ (listed_none _ _ _ _ _ _ _) (λ l is. rw c.requires.none.empty at is.text) (λ l is. is.kept) (λ l is. (rw c.requires.none.empty at is.text, is.empty)) c.feed-fed.result c.in-Err.ensures.short (omega (arith, later, rose)) (c.feed-fed.ensures.fed going bytes h)
 
 pub returns-in-Ok-clause-going : goal.returns-in-Ok-clause-going

@@ -45,7 +45,7 @@ returns-then-is_err-clause-fed g c = λ before h.
     inr (
       refl,
       block_broke s how c.args.taker.now c.take_block.new.self _ ahead.base ahead.greatest before (before ++ numbers c.args.words.now) es es h.clear (all.1 before h) ((all.1 before h).delivers c.requires.ready.plain)
-          (rw c.keep.ensures.kept at broke) (err_of c.take_block.result (sym c.is_err.ensures.value ∙ c.if-is_err.true) c.take_block.ensures.cause.failed),
+          (rw c.keep.ensures.kept at broke) (err_of c.take_block.result (sym c.is_err.ensures.value ∙ c.if-is_err.true) c.take_block.ensures.cause.once),
     )
 
 pub returns : goal.returns

@@ -12,4 +12,4 @@ returns-in_err-last_lines g c = λ bytes h holds.
 pub returns : goal.returns
 returns g c = λ bytes h holds.
     let wrote = c.in_ok-last_lines.ensures.writes bytes h holds in
-    last-ended g.O.Sink (sorting_of c.args.gates.now) (how_of c.args.stream) c.args.trace _ bytes _ _ _ c.finish.result c.last_lines.ensures.set (c.in_ok-last_lines.ensures.once bytes h) wrote (c.finish.ensures.text _ wrote.stands) (c.finish.ensures.short _ wrote.stands) c.finish.ensures.fault c.finish.ensures.cause.failed c.finish.ensures.cause.kept
+    last-ended g.O.Sink (sorting_of c.args.gates.now) (how_of c.args.stream) c.args.trace _ bytes _ _ _ c.finish.result c.last_lines.ensures.set (c.in_ok-last_lines.ensures.once bytes h) wrote (c.finish.ensures.text _ wrote.stands) (c.finish.ensures.short _ wrote.stands) c.finish.ensures.fault c.finish.ensures.cause.once c.finish.ensures.cause.kept

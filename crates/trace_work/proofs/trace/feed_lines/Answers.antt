@@ -16,7 +16,7 @@ returns-in-Ok-clause-writes g c = λ going bytes h holds.
 pub returns-in-Err-clause-writes : goal.returns-in-Err-clause-writes
 returns-in-Err-clause-writes g c = λ going bytes h holds.
     let later = c.feed-fed.ensures.later in
-    let rose = c.in-Err.ensures.cause.failed in
+    let rose = c.in-Err.ensures.cause.once in
     record {
       writes = feeds-cut _ (λ t. t.trace.now) (λ t. g.O.Sink.written t.out.now) (λ t. t.block) (sorting_of c.args.lines.now.gates.now) _ _ _ _ _ (traced_none _ _ _ _ _ _ _ _)
           (λ l is. record { lines = is.lines; given = is.given; text = rw c.requires.empty at is.text })

@@ -20,7 +20,7 @@ returns-in_err-start-clause-opens g c =
     let job = c.args.self.now in
     let suits = sym (rw c.mode-mode.ensures at c.in_ok-fits.ensures.answer) in
     let short = rw (c.new-picker.ensures.mode, c.mode-mode.ensures) at c.in_err-start.ensures.short in
-    rw (p.1, p.2, suits) (opens-cut (Unit {0}) (picks (chosen_by (plan_view job.plan.now) job.group) (reading_by (plan_view job.plan.now) c.args.header.now)) _ _ _ _ _ c.in_err-start.field-0.0 _ (picks-start _ _) c.in_err-start.ensures.fault short c.in_err-start.ensures.cause.failed)
+    rw (p.1, p.2, suits) (opens-cut (Unit {0}) (picks (chosen_by (plan_view job.plan.now) job.group) (reading_by (plan_view job.plan.now) c.args.header.now)) _ _ _ _ _ c.in_err-start.field-0.0 _ (picks-start _ _) c.in_err-start.ensures.fault short c.in_err-start.ensures.cause.once)
 
 pub returns-clause-opens : goal.returns-clause-opens
 returns-clause-opens g c =
