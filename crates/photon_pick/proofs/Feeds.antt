@@ -99,7 +99,6 @@ module _ {T : Type 0} (g : Ghosts T) (a b : T) (at : T → Stand) (chooses : Eve
       (λ (cut : RefusedCut s t (broke r.1).front (broke r.1).e).
       let it = cut-bytes s t chooses how.mode same_choice same_mode empty before total has.in_time has.picked r.1.front r.1.back (broke r.1) (broke-are r.1) cut in
       let short = cut-short s t chooses how.mode same_choice same_mode empty before total has.in_time has.picked r.1.front r.1.back (broke r.1) (broke-are r.1) cut in
-      let rose = cut.rose in
       rw (cut.fault) (
         inr (
           refl,
@@ -107,7 +106,7 @@ module _ {T : Type 0} (g : Ghosts T) (a b : T) (at : T → Stand) (chooses : Eve
             more = _;
             adds = it.1;
             cut = AppendsShort-more s.written c _ it.0 (AppendsShort-kept s.written t.written c _ short.0 (Keeps-from_none t.written c (rw short.1 at flushed)));
-            rose = omega (arith, rose, still);
+            rose = rw still cut.rose;
           },
         ),
         tt,

@@ -49,14 +49,14 @@ impl<'g, 'p, 'o, O: Sink> EventTaker for Picks<'g, 'p, 'o, O> {
     ghost use Rattle.photon_pick.specs.Taking.{Took, Refused, took_none, stand};
 
     ghost got = { λ s t l. Took (stand (is_chosen (sorting_of s.gates.now) s.group) s.picker.now s.mode s.taken s.floor
-        (O.faults s.out.now + s.refusals) (O.faults s.out.now) (O.written s.out.now) s.block s.fault)
+        (O.faults s.out.now) (O.written s.out.now) s.block s.fault)
         (stand (is_chosen (sorting_of t.gates.now) t.group) t.picker.now t.mode t.taken t.floor
-        (O.faults t.out.now + t.refusals) (O.faults t.out.now) (O.written t.out.now) t.block t.fault) l };
+        (O.faults t.out.now) (O.written t.out.now) t.block t.fault) l };
 
     ghost broke = { λ s t l. Refused (stand (is_chosen (sorting_of s.gates.now) s.group) s.picker.now s.mode s.taken s.floor
-        (O.faults s.out.now + s.refusals) (O.faults s.out.now) (O.written s.out.now) s.block s.fault)
+        (O.faults s.out.now) (O.written s.out.now) s.block s.fault)
         (stand (is_chosen (sorting_of t.gates.now) t.group) t.picker.now t.mode t.taken t.floor
-        (O.faults t.out.now + t.refusals) (O.faults t.out.now) (O.written t.out.now) t.block t.fault) l };
+        (O.faults t.out.now) (O.written t.out.now) t.block t.fault) l };
 
     ghost same = { λ s t. (t.out.ghost_name ≡ s.out.ghost_name)
         × (t.picker.ghost_name ≡ s.picker.ghost_name) };
@@ -71,7 +71,7 @@ impl<'g, 'p, 'o, O: Sink> EventTaker for Picks<'g, 'p, 'o, O> {
 
     ghost floor = { λ t. t.floor };
 
-    ghost faults = { λ t. O.faults t.out.now + t.refusals };
+    ghost faults = { λ t. t.refusals };
 
     ghost got_none = { λ t. took_none _ };
 

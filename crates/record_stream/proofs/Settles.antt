@@ -126,6 +126,7 @@ module _ {T : Type 0} (g : Ghosts T) where
     got = λ start l got. subst (λ m. g.got start t m) (sym (ap (λ m. l ++ m) is ∙ append-nil l)) got;
     summary = ap (λ m. with_marks (summary_in walk) m) (sym is);
     counted = sym (ap (λ m. given_by walk + length m) is ∙ add-zero (given_by walk));
+    kept = refl;
   }
 
   -- an event that adds one, which was given or broke the taker
@@ -143,6 +144,7 @@ module _ {T : Type 0} (g : Ghosts T) where
         got = subst (λ m. (start : T) (l : Marked) → g.got start t l → g.got start now (l ++ m)) (sym is) gave.got;
         summary = subst (λ m. summary_in new ≡ with_marks (summary_in old) m) (sym is) gave.noted.summary;
         counted = subst (λ (m : Marked). given_by new ≡ given_by old + length m) (sym is) gave.noted.given;
+        kept = cause.kept;
       }
   tells_one (Err y) old new from settle t now before given e x late top none is all_is settled moved in_order gave broken fault cause =
       inr (

@@ -118,6 +118,7 @@ pub(crate) fn give_rest<S: EventTaker>(
         ≡ with_marks (summary_in walk.old) (marked_as false (kept_back settle.old))) }
     ensures broken { IfErr result (λ fault. (fault ≡ WriteFault)
         × BrokeFirst S.EventTaker taker.old taker.new (marked_as false (kept_back settle.old))) }
+    ensures cause { FailsOnce (S.faults taker.old) (S.faults taker.new) result }
     ensures stays { Stays S.EventTaker walk.old walk.new taker.old taker.new }
 {
     while let Some(event) = settle.pop() {

@@ -56,6 +56,7 @@ pub record WroteLast {O : Type 0} (o : Ghosts O) (by : Sorting) (how : Reading) 
   pub more : List ℕ
   pub adds : open_text (trace_view (set_of trace)) (history by how (words_of bytes)) ≡ words_traced (Some (trace_view (set_of trace))) by how (words_of bytes) ++ more
   pub written : Appends (o.written old) (o.written new) more
+  pub kept : o.faults new ≡ o.faults old
 
 -- The lines were cut short.
 pub record CutLast {O : Type 0} (o : Ghosts O) (by : Sorting) (how : Reading) (trace : LongTrace) (old new : O) (bytes : List ℕ) : Type 0 where
@@ -69,7 +70,7 @@ pub record CutLast {O : Type 0} (o : Ghosts O) (by : Sorting) (how : Reading) (t
 abbrev pub WritesLast : {O : Type 0} → Ghosts O → Sorting → Reading → LongTrace → LongTrace → O → O → List ℕ → Result (Unit {0}) Fault → Type 0
 WritesLast o by how trace now old new bytes (Ok done) = WroteLast o by how trace now old new bytes
 WritesLast o by how trace now old new bytes (Err fault) =
-    ((is_outside fault ≡ false) × (fault_in (streamed how bytes) ≡ Some fault) × Keeps (o.written old) (o.written new)) ⊎ ((fault ≡ WriteFault) × CutLast o by how trace old new bytes)
+    ((is_outside fault ≡ false) × (fault_in (streamed how bytes) ≡ Some fault) × Keeps (o.written old) (o.written new) × (o.faults new ≡ o.faults old)) ⊎ ((fault ≡ WriteFault) × CutLast o by how trace old new bytes)
 
 -- what ends a stream whose last lines are flushed
 abbrev pub both_ended : {X Y : Type 0} → Result X Fault → Result (Unit {0}) Y → Result (Unit {0}) Fault

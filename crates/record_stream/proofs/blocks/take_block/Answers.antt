@@ -72,7 +72,7 @@ returns g c =
           h (all.1 before h) ((all.1 before h).delivers c.requires.ready.plain) (c.go_on.ensures.same_mode ∙ walk.same_mode) placed c.go_on.ensures.base c.go_on.ensures.greatest sums kinds counted;
       fed = λ before h.
           block_fed s how c.args.taker.now c.take_block.new.self _ ahead.base ahead.greatest before (before ++ numbers words) es es h.clear (all.1 before h) ((all.1 before h).delivers c.requires.ready.plain)
-          (rw c.keep.ensures.kept at (ok_of r fine c.take_block.ensures.follows));
+          (rw c.keep.ensures.kept at (ok_of r fine c.take_block.ensures.follows)) (ok_of r fine c.take_block.ensures.cause.kept);
       goes_on =
           let follows = c.requires.ready.follows in
           let many : length (gathered c.keep.new.self) ≡ ahead.len = ap length c.keep.ensures.kept ∙ length-rows (event_at b) ahead.len in

@@ -71,4 +71,4 @@ returns-clause-follows g c = λ start l h.
     let new = pen c.give_photons-given.new.picker (g.O.Sink.written c.give_photons-given.new.out) c.give_photons-given.new.block (g.O.Sink.faults c.give_photons-given.new.out) in
     let gave : Gave old new (filter p es) = subst (λ ps. Gave old new ps) c.choose-many.ensures.chosen c.in_default.ensures.gave in
     let counted : t.taken + c.len.result ≡ t.taken + length es = ap (λ n. t.taken + n) c.len.ensures.value in
-    Took-block _ _ l h t.of_mode es new _ _ _ gave c.requires.in_order counted (rw c.orders_markers.ensures at c.floor_after-self.ensures) (ap (λ n. n + t.refusals) gave.kept)
+    Took-block _ _ l h t.of_mode es new _ _ gave c.requires.in_order counted (rw c.orders_markers.ensures at c.floor_after-self.ensures)
