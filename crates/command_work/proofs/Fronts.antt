@@ -1,10 +1,10 @@
 -- What stands in front of the rest, and the rest.
-use Rattle.std.proofs.Common.{◌≡◌, ◌∙◌, ℕ, List, [], ◌++◌, Some, Ok, Err, refl, ap, inl, inr, ⊎_elim, append_assoc, append-nil, arith, Result}
+use Rattle.std.proofs.Common.{◌≡◌, ◌∙◌, ℕ, List, [], ◌++◌, Some, Ok, Err, refl, ap, inl, inr, ⊎_elim, append_assoc, append-nil, Result}
 use Rattle.std.{specs.declared.option.Option.Option, proofs.lemmas.Result.IfErr-weaker}
-use Rattle.tally_base.{specs.declared.fault.Fault.Fault, specs.declared.fault.Fault.TheVariants.WriteFault, specs.declared.slot.Slot.TheVariants.Data, specs.Faults.fault_in, proofs.Reasons.HasReason-follows}
-use Rattle.bench_io.{specs.Inputs.InputState, specs.Given.MayFollow, proofs.Givens.Consumes-nil, proofs.Bytes.{Appends-trans, AppendsShort-behind}}
+use Rattle.tally_base.{specs.declared.fault.Fault.Fault, specs.declared.fault.Fault.TheVariants.WriteFault, specs.Faults.fault_in, proofs.Reasons.HasReason-follows}
+use Rattle.bench_io.{specs.Inputs.InputState, proofs.Givens.Consumes-nil, proofs.Bytes.{Appends-trans, AppendsShort-behind}}
 use Rattle.told_text.{specs.Texts.{WroteText, CutText, WritesText}, proofs.Texts.{WroteText-trans, CutText-behind, CutText-more}}
-use Rattle.command_work.{specs.Endings.Span, specs.Tellings.{Telling, IsText, Opens}, specs.Rests.{EndsText, CutsMore, CutsText, ReadsText, ReadsRest}, proofs.Once.{counts-behind, quiet-memory, once-refl, Rose-kept}, proofs.TellingLaws.end_with, proofs.RestEnds.{writes-reason, writes-once, writes-quiet}}
+use Rattle.command_work.{specs.Endings.Span, specs.Tellings.{Telling, IsText, Opens}, specs.Rests.{EndsText, CutsText, ReadsText, ReadsRest}, proofs.Once.{counts-behind, quiet-memory, once-refl, Rose-kept}, proofs.TellingLaws.end_with, proofs.RestEnds.{writes-reason, writes-once, writes-quiet}}
 
 -- a text was written before
 pub WritesText-behind : (shown mid grown : List ℕ) (refused : Option Fault) (a b c : Option (List ℕ)) (before between after : ℕ) (r : Result (Unit {0}) Fault) → WroteText shown mid a b before between → WritesText mid grown refused b c between after r → WritesText shown grown refused a c before after r

@@ -1,10 +1,10 @@
 -- A header, and what reading all data after it leaves.
-use Rattle.std.proofs.Common.{◌≡◌, ◌∙◌, ◌<◌, ℕ, List, [], ◌++◌, None, Some, Ok, Err, refl, sym, ap, subst, inl, inr, ⊎_elim, append_assoc, append-nil, length, ◌⊎◌, true, Result, IfErr, IsErrAnd}
-use Rattle.std.{specs.declared.option.Option.Option, specs.Io.KnownBytes.Appends, proofs.lemmas.Result.IfErr-weaker}
+use Rattle.std.proofs.Common.{◌≡◌, ◌∙◌, ◌<◌, ℕ, List, [], ◌++◌, None, Some, Ok, Err, refl, sym, ap, subst, inl, inr, ⊎_elim, append_assoc, append-nil, length, ◌⊎◌, true, Result, IsErrAnd}
+use Rattle.std.{specs.declared.option.Option.Option, proofs.lemmas.Result.IfErr-weaker}
 use Rattle.tally_base.{specs.declared.fault.Fault.Fault, specs.declared.slot.Slot.TheVariants.Data, specs.declared.header.Header.Header, specs.Faults.{is_outside, fault_in}, proofs.Reasons.{HasReason-follows, HasReason-with}}
 use Rattle.bench_io.{specs.Given.{Given, Consumes}, specs.Inputs.InputState, proofs.Givens.Consumes-trans, proofs.Bytes.{Appends-nil, Appends-same, AppendsShort-same}}
 use Rattle.ptu_definitions.specs.Headers.{header_answer}
-use Rattle.command_work.{specs.Told.Says, specs.Once.InputsOnce, specs.Outcomes.{Outcome, refused, IsCut}, specs.Behaviours.{piece_limit, Work, Writing}, specs.Endings.Span, specs.Works.{AnswersWork, ReadsWork, CutsWork, WantsWork, WorkReason, TakesFew, LeavesWork}}
+use Rattle.command_work.{specs.Told.Says, specs.Once.InputsOnce, specs.Outcomes.{Outcome, IsCut}, specs.Behaviours.{piece_limit, Work, Writing}, specs.Endings.Span, specs.Works.{AnswersWork, ReadsWork, CutsWork, WantsWork, TakesFew, LeavesWork}}
 use Rattle.command_work.{specs.Pieces.{ReadReason, StopsSoon}, specs.Tellings.{Telling, headed_end, headed_text, HeadedGoes, Suits}, specs.Rests.{EndsText, ReadsText, CutsText, WantsMemory, ReadsRest}, proofs.Once.{Rose-kept, out-unwritten, once-behind}, proofs.Few.{few-map, few-behind}, proofs.Pieces.ShowsHeader, proofs.Fronts.still}
 
 module _ (work : Work) (writing : Writing (List ℕ → List ℕ)) (wanting : List ℕ → Type 0) (tells : Header → Telling) (wants : Header → Type 0) (suits : Suits work writing wanting tells wants) where

@@ -1,11 +1,9 @@
 -- Counts that stay over several calls, and move by one that failed.
-use Rattle.std.proofs.Common.{ℕ, ◌≡◌, List, [], Bool, true, false, None, Some, Ok, Err, refl, sym, ap, subst, ⊎_elim, Result, IfErr}
+use Rattle.std.proofs.Common.{ℕ, ◌≡◌, Bool, true, false, None, Some, refl, ap, subst}
 use Rattle.std.specs.declared.option.Option.{Option}
-use Rattle.tally_base.{specs.declared.slot.Slot.Slot, specs.declared.slot.Slot.TheVariants.{Plan, Data}, specs.declared.fault.Fault.Fault, specs.declared.fault.Fault.TheVariants.{OpenFault, ReadFault, WriteFault, OutOfMemory}, specs.Faults.{fault_in, is_outside, HasReason}, specs.FaultCounts.Rose}
+use Rattle.tally_base.{specs.declared.slot.Slot.Slot, specs.declared.slot.Slot.TheVariants.{Plan, Data}, specs.declared.fault.Fault.Fault, specs.declared.fault.Fault.TheVariants.{OpenFault, ReadFault, WriteFault, OutOfMemory}, specs.Faults.{is_outside, HasReason}, specs.FaultCounts.Rose}
 use Rattle.bench_io.specs.Inputs.{InputState, KeepsOther, OpensNone}
-use Rattle.ptu_definitions.{specs.Kept.Marked, specs.Streams.{Reading, record_refusal}}
-use Rattle.record_stream.{specs.declared.taker.EventTaker.Ghosts, specs.Feeding.{GaveOn, BrokeOn, Fed}}
-use Rattle.command_work.specs.Once.{tells_opening, tells_reading, tells_writing, CountsIf, InputsOnce, OutOnce}
+use Rattle.command_work.specs.Once.{tells_opening, tells_reading, CountsIf, InputsOnce, OutOnce}
 
 pub Rose-kept : (before mid now : ℕ) → mid ≡ before → Rose mid now → Rose before now
 Rose-kept before mid now same rose = subst (λ (n : ℕ). Rose n now) same rose

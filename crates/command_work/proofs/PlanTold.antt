@@ -1,10 +1,10 @@
 -- What a command by a plan leaves, whatever its work is.
-use Rattle.std.proofs.Common.{◌≡◌, ℕ, List, true, false, None, Some, Ok, Err, refl, sym, ap, ◌∙◌, subst, inl, inr, Result}
+use Rattle.std.proofs.Common.{◌≡◌, ℕ, List, true, false, None, Some, Ok, Err, refl, sym, ◌∙◌, subst, inl, inr, Result}
 use Rattle.std.specs.declared.option.Option.{Option}
 use Rattle.tally_base.{specs.declared.fault.Fault.Fault, specs.declared.slot.Slot.Slot, specs.declared.slot.Slot.TheVariants.Plan as PlanSlot, specs.declared.slot.Slot.TheVariants.Data, specs.Faults.{is_outside, fault_in}, proofs.Reasons.{HasReason-follows, HasReason-inside}}
 use Rattle.bench_io.{specs.Given.{Given, no_bytes, IsOf}, specs.Inputs.{File, InputState, IsOpened, KeepsOther}, proofs.Bytes.{Appends-nil, Keeps-from_none}}
-use Rattle.plan_text.{specs.declared.plan.Plan.Plan, specs.Plan.PlanView, specs.Reading.{plan_view, plan_answer, plan_seen}}
-use Rattle.command_work.{specs.Outcomes.{Outcome, refused}, specs.PlanPieces.{IsRead, AnswersPlan, PlanReason}, specs.Behaviours.{Work, Writing, AtEnd, AsItReads, under, Memory, Behaviour, ByPlan}, specs.Works.{AnswersWork, WorkReason}, specs.Endings.{FileOf, IsPlan, HasPlan, OpensAs, ToldAreIts, TakesPlan, EndsWith, Answers, Cuts, WantsBehind, Span, HasCauses, on_file, outcome}, specs.Once.InputsOnce, proofs.Once.Rose-kept, proofs.Told.{all-taken, FileOf-kept}, proofs.WorkTold.{told-is-its, ends-told, stops-told, cuts-told}}
+use Rattle.plan_text.{specs.declared.plan.Plan.Plan, specs.Plan.PlanView, specs.Reading.{plan_view}}
+use Rattle.command_work.{specs.Outcomes.{Outcome, refused}, specs.PlanPieces.{IsRead, AnswersPlan, PlanReason}, specs.Behaviours.{Work, Writing, AtEnd, AsItReads, under, Memory, Behaviour, ByPlan}, specs.Works.{AnswersWork, WorkReason}, specs.Endings.{IsPlan, HasPlan, OpensAs, ToldAreIts, TakesPlan, EndsWith, Answers, Cuts, WantsBehind, Span, HasCauses, on_file, outcome}, specs.Once.InputsOnce, proofs.Once.Rose-kept, proofs.Told.{all-taken, FileOf-kept}, proofs.WorkTold.{told-is-its, ends-told, stops-told, cuts-told}}
 
 -- a plan that was read is that of each file that may be the one read
 pub has-plan : (after : InputState) (lacks : PlanView → Option Fault) (plan : Plan) → AnswersPlan after (Ok plan) → lacks (plan_view plan) ≡ None → HasPlan after lacks (plan_view plan)

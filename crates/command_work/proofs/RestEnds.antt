@@ -2,9 +2,9 @@
 use Rattle.std.proofs.Common.{◌≡◌, ◌∙◌, ◌≤◌, ℕ, List, [], ◌++◌, None, Some, Ok, Err, refl, ap, inl, inr, ⊎_elim, append_assoc, append-nil, length, take, arith, ◌⊎◌, true, false, Result, IfErr, IsErrAnd}
 use Rattle.std.{specs.declared.option.Option.Option, proofs.lemmas.List.length-take}
 use Rattle.tally_base.{specs.declared.fault.Fault.Fault, specs.declared.fault.Fault.TheVariants.{ReadFault, WriteFault}, specs.declared.slot.Slot.Slot, specs.declared.slot.Slot.TheVariants.Data, specs.Faults.{is_outside, fault_in, HasReason}, proofs.Reasons.HasReason-inside, specs.FaultCounts.Rose}
-use Rattle.bench_io.{specs.Given.{Consumes, IsAtEnd, MayFollow}, specs.Inputs.{InputState, KeepsOther, OpensNone}, proofs.Givens.{Consumes-nil, Consumes-kept, Consumes-trans}}
+use Rattle.bench_io.{specs.Given.{Consumes, IsAtEnd}, specs.Inputs.{InputState, KeepsOther, OpensNone}, proofs.Givens.{Consumes-nil, Consumes-kept, Consumes-trans}}
 use Rattle.told_text.{specs.Texts.{WroteText, CutText, WritesText}, proofs.Texts.{WroteText-none, WroteText-trans, CutText-behind, CutText-more}}
-use Rattle.command_work.{specs.Once.{InputsOnce, OutOnce}, specs.Behaviours.piece_limit, specs.Endings.{Span, Once}, specs.Works.TakesFew, specs.Tellings.{Telling, IsText, WritesPiece, WritesEnd}, specs.Rests.{EndsText, ReadsRest}, proofs.Once.{out-inside, counts-behind, IsQuiet, quiet-none, quiet-write, quiet-inside, once-refl, once-read, once-unread, Rose-kept}, proofs.TellingLaws.{end_with, same-end}}
+use Rattle.command_work.{specs.Once.{InputsOnce, OutOnce}, specs.Behaviours.piece_limit, specs.Endings.{Span}, specs.Works.TakesFew, specs.Tellings.{Telling, IsText, WritesPiece, WritesEnd}, specs.Rests.{EndsText, ReadsRest}, proofs.Once.{out-inside, counts-behind, IsQuiet, quiet-none, quiet-write, quiet-inside, once-refl, once-read, once-unread, Rose-kept}, proofs.TellingLaws.{end_with, same-end}}
 
 abbrev pub later : Span → InputState → Option (List ℕ) → ℕ → Span
 later at after new faults = record at { after = after; new = new; faults_after = faults }

@@ -1,9 +1,9 @@
 -- What the work on a file leaves of the whole run.
-use Rattle.std.proofs.Common.{◌≡◌, ℕ, List, [], ◌++◌, true, None, Some, Ok, Err, refl, sym, ap, ◌∙◌, subst, inl, inr, ◌⊎◌, Result, IsSome, OnOk, OnErr, IfErr}
+use Rattle.std.proofs.Common.{◌≡◌, ℕ, List, ◌++◌, true, None, Some, refl, sym, ap, ◌∙◌, subst, inl, inr, Result, IsSome}
 use Rattle.std.{specs.declared.option.Option.Option, specs.Io.KnownBytes.Appends}
-use Rattle.tally_base.{specs.declared.fault.Fault.Fault, specs.declared.fault.Fault.TheVariants.WriteFault, specs.FaultCounts.Rose, specs.declared.slot.Slot.Slot, specs.declared.slot.Slot.TheVariants.Data, specs.Faults.{is_outside, fault_in, HasReason}, proofs.Reasons.HasReason-follows}
-use Rattle.bench_io.{specs.Inputs.{File, InputState, IsOpened}, specs.Given.{Given, no_bytes, Consumes, IsOf}, specs.Sinks.AppendsShort, proofs.Bytes.{Appends-nil, Keeps-from_none}}
-use Rattle.command_work.{specs.Told.Says, specs.Outcomes.{Outcome, refused, written}, specs.Behaviours.{Work, Writing, AtEnd, so_far, OnFile}, specs.Works.{AnswersWork, EndsWork, ReadsWork, CutsWork, WantsNone, WorkReason, TakesFew}, specs.Endings.{FileOf, outcome, on_file, Answers, EndsWith, StopsIn, Cuts, Span, TakesData, HasCauses}, specs.Once.InputsOnce, proofs.Once.Rose-kept, proofs.Told.{Splits, all-taken, file-splits}}
+use Rattle.tally_base.{specs.declared.fault.Fault.Fault, specs.declared.slot.Slot.Slot, specs.declared.slot.Slot.TheVariants.Data, specs.Faults.{fault_in}, proofs.Reasons.HasReason-follows}
+use Rattle.bench_io.{specs.Inputs.{File, InputState, IsOpened}, specs.Given.{Given, no_bytes, IsOf}}
+use Rattle.command_work.{specs.Outcomes.{Outcome}, specs.Behaviours.{Work, Writing, so_far, OnFile}, specs.Works.{AnswersWork, EndsWork, ReadsWork, CutsWork, WantsNone, WorkReason, TakesFew}, specs.Endings.{FileOf, outcome, on_file, Answers, EndsWith, StopsIn, Cuts, Span, TakesData, HasCauses}, specs.Once.InputsOnce, proofs.Once.Rose-kept, proofs.Told.{all-taken, file-splits}}
 
 -- a file that is told may be the slot's
 pub told-is-its : (contents : Option File) (after : InputState) (slot : Slot) (file : File) → (after.opened slot ≡ true → IsOpened contents (after.told slot)) → ((bytes : List ℕ) → after.told slot ≡ Some bytes → IsOf (after.given slot) bytes) → contents ≡ Some file → FileOf after slot file

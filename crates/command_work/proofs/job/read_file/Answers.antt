@@ -1,6 +1,5 @@
 use Rattle.std.proofs.Common.{arith}
-use Rattle.std.{proofs.lemmas.Result.err_from_is_err_and, specs.List.slice_range}
-use Rattle.bench_io.specs.Inputs.{InputState}
+use Rattle.std.{proofs.lemmas.Result.err_from_is_err_and}
 use Rattle.command_work.{specs.Endings.span, proofs.Headed.{leaves-rest, leaves-unheaded}, proofs.Pieces.few_behind}
 use Rattle.command_work.proofs.job.read_file.Goals as goal
 
