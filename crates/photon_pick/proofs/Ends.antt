@@ -88,7 +88,9 @@ module _ {T : Type 0} (g : Ghosts T) (a b : T) (at : T → Stand) (chooses : Eve
 
   -- What the end wrote, where the block was flushed.
   pub ends-on : (r : Result Summary Fault) → s.fault ≡ None → Appends t.written c t.held → faults ≡ t.sink → Ended g how a b bytes r → WritesEnd chooses how s.written c s.sink faults bytes (answer_by t.fault r)
-  ends-on (Ok sum) free flushed still h = (gave-clear sum h, gave-wrote sum h flushed still)
+  ends-on (Ok sum) free flushed still h =
+      let kept : t.fault ≡ None = (gave sum h).same_fault ∙ free in
+      rw kept (gave-clear sum h, gave-wrote sum h flushed still)
   ends-on (Err fault) free flushed still h =
       ⊎_elim
       (λ (r : (streamed how bytes ≡ Err fault) × (b ≡ a)).

@@ -75,7 +75,9 @@ module _ {T : Type 0} (g : Ghosts T) (a b : T) (at : T → Stand) (chooses : Eve
   -- What a piece wrote, where the block was flushed.
   pub feeds-on : (r : Result (Unit {0}) Fault) → s.fault ≡ None → Appends t.written c t.held → faults ≡ t.sink → Fed g how a b words now r
       → WritesText (text words) (text now) (refuses now) s.written c s.sink faults (answer_by t.fault r) × OnOk (answer_by t.fault r) (HasPickedIn chooses how t.picker now)
-  feeds-on (Ok done) free flushed still fed = ((gave-clear fed.1 None fed.0, gave-wrote fed.1 flushed still), gave-stands fed.1)
+  feeds-on (Ok done) free flushed still fed =
+      let kept : t.fault ≡ None = (gave fed.1).same_fault ∙ free in
+      rw kept ((gave-clear fed.1 None fed.0, gave-wrote fed.1 flushed still), gave-stands fed.1)
   feeds-on (Err fault) free flushed still fed =
       ⊎_elim
       (λ (r : (record_refusal how now ≡ Some fault) × GaveOn g how a b words now).

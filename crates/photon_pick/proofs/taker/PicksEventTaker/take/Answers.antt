@@ -22,7 +22,7 @@ returns-in-Ok-clause-follows g c = λ start l h.
     c.in-Ok.ensures.cause.kept (rw same at soon) c.in-Ok.ensures.picks.picked (λ behind stands. rw same at (c.in-Ok.ensures.puts behind stands).puts)
 
 pub returns-in-Err-clause-broken : goal.returns-in-Err-clause-broken
-returns-in-Err-clause-broken g c = λ start l h.
+returns-in-Err-clause-broken g c = λ start l h none.
     let some : c.is_wanted-wanted.result ≡ true = search rules in
     let same = c.args.self.now.of_mode in
     let one = wanted-one _ c.args.event.now c.args.late (sym c.is_wanted-wanted.ensures ∙ some) in
