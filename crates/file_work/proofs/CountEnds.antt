@@ -6,7 +6,7 @@ use Rattle.bench_io.specs.Sinks.{AppendsShort}
 use Rattle.told_text.proofs.Texts.{WroteText-none}
 use Rattle.ptu_definitions.{specs.declared.records.KindCounts.KindCounts, specs.Words.words_of, specs.Counted.{counted, record_limit}}
 use Rattle.record_layout.{specs.declared.counter.Counter.Counter, specs.Counting.HasCounted}
-use Rattle.command_work.{specs.Outcomes.Outcome, specs.Tellings.{WritesPiece, WritesEnd}}
+use Rattle.command_work.{specs.Tellings.{WritesPiece, WritesEnd}}
 use Rattle.file_work.{specs.CountText.counts_text, specs.FileOutcomes.{with_counts, count_outcome}, specs.CountPieces.{counts, CountsBytes}, specs.CountLaws.{counts-clear, counts-many}}
 
 -- records that were not refused aren't too many

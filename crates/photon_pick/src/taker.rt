@@ -34,6 +34,7 @@ pub(crate) struct Picks<'g, 'p, 'o, O: Sink> {
     pub(crate) block: Block,
     // Why a photon was refused. Then no other is given to the picker.
     pub(crate) fault: Option<Fault>,
+    // How often it failed.
     pub(crate) refusals: u64,
     pub(crate) mode: Mode,
     pub(crate) taken: u64,
