@@ -1,4 +1,4 @@
-use Rattle.std.proofs.Common.{◌≡◌, ◌+◌, ℕ, List, None, Some, refl, ap}
+use Rattle.std.proofs.Common.{◌≡◌, ℕ, List, None, Some, refl, ap}
 use Rattle.std.specs.declared.option.Option.{Option}
 use Rattle.tally_base.specs.declared.fault.Fault.{Fault}
 use Rattle.abs_time.specs.declared.clock.Clock.{Clock}

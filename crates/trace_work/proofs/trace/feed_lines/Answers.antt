@@ -35,4 +35,4 @@ returns-in-Err-clause-fed g c = record { same_how = c.feed-fed.ensures.same_how;
 pub returns-in-Ok-clause-behind : goal.returns-in-Ok-clause-behind
 returns-in-Ok-clause-behind g c =
     let taker = c.feed-fed.new.taker in
-    on_ok_weaker c.feed-fed.result (λ f. record { few = omega (arith, f.few, taker.few); before = omega (arith, f.before, taker.before) }) c.feed-fed.ensures.follows
+    on_ok_weaker c.feed-fed.result (λ f. record { going = taker.going; few = omega (arith, f.few, taker.few); before = omega (arith, f.before, taker.before) }) c.feed-fed.ensures.follows

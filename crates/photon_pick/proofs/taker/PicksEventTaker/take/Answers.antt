@@ -1,4 +1,4 @@
-use Rattle.std.proofs.Common.{◌≡◌, ◌∙◌, ◌+◌, Bool, true, false, Some, Err, sym, ap, refl, rules, ⊎_elim}
+use Rattle.std.proofs.Common.{◌≡◌, ◌∙◌, Bool, true, false, Some, Err, sym, ap, refl, rules, ⊎_elim}
 use Rattle.record_write.specs.Picked.{is_too_late}
 use Rattle.photon_pick.proofs.Steps.{wanted-none, wanted-one, Took-passed, Took-picked, Refused-late, Refused-cut}
 use Rattle.photon_pick.proofs.taker.PicksEventTaker.take.Goals as goal
@@ -36,4 +36,4 @@ returns-in-Err-clause-broken g c = λ start l h none.
     let told = ap Err cut.0 in
     let soon : is_too_late c.args.self.now.picker.now.mode c.args.event.now.time ≡ false = is-false _ (λ late. let bad = c.in-Err.ensures.late.1 late in let fault = cut.0 in cc) in
     Refused-cut _ _ l h c.args.event.now c.args.late one (g.O.Sink.written c.put.new.out) c.put.new.block _ (rw same at soon) (ap Some cut.0) cut.1 refl refl (λ behind stands. rw same at ((c.in-Err.ensures.puts behind stands).cuts told)))
-    c.in-Err.ensures.cause.failed
+    c.in-Err.ensures.cause.once

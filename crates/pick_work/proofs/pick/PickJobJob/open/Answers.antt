@@ -36,10 +36,15 @@ returns-clause-tells g c =
 
 pub returns-clause-stands : goal.returns-clause-stands
 returns-clause-stands g c =
-    let none = c.new-picker.ensures.none in
+    let starts = c.in_ok-start.ensures.starts in
+    let none = starts.same_last ∙ c.new-picker.ensures.none in
     record {
       going = c.new-stream.ensures.unrefused;
-      behind = record { same_mode = c.new-picker.ensures.mode ∙ c.mode-mode.ensures ∙ sym (ap (λ (how : Reading). how.mode) c.new-stream.ensures.how); before = omega (arith, none) };
+      behind = record {
+        going = starts.going;
+        same_mode = starts.same_mode ∙ c.new-picker.ensures.mode ∙ c.mode-mode.ensures ∙ sym (ap (λ (how : Reading). how.mode) c.new-stream.ensures.how);
+        before = omega (arith, none);
+      };
       streamed = c.new-stream.ensures.empty;
       picked = has-none _ _ _ none;
     }
