@@ -45,7 +45,7 @@ returns-in_err-put-clause-stopped g c =
     let is = ap Err cut.0 in
     let soon : is_too_late (mode_of c.loop-k.picker) e.time ≡ false = is-false _ (λ late. let bad = told.late.1 late in let fault = cut.0 in cc) in
     Stopped-cut _ _ _ e gave _ _ part.0 part.1 _ soon cut.0 cut.1 (λ behind stands. (told.puts behind stands).cuts is))
-    told.cause.once)
+    told.cause.failed)
 
 pub returns-in_err-put-clause-last : goal.returns-in_err-put-clause-last
 returns-in_err-put-clause-last g c =

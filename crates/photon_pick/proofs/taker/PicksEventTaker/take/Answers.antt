@@ -36,4 +36,4 @@ returns-in-Err-clause-broken g c = λ start l h none.
     let told = ap Err cut.0 in
     let soon : is_too_late c.args.self.now.picker.now.mode c.args.event.now.time ≡ false = is-false _ (λ late. let bad = c.in-Err.ensures.late.1 late in let fault = cut.0 in cc) in
     Refused-cut _ _ l h c.args.event.now c.args.late one (g.O.Sink.written c.put.new.out) c.put.new.block _ (rw same at soon) (ap Some cut.0) cut.1 refl refl (λ behind stands. rw same at ((c.in-Err.ensures.puts behind stands).cuts told)))
-    c.in-Err.ensures.cause.once
+    c.in-Err.ensures.cause.failed
