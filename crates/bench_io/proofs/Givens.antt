@@ -1,6 +1,6 @@
 -- What reads have given, over several calls.
 use Rattle.std.proofs.Common.{◌≡◌, ℕ, List, [], ◌∷◌, ◌++◌, Bool, true, refl, sym, ap, ◌∙◌, append_assoc, append-nil}
-use Rattle.bench_io.specs.Given.{Given, Consumes, MayFollow, IsOf, gave, is_over}
+use Rattle.bench_io.specs.Given.{Given, Consumes, IsOf, gave, is_over}
 
 pub Consumes-nil : (a : Given) → Consumes a a []
 Consumes-nil a = record { adds = sym (append-nil a.bytes) }

@@ -8,5 +8,3 @@ pub mod Memory
 pub mod MemorySlots
 pub mod SinkState
 pub mod MemorySinks
-pub mod TriesOnce
-pub mod FailsOnce

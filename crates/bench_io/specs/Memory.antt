@@ -1,7 +1,8 @@
 -- Files and inputs in memory.
 use Rattle.std.specs.Prelude.{ℕ, ◌≡◌, List, [], ◌∷◌, true, false, None, Some, drop, length, slice_get, unwrap_or, if◌then◌else◌}
 use Rattle.std.{specs.Str.bytes_eq, specs.declared.option.Option.Option, specs.declared.result.Result.Result}
-use Rattle.bench_io.{specs.NamedBytes.NamedBytes, specs.CallCounts.{one_more, CountsFailure, FailsNext}, specs.Inputs.{File, InputState}, specs.Turns.{next_turn, limited}}
+use Rattle.bench_io.{specs.NamedBytes.NamedBytes, specs.CallCounts.FailsNext, specs.Inputs.{File, InputState}, specs.Turns.{next_turn, limited}}
+use Rattle.tally_base.specs.FaultCounts.{FailsOnce, one_more}
 use Rattle.tally_base.specs.declared.slot.Slot.{Slot}
 
 -- of two files of one name the first counts
@@ -55,10 +56,10 @@ after_read state = record state { calls = one_more state.calls; turn = next_turn
 
 -- A failed opening adds one to the slot's count of these. Its reads have failed as often as before.
 pub record CountsOpening {T E : Type 0} (slot : Slot) (old new : InputState) (result : Result T E) : Type 0 where
-  pub opens : CountsFailure (old.open_faults slot) (new.open_faults slot) result
+  pub opens : FailsOnce (old.open_faults slot) (new.open_faults slot) result
   pub reads : new.read_faults slot ≡ old.read_faults slot
 
 -- A failed read adds one to the slot's count of these. Its openings have failed as often as before.
 pub record CountsReading {T E : Type 0} (slot : Slot) (old new : InputState) (result : Result T E) : Type 0 where
   pub opens : new.open_faults slot ≡ old.open_faults slot
-  pub reads : CountsFailure (old.read_faults slot) (new.read_faults slot) result
+  pub reads : FailsOnce (old.read_faults slot) (new.read_faults slot) result

@@ -1,7 +1,8 @@
 // One slot of inputs in memory.
 ghost use Rattle.std.specs.Prelude.{◌≡◌, ◌+◌, ◌^◌, ◌<◌, ◌⊎◌, Some, None, true, false, length, take, min, slice_get, IsSome, IfOk, IsOk, ◌↔◌, MatchOption, OnErr, OnOk};
 ghost use Rattle.std.specs.Io.{ReadsAtMost};
-ghost use Rattle.bench_io.{specs.Given.{no_bytes, ReadGives}, specs.CallCounts.CountsFailure, specs.FailsOnce.FailsOnce, specs.Inputs.IsOpened, specs.Turns.limited, specs.Memory.{file_named, rest_of_file}, specs.MemorySlots.{was_asked, was_opened, rest_in, told_in, given_in}};
+ghost use Rattle.bench_io.{specs.Given.{no_bytes, ReadGives}, specs.Inputs.IsOpened, specs.Turns.limited, specs.Memory.{file_named, rest_of_file}, specs.MemorySlots.{was_asked, was_opened, rest_in, told_in, given_in}};
+ghost use Rattle.tally_base.specs.FaultCounts.{FailsOnce};
 
 use crate::memory_file::MemoryFile;
 use tally_base::Failed;
@@ -110,7 +111,6 @@ impl MemorySlot {
         ensures succeeds { IsOk result ↔
             ((fails ≡ false) × IsSome (file_named files.now name.now)) }
         ensures cause { FailsOnce self.old.open_faults self.new.open_faults result }
-        ensures counted { CountsFailure self.old.open_faults self.new.open_faults result }
         ensures read_faults { self.new.read_faults ≡ self.old.read_faults }
     {
         if !fails {
@@ -147,7 +147,6 @@ impl MemorySlot {
             limited entry
             (min (length (rest_in files.now self.old.reading)) (length into.old))) }
         ensures cause { FailsOnce self.old.read_faults self.new.read_faults result }
-        ensures counted { CountsFailure self.old.read_faults self.new.read_faults result }
         ensures open_faults { self.new.open_faults ≡ self.old.open_faults }
     {
         let Reading::Open { file, at, ended } = self.reading else {

@@ -1,10 +1,10 @@
 -- What stands in front of the rest, and the rest.
-use Rattle.std.proofs.Common.{◌≡◌, ◌∙◌, ℕ, List, [], ◌++◌, Some, Ok, Err, refl, ap, inl, inr, ⊎_elim, append_assoc, append-nil, arith, Result}
+use Rattle.std.proofs.Common.{◌≡◌, ◌∙◌, ℕ, List, [], ◌++◌, Some, Ok, Err, refl, ap, inl, inr, ⊎_elim, append_assoc, append-nil, Result}
 use Rattle.std.{specs.declared.option.Option.Option, proofs.lemmas.Result.IfErr-weaker}
-use Rattle.tally_base.{specs.declared.fault.Fault.Fault, specs.declared.fault.Fault.TheVariants.WriteFault, specs.declared.slot.Slot.TheVariants.Data, specs.Faults.fault_in, proofs.Reasons.HasReason-follows}
-use Rattle.bench_io.{specs.Inputs.InputState, specs.Given.MayFollow, proofs.Givens.Consumes-nil, proofs.Bytes.{Appends-trans, AppendsShort-behind}}
+use Rattle.tally_base.{specs.declared.fault.Fault.Fault, specs.declared.fault.Fault.TheVariants.WriteFault, specs.Faults.fault_in, proofs.Reasons.HasReason-follows}
+use Rattle.bench_io.{specs.Inputs.InputState, proofs.Givens.Consumes-nil, proofs.Bytes.{Appends-trans, AppendsShort-behind}}
 use Rattle.told_text.{specs.Texts.{WroteText, CutText, WritesText}, proofs.Texts.{WroteText-trans, CutText-behind, CutText-more}}
-use Rattle.command_work.{specs.Endings.Span, specs.Tellings.{Telling, IsText, Opens}, specs.Rests.{EndsText, CutsMore, CutsText, ReadsText, ReadsRest}, proofs.Once.{stays-behind, quiet-memory, once-refl, Rose-kept}, proofs.TellingLaws.end_with, proofs.RestEnds.{writes-reason, writes-once, writes-quiet}}
+use Rattle.command_work.{specs.Endings.Span, specs.Tellings.{Telling, IsText, Opens}, specs.Rests.{EndsText, CutsText, ReadsText, ReadsRest}, proofs.Once.{counts-behind, quiet-memory, once-refl, Rose-kept}, proofs.TellingLaws.end_with, proofs.RestEnds.{writes-reason, writes-once, writes-quiet}}
 
 -- a text was written before
 pub WritesText-behind : (shown mid grown : List ℕ) (refused : Option Fault) (a b c : Option (List ℕ)) (before between after : ℕ) (r : Result (Unit {0}) Fault) → WroteText shown mid a b before between → WritesText mid grown refused b c between after r → WritesText shown grown refused a c before after r
@@ -45,7 +45,7 @@ module _ (t : Telling) (is : IsText t) (wants : Type 0) (state : InputState) (a 
                     record { more = cut.more; adds = cut.adds; short = cut.cut };
               },
             ));
-        once = record { inputs = once-refl _ _ (writes-quiet _ _ _ _ _ _ _ (Err fault) (is.inside front) writes); out = writes-once _ _ _ _ _ _ _ (Err fault) writes };
+        once = record { inputs = once-refl _ _ (writes-quiet _ _ _ _ _ _ _ (Err fault) (is.inside front) writes); out = writes-once _ _ _ _ _ _ _ (Err fault) (is.inside front) writes };
         few = inl refl;
       }
 
@@ -67,7 +67,7 @@ rest-follows t wants first at a before r wrote rest = record {
       (λ fault h.
       HasReason-follows _ _ _ _ _ _ _ _ fault (λ slot no. no) (λ slot h. (h.0, h.1, read h.2)) (λ h. (Rose-kept _ _ _ wrote.kept h.0, cut h.1)) (λ no. absurd no.wants) h)
       rest.reason;
-  once = record { inputs = rest.once.inputs; out = stays-behind _ _ _ _ wrote.kept rest.once.out };
+  once = record { inputs = rest.once.inputs; out = counts-behind _ _ _ _ wrote.kept rest.once.out };
   few = rest.few;
 }
   where

@@ -1,11 +1,11 @@
 -- A header, and what reading all data after it leaves.
-use Rattle.std.proofs.Common.{◌≡◌, ◌∙◌, ◌<◌, ℕ, List, [], ◌++◌, None, Some, Ok, Err, refl, sym, ap, subst, inl, inr, ⊎_elim, append_assoc, append-nil, length, ◌⊎◌, true, Result, IfErr, IsErrAnd}
-use Rattle.std.{specs.declared.option.Option.Option, specs.Io.KnownBytes.Appends, proofs.lemmas.Result.IfErr-weaker}
+use Rattle.std.proofs.Common.{◌≡◌, ◌∙◌, ◌<◌, ℕ, List, [], ◌++◌, None, Some, Ok, Err, refl, sym, ap, subst, inl, inr, ⊎_elim, append_assoc, append-nil, length, ◌⊎◌, true, Result, IsErrAnd}
+use Rattle.std.{specs.declared.option.Option.Option, proofs.lemmas.Result.IfErr-weaker}
 use Rattle.tally_base.{specs.declared.fault.Fault.Fault, specs.declared.slot.Slot.TheVariants.Data, specs.declared.header.Header.Header, specs.Faults.{is_outside, fault_in}, proofs.Reasons.{HasReason-follows, HasReason-with}}
-use Rattle.bench_io.{specs.Given.{Given, Consumes}, specs.Inputs.{InputState, NoneFalls}, proofs.Givens.Consumes-trans, proofs.Bytes.{Appends-nil, Appends-same, AppendsShort-same}, proofs.Rises.Rose-behind}
+use Rattle.bench_io.{specs.Given.{Given, Consumes}, specs.Inputs.InputState, proofs.Givens.Consumes-trans, proofs.Bytes.{Appends-nil, Appends-same, AppendsShort-same}}
 use Rattle.ptu_definitions.specs.Headers.{header_answer}
-use Rattle.command_work.{specs.Told.Says, specs.Once.InputsOnce, specs.Outcomes.{Outcome, refused, IsCut}, specs.Behaviours.{piece_limit, Work, Writing}, specs.Endings.Span, specs.Works.{AnswersWork, ReadsWork, CutsWork, WantsWork, WorkReason, TakesFew, LeavesWork}}
-use Rattle.command_work.{specs.Pieces.{ReadReason, StopsSoon}, specs.Tellings.{Telling, headed_end, headed_text, HeadedGoes, Suits}, specs.Rests.{EndsText, ReadsText, CutsText, WantsMemory, ReadsRest}, proofs.Once.{stays-same, once-behind}, proofs.Few.{few-map, few-behind}, proofs.Pieces.ShowsHeader, proofs.Fronts.still}
+use Rattle.command_work.{specs.Told.Says, specs.Once.InputsOnce, specs.Outcomes.{Outcome, IsCut}, specs.Behaviours.{piece_limit, Work, Writing}, specs.Endings.Span, specs.Works.{AnswersWork, ReadsWork, CutsWork, WantsWork, TakesFew, LeavesWork}}
+use Rattle.command_work.{specs.Pieces.{ReadReason, StopsSoon}, specs.Tellings.{Telling, headed_end, headed_text, HeadedGoes, Suits}, specs.Rests.{EndsText, ReadsText, CutsText, WantsMemory, ReadsRest}, proofs.Once.{Rose-kept, out-unwritten, once-behind}, proofs.Few.{few-map, few-behind}, proofs.Pieces.ShowsHeader, proofs.Fronts.still}
 
 module _ (work : Work) (writing : Writing (List ℕ → List ℕ)) (wanting : List ℕ → Type 0) (tells : Header → Telling) (wants : Header → Type 0) (suits : Suits work writing wanting tells wants) where
   -- the header is cut
@@ -64,12 +64,12 @@ module _ (work : Work) (writing : Writing (List ℕ → List ℕ)) (wanting : Li
     }
 
     -- the rest was read
-    pub leaves-rest : (r : Result (Unit {0}) Fault) → length behind < piece_limit → NoneFalls start.read_faults at.before.read_faults → InputsOnce start at.before None → TakesFew IsCut (start.given Data) (at.before.given Data) → ReadsRest t [] behind (wants header) at r → LeavesWork writing wanting work all r
-    leaves-rest r small falls once few rest = record {
+    pub leaves-rest : (r : Result (Unit {0}) Fault) → length behind < piece_limit → InputsOnce start at.before None → TakesFew IsCut (start.given Data) (at.before.given Data) → ReadsRest t [] behind (wants header) at r → LeavesWork writing wanting work all r
+    leaves-rest r small once few rest = record {
       answer = answers r rest.answer;
       reason = IfErr-weaker r _ _
           (λ fault h.
-          HasReason-follows _ _ _ _ _ _ _ _ fault (λ slot no. no) (λ slot h. (h.0, Rose-behind _ _ _ (falls slot) h.1, reads h.2)) (λ h. (h.0, cuts h.1)) (wanted small) h)
+          HasReason-follows _ _ _ _ _ _ _ _ fault (λ slot no. no) (λ slot h. (h.0, Rose-kept _ _ _ (once.reads slot) h.1, reads h.2)) (λ h. (h.0, cuts h.1)) (wanted small) h)
           rest.reason;
       once = record { inputs = once-behind _ _ _ _ once rest.once.inputs; out = rest.once.out };
       few = ⊎_elim
@@ -107,6 +107,6 @@ module _ (work : Work) (writing : Writing (List ℕ → List ℕ)) (wanting : Li
       answer = unheaded front fault took answer;
       reason = HasReason-follows _ _ _ _ _ _ _ _ fault (λ slot no. no) (λ slot h. (h.0.0, h.0.1, cut-reads h.1.0 h.1.1 h.1.2)) (λ no. absurd no) (λ no. absurd no)
           (HasReason-with _ _ _ _ _ fault stops.unread reason);
-      once = record { inputs = once; out = stays-same _ _ _ refl };
+      once = record { inputs = once; out = out-unwritten _ _ _ fault _ reason };
       few = few-map IsCut work.goes_on _ _ cut-goes stops.few;
     }

@@ -1,18 +1,9 @@
 -- Counts that stay over several calls, and move by one that failed.
-use Rattle.std.proofs.Common.{ℕ, ◌≡◌, List, [], Bool, true, false, None, Some, Ok, Err, refl, sym, ap, subst, ⊎_elim, Result, IfErr}
+use Rattle.std.proofs.Common.{ℕ, ◌≡◌, Bool, true, false, None, Some, refl, ap, subst}
 use Rattle.std.specs.declared.option.Option.{Option}
-use Rattle.tally_base.{specs.declared.slot.Slot.Slot, specs.declared.slot.Slot.TheVariants.{Plan, Data}, specs.declared.fault.Fault.Fault, specs.declared.fault.Fault.TheVariants.{OpenFault, ReadFault, WriteFault, OutOfMemory}, specs.FaultCounts.Rose, specs.Faults.{fault_in, is_outside}}
-use Rattle.bench_io.{specs.CallCounts.one_more, specs.Inputs.{InputState, KeepsOther, OpensNone}}
-use Rattle.ptu_definitions.{specs.Kept.Marked, specs.Streams.{Reading, record_refusal}}
-use Rattle.record_stream.{specs.declared.taker.EventTaker.Ghosts, specs.Feeding.{GaveOn, BrokeOn, Fed}}
-use Rattle.command_work.specs.Once.{tells_opening, tells_reading, tells_writing, StaysUnless, CountsIf, InputsOnce, OutOnce}
-
-pub stays-same : (tells : Bool) (before now : ℕ) → now ≡ before → StaysUnless tells before now
-stays-same true before now same = tt
-stays-same false before now same = same
-
-pub stays-behind : (tells : Bool) (before mid now : ℕ) → mid ≡ before → StaysUnless tells mid now → StaysUnless tells before now
-stays-behind tells before mid now same h = subst (λ (n : ℕ). StaysUnless tells n now) same h
+use Rattle.tally_base.{specs.declared.slot.Slot.Slot, specs.declared.slot.Slot.TheVariants.{Plan, Data}, specs.declared.fault.Fault.Fault, specs.declared.fault.Fault.TheVariants.{OpenFault, ReadFault, WriteFault, OutOfMemory}, specs.Faults.{is_outside, HasReason}, specs.FaultCounts.Rose}
+use Rattle.bench_io.specs.Inputs.{InputState, KeepsOther, OpensNone}
+use Rattle.command_work.specs.Once.{tells_opening, tells_reading, CountsIf, InputsOnce, OutOnce}
 
 pub Rose-kept : (before mid now : ℕ) → mid ≡ before → Rose mid now → Rose before now
 Rose-kept before mid now same rose = subst (λ (n : ℕ). Rose n now) same rose
@@ -41,7 +32,7 @@ counts-same : (tells : Bool) (before now : ℕ) → tells ≡ false → now ≡ 
 counts-same true before now quiet same = cc
 counts-same false before now quiet same = same
 
-counts-behind : (tells : Bool) (before mid now : ℕ) → mid ≡ before → CountsIf tells mid now → CountsIf tells before now
+pub counts-behind : (tells : Bool) (before mid now : ℕ) → mid ≡ before → CountsIf tells mid now → CountsIf tells before now
 counts-behind tells before mid now same h = subst (λ (n : ℕ). CountsIf tells n now) same h
 
 -- ## Counts of the inputs
@@ -76,13 +67,13 @@ other-openings Plan a b other same Data = other.open_faults
 other-openings Data a b other same Plan = other.open_faults
 other-openings Data a b other same Data = same
 
-unread-reads : (slot : Slot) (a b : InputState) → KeepsOther slot a b → b.read_faults slot ≡ one_more (a.read_faults slot) → (it : Slot) → CountsIf (tells_reading (Some (ReadFault slot)) it) (a.read_faults it) (b.read_faults it)
+unread-reads : (slot : Slot) (a b : InputState) → KeepsOther slot a b → Rose (a.read_faults slot) (b.read_faults slot) → (it : Slot) → CountsIf (tells_reading (Some (ReadFault slot)) it) (a.read_faults it) (b.read_faults it)
 unread-reads Plan a b other once Plan = once
 unread-reads Plan a b other once Data = other.read_faults
 unread-reads Data a b other once Plan = other.read_faults
 unread-reads Data a b other once Data = once
 
-unopened-openings : (slot : Slot) (a b : InputState) → KeepsOther slot a b → b.open_faults slot ≡ one_more (a.open_faults slot) → (it : Slot) → CountsIf (tells_opening (Some (OpenFault slot)) it) (a.open_faults it) (b.open_faults it)
+unopened-openings : (slot : Slot) (a b : InputState) → KeepsOther slot a b → Rose (a.open_faults slot) (b.open_faults slot) → (it : Slot) → CountsIf (tells_opening (Some (OpenFault slot)) it) (a.open_faults it) (b.open_faults it)
 unopened-openings Plan a b other once Plan = once
 unopened-openings Plan a b other once Data = other.open_faults
 unopened-openings Data a b other once Plan = other.open_faults
@@ -94,7 +85,7 @@ once-read slot a b c fault quiet so_far other none same =
     once-none a c fault quiet (once-behind a b c None so_far (record { openings = λ it. ap (λ f. f it) none.open_faults; reads = other-reads slot b c other same }))
 
 -- a read that failed
-pub once-unread : (slot : Slot) (a b c : InputState) → InputsOnce a b None → KeepsOther slot b c → OpensNone b c → c.read_faults slot ≡ one_more (b.read_faults slot) → InputsOnce a c (Some (ReadFault slot))
+pub once-unread : (slot : Slot) (a b c : InputState) → InputsOnce a b None → KeepsOther slot b c → OpensNone b c → Rose (b.read_faults slot) (c.read_faults slot) → InputsOnce a c (Some (ReadFault slot))
 once-unread slot a b c so_far other none once =
     once-behind a b c (Some (ReadFault slot)) so_far (record { openings = λ it. ap (λ f. f it) none.open_faults; reads = unread-reads slot b c other once })
 
@@ -103,11 +94,22 @@ pub once-opened : (slot : Slot) (a b c : InputState) → InputsOnce a b None →
 once-opened slot a b c so_far other reads same = once-behind a b c None so_far (record { openings = other-openings slot b c other same; reads = other-reads slot b c other reads })
 
 -- an opening that failed
-pub once-unopened : (slot : Slot) (a b c : InputState) → InputsOnce a b None → KeepsOther slot b c → c.read_faults slot ≡ b.read_faults slot → c.open_faults slot ≡ one_more (b.open_faults slot) → InputsOnce a c (Some (OpenFault slot))
+pub once-unopened : (slot : Slot) (a b c : InputState) → InputsOnce a b None → KeepsOther slot b c → c.read_faults slot ≡ b.read_faults slot → Rose (b.open_faults slot) (c.open_faults slot) → InputsOnce a c (Some (OpenFault slot))
 once-unopened slot a b c so_far other reads once =
     once-behind a b c (Some (OpenFault slot)) so_far (record { openings = unopened-openings slot b c other once; reads = λ it. other-reads slot b c other reads it })
+
+-- ## The count of standard output
 
 -- a fault that isn't from outside tells of no write
 pub once-inside : (fault : Fault) (before now : ℕ) → is_outside fault ≡ false → OutOnce (Some fault) before now → now ≡ before
 once-inside WriteFault before now inside h = cc
 once-inside _ before now inside h = h
+
+pub out-inside : (fault : Fault) (before now : ℕ) → is_outside fault ≡ false → now ≡ before → OutOnce (Some fault) before now
+out-inside WriteFault before now inside same = cc
+out-inside _ before now inside same = same
+
+-- nor does one that has another reason
+pub out-unwritten : (opening reading : Slot → Type 0) (memory : Type 0) (fault : Fault) (count : ℕ) → HasReason opening reading ⊥ memory fault → OutOnce (Some fault) count count
+out-unwritten o r m WriteFault count reason = absurd reason
+out-unwritten o r m _ count reason = refl

@@ -1,10 +1,10 @@
 -- What a command by a plan leaves, whatever its work is.
-use Rattle.std.proofs.Common.{◌≡◌, ℕ, List, true, false, None, Some, Ok, Err, refl, sym, ap, ◌∙◌, subst, inl, inr, Result}
+use Rattle.std.proofs.Common.{◌≡◌, ℕ, List, true, false, None, Some, Ok, Err, refl, sym, ◌∙◌, subst, inl, inr, Result}
 use Rattle.std.specs.declared.option.Option.{Option}
 use Rattle.tally_base.{specs.declared.fault.Fault.Fault, specs.declared.slot.Slot.Slot, specs.declared.slot.Slot.TheVariants.Plan as PlanSlot, specs.declared.slot.Slot.TheVariants.Data, specs.Faults.{is_outside, fault_in}, proofs.Reasons.{HasReason-follows, HasReason-inside}}
-use Rattle.bench_io.{specs.Given.{Given, no_bytes, IsOf}, specs.Inputs.{File, InputState, IsOpened, KeepsOther, NoneFalls}, proofs.Bytes.{Appends-nil, Keeps-from_none}, proofs.Rises.Rose-behind}
-use Rattle.plan_text.{specs.declared.plan.Plan.Plan, specs.Plan.PlanView, specs.Reading.{plan_view, plan_answer, plan_seen}}
-use Rattle.command_work.{specs.Outcomes.{Outcome, refused}, specs.PlanPieces.{IsRead, AnswersPlan, PlanReason}, specs.Behaviours.{Work, Writing, AtEnd, AsItReads, under, Memory, Behaviour, ByPlan}, specs.Works.{AnswersWork, WorkReason}, specs.Endings.{FileOf, IsPlan, HasPlan, OpensAs, ToldAreIts, TakesPlan, EndsWith, Answers, Cuts, WantsBehind, Span, HasCauses, on_file, outcome}, proofs.Told.{all-taken, FileOf-kept}, proofs.WorkTold.{told-is-its, ends-told, stops-told, cuts-told}}
+use Rattle.bench_io.{specs.Given.{Given, no_bytes, IsOf}, specs.Inputs.{File, InputState, IsOpened, KeepsOther}, proofs.Bytes.{Appends-nil, Keeps-from_none}}
+use Rattle.plan_text.{specs.declared.plan.Plan.Plan, specs.Plan.PlanView, specs.Reading.{plan_view}}
+use Rattle.command_work.{specs.Outcomes.{Outcome, refused}, specs.PlanPieces.{IsRead, AnswersPlan, PlanReason}, specs.Behaviours.{Work, Writing, AtEnd, AsItReads, under, Memory, Behaviour, ByPlan}, specs.Works.{AnswersWork, WorkReason}, specs.Endings.{IsPlan, HasPlan, OpensAs, ToldAreIts, TakesPlan, EndsWith, Answers, Cuts, WantsBehind, Span, HasCauses, on_file, outcome}, specs.Once.InputsOnce, proofs.Once.Rose-kept, proofs.Told.{all-taken, FileOf-kept}, proofs.WorkTold.{told-is-its, ends-told, stops-told, cuts-told}}
 
 -- a plan that was read is that of each file that may be the one read
 pub has-plan : (after : InputState) (lacks : PlanView → Option Fault) (plan : Plan) → AnswersPlan after (Ok plan) → lacks (plan_view plan) ≡ None → HasPlan after lacks (plan_view plan)
@@ -94,13 +94,13 @@ cuts-under (AsItReads text) view end old new h = h
 
 -- why a command by a plan ended by a fault from outside
 pub plan-causes : (plan_name name : List ℕ) (writing : Writing (PlanView → List ℕ → List ℕ)) (memory : Memory) (lacks : PlanView → Option Fault) (work : PlanView → Work) (view : PlanView) (before : InputState) (span : Span) (fault : Fault)
-    → HasPlan span.after lacks view → span.before.given Data ≡ no_bytes → span.after.opened Data ≡ true → NoneFalls before.read_faults span.before.read_faults → WorkReason (under view writing) (WantsBehind memory view) (work view) span fault
+    → HasPlan span.after lacks view → span.before.given Data ≡ no_bytes → span.after.opened Data ≡ true → InputsOnce before span.before None → WorkReason (under view writing) (WantsBehind memory view) (work view) span fault
     → HasCauses (ByPlan plan_name name writing memory lacks work) (record span { before = before }) fault
 unfolding HasCauses
-plan-causes plan_name name writing memory lacks work view before span fault has none opened later reason =
+plan-causes plan_name name writing memory lacks work view before span fault has none opened once reason =
     HasReason-follows _ _ _ _ _ _ _ _ fault
     (λ slot no. absurd no)
-    (λ slot r. (rw r.0 (view, has), rw r.0 opened, Rose-behind _ _ _ (later slot) r.1, rw r.0 (view, has, stops-told (under view writing) (work view) span.after (span.before.given Data) span.old span.new none r.2)))
+    (λ slot r. (rw r.0 (view, has), rw r.0 opened, Rose-kept _ _ _ (once.reads slot) r.1, rw r.0 (view, has, stops-told (under view writing) (work view) span.after (span.before.given Data) span.old span.new none r.2)))
     (λ w. (
       w.0,
       λ plan_file data_file may.

@@ -1,10 +1,10 @@
 -- The text of bytes that grow, and how a call of the loop's body ends it.
 use Rattle.std.proofs.Common.{◌≡◌, ◌∙◌, ◌≤◌, ℕ, List, [], ◌++◌, None, Some, Ok, Err, refl, ap, inl, inr, ⊎_elim, append_assoc, append-nil, length, take, arith, ◌⊎◌, true, false, Result, IfErr, IsErrAnd}
 use Rattle.std.{specs.declared.option.Option.Option, proofs.lemmas.List.length-take}
-use Rattle.tally_base.{specs.declared.fault.Fault.Fault, specs.declared.fault.Fault.TheVariants.{ReadFault, WriteFault}, specs.declared.slot.Slot.Slot, specs.declared.slot.Slot.TheVariants.Data, specs.FaultCounts.Rose, specs.Faults.{is_outside, fault_in, HasReason}, proofs.Reasons.HasReason-inside}
-use Rattle.bench_io.{specs.CallCounts.one_more, specs.Given.{Consumes, IsAtEnd, MayFollow}, specs.Inputs.{InputState, KeepsOther, OpensNone, NoneFalls}, proofs.Givens.{Consumes-nil, Consumes-kept, Consumes-trans}, proofs.Rises.Rose-behind}
+use Rattle.tally_base.{specs.declared.fault.Fault.Fault, specs.declared.fault.Fault.TheVariants.{ReadFault, WriteFault}, specs.declared.slot.Slot.Slot, specs.declared.slot.Slot.TheVariants.Data, specs.Faults.{is_outside, fault_in, HasReason}, proofs.Reasons.HasReason-inside, specs.FaultCounts.Rose}
+use Rattle.bench_io.{specs.Given.{Consumes, IsAtEnd}, specs.Inputs.{InputState, KeepsOther, OpensNone}, proofs.Givens.{Consumes-nil, Consumes-kept, Consumes-trans}}
 use Rattle.told_text.{specs.Texts.{WroteText, CutText, WritesText}, proofs.Texts.{WroteText-none, WroteText-trans, CutText-behind, CutText-more}}
-use Rattle.command_work.{specs.Once.{tells_writing, InputsOnce, OutOnce}, specs.Behaviours.piece_limit, specs.Endings.{Span, Once}, specs.Works.TakesFew, specs.Tellings.{Telling, IsText, WritesPiece, WritesEnd}, specs.Rests.{EndsText, ReadsRest}, proofs.Once.{stays-same, stays-behind, IsQuiet, quiet-none, quiet-write, quiet-inside, once-refl, once-read, once-unread, Rose-kept}, proofs.TellingLaws.{end_with, same-end}}
+use Rattle.command_work.{specs.Once.{InputsOnce, OutOnce}, specs.Behaviours.piece_limit, specs.Endings.{Span}, specs.Works.TakesFew, specs.Tellings.{Telling, IsText, WritesPiece, WritesEnd}, specs.Rests.{EndsText, ReadsRest}, proofs.Once.{out-inside, counts-behind, IsQuiet, quiet-none, quiet-write, quiet-inside, once-refl, once-read, once-unread, Rose-kept}, proofs.TellingLaws.{end_with, same-end}}
 
 abbrev pub later : Span → InputState → Option (List ℕ) → ℕ → Span
 later at after new faults = record at { after = after; new = new; faults_after = faults }
@@ -13,7 +13,6 @@ later at after new faults = record at { after = after; new = new; faults_after =
 pub record SoFar (t : Telling) (shown bytes so_far : List ℕ) (at : Span) : Type 0 where
   pub is : IsText t
   pub once : InputsOnce at.before at.after None
-  pub falls : NoneFalls at.before.read_faults at.after.read_faults
   pub took : Consumes (at.before.given Data) (at.after.given Data) so_far
   pub wrote : WroteText shown (t.text (bytes ++ so_far)) at.old at.new at.faults_before at.faults_after
   pub clear : t.refuses (bytes ++ so_far) ≡ None
@@ -28,23 +27,22 @@ pub so-none : (t : Telling) (bytes : List ℕ) (state : InputState) (old : Optio
 so-none t bytes state old faults is clear = record {
   is = is;
   once = once-refl _ _ quiet-none;
-  falls = λ slot. omega arith;
   took = Consumes-nil _;
   wrote = rw append-nil (WroteText-none _ _ _);
   clear = rw append-nil clear;
 }
 
--- Why a call ended that wrote some of a text, and that it tried no write again that failed.
+-- Why a call ended that wrote some of a text, and how often a write failed.
 pub writes-reason : {A : Type 0} (memory : Type 0) (reading : Slot → Type 0) (shown grown : List ℕ) (refused : Option Fault) (b c : Option (List ℕ)) (faults now : ℕ) (r : Result (Unit {0}) Fault) → ((fault : Fault) → refused ≡ Some fault → is_outside fault ≡ false)
     → WritesText shown grown refused b c faults now r → (CutText shown grown b c faults now → A) → IfErr r (HasReason (λ slot. ⊥) reading A memory)
 writes-reason memory reading shown grown refused b c faults now (Ok done) inside writes cut = tt
 writes-reason memory reading shown grown refused b c faults now (Err fault) inside (inl h) cut = HasReason-inside _ reading _ _ fault (inside fault h.0)
 writes-reason memory reading shown grown refused b c faults now (Err fault) inside (inr h) cut = rw h.0 (cut h.1)
 
-pub writes-once : (shown grown : List ℕ) (refused : Option Fault) (b c : Option (List ℕ)) (faults now : ℕ) (r : Result (Unit {0}) Fault) → WritesText shown grown refused b c faults now r → OutOnce (fault_in r) faults now
-writes-once shown grown refused b c faults now (Ok x) h = h.1.kept
-writes-once shown grown refused b c faults now (Err fault) (inl h) = stays-same (tells_writing (Some fault)) _ _ h.1.kept
-writes-once shown grown refused b c faults now (Err fault) (inr h) = rw h.0 tt
+pub writes-once : (shown grown : List ℕ) (refused : Option Fault) (b c : Option (List ℕ)) (faults now : ℕ) (r : Result (Unit {0}) Fault) → ((fault : Fault) → refused ≡ Some fault → is_outside fault ≡ false) → WritesText shown grown refused b c faults now r → OutOnce (fault_in r) faults now
+writes-once shown grown refused b c faults now (Ok x) inside h = h.1.kept
+writes-once shown grown refused b c faults now (Err fault) inside (inl h) = out-inside fault _ _ (inside fault h.0) h.1.kept
+writes-once shown grown refused b c faults now (Err fault) inside (inr h) = rw h.0 h.1.rose
 
 pub writes-quiet : (shown grown : List ℕ) (refused : Option Fault) (b c : Option (List ℕ)) (faults now : ℕ) (r : Result (Unit {0}) Fault) → ((fault : Fault) → refused ≡ Some fault → is_outside fault ≡ false) → WritesText shown grown refused b c faults now r → IsQuiet (fault_in r)
 writes-quiet shown grown refused b c faults now (Ok x) inside h = quiet-none
@@ -53,17 +51,17 @@ writes-quiet shown grown refused b c faults now (Err fault) inside (inr h) = rw 
 
 module _ {t : Telling} {shown bytes so_far : List ℕ} {at : Span} {s2 : InputState} (memory : Type 0) (so : SoFar t shown bytes so_far at) (read : Read at.after s2) where
   -- a read failed
-  pub rest-unread : s2.given Data ≡ at.after.given Data → Rose (at.after.read_faults Data) (s2.read_faults Data) → s2.read_faults Data ≡ one_more (at.after.read_faults Data) → ReadsRest t shown bytes memory (later at s2 at.new at.faults_after) (Err (ReadFault Data))
-  rest-unread keeps rose once =
+  pub rest-unread : s2.given Data ≡ at.after.given Data → Rose (at.after.read_faults Data) (s2.read_faults Data) → ReadsRest t shown bytes memory (later at s2 at.new at.faults_after) (Err (ReadFault Data))
+  rest-unread keeps rose =
       let took = Consumes-kept _ _ _ so_far so.took keeps in
       record {
         answer = inl refl;
         reason = (
           refl,
-          Rose-behind _ _ _ (so.falls Data) rose,
+          Rose-kept _ _ _ (so.once.reads Data) rose,
           record { taken = so_far; consumes = took; more = so.wrote.more; adds = so.wrote.adds; written = so.wrote.written; unrefused = so.clear },
         );
-        once = record { inputs = once-unread Data _ _ _ so.once read.other read.none once; out = so.wrote.kept };
+        once = record { inputs = once-unread Data _ _ _ so.once read.other read.none rose; out = so.wrote.kept };
         few = inr (record { front = so_far; last = []; consumes = rw append-nil took; goes = so.clear; few = omega arith });
       }
 
@@ -81,11 +79,10 @@ module _ {t : Telling} {shown bytes so_far : List ℕ} {at : Span} {s2 : InputSt
     few = record { front = so_far; last = piece; consumes = took; goes = so.clear; few = let e = length-take len into in omega (arith, e, small) }
 
     -- a piece was taken
-    pub so-piece : NoneFalls at.after.read_faults s2.read_faults → WritesPiece t (bytes ++ so_far) piece at.new c at.faults_after now (Ok tt) → SoFar t shown bytes (so_far ++ piece) (later at s2 c now)
-    so-piece falls writes = record {
+    pub so-piece : WritesPiece t (bytes ++ so_far) piece at.new c at.faults_after now (Ok tt) → SoFar t shown bytes (so_far ++ piece) (later at s2 c now)
+    so-piece writes = record {
       is = so.is;
       once = once-read Data _ _ _ _ quiet-none so.once read.other read.none kept;
-      falls = λ slot. omega (arith, so.falls slot, falls slot);
       took = took;
       wrote = rw (← append_assoc bytes so_far piece) (WroteText-trans _ _ _ _ _ _ _ _ _ so.wrote writes.1);
       clear = rw (← append_assoc bytes so_far piece) writes.0;
@@ -120,7 +117,7 @@ module _ {t : Telling} {shown bytes so_far : List ℕ} {at : Span} {s2 : InputSt
                       record { more = cut.more; adds = rw (← append_assoc bytes so_far piece) cut.adds; short = cut.cut };
                 },
               ));
-          once = record { inputs = once-read Data _ _ _ _ (writes-quiet _ _ _ _ _ _ _ (Err fault) (so.is.inside _) writes) so.once read.other read.none kept; out = stays-behind _ _ _ _ so.wrote.kept (writes-once _ _ _ _ _ _ _ (Err fault) writes) };
+          once = record { inputs = once-read Data _ _ _ _ (writes-quiet _ _ _ _ _ _ _ (Err fault) (so.is.inside _) writes) so.once read.other read.none kept; out = counts-behind _ _ _ _ so.wrote.kept (writes-once _ _ _ _ _ _ _ (Err fault) (so.is.inside _) writes) };
           few = inr few;
         }
 
@@ -140,7 +137,7 @@ module _ {t : Telling} {shown bytes so_far : List ℕ} {at : Span} {s2 : InputSt
                   cut = λ left follows. record { more = cut.more; adds = ap (λ l. (t.ends l).text) (none_behind left (follows end)) ∙ cut.adds; short = cut.cut };
                 },
               ));
-          once = record { inputs = once-read Data _ _ _ _ (writes-quiet _ _ _ _ _ _ _ r (so.is.end_inside _) writes) so.once read.other read.none kept; out = stays-behind _ _ _ _ so.wrote.kept (writes-once _ _ _ _ _ _ _ r writes) };
+          once = record { inputs = once-read Data _ _ _ _ (writes-quiet _ _ _ _ _ _ _ r (so.is.end_inside _) writes) so.once read.other read.none kept; out = counts-behind _ _ _ _ so.wrote.kept (writes-once _ _ _ _ _ _ _ r (so.is.end_inside _) writes) };
           few = inr few;
         }
       where

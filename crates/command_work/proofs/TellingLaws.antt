@@ -5,7 +5,7 @@ use Rattle.tally_base.{specs.declared.fault.Fault.Fault, specs.declared.fault.Fa
 use Rattle.bench_io.specs.Sinks.{AppendsShort}
 use Rattle.told_text.proofs.Texts.{WroteText-none}
 use Rattle.plan_text.{specs.Plan.PlanView, specs.Fits.fits, proofs.Misfits.misfit_named}
-use Rattle.command_work.{specs.Outcomes.{Outcome, refused}, specs.Tellings.{Telling, IsText, Opens, unless_declined}, proofs.Plans.misfit-inside}
+use Rattle.command_work.{specs.Outcomes.{Outcome}, specs.Tellings.{Telling, IsText, Opens, unless_declined}, proofs.Plans.misfit-inside}
 
 abbrev pub end_with : List ℕ → Option Fault → Outcome
 end_with text fault = record { text = text; fault = fault }

@@ -1,5 +1,5 @@
 -- What the bytes taken say of the whole.
-use Rattle.std.proofs.Common.{◌≡◌, ℕ, List, [], ◌++◌, true, false, Some, refl, sym, ap, ◌∙◌, subst, append-nil}
+use Rattle.std.proofs.Common.{◌≡◌, ℕ, List, [], ◌++◌, true, Some, refl, sym, ap, ◌∙◌, subst, append-nil}
 use Rattle.tally_base.specs.declared.slot.Slot.{Slot}
 use Rattle.bench_io.{specs.Inputs.{File, InputState}, specs.Given.{Given, no_bytes, Consumes, IsAtEnd, MayFollow, IsOf}}
 use Rattle.ptu_definitions.specs.Shown.{Shows}

@@ -1,9 +1,9 @@
 -- What the work on a file leaves of the whole run.
-use Rattle.std.proofs.Common.{◌≡◌, ℕ, List, [], ◌++◌, true, None, Some, Ok, Err, refl, sym, ap, ◌∙◌, subst, inl, inr, ◌⊎◌, Result, IsSome, OnOk, OnErr, IfErr}
+use Rattle.std.proofs.Common.{◌≡◌, ℕ, List, ◌++◌, true, None, Some, refl, sym, ap, ◌∙◌, subst, inl, inr, Result, IsSome}
 use Rattle.std.{specs.declared.option.Option.Option, specs.Io.KnownBytes.Appends}
-use Rattle.tally_base.{specs.declared.fault.Fault.Fault, specs.declared.fault.Fault.TheVariants.WriteFault, specs.FaultCounts.Rose, specs.declared.slot.Slot.Slot, specs.declared.slot.Slot.TheVariants.Data, specs.Faults.{is_outside, fault_in, HasReason}, proofs.Reasons.HasReason-follows}
-use Rattle.bench_io.{specs.Inputs.{File, InputState, IsOpened, NoneFalls}, specs.Given.{Given, no_bytes, Consumes, IsOf}, specs.Sinks.AppendsShort, proofs.Bytes.{Appends-nil, Keeps-from_none}, proofs.Rises.Rose-behind}
-use Rattle.command_work.{specs.Told.Says, specs.Outcomes.{Outcome, refused, written}, specs.Behaviours.{Work, Writing, AtEnd, so_far, OnFile}, specs.Works.{AnswersWork, EndsWork, ReadsWork, CutsWork, WantsNone, WorkReason, TakesFew}, specs.Endings.{FileOf, outcome, on_file, Answers, EndsWith, StopsIn, Cuts, Span, TakesData, HasCauses}, proofs.Told.{Splits, all-taken, file-splits}}
+use Rattle.tally_base.{specs.declared.fault.Fault.Fault, specs.declared.slot.Slot.Slot, specs.declared.slot.Slot.TheVariants.Data, specs.Faults.{fault_in}, proofs.Reasons.HasReason-follows}
+use Rattle.bench_io.{specs.Inputs.{File, InputState, IsOpened}, specs.Given.{Given, no_bytes, IsOf}}
+use Rattle.command_work.{specs.Outcomes.{Outcome}, specs.Behaviours.{Work, Writing, so_far, OnFile}, specs.Works.{AnswersWork, EndsWork, ReadsWork, CutsWork, WantsNone, WorkReason, TakesFew}, specs.Endings.{FileOf, outcome, on_file, Answers, EndsWith, StopsIn, Cuts, Span, TakesData, HasCauses}, specs.Once.InputsOnce, proofs.Once.Rose-kept, proofs.Told.{all-taken, file-splits}}
 
 -- a file that is told may be the slot's
 pub told-is-its : (contents : Option File) (after : InputState) (slot : Slot) (file : File) → (after.opened slot ≡ true → IsOpened contents (after.told slot)) → ((bytes : List ℕ) → after.told slot ≡ Some bytes → IsOf (after.given slot) bytes) → contents ≡ Some file → FileOf after slot file
@@ -44,13 +44,13 @@ cuts-told writing whole work after start old new data_file cuts none opened h ma
     subst (λ (end : Outcome). Cuts whole end old new) (sym (ap (on_file work) split.parts)) (cuts (work.outcome (h.taken ++ split.more)) (h.cut split.more split.follows))
 
 -- why a command on a file alone ended by a fault from outside
-pub file-causes : (file : List ℕ) (writing : Writing (List ℕ → List ℕ)) (work : Work) (before : InputState) (span : Span) (fault : Fault) → span.before.given Data ≡ no_bytes → span.after.opened Data ≡ true → NoneFalls before.read_faults span.before.read_faults → WorkReason writing WantsNone work span fault
+pub file-causes : (file : List ℕ) (writing : Writing (List ℕ → List ℕ)) (work : Work) (before : InputState) (span : Span) (fault : Fault) → span.before.given Data ≡ no_bytes → span.after.opened Data ≡ true → InputsOnce before span.before None → WorkReason writing WantsNone work span fault
     → HasCauses (OnFile file writing work) (record span { before = before }) fault
 unfolding HasCauses outcome
-file-causes file writing work before span fault none opened later reason =
+file-causes file writing work before span fault none opened once reason =
     HasReason-follows _ _ _ _ _ _ _ _ fault
     (λ slot none. absurd none)
-    (λ slot r. (rw r.0 tt, rw r.0 opened, Rose-behind _ _ _ (later slot) r.1, stops-told writing work span.after (span.before.given Data) span.old span.new none r.2))
+    (λ slot r. (rw r.0 tt, rw r.0 opened, Rose-kept _ _ _ (once.reads slot) r.1, stops-told writing work span.after (span.before.given Data) span.old span.new none r.2))
     (λ w. (w.0, λ plan_file data_file may. cuts-told writing writing work span.after (span.before.given Data) span.old span.new data_file (λ end h. h) none opened w.1 may))
     (λ want. absurd want.wants)
     reason

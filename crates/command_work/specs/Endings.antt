@@ -181,7 +181,7 @@ Asks (OnFile file writing work) before after = (after.asked Plan ≡ false) × (
 Asks (ByPlan plan file writing memory lacks work) before after =
     TakesPlan after × (after.asked Data ≡ true → (view : PlanView) × HasPlan after lacks view × (after.opened Data ≡ true → TakesData (work view) after))
 
--- A fault has its line on standard error, and no write there failed; or a prefix of it where a write did.
+-- A fault has its line on standard error, and no write there failed; or a prefix of it where one did.
 abbrev pub TellsFault : Option (List ℕ) → Option (List ℕ) → ℕ → ℕ → Option Fault → Type 0
 TellsFault old new before now None = Keeps old new × (now ≡ before)
 TellsFault old new before now (Some fault) = (Appends old new (line_of fault) × (now ≡ before)) ⊎ (Rose before now × AppendsShort old new (line_of fault))
@@ -221,7 +221,7 @@ alone_span o state old new = record {
   faults_after = o.faults new;
 }
 
--- No count moved but the one that the fault tells of: nothing else failed.
+-- No count moved but the one that the fault tells of, by one: nothing else failed.
 pub record Once (span : Span) (fault : Option Fault) : Type 0 where
   pub inputs : InputsOnce span.before span.after fault
   pub out : OutOnce fault span.faults_before span.faults_after

@@ -1,8 +1,8 @@
 -- Which counts of faults a call moved.
 use Rattle.std.specs.Prelude.{ℕ, ◌≡◌, Bool, true, false, None, Some}
 use Rattle.std.specs.declared.option.Option.{Option}
-use Rattle.tally_base.{specs.declared.slot.Slot.Slot, specs.declared.slot.Slot.TheVariants.{Plan, Data}, specs.declared.fault.Fault.Fault, specs.declared.fault.Fault.TheVariants.{OpenFault, ReadFault, WriteFault}}
-use Rattle.bench_io.{specs.Inputs.InputState, specs.CallCounts.one_more}
+use Rattle.tally_base.{specs.declared.slot.Slot.Slot, specs.declared.slot.Slot.TheVariants.{Plan, Data}, specs.declared.fault.Fault.Fault, specs.declared.fault.Fault.TheVariants.{OpenFault, ReadFault, WriteFault}, specs.FaultCounts.Rose}
+use Rattle.bench_io.specs.Inputs.{InputState}
 
 -- whether the fault says that an opening of the slot failed
 abbrev pub tells_opening : Option Fault → Slot → Bool
@@ -23,14 +23,9 @@ abbrev pub tells_writing : Option Fault → Bool
 tells_writing (Some WriteFault) = true
 tells_writing _ = false
 
--- The count stays as it was, unless the fault tells of it.
-abbrev pub StaysUnless : Bool → ℕ → ℕ → Type 0
-StaysUnless true before now = Unit {0}
-StaysUnless false before now = now ≡ before
-
 -- The count is one greater where the fault tells of it, and stays as it was else.
 abbrev pub CountsIf : Bool → ℕ → ℕ → Type 0
-CountsIf true before now = now ≡ one_more before
+CountsIf true before now = Rose before now
 CountsIf false before now = now ≡ before
 
 -- No count of the inputs moved but the one that the fault tells of, by one: no other opening and no other read failed, and this one failed once.
@@ -38,6 +33,6 @@ pub record InputsOnce (before after : InputState) (fault : Option Fault) : Type 
   pub openings : (slot : Slot) → CountsIf (tells_opening fault slot) (before.open_faults slot) (after.open_faults slot)
   pub reads : (slot : Slot) → CountsIf (tells_reading fault slot) (before.read_faults slot) (after.read_faults slot)
 
--- The count of writes that failed stays, unless the fault tells of it.
+-- The count of writes of standard output that failed did not move, or by one where the fault tells of it.
 abbrev pub OutOnce : Option Fault → ℕ → ℕ → Type 0
-OutOnce fault before now = StaysUnless (tells_writing fault) before now
+OutOnce fault before now = CountsIf (tells_writing fault) before now

@@ -1,12 +1,12 @@
 -- Counting a piece, and the end of the counts.
 use Rattle.std.proofs.Common.{◌≡◌, ◌<◌, ◌≤◌, ◌↔◌, ℕ, List, [], ◌++◌, length, Some, Ok, Err, refl, sym, ap, ◌∙◌, inl, inr, Result, OnOk, OnErr, IfErr, IsErr}
 use Rattle.std.{specs.declared.option.Option.Option, specs.Io.KnownBytes.Appends, proofs.lemmas.Bool.cases_lt}
-use Rattle.tally_base.{specs.declared.fault.Fault.Fault, specs.declared.fault.Fault.TheVariants.{RecordLimit, WriteFault}, specs.declared.header.Header.Header, specs.declared.header.RecordType.RecordType}
-use Rattle.bench_io.{specs.Sinks.AppendsShort, specs.TriesOnce.TriesOnce}
+use Rattle.tally_base.{specs.declared.fault.Fault.Fault, specs.declared.fault.Fault.TheVariants.{RecordLimit, WriteFault}, specs.declared.header.Header.Header, specs.declared.header.RecordType.RecordType, specs.FaultCounts.FailsOnce}
+use Rattle.bench_io.specs.Sinks.{AppendsShort}
 use Rattle.told_text.proofs.Texts.{WroteText-none}
 use Rattle.ptu_definitions.{specs.declared.records.KindCounts.KindCounts, specs.Words.words_of, specs.Counted.{counted, record_limit}}
 use Rattle.record_layout.{specs.declared.counter.Counter.Counter, specs.Counting.HasCounted}
-use Rattle.command_work.{specs.Outcomes.Outcome, specs.Tellings.{WritesPiece, WritesEnd}}
+use Rattle.command_work.{specs.Tellings.{WritesPiece, WritesEnd}}
 use Rattle.file_work.{specs.CountText.counts_text, specs.FileOutcomes.{with_counts, count_outcome}, specs.CountPieces.{counts, CountsBytes}, specs.CountLaws.{counts-clear, counts-many}}
 
 -- records that were not refused aren't too many
@@ -32,6 +32,6 @@ module _ (header : Header) (bytes : List ℕ) where
   ends-refused fault a faults is = rw (ends-is (Err fault) is) (inl (refl, WroteText-none [] a faults))
 
   pub ends-written : (kinds : KindCounts) (r : Result (Unit {0}) Fault) (old new : Option (List ℕ)) (before after : ℕ) → Ok kinds ≡ counted header.record_type bytes → OnOk r (Appends old new (counts_text header kinds)) → OnErr r (AppendsShort old new (counts_text header kinds)) → IfErr r (λ fault. fault ≡ WriteFault)
-      → TriesOnce before after r → WritesEnd (counts header) bytes old new before after r
+      → FailsOnce before after r → WritesEnd (counts header) bytes old new before after r
   ends-written kinds (Ok done) old new before after is text short write cause = rw (ends-is (Ok kinds) is) (refl, record { more = counts_text header kinds; adds = refl; written = text; kept = cause.kept })
-  ends-written kinds (Err fault) old new before after is text short write cause = rw (ends-is (Ok kinds) is) (inr (write, record { more = counts_text header kinds; adds = refl; cut = short; rose = cause.failed }))
+  ends-written kinds (Err fault) old new before after is text short write cause = rw (ends-is (Ok kinds) is) (inr (write, record { more = counts_text header kinds; adds = refl; cut = short; rose = cause.once }))

@@ -1,5 +1,5 @@
 -- One line more, and the lines of a piece.
-use Rattle.std.proofs.Common.{◌≡◌, ◌+◌, ◌≤◌, ℕ, List, [], ◌∷◌, ◌++◌, Bool, Ok, Err, Some, refl, sym, ap, subst, ◌∙◌, inl, inr, ⊎_elim, append_assoc, append-nil, arith, length, length-append, ◌&&◌, not, IsTrue, if◌then◌else◌}
+use Rattle.std.proofs.Common.{◌≡◌, ◌+◌, ◌≤◌, ℕ, List, [], ◌∷◌, ◌++◌, Bool, Ok, Err, Some, refl, sym, ap, subst, ◌∙◌, inl, inr, ⊎_elim, append_assoc, append-nil, arith, length-append, ◌&&◌, not, IsTrue, if◌then◌else◌}
 use Rattle.std.{specs.declared.option.Option.Option, specs.declared.result.Result.Result, specs.Io.KnownBytes.Appends}
 use Rattle.tally_base.{specs.declared.event.Event.Event, specs.declared.header.Mode.Mode, specs.declared.fault.Fault.Fault, specs.declared.fault.Fault.TheVariants.WriteFault, specs.Events.is_ordered, specs.FaultCounts.Rose}
 use Rattle.bench_io.{specs.Sinks.{AppendsShort, PassesOn}, proofs.Bytes.{PassesOn-trans, Appends-flushed, AppendsShort-passed, AppendsShort-flushed, AppendsShort-more, AppendsShort-kept, Keeps-from_none}}
@@ -38,11 +38,11 @@ lines-add : (how : Reading) (words now : List ℕ) (more : Marked) → given how
 lines-add how words now more adds = ap events_text adds ∙ events_text-append (given how words) more
 
 module _ {T : Type 0} (g : Ghosts T) (told : T → Option (List ℕ)) (held : T → List ℕ) (how : Reading) (a b : T) (c : Option (List ℕ)) (faults : ℕ) (words now : List ℕ) where
-  module _ (none : g.got a a []) (gets : (l : Marked) → g.got a b l → PassesOn (told a) (told b) (events_text l) (held b)) (keeps : (l : Marked) → g.got a b l → g.faults b ≡ g.faults a) (breaks : (l : Marked) → g.broke a b l → AppendsShort (told a) (told b) (events_text l) × (held b ≡ [])) where
+  module _ (none : g.got a a []) (gets : (l : Marked) → g.got a b l → PassesOn (told a) (told b) (events_text l) (held b)) (breaks : (l : Marked) → g.broke a b l → AppendsShort (told a) (told b) (events_text l) × (held b ≡ [])) where
     gave : Appends (told b) c (held b) → faults ≡ g.faults b → GaveOn g how a b words now → WroteText (lines_of how words) (lines_of how now) (told a) c (g.faults a) faults
     gave flushed still r =
         let got = r.follows a [] none in
-        record { more = events_text r.more; adds = lines-add how words now r.more r.adds; written = Appends-flushed (told a) (told b) c _ (held b) (gets r.more got) flushed; kept = still ∙ keeps r.more got }
+        record { more = events_text r.more; adds = lines-add how words now r.more r.adds; written = Appends-flushed (told a) (told b) c _ (held b) (gets r.more got) flushed; kept = still ∙ r.kept }
 
     -- What a piece wrote, by what its events were, where the block was flushed.
     pub writes_on : {X : Type 0} (r : Result X Fault) → Appends (told b) c (held b) → faults ≡ g.faults b → Fed g how a b words now r → WritesText (lines_of how words) (lines_of how now) (record_refusal how now) (told a) c (g.faults a) faults r
@@ -64,11 +64,11 @@ module _ {T : Type 0} (g : Ghosts T) (told : T → Option (List ℕ)) (held : T 
         fed
 
     -- What it wrote where the flush failed.
-    cut_on : (r : GaveOn g how a b words now) → AppendsShort (told b) c (held b) → Rose (g.faults a) faults → WritesText {X = Unit {0}} (lines_of how words) (lines_of how now) (record_refusal how now) (told a) c (g.faults a) faults (Err WriteFault)
+    cut_on : (r : GaveOn g how a b words now) → AppendsShort (told b) c (held b) → Rose (g.faults b) faults → WritesText {X = Unit {0}} (lines_of how words) (lines_of how now) (record_refusal how now) (told a) c (g.faults a) faults (Err WriteFault)
     cut_on r short rose =
-        inr (refl, record { more = events_text r.more; adds = lines-add how words now r.more r.adds; cut = AppendsShort-flushed (told a) (told b) c _ (held b) (gets r.more (r.follows a [] none)) short; rose = rose })
+        inr (refl, record { more = events_text r.more; adds = lines-add how words now r.more r.adds; cut = AppendsShort-flushed (told a) (told b) c _ (held b) (gets r.more (r.follows a [] none)) short; rose = rw r.kept at rose })
 
-    pub writes_cut : {X : Type 0} (r : Result X Fault) → AppendsShort (told b) c (held b) → Rose (g.faults a) faults → Fed g how a b words now r → WritesText {X = X} (lines_of how words) (lines_of how now) (record_refusal how now) (told a) c (g.faults a) faults (Err WriteFault)
+    pub writes_cut : {X : Type 0} (r : Result X Fault) → AppendsShort (told b) c (held b) → Rose (g.faults b) faults → Fed g how a b words now r → WritesText {X = X} (lines_of how words) (lines_of how now) (record_refusal how now) (told a) c (g.faults a) faults (Err WriteFault)
     writes_cut (Ok x) short rose fed = cut_on fed.1 short rose
     writes_cut (Err fault) short rose fed =
         ⊎_elim

@@ -1,5 +1,5 @@
 -- What the events of words write that come after others.
-use Rattle.std.specs.Prelude.{ℕ, ◌≡◌, List, ◌++◌, None, Result}
+use Rattle.std.specs.Prelude.{ℕ, ◌≡◌, List, None, Result}
 use Rattle.tally_base.{specs.declared.header.Mode.Mode, specs.declared.fault.Fault.Fault}
 use Rattle.bench_io.specs.declared.sink.Sink.{Ghosts}
 use Rattle.ptu_definitions.{specs.Words.words_of, specs.Streams.{Reading, record_refusal}}

@@ -1,7 +1,8 @@
 // The lines of `count`.
 ghost use Rattle.std.specs.Prelude.{◌≡◌, IfErr, OnOk, OnErr};
 ghost use Rattle.std.specs.Io.KnownBytes.{Appends};
-ghost use Rattle.bench_io.{specs.TriesOnce.TriesOnce, specs.Sinks.AppendsShort};
+ghost use Rattle.bench_io.specs.Sinks.{AppendsShort};
+ghost use Rattle.tally_base.specs.FaultCounts.{FailsOnce};
 ghost use Rattle.file_work.specs.CountText.{counts_text};
 
 use arrayvec::ArrayVec;
@@ -34,7 +35,7 @@ pub fn write_counts<O: Sink>(header: &Header, counts: &KindCounts, out: &mut O) 
     ensures short { OnErr result (AppendsShort (O.written out.old) (O.written out.new)
         (counts_text header.now counts.now)) }
     ensures fault { IfErr result (λ fault. fault ≡ Fault.WriteFault) }
-    ensures cause { TriesOnce (O.faults out.old) (O.faults out.new) result }
+    ensures cause { FailsOnce (O.faults out.old) (O.faults out.new) result }
 {
     let mut text = ArrayVec::<u8, 256>::new();
     put_counts(header, counts, &mut text);

@@ -1,8 +1,8 @@
 // Prints a header while it is read.
 ghost use Rattle.std.specs.Prelude.{◌≡◌, ◌≤◌, ◌^◌, ◌++◌, [], List, ℕ, true, false, IfOk, OnOk, OnErr, Err};
-ghost use Rattle.tally_base.specs.Faults.{is_outside};
+ghost use Rattle.tally_base.{specs.Faults.{is_outside}, specs.FaultCounts.FailsOnce};
 ghost use Rattle.ptu_definitions.{specs.Headers.header_answer, specs.TagFields.code_in};
-ghost use Rattle.bench_io.{specs.TriesOnce.TriesOnce, specs.Sinks.{AppendsShort, PassesOn}};
+ghost use Rattle.bench_io.specs.Sinks.{AppendsShort, PassesOn};
 ghost use Rattle.ptu_tag.{specs.declared.kind.TagKind.TagKind, specs.Kinds.{IsHead, code_of}};
 ghost use Rattle.ptu_header.specs.Reading.{bytes_taken, is_open};
 ghost use Rattle.list_out.{specs.HeaderText.{head_text, bare_end}, specs.Body.HasPut};
@@ -60,7 +60,7 @@ fn put_body<O: Sink>(
         (O.written out.new) block.old block.new) }
     ensures short { OnErr result ((kind : TagKind) (part : List ℕ) → HasPut text.old kind part
         → CutsBody kind part bytes.now (O.written out.old) (O.written out.new) block.old) }
-    ensures cause { TriesOnce (O.faults out.old) (O.faults out.new) result }
+    ensures cause { FailsOnce (O.faults out.old) (O.faults out.new) result }
 {
     for byte in bytes {
         block.put(out, text.put(*byte).as_slice())?;
@@ -74,7 +74,7 @@ fn put_end<O: Sink>(last: bool, block: &mut Block, out: &mut O) -> Result<(), Fa
         (block.old ++ end_line last) block.new) }
     ensures short { OnErr result (AppendsShort (O.written out.old) (O.written out.new)
         (block.old ++ end_line last)) }
-    ensures cause { TriesOnce (O.faults out.old) (O.faults out.new) result }
+    ensures cause { FailsOnce (O.faults out.old) (O.faults out.new) result }
 {
     let end: &[u8] = if last { b"\n" } else { b"" };
     block.put(out, end)
@@ -111,7 +111,7 @@ impl HeaderPrinter {
             → CutsHeader bytes piece.now (O.written out.old) (O.written out.new) block.old) }
         ensures ends { IfOk result (EndsPiece self.old self.new piece.now) }
         ensures limit { IfOk result (λ printed. bytes_taken self.new.reader ≤ 2 ^ 24) }
-        ensures cause { TriesOnce (O.faults out.old) (O.faults out.new) result }
+        ensures cause { FailsOnce (O.faults out.old) (O.faults out.new) result }
     {
         let mut used = 0;
         'steps: loop {
@@ -163,7 +163,7 @@ impl HeaderPrinter {
             → CutsHeader bytes piece.now (O.written out.old) (O.written out.new) []) }
         ensures ends { IfOk result (EndsPiece self.old self.new piece.now) }
         ensures limit { IfOk result (λ printed. bytes_taken self.new.reader ≤ 2 ^ 24) }
-        ensures cause { TriesOnce (O.faults out.old) (O.faults out.new) result }
+        ensures cause { FailsOnce (O.faults out.old) (O.faults out.new) result }
     {
         let mut block = Block::new();
         let printed = self.put_piece(piece, &mut block, out)?;

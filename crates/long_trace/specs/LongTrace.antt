@@ -1,6 +1,6 @@
 -- What a trace without end stands for.
-use Rattle.std.specs.Prelude.{◌≡◌, ℕ, ◌+◌, List, ◌++◌, false, length}
-use Rattle.tally_base.{specs.declared.settings.TraceSet.TraceSet, specs.Settings.trace_view, specs.Tally.{History, greatest_time}}
+use Rattle.std.specs.Prelude.{◌≡◌, ℕ, ◌+◌, Bool, List, ◌++◌, true, false, length, Result, is_ok}
+use Rattle.tally_base.{specs.declared.fault.Fault.Fault, specs.declared.settings.TraceSet.TraceSet, specs.Settings.trace_view, specs.Tally.{History, greatest_time}}
 use Rattle.count_trace.specs.TraceCounts.{count_before}
 use Rattle.long_trace.{specs.declared.trace.LongTrace.LongTrace, specs.Bins.CountsBins, specs.States.state_of, specs.Texts.open_text}
 
@@ -15,6 +15,14 @@ taken_of t = t.taken
 abbrev pub floor_of : LongTrace → ℕ
 floor_of t = t.floor
 
+-- `start` was called
+abbrev pub was_begun : LongTrace → Bool
+was_begun t = t.begun
+
+-- it answered Ok, and no call was refused since
+abbrev pub is_going : LongTrace → Bool
+is_going t = t.going
+
 -- How many entries it keeps: the frequencies and the number beside them, the number of the newest bin, where it begins and its count, how many photons came before the origin, and how many events came, with their greatest time.
 abbrev pub held : LongTrace → ℕ
 held t = length t.closed.frequencies + 7
@@ -26,9 +34,18 @@ pub record Holds (t : LongTrace) (h : History) : Type 0 where
   pub taken : t.taken ≡ length h
   pub floor : t.floor ≡ greatest_time false h
 
+-- What `start` left, by the answer.
+pub record Starts (old new : LongTrace) (result : Result (Unit {0}) Fault) : Type 0 where
+  pub begun : was_begun new ≡ true
+  pub going : is_going new ≡ is_ok result
+  pub same_set : set_of new ≡ set_of old
+  pub same_counts : (taken_of new ≡ taken_of old) × (floor_of new ≡ floor_of old)
+  pub stands : (h : History) → Holds old h → Holds new h
+
 -- It was given more events, of which the lines of the bins that they closed are these bytes.
 pub record GivenMore (old new : LongTrace) (more : History) (lines : List ℕ) : Type 0 where
   pub same_set : new.set ≡ old.set
+  pub same_going : is_going new ≡ is_going old
   pub follows : (h : History) → Holds old h → Holds new (h ++ more)
   pub closed : (h : History) → Holds old h → open_text (trace_view old.set) (h ++ more) ≡ open_text (trace_view old.set) h ++ lines
 

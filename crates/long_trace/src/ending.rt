@@ -1,7 +1,8 @@
 // What a trace without end prints at the end.
 ghost use Rattle.std.specs.Prelude.{◌≡◌, ◌++◌, ℕ, List, OnOk, OnErr};
 ghost use Rattle.std.specs.Io.KnownBytes.{Appends};
-ghost use Rattle.bench_io.{specs.TriesOnce.TriesOnce, specs.Sinks.{AppendsShort, PassesOn}};
+ghost use Rattle.bench_io.specs.Sinks.{AppendsShort, PassesOn};
+ghost use Rattle.tally_base.specs.FaultCounts.{FailsOnce};
 ghost use Rattle.long_trace.{specs.Texts.{bin_line, frequencies_text, above, before_line, above_line}, specs.States.{AreFrequencies, end_text}};
 
 use crate::closed::{Closed, FREQUENCIES};
@@ -43,7 +44,7 @@ fn put_frequencies<O: Sink>(closed: &Closed, block: &mut Block, out: &mut O) -> 
     ensures short { OnErr result ((all : List ℕ) → AreFrequencies closed.now all
         → AppendsShort (O.written out.old) (O.written out.new)
         (block.old ++ frequencies_text all)) }
-    ensures cause { TriesOnce (O.faults out.old) (O.faults out.new) result }
+    ensures cause { FailsOnce (O.faults out.old) (O.faults out.new) result }
 {
     for count in 0..FREQUENCIES {
         let line = frequency_line(count as u64, closed.frequencies[count]);
@@ -65,7 +66,7 @@ pub(crate) fn put_end<O: Sink>(
     ensures short { OnErr result ((all : List ℕ) → AreFrequencies closed.now all
         → closed.now.many ≡ above all → AppendsShort (O.written out.old) (O.written out.new)
         (end_text newest.now all before)) }
-    ensures cause { TriesOnce (O.faults out.old) (O.faults out.new) result }
+    ensures cause { FailsOnce (O.faults out.old) (O.faults out.new) result }
 {
     let mut block = Block::new();
     block.put(out, last_lines(newest, before).as_slice())?;

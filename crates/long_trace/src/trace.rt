@@ -1,7 +1,8 @@
 // A trace without end.
 ghost use Rattle.std.specs.Prelude.{◌≡◌, ◌+◌, ◌*◌, ◌<◌, ◌≤◌, ◌&&◌, if◌then◌else◌, IfErr, OnOk, OnErr, max, slice_index, sum};
 ghost use Rattle.std.specs.Io.KnownBytes.{Appends};
-ghost use Rattle.bench_io.{specs.TriesOnce.TriesOnce, specs.Sinks.AppendsShort};
+ghost use Rattle.bench_io.specs.Sinks.{AppendsShort};
+ghost use Rattle.tally_base.specs.FaultCounts.{FailsOnce};
 ghost use Rattle.tally_base.specs.Events.{is_photon, is_in};
 
 use crate::closed::Closed;
@@ -28,6 +29,9 @@ pub struct LongTrace {
     closed: Closed,
     taken: u64,
     floor: u64,
+    // Whether `start` was called, and whether it answered Ok and no call was refused.
+    begun: bool,
+    going: bool,
     ghost edge: { newest.bin.low ≡ set.origin + newest.bin.index * set.width },
     ghost low: { newest.bin.low ≤ max floor set.origin },
     ghost all: { sum closed.frequencies + closed.many ≡ newest.bin.index },
@@ -38,15 +42,16 @@ pub struct LongTrace {
 }
 
 impl LongTrace {
-    ghost use Rattle.std.specs.Prelude.{◌++◌, ◌∷◌, [], IsTrue, false, length};
+    ghost use Rattle.std.specs.Prelude.{◌++◌, ◌∷◌, [], IsTrue, true, false, is_ok, length};
     ghost use Rattle.tally_base.{specs.Columns.{gathered, events_in, IsSorted}, specs.Floors.{floor_after, InOrder}, specs.Limits.record_limit, specs.Settings.trace_view, specs.Tally.History};
-    ghost use Rattle.long_trace.{specs.Texts.{first_line, whole_text}, specs.Written.{AppendsRest, CutsRest}, specs.LongTrace.{Holds, GivenMore, set_of, taken_of, floor_of, held, printed_by}};
+    ghost use Rattle.long_trace.{specs.Texts.{first_line, whole_text}, specs.Written.{AppendsRest, CutsRest}, specs.LongTrace.{Holds, GivenMore, Starts, set_of, taken_of, floor_of, was_begun, is_going, held, printed_by}};
 
     /// A trace of no events. It doesn't look at the number of bins.
     pub fn new(set: &TraceSet) -> LongTrace
         ensures set { set_of result ≡ set.now }
         ensures empty { Holds result [] }
         ensures none { (taken_of result ≡ 0) × (floor_of result ≡ 0) }
+        ensures fresh { was_begun result ≡ false }
         ensures held { held result ≤ 1032 }
     {
         LongTrace {
@@ -62,22 +67,28 @@ impl LongTrace {
             closed: Closed::new(),
             taken: 0,
             floor: 0,
+            begun: false,
+            going: false,
         }
     }
 
-    /// Writes the first line. Refuses with `WriteFault` where a write fails: then a beginning of the line that
-    /// isn't all of it was written.
+    /// Writes the first line. It is the first call, and the only one of its kind. Refuses with `WriteFault` where
+    /// a write fails: then a beginning of the line that isn't all of it was written.
     pub fn start<O: Sink>(&mut self, out: &mut O) -> Result<(), Fault>
+        requires first { was_begun self.old ≡ false }
         ensures text { OnOk result (Appends (O.written out.old) (O.written out.new)
             (first_line (trace_view (set_of self.old)))) }
         ensures short { OnErr result (AppendsShort (O.written out.old) (O.written out.new)
             (first_line (trace_view (set_of self.old)))) }
         ensures fault { IfErr result (λ fault. fault ≡ Fault.WriteFault) }
-        ensures cause { TriesOnce (O.faults out.old) (O.faults out.new) result }
-        ensures same { self.new ≡ self.old }
+        ensures cause { FailsOnce (O.faults out.old) (O.faults out.new) result }
+        ensures starts { Starts self.old self.new result }
         ensures held { held self.new ≤ 1032 }
     {
-        write_or_refuse(out, first_line(&self.set).as_slice())
+        self.begun = true;
+        let written = write_or_refuse(out, first_line(&self.set).as_slice());
+        self.going = written.is_ok();
+        written
     }
 
     /// Takes an event, and answers the line of the bin that it closes, if any. Bit g - 1 of `groups` says that
@@ -85,6 +96,7 @@ impl LongTrace {
     /// before it.
     #[inline(always)]
     pub fn take(&mut self, e: &Event, groups: u64) -> ArrayVec<u8, LINE_SIZE>
+        requires going { is_going self.old ≡ true }
         requires room { taken_of self.old < record_limit }
         requires in_order { IsTrue (is_photon e.now) → floor_of self.old ≤ e.now.time }
         ensures given { GivenMore self.old self.new ((e.now, groups) ∷ []) result.items }
@@ -112,6 +124,7 @@ impl LongTrace {
     /// Takes the events of a block, as `take` does one by one, and puts the lines of the bins that they close
     /// into a buffer, in place of its own.
     pub fn take_block(&mut self, block: &Block, lines: &mut ArrayVec<u8, LINES_SIZE>)
+        requires going { is_going self.old ≡ true }
         requires sorted { IsSorted block.now }
         requires room { taken_of self.old + length (gathered block.now) ≤ record_limit }
         requires in_order { InOrder false (floor_of self.old) (gathered block.now) }
@@ -139,6 +152,7 @@ impl LongTrace {
     /// Refuses with `WriteFault` where a write fails: then a beginning of the line that isn't all of it was
     /// written.
     pub fn event<O: Sink>(&mut self, e: &Event, groups: u64, out: &mut O) -> Result<(), Fault>
+        requires going { is_going self.old ≡ true }
         requires room { taken_of self.old < record_limit }
         requires in_order { IsTrue (is_photon e.now) → floor_of self.old ≤ e.now.time }
         ensures text { (h : History) → Holds self.old h → OnOk result (AppendsRest
@@ -148,17 +162,20 @@ impl LongTrace {
             (O.written out.old) (O.written out.new) (printed_by self.old h)
             (printed_by self.old (h ++ (e.now, groups) ∷ []))) }
         ensures fault { IfErr result (λ fault. fault ≡ Fault.WriteFault) }
-        ensures cause { TriesOnce (O.faults out.old) (O.faults out.new) result }
+        ensures cause { FailsOnce (O.faults out.old) (O.faults out.new) result }
         ensures set { set_of self.new ≡ set_of self.old }
         ensures follows { (h : History) → Holds self.old h
             → Holds self.new (h ++ (e.now, groups) ∷ []) }
+        ensures going { is_going self.new ≡ is_ok result }
         ensures one_more { taken_of self.new ≡ taken_of self.old + 1 }
         ensures moved { floor_of self.new
             ≡ (if is_photon e.now then e.now.time else floor_of self.old) }
         ensures held { held self.new ≤ 1032 }
     {
         let line = self.take(e, groups);
-        write_or_refuse(out, line.as_slice())
+        let written = write_or_refuse(out, line.as_slice());
+        self.going = written.is_ok();
+        written
     }
 
     /// Writes what is behind the lines of the bins that are closed: that of the last bin, how many photons came
@@ -167,6 +184,7 @@ impl LongTrace {
     /// Refuses with `WriteFault` where a write fails: then a beginning of this that isn't all of it was
     /// written.
     pub fn finish<O: Sink>(self, out: &mut O) -> Result<(), Fault>
+        requires going { is_going self ≡ true }
         ensures text { (h : History) → Holds self h → OnOk result (AppendsRest
             (O.written out.old) (O.written out.new) (printed_by self h)
             (whole_text (trace_view (set_of self)) h)) }
@@ -174,7 +192,7 @@ impl LongTrace {
             (O.written out.old) (O.written out.new) (printed_by self h)
             (whole_text (trace_view (set_of self)) h)) }
         ensures fault { IfErr result (λ fault. fault ≡ Fault.WriteFault) }
-        ensures cause { TriesOnce (O.faults out.old) (O.faults out.new) result }
+        ensures cause { FailsOnce (O.faults out.old) (O.faults out.new) result }
     {
         let closed = closed_with(&self.newest, self.closed);
         match put_end(&self.newest, self.before, &closed, out) {
@@ -198,7 +216,7 @@ fn write_or_refuse<O: Sink>(out: &mut O, bytes: &[u8]) -> Result<(), Fault>
     ensures text { OnOk result (Appends (O.written out.old) (O.written out.new) bytes.now) }
     ensures short { OnErr result (AppendsShort (O.written out.old) (O.written out.new) bytes.now) }
     ensures fault { IfErr result (λ fault. fault ≡ Fault.WriteFault) }
-    ensures cause { TriesOnce (O.faults out.old) (O.faults out.new) result }
+    ensures cause { FailsOnce (O.faults out.old) (O.faults out.new) result }
 {
     match write_all(out, bytes) {
         Ok(()) => Ok(()),

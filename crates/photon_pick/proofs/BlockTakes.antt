@@ -104,15 +104,14 @@ module _ (s t : Stand) (l : Marked) (h : Took s t l) (of_mode : mode_of t.picker
       (subst (λ m. CutsWords t.written q.written t.held q.held (each_after (photon_words m) (behind ++ chosen_of s l) ps)) mode (cuts (behind ++ chosen_of s l) (h.picked behind stands))))
 
   -- The photons that are chosen of a block were given.
-  pub Took-block : (q : Pen) (taken floor faults : ℕ) → Gave (pen t.picker t.written t.held t.sink) q (filter t.chooses es) → InOrder (orders_markers t.mode) t.floor es
-      → taken ≡ t.taken + length es → floor ≡ floor_after (orders_markers t.mode) t.floor es → faults ≡ t.faults
-      → Took s (record t { taken = taken; floor = floor; faults = faults; sink = q.faults; picker = q.picker; written = q.written; held = q.held }) (l ++ on_time es)
-  Took-block q taken floor faults gave order counted moved still = record {
+  pub Took-block : (q : Pen) (taken floor : ℕ) → Gave (pen t.picker t.written t.held t.sink) q (filter t.chooses es) → InOrder (orders_markers t.mode) t.floor es
+      → taken ≡ t.taken + length es → floor ≡ floor_after (orders_markers t.mode) t.floor es
+      → Took s (record t { taken = taken; floor = floor; sink = q.faults; picker = q.picker; written = q.written; held = q.held }) (l ++ on_time es)
+  Took-block q taken floor gave order counted moved = record {
     same_choice = h.same_choice;
     same_mode = h.same_mode;
     counted = omega (arith, counted, h.counted, length-append l (on_time es), length-on_time es);
     moved = moved ∙ floor_of-block t.mode l es s.floor t.floor (rw h.same_mode h.moved) order ∙ rw h.same_mode refl;
-    kept = still ∙ h.kept;
     kept_sink = gave.kept ∙ h.kept_sink;
     same_fault = h.same_fault;
     in_time = ap (too_late s.mode) (chosen-more es) ∙ late-more (filter t.chooses es) gave.in_time;

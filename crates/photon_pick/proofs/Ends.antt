@@ -1,5 +1,5 @@
 -- What the end of a stream writes of the photons of a group.
-use Rattle.std.proofs.Common.{◌≡◌, ◌∙◌, ℕ, List, [], ◌++◌, Bool, None, Some, Ok, Err, map, refl, sym, ap, inl, inr, ⊎_elim, arith, append-nil, Result}
+use Rattle.std.proofs.Common.{◌≡◌, ◌∙◌, ℕ, List, [], ◌++◌, Bool, None, Some, Ok, Err, map, refl, sym, ap, inl, inr, ⊎_elim, append-nil, Result}
 use Rattle.std.{specs.List.filter, specs.declared.option.Option.Option, specs.Io.KnownBytes.Appends}
 use Rattle.tally_base.{specs.declared.event.Event.Event, specs.declared.fault.Fault.Fault, specs.declared.fault.Fault.TheVariants.WriteFault, specs.FaultCounts.Rose}
 use Rattle.bench_io.{specs.Sinks.AppendsShort, proofs.Bytes.{Appends-flushed, AppendsShort-flushed, AppendsShort-more, AppendsShort-kept, Keeps-from_none}}
@@ -88,7 +88,9 @@ module _ {T : Type 0} (g : Ghosts T) (a b : T) (at : T → Stand) (chooses : Eve
 
   -- What the end wrote, where the block was flushed.
   pub ends-on : (r : Result Summary Fault) → s.fault ≡ None → Appends t.written c t.held → faults ≡ t.sink → Ended g how a b bytes r → WritesEnd chooses how s.written c s.sink faults bytes (answer_by t.fault r)
-  ends-on (Ok sum) free flushed still h = (gave-clear sum h, gave-wrote sum h flushed still)
+  ends-on (Ok sum) free flushed still h =
+      let kept : t.fault ≡ None = (gave sum h).same_fault ∙ free in
+      rw kept (gave-clear sum h, gave-wrote sum h flushed still)
   ends-on (Err fault) free flushed still h =
       ⊎_elim
       (λ (r : (streamed how bytes ≡ Err fault) × (b ≡ a)).
@@ -115,7 +117,6 @@ module _ {T : Type 0} (g : Ghosts T) (a b : T) (at : T → Stand) (chooses : Eve
       (λ (cut : RefusedCut s t (broke r.1).front (broke r.1).e).
       let it = cut-bytes s t chooses how.mode same_choice same_mode empty before total has.in_time has.picked r.1.front r.1.back (broke r.1) (broke-are r.1) cut in
       let short = cut-short s t chooses how.mode same_choice same_mode empty before total has.in_time has.picked r.1.front r.1.back (broke r.1) (broke-are r.1) cut in
-      let rose = cut.rose in
       rw (cut.fault)
       (inr (
         refl,
@@ -123,7 +124,7 @@ module _ {T : Type 0} (g : Ghosts T) (a b : T) (at : T → Stand) (chooses : Eve
           more = _;
           adds = whole ∙ it.1;
           cut = AppendsShort-more s.written c _ it.0 (AppendsShort-kept s.written t.written c _ short.0 (Keeps-from_none t.written c (rw short.1 at flushed)));
-          rose = omega (arith, rose, still);
+          rose = rw still cut.rose;
         },
       )))
       (broke r.1).why)

@@ -1,5 +1,5 @@
 -- What a piece writes of the photons of a group.
-use Rattle.std.proofs.Common.{◌≡◌, ◌∙◌, ℕ, List, [], ◌++◌, Bool, None, Some, Ok, Err, refl, ap, inl, inr, ⊎_elim, arith, Result, OnOk}
+use Rattle.std.proofs.Common.{◌≡◌, ◌∙◌, ℕ, List, [], ◌++◌, Bool, None, Some, Ok, Err, refl, ap, inl, inr, ⊎_elim, Result, OnOk}
 use Rattle.std.{specs.List.filter, specs.declared.option.Option.Option, specs.Io.KnownBytes.Appends}
 use Rattle.tally_base.{specs.declared.event.Event.Event, specs.declared.fault.Fault.Fault, specs.declared.fault.Fault.TheVariants.WriteFault, specs.FaultCounts.Rose}
 use Rattle.bench_io.{specs.Sinks.AppendsShort, proofs.Bytes.{Appends-flushed, AppendsShort-flushed, AppendsShort-more, AppendsShort-kept, Keeps-from_none}}
@@ -75,7 +75,9 @@ module _ {T : Type 0} (g : Ghosts T) (a b : T) (at : T → Stand) (chooses : Eve
   -- What a piece wrote, where the block was flushed.
   pub feeds-on : (r : Result (Unit {0}) Fault) → s.fault ≡ None → Appends t.written c t.held → faults ≡ t.sink → Fed g how a b words now r
       → WritesText (text words) (text now) (refuses now) s.written c s.sink faults (answer_by t.fault r) × OnOk (answer_by t.fault r) (HasPickedIn chooses how t.picker now)
-  feeds-on (Ok done) free flushed still fed = ((gave-clear fed.1 None fed.0, gave-wrote fed.1 flushed still), gave-stands fed.1)
+  feeds-on (Ok done) free flushed still fed =
+      let kept : t.fault ≡ None = (gave fed.1).same_fault ∙ free in
+      rw kept ((gave-clear fed.1 None fed.0, gave-wrote fed.1 flushed still), gave-stands fed.1)
   feeds-on (Err fault) free flushed still fed =
       ⊎_elim
       (λ (r : (record_refusal how now ≡ Some fault) × GaveOn g how a b words now).
@@ -99,7 +101,6 @@ module _ {T : Type 0} (g : Ghosts T) (a b : T) (at : T → Stand) (chooses : Eve
       (λ (cut : RefusedCut s t (broke r.1).front (broke r.1).e).
       let it = cut-bytes s t chooses how.mode same_choice same_mode empty before total has.in_time has.picked r.1.front r.1.back (broke r.1) (broke-are r.1) cut in
       let short = cut-short s t chooses how.mode same_choice same_mode empty before total has.in_time has.picked r.1.front r.1.back (broke r.1) (broke-are r.1) cut in
-      let rose = cut.rose in
       rw (cut.fault) (
         inr (
           refl,
@@ -107,7 +108,7 @@ module _ {T : Type 0} (g : Ghosts T) (a b : T) (at : T → Stand) (chooses : Eve
             more = _;
             adds = it.1;
             cut = AppendsShort-more s.written c _ it.0 (AppendsShort-kept s.written t.written c _ short.0 (Keeps-from_none t.written c (rw short.1 at flushed)));
-            rose = omega (arith, rose, still);
+            rose = rw still cut.rose;
           },
         ),
         tt,

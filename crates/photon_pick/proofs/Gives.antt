@@ -3,7 +3,7 @@ use Rattle.std.proofs.Common.{◌≡◌, ◌∙◌, ℕ, ◌+◌, ◌<◌, ◌�
 use Rattle.std.proofs.lemmas.List.Elements.{filter-append}
 use Rattle.tally_base.{specs.declared.event.Event.Event, specs.declared.fault.Fault.Fault, specs.declared.fault.Fault.TheVariants.{PickTime, WriteFault}, specs.FaultCounts.Rose, specs.Columns.rows, specs.Floors.{floor_after, InOrder}, proofs.BlockRows.{rows-split, more_rows}, proofs.Floors.{floor-push, floor-append, order-parts}}
 use Rattle.ptu_definitions.{specs.Prefixes.each_after, proofs.PrefixLemmas.each_after-append}
-use Rattle.record_write.{specs.Picked.{is_too_late, photon_words}, specs.Picker.{mode_of, last_by, HasPicked}, specs.Writing.{PutsWords, CutsWords}, proofs.Puts.{puts-more, cuts-behind}}
+use Rattle.record_write.{specs.Picked.{is_too_late, photon_words}, specs.Picker.{mode_of, last_by, is_going, HasPicked}, specs.Writing.{PutsWords, CutsWords}, proofs.Puts.{puts-more, cuts-behind}}
 use Rattle.photon_pick.{specs.Late.too_late, specs.Giving.{Pen, Gave, Stopped, words_behind}}
 
 -- the words of one photon more
@@ -15,8 +15,8 @@ words-more p behind ps e =
 module _ (p q : Pen) (ps : List Event) (e : Event) (gave : Gave p q ps) where
   pub Gave-more : (r : Pen) → is_too_late (mode_of q.picker) e.time ≡ false → ((behind : List Event) → HasPicked q.picker behind → HasPicked r.picker (behind ++ e ∷ []))
       → ((behind : List Event) → HasPicked q.picker behind → PutsWords q.written r.written q.held r.held (photon_words (mode_of q.picker) behind e))
-      → mode_of r.picker ≡ mode_of q.picker → last_by r.picker ≡ e.time → r.faults ≡ q.faults → Gave p r (ps ++ e ∷ [])
-  Gave-more r soon picks puts mode last still = record {
+      → mode_of r.picker ≡ mode_of q.picker → is_going r.picker ≡ true → last_by r.picker ≡ e.time → r.faults ≡ q.faults → Gave p r (ps ++ e ∷ [])
+  Gave-more r soon picks puts mode going last still = record {
     in_time =
         let here : too_late (mode_of p.picker) (e ∷ []) ≡ [] = rw (subst (λ m. is_too_late m e.time ≡ false) gave.same_mode soon) refl in
         filter-append (λ x. is_too_late (mode_of p.picker) x.time) ps (e ∷ []) ∙ rw (gave.in_time, here) refl;
@@ -26,6 +26,7 @@ module _ (p q : Pen) (ps : List Event) (e : Event) (gave : Gave p q ps) where
         (puts-more p.written q.written r.written p.held q.held r.held (words_behind p behind ps) (photon_words (mode_of p.picker) (behind ++ ps) e) (gave.text behind h)
         (subst (λ m. PutsWords q.written r.written q.held r.held (photon_words m (behind ++ ps) e)) gave.same_mode (puts (behind ++ ps) (gave.picked behind h))));
     same_mode = mode ∙ gave.same_mode;
+    going = going;
     last = last ∙ sym (floor-push true (last_by p.picker) ps e);
     kept = still ∙ gave.kept;
   }

@@ -48,7 +48,6 @@ module _ (s t : Stand) (l : Marked) (h : Took s t l) (e : Event) (late : Bool) w
         same_mode = h.same_mode;
         counted = omega (arith, h.counted, length-append l ((e, late) ∷ []));
         moved = moves floor is order;
-        kept = h.kept;
         kept_sink = h.kept_sink;
         same_fault = h.same_fault;
         in_time = rw same h.in_time;
@@ -62,10 +61,10 @@ module _ (s t : Stand) (l : Marked) (h : Took s t l) (e : Event) (late : Bool) w
 
   module _ (one : filter t.chooses (not_marked ((e, late) ∷ [])) ≡ e ∷ []) (written : Option (List ℕ)) (held : List ℕ) where
     -- A photon is picked.
-    pub Took-picked : (floor faults sink : ℕ) (picker : Picker) → floor ≡ moved_floor t.mode t.floor e late → (IsTrue (is_ordered t.mode e && not late) → t.floor ≤ e.time) → faults ≡ t.faults → sink ≡ t.sink → is_too_late t.mode e.time ≡ false
+    pub Took-picked : (floor sink : ℕ) (picker : Picker) → floor ≡ moved_floor t.mode t.floor e late → (IsTrue (is_ordered t.mode e && not late) → t.floor ≤ e.time) → sink ≡ t.sink → is_too_late t.mode e.time ≡ false
         → ((behind : List Event) → HasPicked t.picker behind → HasPicked picker (behind ++ e ∷ [])) → ((behind : List Event) → HasPicked t.picker behind → PutsWords t.written written t.held held (photon_words t.mode behind e))
-        → Took s (record t { taken = t.taken + 1; floor = floor; faults = faults; sink = sink; picker = picker; written = written; held = held }) (l ++ (e, late) ∷ [])
-    Took-picked floor faults sink picker is order still still_sink soon picks puts =
+        → Took s (record t { taken = t.taken + 1; floor = floor; sink = sink; picker = picker; written = written; held = held }) (l ++ (e, late) ∷ [])
+    Took-picked floor sink picker is order still soon picks puts =
         let more = added one in
         let mode = h.same_mode in
         record {
@@ -73,8 +72,7 @@ module _ (s t : Stand) (l : Marked) (h : Took s t l) (e : Event) (late : Bool) w
           same_mode = h.same_mode;
           counted = omega (arith, h.counted, length-append l ((e, late) ∷ []));
           moved = moves floor is order;
-          kept = still ∙ h.kept;
-          kept_sink = still_sink ∙ h.kept_sink;
+          kept_sink = still ∙ h.kept_sink;
           same_fault = h.same_fault;
           in_time = ap (too_late s.mode) more ∙ filter-append (λ x. is_too_late s.mode x.time) (chosen_of s l) (e ∷ []) ∙ (let here = rw mode at soon in rw (h.in_time, here) refl);
           picked = λ behind stands. rw (more, ← append_assoc behind (chosen_of s l) (e ∷ [])) (picks (behind ++ chosen_of s l) (h.picked behind stands));

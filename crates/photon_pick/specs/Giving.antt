@@ -5,7 +5,7 @@ use Rattle.tally_base.{specs.declared.event.Event.Event, specs.declared.fault.Fa
 use Rattle.record_stream.specs.Blocks.{AllFit}
 use Rattle.bench_io.specs.declared.sink.Sink.{Ghosts}
 use Rattle.ptu_definitions.specs.Prefixes.{each_after}
-use Rattle.record_write.{specs.declared.picker.Picker.Picker, specs.Picked.{is_too_late, photon_words}, specs.Picker.{mode_of, last_by, HasPicked}, specs.Writing.{PutsWords, CutsWords}}
+use Rattle.record_write.{specs.declared.picker.Picker.Picker, specs.Picked.{is_too_late, photon_words}, specs.Picker.{mode_of, last_by, is_going, HasPicked}, specs.Writing.{PutsWords, CutsWords}}
 use Rattle.photon_pick.specs.Late.{too_late}
 
 -- A picker, the bytes that its sink tells, those that its block holds, and how often a write has failed.
@@ -27,8 +27,9 @@ pub record ArePlaces (events : Block) (places : List ℕ) (many : ℕ) : Type 0 
   pub few : many ≤ 64
   pub inside : (k : ℕ) → k < many → slice_index places k < count events
 
--- The events are photons that fit the picker's mode and come in order, no earlier than its last.
+-- The header was written and no call refused, and the events are photons that fit the picker's mode and come in order, no earlier than its last.
 pub record CanBeGiven (picker : Picker) (photons : List Event) : Type 0 where
+  pub going : is_going picker ≡ true
   pub are_photons : All (λ e. is_photon e ≡ true) photons
   pub fit : AllFit (mode_of picker) photons
   pub in_order : InOrder true (last_by picker) photons
@@ -39,6 +40,7 @@ pub record Gave (p q : Pen) (photons : List Event) : Type 0 where
   pub picked : (behind : List Event) → HasPicked p.picker behind → HasPicked q.picker (behind ++ photons)
   pub text : (behind : List Event) → HasPicked p.picker behind → PutsWords p.written q.written p.held q.held (words_behind p behind photons)
   pub same_mode : mode_of q.picker ≡ mode_of p.picker
+  pub going : is_going q.picker ≡ true
   pub last : last_by q.picker ≡ floor_after true (last_by p.picker) photons
   pub kept : q.faults ≡ p.faults
 

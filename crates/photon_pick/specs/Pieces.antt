@@ -1,15 +1,16 @@
 -- What feeding a piece writes of the photons that are chosen.
-use Rattle.std.specs.Prelude.{ℕ, ◌≡◌, ◌+◌, ◌≤◌, Bool, List, ◌++◌, length, OnOk, None, Result}
+use Rattle.std.specs.Prelude.{ℕ, ◌≡◌, ◌+◌, ◌≤◌, Bool, true, List, ◌++◌, length, OnOk, None, Result}
 use Rattle.tally_base.{specs.declared.event.Event.Event, specs.declared.fault.Fault.Fault}
 use Rattle.bench_io.specs.declared.sink.Sink.{Ghosts}
 use Rattle.ptu_definitions.specs.Words.{words_of}
 use Rattle.record_stream.{specs.declared.stream.RecordStream.RecordStream, specs.Standing.{how_of, greatest_of, bytes_in, refused_with, HasStreamed}}
-use Rattle.record_write.{specs.declared.picker.Picker.Picker, specs.Picker.{mode_of, last_by}}
+use Rattle.record_write.{specs.declared.picker.Picker.Picker, specs.Picker.{mode_of, last_by, is_going}}
 use Rattle.told_text.specs.Texts.{WritesText}
 use Rattle.photon_pick.{specs.Texts.{text_in, refusal_in, HasPickedIn}, specs.Ends.WritesEnd}
 
--- The picker writes in the mode of the stream, and is no further on than it.
+-- The picker has written its header and refused nothing, in the mode of the stream, and is no further on than it.
 pub record IsNoFurther (stream : RecordStream) (picker : Picker) : Type 0 where
+  pub going : is_going picker ≡ true
   pub same_mode : mode_of picker ≡ (how_of stream).mode
   pub before : last_by picker ≤ greatest_of stream
 
@@ -19,10 +20,10 @@ pub record GoesOn (old new : RecordStream) (picker : Picker) (piece : List ℕ) 
   pub counted : bytes_in new ≡ bytes_in old + length piece
   pub behind : IsNoFurther new picker
 
--- What a piece wrote, where the stream has refused nothing and the picker has picked the photons before it, by the answer.
+-- What a piece wrote, where the picker has picked the photons before it, by the answer.
 abbrev pub PicksPiece : {O : Type 0} → Ghosts O → (Event → Bool) → RecordStream → List ℕ → Picker → Picker → O → O → Result (Unit {0}) Fault → Type 0
 PicksPiece o chooses stream piece picker now old new result =
-    refused_with stream ≡ None → (bytes : List ℕ) → HasStreamed stream bytes → HasPickedIn chooses (how_of stream) picker (words_of bytes)
+    (bytes : List ℕ) → HasStreamed stream bytes → HasPickedIn chooses (how_of stream) picker (words_of bytes)
     → WritesText (text_in chooses (how_of stream) (words_of bytes)) (text_in chooses (how_of stream) (words_of (bytes ++ piece))) (refusal_in chooses (how_of stream) (words_of (bytes ++ piece))) (o.written old) (o.written new) (o.faults old) (o.faults new) result
     × OnOk result (HasPickedIn chooses (how_of stream) now (words_of (bytes ++ piece)))
 

@@ -16,7 +16,6 @@ pub record Stand : Type 0 where
   pub mode : Mode
   pub taken : ℕ
   pub floor : ℕ
-  pub faults : ℕ
   -- how often a write of the sink has failed
   pub sink : ℕ
   -- the bytes that the sink tells, and those that the block holds
@@ -25,14 +24,13 @@ pub record Stand : Type 0 where
   -- why the last photon was refused
   pub fault : Option Fault
 
-abbrev pub stand : (Event → Bool) → Picker → Mode → ℕ → ℕ → ℕ → ℕ → Option (List ℕ) → List ℕ → Option Fault → Stand
-stand chooses picker mode taken floor faults sink written held fault = record {
+abbrev pub stand : (Event → Bool) → Picker → Mode → ℕ → ℕ → ℕ → Option (List ℕ) → List ℕ → Option Fault → Stand
+stand chooses picker mode taken floor sink written held fault = record {
   chooses = chooses;
   picker = picker;
   mode = mode;
   taken = taken;
   floor = floor;
-  faults = faults;
   sink = sink;
   written = written;
   held = held;
@@ -53,7 +51,6 @@ pub record Took (s t : Stand) (l : Marked) : Type 0 where
   pub same_mode : t.mode ≡ s.mode
   pub counted : t.taken ≡ s.taken + length l
   pub moved : t.floor ≡ max s.floor (floor_of s.mode l)
-  pub kept : t.faults ≡ s.faults
   pub kept_sink : t.sink ≡ s.sink
   pub same_fault : t.fault ≡ s.fault
   pub in_time : too_late s.mode (chosen_of s l) ≡ []
@@ -87,7 +84,6 @@ took_none s = record {
   same_mode = refl;
   counted = omega arith;
   moved = omega arith;
-  kept = refl;
   kept_sink = refl;
   same_fault = refl;
   in_time = refl;

@@ -26,9 +26,9 @@ refusal_in chooses how words = late_or (first (too_late how.mode (photons_in cho
 
 -- the answer of a stream, with the fault that its taker met in place of its own
 abbrev pub answer_by : {X : Type 0} → Option Fault → Result X Fault → Result (Unit {0}) Fault
-answer_by kept (Ok done) = Ok tt
+answer_by (Some kept) r = Err kept
+answer_by None (Ok done) = Ok tt
 answer_by None (Err fault) = Err fault
-answer_by (Some kept) (Err fault) = Err kept
 
 -- The picker has picked the photons of these words, and none of them is too late.
 pub record HasPickedIn (chooses : Event → Bool) (how : Reading) (picker : Picker) (words : List ℕ) : Type 0 where

@@ -14,10 +14,10 @@ use tally_base::{Failed, Fault};
 fn answer_at_end(kept: Option<Fault>, finished: Result<Summary, Fault>) -> Result<(), Fault>
     ensures { result ≡ answer_by kept finished }
 {
-    match (finished, kept) {
-        (Ok(_), _) => Ok(()),
-        (Err(_), Some(fault)) => Err(fault),
-        (Err(fault), None) => Err(fault),
+    match (kept, finished) {
+        (Some(fault), _) => Err(fault),
+        (None, Ok(_)) => Ok(()),
+        (None, Err(fault)) => Err(fault),
     }
 }
 

@@ -28,7 +28,6 @@ pub(crate) fn give_photons<O: Sink>(
     ensures same_mode { mode_of picker.new ≡ mode_of picker.old }
     ensures last { last_by picker.new
         ≤ floor_after true (last_by picker.old) (events_at events.now places.now many) }
-    ensures later { O.faults out.old ≤ O.faults out.new }
 {
     for k in 0..many {
         picker.put(&events.event(places[k] as usize), block, out)?;

@@ -15,10 +15,9 @@ use tally_base::{Failed, Fault};
 fn answer(kept: Option<Fault>, fed: Result<(), Fault>) -> Result<(), Fault>
     ensures { result ≡ answer_by kept fed }
 {
-    match (fed, kept) {
-        (Ok(()), _) => Ok(()),
-        (Err(_), Some(fault)) => Err(fault),
-        (Err(fault), None) => Err(fault),
+    match kept {
+        Some(fault) => Err(fault),
+        None => fed,
     }
 }
 
@@ -30,6 +29,7 @@ fn feed_picks<'g, 'p, 'o, O: Sink>(
 ) -> Result<(), Fault>
     requires begins { Begins stream.old picks.old.mode picks.old.taken picks.old.floor
         picks.old.block picks.old.fault }
+    requires going { refused_with stream.old ≡ None }
     ensures taken { (bytes : List ℕ) → HasStreamed stream.old bytes
         → HasStreamed stream.new (bytes ++ piece.now) }
     ensures same_how { how_of stream.new ≡ how_of stream.old }
@@ -49,8 +49,8 @@ fn feed_picks<'g, 'p, 'o, O: Sink>(
     }
 }
 
-/// Gives a piece to a stream, and writes the photons of a group, 1 to 64, that the stream gives and that aren't late.
-/// The picker has picked those before.
+/// Gives a piece to a stream that has refused nothing, and writes the photons of a group, 1 to 64, that the stream
+/// gives and that aren't late. The picker has written its header, and has picked those before.
 ///
 /// Refuses what the stream refuses, and with `PickTime` the first of these photons that is too late to be written; then those before
 /// it were written. Where a write fails it answers `WriteFault`.
@@ -64,6 +64,7 @@ pub fn pick_piece<O: Sink>(
 ) -> Result<(), Fault>
     requires group { (0 < group) × (group ≤ 64) }
     requires behind { IsNoFurther stream.old picker.old }
+    requires going { refused_with stream.old ≡ None }
     ensures taken { (bytes : List ℕ) → HasStreamed stream.old bytes
         → HasStreamed stream.new (bytes ++ piece.now) }
     ensures same_how { how_of stream.new ≡ how_of stream.old }

@@ -1,8 +1,8 @@
 // What gives the photons of a group to a picker.
-ghost use Rattle.std.specs.Prelude.{◌≡◌, ◌+◌, ◌<◌, ◌≤◌, ◌&&◌, not};
+ghost use Rattle.std.specs.Prelude.{◌≡◌, ◌+◌, ◌<◌, ◌≤◌, ◌&&◌, not, true, None};
 ghost use Rattle.tally_base.specs.declared.event.Event.{Event};
 ghost use Rattle.gate_plan.specs.Groups.{sorting_of};
-ghost use Rattle.record_write.specs.Picker.{mode_of, last_by};
+ghost use Rattle.record_write.specs.Picker.{mode_of, last_by, is_going};
 ghost use Rattle.photon_pick.specs.Chosen.{is_chosen};
 
 use crate::choosing::choose;
@@ -32,8 +32,9 @@ pub(crate) struct Picks<'g, 'p, 'o, O: Sink> {
     pub(crate) picker: &'p mut Picker,
     pub(crate) out: &'o mut O,
     pub(crate) block: Block,
-    // Why the last photon was refused.
+    // Why a photon was refused. Then no other is given to the picker.
     pub(crate) fault: Option<Fault>,
+    // How often it failed.
     pub(crate) refusals: u64,
     pub(crate) mode: Mode,
     pub(crate) taken: u64,
@@ -41,6 +42,7 @@ pub(crate) struct Picks<'g, 'p, 'o, O: Sink> {
     ghost some_group: { (0 < group) × (group ≤ 64) },
     ghost of_mode: { mode_of picker.now ≡ mode },
     ghost before: { last_by picker.now ≤ floor },
+    ghost going: { fault ≡ None → is_going picker.now ≡ true },
 }
 
 impl<'g, 'p, 'o, O: Sink> EventTaker for Picks<'g, 'p, 'o, O> {
@@ -49,14 +51,14 @@ impl<'g, 'p, 'o, O: Sink> EventTaker for Picks<'g, 'p, 'o, O> {
     ghost use Rattle.photon_pick.specs.Taking.{Took, Refused, took_none, stand};
 
     ghost got = { λ s t l. Took (stand (is_chosen (sorting_of s.gates.now) s.group) s.picker.now s.mode s.taken s.floor
-        (O.faults s.out.now + s.refusals) (O.faults s.out.now) (O.written s.out.now) s.block s.fault)
+        (O.faults s.out.now) (O.written s.out.now) s.block s.fault)
         (stand (is_chosen (sorting_of t.gates.now) t.group) t.picker.now t.mode t.taken t.floor
-        (O.faults t.out.now + t.refusals) (O.faults t.out.now) (O.written t.out.now) t.block t.fault) l };
+        (O.faults t.out.now) (O.written t.out.now) t.block t.fault) l };
 
-    ghost broke = { λ s t l. Refused (stand (is_chosen (sorting_of s.gates.now) s.group) s.picker.now s.mode s.taken s.floor
-        (O.faults s.out.now + s.refusals) (O.faults s.out.now) (O.written s.out.now) s.block s.fault)
+    ghost broke = { λ s t l. s.fault ≡ None → Refused (stand (is_chosen (sorting_of s.gates.now) s.group) s.picker.now s.mode s.taken s.floor
+        (O.faults s.out.now) (O.written s.out.now) s.block s.fault)
         (stand (is_chosen (sorting_of t.gates.now) t.group) t.picker.now t.mode t.taken t.floor
-        (O.faults t.out.now + t.refusals) (O.faults t.out.now) (O.written t.out.now) t.block t.fault) l };
+        (O.faults t.out.now) (O.written t.out.now) t.block t.fault) l };
 
     ghost same = { λ s t. (t.out.ghost_name ≡ s.out.ghost_name)
         × (t.picker.ghost_name ≡ s.picker.ghost_name) };
@@ -71,7 +73,7 @@ impl<'g, 'p, 'o, O: Sink> EventTaker for Picks<'g, 'p, 'o, O> {
 
     ghost floor = { λ t. t.floor };
 
-    ghost faults = { λ t. O.faults t.out.now + t.refusals };
+    ghost faults = { λ t. t.refusals };
 
     ghost got_none = { λ t. took_none _ };
 
@@ -87,6 +89,10 @@ impl<'g, 'p, 'o, O: Sink> EventTaker for Picks<'g, 'p, 'o, O> {
         if !wanted {
             return Ok(());
         }
+        if self.fault.is_some() {
+            self.refusals = self.refusals.saturating_add(1);
+            return Err(Failed);
+        }
         match self.picker.put(event, &mut self.block, self.out) {
             Ok(()) => Ok(()),
             Err(fault) => {
@@ -98,6 +104,13 @@ impl<'g, 'p, 'o, O: Sink> EventTaker for Picks<'g, 'p, 'o, O> {
     }
 
     fn take_block(&mut self, block: &mut tally_base::Block) -> Result<(), Failed> {
+        if block.len() == 0 {
+            return Ok(());
+        }
+        if self.fault.is_some() {
+            self.refusals = self.refusals.saturating_add(1);
+            return Err(Failed);
+        }
         self.taken += block.len() as u64;
         self.floor = block.floor_after(orders_markers(self.mode), self.floor);
         // All places first, and then the photons: so no branch depends on the group.

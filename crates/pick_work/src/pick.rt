@@ -88,7 +88,7 @@ impl<'p> Job for PickJob<'p> {
         self.plan.fits(mode)?;
         let gates = Gates::of(self.plan);
         let stream = RecordStream::new(header.record_type, self.plan.policy);
-        let picker = Picker::new(mode);
+        let mut picker = Picker::new(mode);
         picker.start(out)?;
         let group = self.group;
         Ok(PickReader {

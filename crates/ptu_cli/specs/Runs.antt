@@ -43,7 +43,7 @@ TellsOn run fault = TellsFault run.err_before run.err_after run.err_faults_befor
 abbrev pub EndsIn : Around → ℕ → Outcome → Type 0
 EndsIn run result end = EndsBy end result run.out_before run.out_after run.err_before run.err_after run.err_faults_before run.err_faults_after
 
--- No count of the inputs and of standard output moved but the one that the fault tells of.
+-- No count of the inputs and of standard output moved but the one that the fault tells of, by one.
 abbrev pub MovesOnly : Around → Option Fault → Type 0
 MovesOnly run fault = InputsOnce run.before run.after fault × OutOnce fault run.out_faults_before run.out_faults_after
 
@@ -69,7 +69,7 @@ pub record Runs (request : Option Request) (run : Around) (result : ℕ) : Type 
   pub memory : result ≡ 5 → RunsOut (behaviour request) run.after run.out_before run.out_after × TellsOn run (Some OutOfMemory)
   -- What it asked for and took, whatever its status is.
   pub asks : Asks (behaviour request) run.before run.after
-  -- It does not go on behind a call that failed: with status 0 no count of the inputs and of standard output moved, and else none but the one of the fault whose line is told.
+  -- It does not go on behind a call that failed: with status 0 no count of the inputs and of standard output moved, and else none but the one of the fault whose line is told, by one.
   pub once : (fault : Option Fault) × (result ≡ status fault) × TellsOn run fault × MovesOnly run fault
   -- Where no count of the inputs and of standard output rose, it ends as its files call for or for want of memory, and well where they are good.
   pub complete : NothingFailed run → LacksMemory (behaviour request) result ⊎ ForItsFiles (behaviour request) run.after (λ end. result ≡ status end.fault)

@@ -40,8 +40,8 @@ module _ {T : Type 0} (g : Ghosts T) (how : Reading) (old new : T) (n base top :
   given-block = given-clear how now a.clear ∙ delivers ∙ ap (λ l. l ++ on_time es) (sym (given-clear how before clear))
 
   -- what was given of the words
-  pub block_fed : ((start : T) (l : Marked) → g.got start old l → g.got start new (l ++ on_time es)) → (record_refusal how now ≡ None) × GaveOn g how old new before now
-  block_fed got = (rw a.clear refl, record { more = on_time es; adds = given-block; follows = got })
+  pub block_fed : ((start : T) (l : Marked) → g.got start old l → g.got start new (l ++ on_time es)) → g.faults new ≡ g.faults old → (record_refusal how now ≡ None) × GaveOn g how old new before now
+  block_fed got kept = (rw a.clear refl, record { more = on_time es; adds = given-block; follows = got; kept = kept })
 
   -- or broke the taker
   pub block_broke : BrokeAmong g.got g.broke old new es → Rose (g.faults old) (g.faults new) → BrokeOn g how old new before now

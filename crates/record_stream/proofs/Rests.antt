@@ -1,7 +1,7 @@
 -- The events that are kept back, given one after another at the end.
 use Rattle.std.proofs.Common.{◌≡◌, ◌+◌, ◌≤◌, ℕ, suc, List, [], ◌∷◌, ◌++◌, Bool, true, false, cond, Ok, Err, OnErr, IfErr, length, map, refl, sym, ap, subst, ◌∙◌, append_assoc, append-nil, arith, length-append, ◌==◌}
 use Rattle.std.{specs.List.All, specs.declared.result.Result.Result, proofs.lemmas.Bool.eqb-true, proofs.lemmas.List.{map-append, length-map}, proofs.lemmas.List.Elements.All-tail}
-use Rattle.tally_base.{specs.declared.event.Event.Event, specs.declared.fault.Fault.Fault, specs.declared.fault.Fault.TheVariants.WriteFault, specs.FaultCounts.HasCause}
+use Rattle.tally_base.{specs.declared.event.Event.Event, specs.declared.fault.Fault.Fault, specs.declared.fault.Fault.TheVariants.WriteFault, specs.FaultCounts.{FailsOnce, Rose}}
 use Rattle.ptu_definitions.{specs.Kept.Marked, specs.Settled.{delivered_last, in_time, last_of, marked_as, ordered}, specs.Streams.{Reading, last_in}, specs.Times.events, proofs.DeliveredLaws.delivered_last-0, proofs.SettlingLemmas.waits-is}
 use Rattle.settle.{specs.Standing.{kept_back, reach_of, was_popped}, specs.declared.settle.Settle.Settle}
 use Rattle.record_stream.{specs.Ending.{GaveFirst, BrokeFirst}, specs.Feeding.Follows, specs.Keeping.{CanWait, Settles}, specs.OneMore.{with_event, with_marks}, specs.Walking.{how_of, given_by, records_of, summary_in, Notes, KeepsPlace}, specs.declared.taker.EventTaker.Ghosts, specs.declared.walk.Walk.Walk, proofs.Lasts.some-settle, proofs.Summaries.with_marks-append}
@@ -26,16 +26,16 @@ module _ {T : Type 0} (g : Ghosts T) (walk : Walk) (start : T) (all : List Event
     mode_is = follows.mode_is;
     fit = fit;
     low = follows.before;
-    later = omega arith;
+    kept = refl;
     same = same;
   }
 
   pub broke_one : {X : Type 0} (r : Result X Fault) (now : Walk) (taker new : T) (left rest : List Event) (last : ℕ) (e : Event) → GaveFirst g walk start all now taker left last → left ≡ e ∷ rest
-      → OnErr r ((s : T) (l : Marked) → g.got s taker l → g.broke s new (l ++ (e, false) ∷ [])) → IfErr r (λ fault. fault ≡ WriteFault) → HasCause (g.faults taker) (g.faults new) r
+      → OnErr r ((s : T) (l : Marked) → g.got s taker l → g.broke s new (l ++ (e, false) ∷ [])) → IfErr r (λ fault. fault ≡ WriteFault) → FailsOnce (g.faults taker) (g.faults new) r
       → IfErr r (λ fault. (fault ≡ WriteFault) × BrokeFirst g start new (marked_as false all))
   broke_one (Ok x) now taker new left rest last e h is breaks fault cause = tt
   broke_one (Err y) now taker new left rest last e h is breaks fault cause =
-      let rose = cause.failed in (
+      (
         fault,
         record {
           front = marked_as false (h.front ++ e ∷ []);
@@ -43,14 +43,14 @@ module _ {T : Type 0} (g : Ghosts T) (walk : Walk) (start : T) (all : List Event
           some = omega (arith, length-map {B = Event × Bool} (h.front ++ e ∷ []) (λ (x : Event). (x, false)), length-append h.front (e ∷ []));
           adds = ap (marked_as false) (parts_one all h.front left rest e h.adds is) ∙ map-append (λ (x : Event). (x, false)) (h.front ++ e ∷ []) rest;
           broken = λ s l got. subst (λ m. g.broke s new m) (marked_one h.front e l) (breaks s (l ++ marked_as false h.front) (h.follows s l got));
-          rose = omega (arith, h.later);
+          rose = subst (λ n. Rose n (g.faults new)) h.kept cause.once;
         },
       )
 
   pub gave_one : {X : Type 0} (x : X) (now next : Walk) (taker new : T) (left rest : List Event) (last low : ℕ) (e : Event) → GaveFirst g walk start all now taker left last → left ≡ e ∷ rest
       → ((s : T) (l : Marked) → g.got s taker l → g.got s new (l ++ (e, false) ∷ [])) → Notes now next e false → KeepsPlace now next → Follows g (how_of now).mode (given_by next) low new
-      → g.faults taker ≤ g.faults new → g.same start new → GaveFirst g walk start all next new rest low
-  gave_one x now next taker new left rest last low e h is gives notes place follows later same =
+      → g.faults new ≡ g.faults taker → g.same start new → GaveFirst g walk start all next new rest low
+  gave_one x now next taker new left rest last low e h is gives notes place follows kept same =
       let count : length left ≡ suc (length rest) = ap length is in
       let mode : (how_of next).mode ≡ (how_of now).mode = ap (λ (how : Reading). how.mode) place.same_how in
       record {
@@ -64,7 +64,7 @@ module _ {T : Type 0} (g : Ghosts T) (walk : Walk) (start : T) (all : List Event
         mode_is = follows.mode_is ∙ sym mode;
         fit = subst (λ m. All (CanWait m) rest) (sym mode) (All-tail (CanWait (how_of now).mode) e rest (subst (All (CanWait (how_of now).mode)) is h.fit));
         low = follows.before;
-        later = omega (arith, h.later, later);
+        kept = kept ∙ h.kept;
         same = same;
       }
 

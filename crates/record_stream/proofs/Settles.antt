@@ -1,7 +1,7 @@
 -- One event more where events are put in their places.
 use Rattle.std.proofs.Common.{◌≡◌, ◌+◌, ◌<◌, ◌≤◌, ℕ, suc, List, [], ◌∷◌, ◌++◌, Bool, true, false, cond, None, Some, Ok, Err, OnOk, OnErr, IfErr, length, map, max, refl, sym, ap, subst, ◌∙◌, inr, append-nil, add-zero, arith, ◌&&◌, not, is_some, IsTrue, if◌then◌else◌}
 use Rattle.std.{specs.List.All, specs.Option.option_to_list, specs.declared.option.Option.Option, specs.declared.result.Result.Result, proofs.lemmas.List.map-append, proofs.lemmas.List.Elements.{filter-append, All-tail, All-from_recursion, recursion_from_All}}
-use Rattle.tally_base.{specs.declared.event.Event.Event, specs.declared.fault.Fault.Fault, specs.declared.fault.Fault.TheVariants.{BackwardTime, WriteFault}, specs.declared.header.Mode.Mode, specs.Events.{is_ordered, stops_late}, specs.FaultCounts.HasCause}
+use Rattle.tally_base.{specs.declared.event.Event.Event, specs.declared.fault.Fault.Fault, specs.declared.fault.Fault.TheVariants.{BackwardTime, WriteFault}, specs.declared.header.Mode.Mode, specs.Events.{is_ordered, stops_late}, specs.FaultCounts.FailsOnce}
 use Rattle.ptu_definitions.{specs.Kept.{Marked, floor_of}, specs.Settled.{is_overtaken, ordered, settles, put_in, not_marked}, specs.Streams.{Reading, events_in}, specs.Times.{event_after, events}, proofs.DeliveredLaws.not_marked-append, proofs.SettledLemmas.length-put_in, proofs.SettlingLemmas.each-put_in, proofs.StreamLemmas.{events-push, events_in-push, fresh}}
 use Rattle.abs_time.{specs.Placing.mode_of as clock_mode, specs.Placing.placed_by, specs.Floors.moved_floor, proofs.Floors.moved_floor-push}
 use Rattle.record_stream.{specs.Keeping.{CanWait, IsKeeping, HasCome, tells, refused_for}, specs.OneMore.with_marks, specs.Settling.{Tells, Told}, specs.Walking.{how_of, given_by, records_of, summary_in, clock_in, Gave}, specs.declared.taker.EventTaker.Ghosts, specs.declared.walk.Walk.Walk}
@@ -126,13 +126,14 @@ module _ {T : Type 0} (g : Ghosts T) where
     got = λ start l got. subst (λ m. g.got start t m) (sym (ap (λ m. l ++ m) is ∙ append-nil l)) got;
     summary = ap (λ m. with_marks (summary_in walk) m) (sym is);
     counted = sym (ap (λ m. given_by walk + length m) is ∙ add-zero (given_by walk));
+    kept = refl;
   }
 
   -- an event that adds one, which was given or broke the taker
   pub tells_one : {X : Type 0} (r : Result X Fault) (old new : Walk) (from settle : Settle) (t now : T) (before given : List Event) (e x : Event) (late : Bool) (top : ℕ) → refused_for (how_of old) before e top ≡ None
       → tells (how_of old).policy.settle (how_of old).mode before e ≡ (x, late) ∷ [] → ordered (how_of old).mode (e ∷ []) ≡ e ∷ []
       → HasSettled settle (before ++ e ∷ []) (given ++ not_marked ((x, late) ∷ [])) → last_time settle ≡ moved_floor (how_of old).mode (last_time from) x late → (IsTrue (is_ordered (how_of old).mode x && not late) → last_time from ≤ x.time)
-      → OnOk r (Gave g old new t now x late) → OnErr r ((start : T) (l : Marked) → g.got start t l → g.broke start now (l ++ (x, late) ∷ [])) → IfErr r (λ fault. fault ≡ WriteFault) → HasCause (g.faults t) (g.faults now) r
+      → OnOk r (Gave g old new t now x late) → OnErr r ((start : T) (l : Marked) → g.got start t l → g.broke start now (l ++ (x, late) ∷ [])) → IfErr r (λ fault. fault ≡ WriteFault) → FailsOnce (g.faults t) (g.faults now) r
       → Tells g old new from settle t now before given e top r
   tells_one (Ok y) old new from settle t now before given e x late top none is all_is settled moved in_order gave broken fault cause =
       let how = how_of old in
@@ -143,6 +144,7 @@ module _ {T : Type 0} (g : Ghosts T) where
         got = subst (λ m. (start : T) (l : Marked) → g.got start t l → g.got start now (l ++ m)) (sym is) gave.got;
         summary = subst (λ m. summary_in new ≡ with_marks (summary_in old) m) (sym is) gave.noted.summary;
         counted = subst (λ (m : Marked). given_by new ≡ given_by old + length m) (sym is) gave.noted.given;
+        kept = cause.kept;
       }
   tells_one (Err y) old new from settle t now before given e x late top none is all_is settled moved in_order gave broken fault cause =
       inr (
@@ -151,7 +153,7 @@ module _ {T : Type 0} (g : Ghosts T) where
           unrefused = none;
           some = subst (λ (m : Marked). 0 < length m) (sym is) (omega arith);
           broken = subst (λ m. (start : T) (l : Marked) → g.got start t l → g.broke start now (l ++ m)) (sym is) broken;
-          rose = cause.failed;
+          rose = cause.once;
         },
       )
 

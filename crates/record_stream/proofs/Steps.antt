@@ -1,7 +1,7 @@
 -- One word more.
 use Rattle.std.proofs.Common.{◌≡◌, ◌+◌, ◌<◌, ℕ, List, [], ◌∷◌, ◌++◌, Bool, false, None, Some, Ok, Err, OnOk, OnErr, IfOk, IfErr, length, map, refl, sym, ap, subst, ◌∙◌, inl, inr, ⊎_elim, append-nil, arith, length-append, ◌&&◌}
 use Rattle.std.{specs.declared.result.Result.Result, proofs.lemmas.List.map-append}
-use Rattle.tally_base.{specs.declared.event.Event.Event, specs.declared.fault.Fault.Fault, specs.declared.fault.Fault.TheVariants.WriteFault, specs.FaultCounts.HasCause, specs.Events.stops_reserved}
+use Rattle.tally_base.{specs.declared.event.Event.Event, specs.declared.fault.Fault.Fault, specs.declared.fault.Fault.TheVariants.WriteFault, specs.FaultCounts.FailsOnce, specs.Events.stops_reserved}
 use Rattle.ptu_definitions.{specs.declared.records.Summary.Summary, specs.declared.records.Raw.Raw, specs.Kept.Marked, specs.Streams.{Reading, refusal, refusals, record_refusal, given}, proofs.StreamLemmas.{fresh, events_in-push, clear-push, refused-push, given-clear, given-refused}, specs.Kinds.is_reserved}
 use Rattle.abs_time.{specs.declared.clock.Clock.Clock, specs.declared.clock.Placed.Placed, specs.Placing.{HasPlaced, place_answer}}
 use Rattle.record_stream.{specs.Recorded.IsPlaced, specs.Walking.{how_of, summary_in, clock_in, Gave}, proofs.Placed.{refusal-ok, refusal-err}, specs.declared.taker.EventTaker.Ghosts, specs.Feeding.{IsAt, Fed}, specs.OneMore.{with_raw, with_marks}, specs.Keeping.{tells, refused_for}, specs.Settling.{Told, Untold, BrokeAt}, specs.SoFar.so_far, specs.declared.walk.Walk.Walk, proofs.Summaries.{so_far-push, so_far-records}}
@@ -48,7 +48,7 @@ module _ {T : Type 0} (g : Ghosts T) where
   -- a word that is refused
   pub refused_fed : (X : Type 0) (how : Reading) (t : T) (ws : List ℕ) (w : ℕ) (fault : Fault) → refusals how ws ≡ [] → refusal how ws w ≡ Some fault → Fed g {X = X} how t t ws (ws ++ w ∷ []) (Err fault)
   refused_fed X how t ws w fault clear some =
-      inl (refused-push how ws w fault clear some, record { more = []; adds = given-refused how ws w fault clear some ∙ sym (given-clear how ws clear) ∙ sym (append-nil (given how ws)); follows = λ start l got. rw append-nil got })
+      inl (refused-push how ws w fault clear some, record { more = []; adds = given-refused how ws w fault clear some ∙ sym (given-clear how ws clear) ∙ sym (append-nil (given how ws)); follows = λ start l got. rw append-nil got; kept = refl })
 
   given-more : (how : Reading) (ws : List ℕ) (w : ℕ) (marks : Marked) → refusals how ws ≡ [] → refusal how ws w ≡ None → fresh how ws (how.meaning w) ≡ marks → given how (ws ++ w ∷ []) ≡ given how ws ++ marks
   given-more how ws w marks clear none is = given-clear how (ws ++ w ∷ []) (clear-push how ws w clear none) ∙ events_in-push how ws w ∙ rw (is, given-clear how ws clear) refl
@@ -59,16 +59,16 @@ module _ {T : Type 0} (g : Ghosts T) where
   -- a word with no event
   pub skipped_fed : {X : Type 0} (how : Reading) (t : T) (ws : List ℕ) (w : ℕ) (x : X) → refusals how ws ≡ [] → refusal how ws w ≡ None → fresh how ws (how.meaning w) ≡ [] → Fed g how t t ws (ws ++ w ∷ []) (Ok x)
   skipped_fed how t ws w x clear none is =
-      (unrefused how (ws ++ w ∷ []) (clear-push how ws w clear none), record { more = []; adds = given-more how ws w [] clear none is; follows = λ start l got. rw append-nil got })
+      (unrefused how (ws ++ w ∷ []) (clear-push how ws w clear none), record { more = []; adds = given-more how ws w [] clear none is; follows = λ start l got. rw append-nil got; kept = refl })
 
   -- a word whose event was given, or broke the taker
   pub give_fed : {X : Type 0} (how : Reading) (walk next : Walk) (old new : T) (ws : List ℕ) (w : ℕ) (e : Event) (late : Bool) (r : Result X Fault) → refusals how ws ≡ [] → refusal how ws w ≡ None
       → fresh how ws (how.meaning w) ≡ (e, late) ∷ [] → OnOk r (Gave g walk next old new e late) → OnErr r ((start : T) (l : Marked) → g.got start old l → g.broke start new (l ++ (e, late) ∷ []))
-      → IfErr r (λ fault. fault ≡ WriteFault) → HasCause (g.faults old) (g.faults new) r → Fed g how old new ws (ws ++ w ∷ []) r
+      → IfErr r (λ fault. fault ≡ WriteFault) → FailsOnce (g.faults old) (g.faults new) r → Fed g how old new ws (ws ++ w ∷ []) r
   give_fed how walk next old new ws w e late (Ok x) clear none is gave broke fault cause =
-      (unrefused how (ws ++ w ∷ []) (clear-push how ws w clear none), record { more = (e, late) ∷ []; adds = given-more how ws w _ clear none is; follows = gave.got })
+      (unrefused how (ws ++ w ∷ []) (clear-push how ws w clear none), record { more = (e, late) ∷ []; adds = given-more how ws w _ clear none is; follows = gave.got; kept = cause.kept })
   give_fed how walk next old new ws w e late (Err y) clear none is gave broke fault cause =
-      inr (fault, record { front = (e, late) ∷ []; back = []; some = omega arith; adds = given-more how ws w _ clear none is; broken = broke; rose = cause.failed })
+      inr (fault, record { front = (e, late) ∷ []; back = []; some = omega arith; adds = given-more how ws w _ clear none is; broken = broke; rose = cause.once })
 
   -- a word whose event was told of, or refused
   pub told_fed : {X : Type 0} (how : Reading) (old new : Walk) (from settle : Settle) (t now : T) (ws : List ℕ) (w : ℕ) (pushed given : List Event) (e : Event) (top : ℕ) (r : Result X Fault) → refusals how ws ≡ []
@@ -76,7 +76,7 @@ module _ {T : Type 0} (g : Ghosts T) where
       → OnOk r (Told g how old new from settle t now pushed given e top) → IfErr r (Untold g how t now pushed e top) → Fed g how t now ws (ws ++ w ∷ []) r
   told_fed how old new from settle t now ws w pushed given e top (Ok x) clear refused is told untold =
       let none = refused ∙ told.unrefused in
-      (unrefused how (ws ++ w ∷ []) (clear-push how ws w clear none), record { more = tells how.policy.settle how.mode pushed e; adds = given-more how ws w _ clear none is; follows = told.got })
+      (unrefused how (ws ++ w ∷ []) (clear-push how ws w clear none), record { more = tells how.policy.settle how.mode pushed e; adds = given-more how ws w _ clear none is; follows = told.got; kept = told.kept })
   told_fed {X} how old new from settle t now ws w pushed given e top (Err fault) clear refused is told untold =
       ⊎_elim
       (λ (q : (refused_for how pushed e top ≡ Some fault) × (now ≡ t)). rw q.1 (refused_fed X how t ws w fault clear (refused ∙ q.0)))

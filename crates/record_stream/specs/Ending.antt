@@ -18,7 +18,7 @@ module _ {T : Type 0} (g : Ghosts T) where
     pub mode_is : g.mode taker ≡ (how_of now).mode
     pub fit : All (CanWait (how_of now).mode) left
     pub low : g.floor taker ≤ last
-    pub later : g.faults start ≤ g.faults taker
+    pub kept : g.faults taker ≡ g.faults start
     pub same : g.same start taker
 
   -- It broke at one of these events.
@@ -34,6 +34,7 @@ module _ {T : Type 0} (g : Ghosts T) where
   pub record GaveRest (how : Reading) (old new : T) (bytes : List ℕ) (summary : Summary) : Type 0 where
     pub streams : streamed how bytes ≡ Ok summary
     pub follows : (start : T) (l : Marked) → g.got start old l → g.got start new (l ++ last_in how (words_of bytes))
+    pub kept : g.faults new ≡ g.faults old
 
   -- What the end of a stream of these bytes did, by its answer: a refusal leaves the taker as it was, and a write fails
   -- only where no byte is left over.

@@ -24,6 +24,7 @@ module _ {T : Type 0} (g : Ghosts T) where
     pub more : Marked
     pub adds : given how now ≡ given how words ++ more
     pub follows : (start : T) (l : Marked) → g.got start old l → g.got start new (l ++ more)
+    pub kept : g.faults new ≡ g.faults old
 
   -- It broke at one of these.
   pub record BrokeOn (how : Reading) (old new : T) (words now : List ℕ) : Type 0 where

@@ -49,6 +49,7 @@ module _ {T : Type 0} (g : Ghosts T) where
     pub got : (start : T) (l : Marked) → g.got start taker l → g.got start now (l ++ tells how.policy.settle how.mode before e)
     pub summary : summary_in new ≡ with_marks (summary_in old) (tells how.policy.settle how.mode before e)
     pub counted : given_by new ≡ given_by old + length (tells how.policy.settle how.mode before e)
+    pub kept : g.faults now ≡ g.faults taker
 
   -- It broke the taker.
   pub record BrokeAt (how : Reading) (taker now : T) (before : List Event) (e : Event) (latest : ℕ) : Type 0 where

@@ -1,6 +1,6 @@
 // The words of a piece in blocks, without a branch on what each record is.
 ghost use Rattle.std.specs.Prelude.{◌≡◌, ◌+◌, ◌*◌, ◌^◌, ◌<◌, ◌≤◌, ◌++◌, ◌∷◌, ◌&&◌, [], List, ℕ, length, map, count_by, true, false, nat_lt, nat_le, if◌then◌else◌, OnOk, OnErr, IfErr};
-ghost use Rattle.tally_base.{specs.declared.header.Mode.Mode, specs.declared.fault.Fault.TheVariants.WriteFault, specs.FaultCounts.HasCause, specs.Events.stops_reserved, specs.Limits.wrap_limit, specs.Columns.{count, sorted, gathered, written}};
+ghost use Rattle.tally_base.{specs.declared.header.Mode.Mode, specs.declared.fault.Fault.TheVariants.WriteFault, specs.FaultCounts.FailsOnce, specs.Events.stops_reserved, specs.Limits.wrap_limit, specs.Columns.{count, sorted, gathered, written}};
 ghost use Rattle.ptu_definitions.{specs.Fours.numbers, specs.Kinds.{is_reserved, counts_of}, specs.Kept.Marked, specs.Times.event_of};
 ghost use Rattle.abs_time.specs.Placing.{base_of, placed_by};
 ghost use Rattle.record_layout.{specs.InColumns.HasRows, specs.Rowed.raw_of};

@@ -1,6 +1,6 @@
 // The records of a stream whose events are put in their places.
 ghost use Rattle.std.specs.Prelude.{◌≡◌, ◌≢◌, ◌+◌, ◌<◌, ◌≤◌, ◌++◌, ◌∷◌, [], List, ℕ, false, length, OnOk, IfErr};
-ghost use Rattle.tally_base.{specs.declared.fault.Fault.TheVariants.WriteFault, specs.FaultCounts.HasCause, specs.Events.is_ordered};
+ghost use Rattle.tally_base.{specs.declared.fault.Fault.TheVariants.WriteFault, specs.FaultCounts.FailsOnce, specs.Events.is_ordered};
 ghost use Rattle.ptu_definitions.{specs.Fours.numbers, specs.Kept.Marked, specs.Settled.marked_as};
 ghost use Rattle.abs_time.specs.Placing.{IsSmall, placed_by};
 ghost use Rattle.settle.specs.Standing.{HasSettled, kept_back, last_place, last_time};
@@ -118,6 +118,7 @@ pub(crate) fn give_rest<S: EventTaker>(
         ≡ with_marks (summary_in walk.old) (marked_as false (kept_back settle.old))) }
     ensures broken { IfErr result (λ fault. (fault ≡ WriteFault)
         × BrokeFirst S.EventTaker taker.old taker.new (marked_as false (kept_back settle.old))) }
+    ensures cause { FailsOnce (S.faults taker.old) (S.faults taker.new) result }
     ensures stays { Stays S.EventTaker walk.old walk.new taker.old taker.new }
 {
     while let Some(event) = settle.pop() {

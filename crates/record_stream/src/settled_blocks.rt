@@ -1,7 +1,7 @@
 // The words of a piece in blocks, where events are put in their places.
 ghost use Rattle.std.specs.Prelude.{◌≡◌, ◌≢◌, ◌+◌, ◌<◌, ◌≤◌, ◌++◌, [], List, ℕ, false, length, OnOk};
 ghost use Rattle.std.specs.Option.{option_to_list};
-ghost use Rattle.tally_base.{specs.declared.event.Event.Event, specs.declared.fault.Fault.TheVariants.WriteFault, specs.FaultCounts.HasCause, specs.Columns.{count, sorted, gathered, written}, specs.Floors.InOrder};
+ghost use Rattle.tally_base.{specs.declared.event.Event.Event, specs.declared.fault.Fault.TheVariants.WriteFault, specs.FaultCounts.FailsOnce, specs.Columns.{count, sorted, gathered, written}, specs.Floors.InOrder};
 ghost use Rattle.ptu_definitions.specs.Fours.{numbers};
 ghost use Rattle.abs_time.{specs.Placing.placed_by, specs.Floors.orders_markers};
 ghost use Rattle.record_stream.{specs.Blocks.{on_time, AllFit, PlacesRise}, specs.Feeding.{Follows, Fed}, specs.Keeping.IsKeeping, specs.LettingGo.{LetsGo, IsDelivered}, specs.Settling.{IsSettledBehind, IsReady, SettlesOn, StaysKept}, specs.Walking.{how_of, given_by, greatest_of, records_of, clock_in, summary_in, IsBlank}};

@@ -38,7 +38,7 @@ pub struct RecordStream {
 
 impl RecordStream {
     ghost use Rattle.std.specs.Prelude.{◌&&◌, not, IsTrue, if◌then◌else◌, Err, false};
-    ghost use Rattle.tally_base.{specs.declared.fault.Fault.Fault, specs.declared.fault.Fault.TheVariants.WriteFault, specs.FaultCounts.{HasCause, Rose}, specs.Events.is_ordered, specs.Faults.{is_outside, fault_in}};
+    ghost use Rattle.tally_base.{specs.declared.fault.Fault.Fault, specs.declared.fault.Fault.TheVariants.WriteFault, specs.FaultCounts.{FailsOnce, Rose}, specs.Events.is_ordered, specs.Faults.{is_outside, fault_in}};
     ghost use Rattle.ptu_definitions.{specs.Kept.Marked, specs.Streams.{reading, streamed}, specs.Fitting.Fits, specs.Fours.numbers, specs.Shown.Shows};
     ghost use Rattle.abs_time.specs.Placing.{IsSmall};
     ghost use Rattle.record_stream.{specs.OneMore.with_event, specs.Feeding.{Follows, Fed, FedPiece}, specs.Standing.{how_of, given_by, greatest_of, refused_with, carried_by, kept_back_by, records_of, bytes_in, summary_in, clock_in, IsBehind, CarriesOn, HasStreamed, IsFollowed, StreamsOn, Stays}, specs.Ending.Ended};

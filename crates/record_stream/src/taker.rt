@@ -1,6 +1,6 @@
 // What events are given to.
 ghost use Rattle.std.specs.Prelude.{◌≡◌, ℕ, ◌+◌, ◌<◌, ◌≤◌, ◌&&◌, not, IsTrue, [], ◌∷◌, ◌++◌, length, OnOk, OnErr, max};
-ghost use Rattle.tally_base.{specs.declared.header.Mode.Mode, specs.FaultCounts.HasCause, specs.Events.is_ordered, specs.Limits.{record_limit, time_limit}, specs.Columns.{sorted, gathered}, specs.Floors.{floor_after, InOrder}};
+ghost use Rattle.tally_base.{specs.declared.header.Mode.Mode, specs.FaultCounts.FailsOnce, specs.Events.is_ordered, specs.Limits.{record_limit, time_limit}, specs.Columns.{sorted, gathered}, specs.Floors.{floor_after, InOrder}};
 ghost use Rattle.ptu_definitions.{specs.Fitting.KindFits, specs.Kept.{Marked, floor_of}};
 ghost use Rattle.abs_time.specs.Floors.{moved_floor, orders_markers};
 ghost use Rattle.record_stream.specs.Blocks.{on_time, AllFit, BrokeAmong};
@@ -41,7 +41,7 @@ pub trait EventTaker {
             ≡ moved_floor (mode self.old) (floor self.old) event.now late) }
         ensures broken { OnErr result ((start : Self) (l : Marked) → got start self.old l
             → broke start self.new (l ++ (event.now, late) ∷ [])) }
-        ensures cause { HasCause (faults self.old) (faults self.new) result }
+        ensures cause { FailsOnce (faults self.old) (faults self.new) result }
         ensures same { same self.old self.new };
 
     /// Takes the events of a block, which come in order and none late. What it leaves of the block is open.
@@ -58,7 +58,7 @@ pub trait EventTaker {
         ensures moved { OnOk result (floor self.new ≡ floor_after (orders_markers (mode self.old))
             (floor self.old) (gathered block.old)) }
         ensures broken { OnErr result (BrokeAmong got broke self.old self.new (gathered block.old)) }
-        ensures cause { HasCause (faults self.old) (faults self.new) result }
+        ensures cause { FailsOnce (faults self.old) (faults self.new) result }
         ensures same { same self.old self.new }
     {
         for at in 0..block.len() {

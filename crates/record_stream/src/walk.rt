@@ -29,7 +29,7 @@ pub struct Walk {
 
 impl Walk {
     ghost use Rattle.std.specs.Prelude.{◌&&◌, not, IsTrue};
-    ghost use Rattle.tally_base.{specs.declared.fault.Fault.TheVariants.WriteFault, specs.FaultCounts.HasCause, specs.Events.is_ordered};
+    ghost use Rattle.tally_base.{specs.declared.fault.Fault.TheVariants.WriteFault, specs.FaultCounts.FailsOnce, specs.Events.is_ordered};
     ghost use Rattle.ptu_definitions.{specs.Kept.Marked, specs.Fitting.Fits, specs.Fours.numbers, specs.Streams.refusal};
     ghost use Rattle.abs_time.{specs.Placing.IsSmall, specs.Floors.moved_floor};
     ghost use Rattle.record_stream.{specs.OneMore.with_event, specs.Feeding.{Follows, Fed}, specs.Walking.{how_of, given_by, greatest_of, records_of, KeepsPlace, IsBehind, IsReady, CanGive, Gave, WalksOn, Stays}, specs.Recorded.{IsPlaced, CountsOne, KeepsGiven}};
@@ -119,7 +119,7 @@ impl Walk {
         ensures broken { OnErr result ((start : S) (l : Marked) → S.got start taker.old l
             → S.broke start taker.new (l ++ (event.now, late) ∷ [])) }
         ensures fault { IfErr result (λ fault. fault ≡ WriteFault) }
-        ensures cause { HasCause (S.faults taker.old) (S.faults taker.new) result }
+        ensures cause { FailsOnce (S.faults taker.old) (S.faults taker.new) result }
         ensures same { S.same taker.old taker.new }
         ensures keeps { KeepsPlace self.old self.new }
     {

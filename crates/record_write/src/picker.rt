@@ -1,8 +1,8 @@
 // Writes photons one after another.
-ghost use Rattle.std.specs.Prelude.{◌≡◌, ◌≤◌, ◌↔◌, ◌++◌, ◌∷◌, [], List, Err, true, OnOk, OnErr, IfErr};
+ghost use Rattle.std.specs.Prelude.{◌≡◌, ◌≤◌, ◌↔◌, ◌++◌, ◌∷◌, [], List, Err, true, false, OnOk, OnErr, IfErr};
 ghost use Rattle.std.specs.Io.KnownBytes.{Appends};
-ghost use Rattle.tally_base.{specs.declared.event.Event.Event, specs.declared.fault.Fault.TheVariants.{PickTime, WriteFault}, specs.Events.is_photon};
-ghost use Rattle.bench_io.{specs.TriesOnce.TriesOnce, specs.Sinks.AppendsShort};
+ghost use Rattle.tally_base.{specs.declared.event.Event.Event, specs.declared.fault.Fault.TheVariants.{PickTime, WriteFault}, specs.Events.is_photon, specs.FaultCounts.FailsOnce};
+ghost use Rattle.bench_io.specs.Sinks.{AppendsShort};
 ghost use Rattle.ptu_definitions.specs.Fitting.{KindFits};
 ghost use Rattle.short_file.specs.ShortFiles.{bytes_in, short_header};
 ghost use Rattle.record_write.{specs.Picked.is_too_late, specs.Writing.{PutsOrCuts, WritesOrCuts, PickCause}};
@@ -15,22 +15,32 @@ use tally_base::{Event, EventKind, Failed, Fault, Mode};
 /// Writes a file of photons: first its header, and then the photons in order of time. A T2 file has the
 /// record type HydraHarp2T2 and a T3 file HydraHarp2T3. Before a photon come the wraps that lead to its
 /// time. It takes no memory.
-#[derive(Clone, Copy)]
+#[derive(Drop)]
 pub struct Picker {
     mode: Mode,
     /// The time of the last photon, or 0 where there is none.
     last: u64,
+    /// Whether `start` was called.
+    begun: bool,
+    /// Whether it answered Ok, and no call was refused.
+    going: bool,
 }
 
 impl Picker {
-    ghost use Rattle.record_write.specs.Picker.{mode_of, HasPicked, IsNext, OnWordsOf, Picks};
+    ghost use Rattle.record_write.specs.Picker.{mode_of, was_begun, HasPicked, Starts, IsNext, OnWordsOf, Picks, Closes};
 
     /// A picker for a file of this mode, which has picked no photon.
     pub fn new(mode: Mode) -> Picker
         ensures mode { mode_of result ≡ mode }
         ensures none { HasPicked result [] }
+        ensures fresh { was_begun result ≡ false }
     {
-        Picker { mode, last: 0 }
+        Picker {
+            mode,
+            last: 0,
+            begun: false,
+            going: false,
+        }
     }
 
     /// The mode of its file.
@@ -40,18 +50,24 @@ impl Picker {
         self.mode
     }
 
-    /// Writes the header of the file, 112 bytes, which come before all photons.
-    pub fn start<O: Sink>(&self, out: &mut O) -> Result<(), Fault>
+    /// Writes the header of the file, 112 bytes, which come before all photons. It is the first call, and the
+    /// only one of its kind.
+    pub fn start<O: Sink>(&mut self, out: &mut O) -> Result<(), Fault>
+        requires first { was_begun self.old ≡ false }
         ensures all { OnOk result (Appends (O.written out.old) (O.written out.new)
-            (short_header (mode_of self.now))) }
+            (short_header (mode_of self.old))) }
         ensures short { OnErr result (AppendsShort (O.written out.old) (O.written out.new)
-            (short_header (mode_of self.now))) }
+            (short_header (mode_of self.old))) }
         ensures fault { IfErr result (λ fault. fault ≡ WriteFault) }
-        ensures cause { TriesOnce (O.faults out.old) (O.faults out.new) result }
+        ensures cause { FailsOnce (O.faults out.old) (O.faults out.new) result }
+        ensures starts { Starts self.old self.new result }
     {
-        match write_all(out, &short_header(self.mode)) {
-            Ok(()) => Ok(()),
-            Err(Failed) => Err(Fault::WriteFault),
+        self.begun = true;
+        self.going = write_all(out, &short_header(self.mode)).is_ok();
+        if self.going {
+            Ok(())
+        } else {
+            Err(Fault::WriteFault)
         }
     }
 
@@ -83,8 +99,8 @@ impl Picker {
 
     /// Puts a photon behind those before it into a block, which passes it on to the sink.
     ///
-    /// Its input must be at most 64 in T2 and 63 in T3, its dtime 0 in T2 and at most 32,767 in T3, and its
-    /// time no less than that of the photon before it. Refuses with `PickTime` one whose wraps would add up to
+    /// Behind `start` only, and behind no refused call. Its input must be at most 64 in T2 and 63 in T3, its dtime
+    /// 0 in T2 and at most 32,767 in T3, and its time no less than that of the photon before it. Refuses with `PickTime` one whose wraps would add up to
     /// more than 2^62, and then puts nothing. Where a write fails, a front of the bytes that are held and of
     /// this photon's words was written, and the block holds none.
     pub fn put<O: Sink>(&mut self, e: &Event, block: &mut Block, out: &mut O) -> Result<(), Fault>
@@ -97,11 +113,18 @@ impl Picker {
         ensures untouched { result ≡ Err (PickTime e.now.place)
             → (out.new ≡ out.old) × (block.new ≡ block.old) }
         ensures cause { PickCause e.now.place (O.faults out.old) (O.faults out.new) result }
-        ensures kept { OnErr result (self.new ≡ self.old) }
+        ensures closes { OnErr result (Closes self.old self.new) }
     {
-        self.put_words(e, block, out)?;
-        self.last = e.time;
-        Ok(())
+        match self.put_words(e, block, out) {
+            Ok(()) => {
+                self.last = e.time;
+                Ok(())
+            }
+            Err(fault) => {
+                self.going = false;
+                Err(fault)
+            }
+        }
     }
 
     /// Writes a photon behind those before it, as `put` does, but at once.
@@ -114,16 +137,24 @@ impl Picker {
             ↔ (is_too_late (mode_of self.old) e.now.time ≡ true) }
         ensures untouched { result ≡ Err (PickTime e.now.place) → out.new ≡ out.old }
         ensures cause { PickCause e.now.place (O.faults out.old) (O.faults out.new) result }
-        ensures kept { OnErr result (self.new ≡ self.old) }
+        ensures closes { OnErr result (Closes self.old self.new) }
     {
         let mut block = Block::new();
-        self.put_words(e, &mut block, out)?;
-        match block.flush(out) {
-            Ok(()) => {
-                self.last = e.time;
-                Ok(())
+        match self.put_words(e, &mut block, out) {
+            Ok(()) => match block.flush(out) {
+                Ok(()) => {
+                    self.last = e.time;
+                    Ok(())
+                }
+                Err(Failed) => {
+                    self.going = false;
+                    Err(Fault::WriteFault)
+                }
+            },
+            Err(fault) => {
+                self.going = false;
+                Err(fault)
             }
-            Err(Failed) => Err(Fault::WriteFault),
         }
     }
 }

@@ -1,7 +1,6 @@
 // The words of photons, put into a block on the way to a sink.
 ghost use Rattle.std.specs.Prelude.{◌≡◌, ◌-◌, ◌/◌, ◌<◌, ◌≤◌, ◌∷◌, [], replicate, OnOk, OnErr};
-ghost use Rattle.tally_base.specs.declared.event.EventKind.TheVariants.{Photon};
-ghost use Rattle.bench_io.specs.TriesOnce.{TriesOnce};
+ghost use Rattle.tally_base.{specs.declared.event.EventKind.TheVariants.{Photon}, specs.FaultCounts.FailsOnce};
 ghost use Rattle.ptu_definitions.specs.Fitting.{KindFits};
 ghost use Rattle.record_write.{specs.Picked.{is_too_late, unit_of, wraps, photon_word, words_behind}, specs.Writing.{PutsWords, CutsWords}};
 
@@ -84,7 +83,7 @@ fn put_word<O: Sink>(word: u32, block: &mut Block, out: &mut O) -> Result<(), Fa
         block.old block.new (word ∷ [])) }
     ensures cut { OnErr result (CutsWords (O.written out.old) (O.written out.new)
         block.old block.new (word ∷ [])) }
-    ensures cause { TriesOnce (O.faults out.old) (O.faults out.new) result }
+    ensures cause { FailsOnce (O.faults out.old) (O.faults out.new) result }
 {
     block.put(out, &word.to_le_bytes())
 }
@@ -95,7 +94,7 @@ fn put_copies<O: Sink>(count: u64, word: u32, block: &mut Block, out: &mut O) ->
         block.old block.new (replicate count word)) }
     ensures cut { OnErr result (CutsWords (O.written out.old) (O.written out.new)
         block.old block.new (replicate count word)) }
-    ensures cause { TriesOnce (O.faults out.old) (O.faults out.new) result }
+    ensures cause { FailsOnce (O.faults out.old) (O.faults out.new) result }
 {
     for copy in 0..count {
         put_word(word, block, out)?;
@@ -111,7 +110,7 @@ fn put_wraps<O: Sink>(most: u64, units: u64, block: &mut Block, out: &mut O) -> 
         block.old block.new (wraps most units)) }
     ensures cut { OnErr result (CutsWords (O.written out.old) (O.written out.new)
         block.old block.new (wraps most units)) }
-    ensures cause { TriesOnce (O.faults out.old) (O.faults out.new) result }
+    ensures cause { FailsOnce (O.faults out.old) (O.faults out.new) result }
 {
     put_copies(units / most, WRAP + most as u32, block, out)?;
     let rest = units % most;
@@ -139,7 +138,7 @@ pub(crate) fn put_photon<O: Sink>(
         block.old block.new (words_behind mode before (Photon input dtime) time)) }
     ensures cut { OnErr result (CutsWords (O.written out.old) (O.written out.new)
         block.old block.new (words_behind mode before (Photon input dtime) time)) }
-    ensures cause { TriesOnce (O.faults out.old) (O.faults out.new) result }
+    ensures cause { FailsOnce (O.faults out.old) (O.faults out.new) result }
 {
     let units = units_between(mode, before, time);
     put_wraps(most_of(mode), units, block, out)?;

@@ -1,8 +1,8 @@
 -- What an engine of a plan counted is the report.
 use Rattle.std.proofs.Common.{◌≡◌, ◌∙◌, ℕ, List, [], ◌++◌, Some, Ok, Err, refl, sym, ap, inl, inr, Result, OnOk, OnErr, IfErr}
 use Rattle.std.{specs.declared.option.Option.Option, specs.Io.KnownBytes.Appends}
-use Rattle.tally_base.{specs.declared.fault.Fault.Fault, specs.declared.fault.Fault.TheVariants.WriteFault, specs.declared.header.Header.Header, specs.RecordTypes.mode_of, specs.Faults.fault_in}
-use Rattle.bench_io.{specs.Sinks.AppendsShort, specs.TriesOnce.TriesOnce, proofs.Bytes.{Appends-nil, Keeps-from_none}}
+use Rattle.tally_base.{specs.declared.fault.Fault.Fault, specs.declared.fault.Fault.TheVariants.WriteFault, specs.declared.header.Header.Header, specs.RecordTypes.mode_of, specs.Faults.fault_in, specs.FaultCounts.FailsOnce}
+use Rattle.bench_io.{specs.Sinks.AppendsShort, proofs.Bytes.{Appends-nil, Keeps-from_none}}
 use Rattle.told_text.proofs.Texts.{WroteText-none}
 use Rattle.ptu_definitions.{specs.Streams.{record_refusal, streamed}, specs.Words.words_of}
 use Rattle.plan_text.{specs.Plan.PlanView, specs.Fits.fits}
@@ -69,7 +69,7 @@ module _ (plan : PlanView) (engine : Engine) (bytes : List ℕ) (is : IsFor engi
 
     -- the report was written, or cut short
     pub ends-reported : (r : Result (Unit {0}) Fault) (old new : Option (List ℕ)) (before after : ℕ) → OnOk r ((tables : List Table) → EachHolds results.parts.items tables → Appends old new (report results.header results.summary tables))
-        → OnErr r ((tables : List Table) → EachHolds results.parts.items tables → AppendsShort old new (report results.header results.summary tables)) → IfErr r (λ fault. fault ≡ WriteFault) → TriesOnce before after r
+        → OnErr r ((tables : List Table) → EachHolds results.parts.items tables → AppendsShort old new (report results.header results.summary tables)) → IfErr r (λ fault. fault ≡ WriteFault) → FailsOnce before after r
         → WritesEnd (reports plan (header_of engine)) bytes old new before after r
     ends-reported (Ok done) old new before after text short write cause = (ap (λ (o : Outcome). o.fault) ends-counted, record { more = report results.header results.summary tables; adds = ap (λ (o : Outcome). o.text) ends-counted; written = text tables each-holds; kept = cause.kept })
-    ends-reported (Err fault) old new before after text short write cause = inr (write, record { more = report results.header results.summary tables; adds = ap (λ (o : Outcome). o.text) ends-counted; cut = short tables each-holds; rose = cause.failed })
+    ends-reported (Err fault) old new before after text short write cause = inr (write, record { more = report results.header results.summary tables; adds = ap (λ (o : Outcome). o.text) ends-counted; cut = short tables each-holds; rose = cause.once })

@@ -1,6 +1,6 @@
 // The lines of a table of cells.
 ghost use Rattle.std.specs.Prelude.{◌≡◌, ◌<◌, ◌≤◌, true, length, OnOk, OnErr, codes, decimal};
-ghost use Rattle.bench_io.specs.TriesOnce.{TriesOnce};
+ghost use Rattle.tally_base.specs.FaultCounts.{FailsOnce};
 ghost use Rattle.tally_base.specs.Tally.{History};
 ghost use Rattle.list_out.specs.Lines.{line};
 ghost use Rattle.table_out.{specs.Printed.{cell_line, pair_line, row_lines, cell_lines, first_line}, specs.Puts.{PutsText, CutsText}, specs.Report.{printed, part_text}};
@@ -97,7 +97,7 @@ fn put_row<T: Prints, O: Sink>(
     ensures short { OnErr result (CutsText (T.holds table.now)
         (row_lines (printed (T.settings table.now)) row)
         (O.written out.old) (O.written out.new) block.old) }
-    ensures cause { TriesOnce (O.faults out.old) (O.faults out.new) result }
+    ensures cause { FailsOnce (O.faults out.old) (O.faults out.new) result }
 {
     let mut line = [0; LINE_SIZE];
     for column in 0..table.column_count(row) {
@@ -115,7 +115,7 @@ fn put_rows<T: Prints, O: Sink>(table: &T, block: &mut Block, out: &mut O) -> Re
     ensures short { OnErr result (CutsText (T.holds table.now)
         (cell_lines (printed (T.settings table.now)))
         (O.written out.old) (O.written out.new) block.old) }
-    ensures cause { TriesOnce (O.faults out.old) (O.faults out.new) result }
+    ensures cause { FailsOnce (O.faults out.old) (O.faults out.new) result }
 {
     for row in 0..table.row_count() {
         put_row(table, row, block, out)?;
@@ -150,7 +150,7 @@ pub(crate) fn put_table<T: Prints, O: Sink>(
     ensures short { OnErr result (CutsText (T.holds table.now)
         (part_text number (T.settings table.now))
         (O.written out.old) (O.written out.new) block.old) }
-    ensures cause { TriesOnce (O.faults out.old) (O.faults out.new) result }
+    ensures cause { FailsOnce (O.faults out.old) (O.faults out.new) result }
 {
     block.put(out, first_line(number, table).as_slice())?;
     put_rows(table, block, out)?;

@@ -1,7 +1,8 @@
 // The report of a run.
 ghost use Rattle.std.specs.Prelude.{◌≡◌, ◌+◌, ◌≤◌, true, List, count_by, OnOk, OnErr, IfErr};
 ghost use Rattle.std.specs.Io.KnownBytes.{Appends};
-ghost use Rattle.bench_io.{specs.TriesOnce.TriesOnce, specs.Sinks.AppendsShort};
+ghost use Rattle.bench_io.specs.Sinks.{AppendsShort};
+ghost use Rattle.tally_base.specs.FaultCounts.{FailsOnce};
 ghost use Rattle.plan_parts.specs.Parts.{settings_in, AllClosed};
 ghost use Rattle.table_out.{specs.Report.{Table, EachHolds, printed, same_kind, part_text, parts_text, report_of}, specs.Puts.{PutsText, CutsText}};
 
@@ -58,7 +59,7 @@ fn put_part<O: Sink>(number: u64, part: &Part, block: &mut Block, out: &mut O) -
     ensures short { OnErr result (CutsText (⟦<Part as Tally>⟧.holds part.now)
         (part_text number (⟦<Part as Tally>⟧.settings part.now))
         (O.written out.old) (O.written out.new) block.old) }
-    ensures cause { TriesOnce (O.faults out.old) (O.faults out.new) result }
+    ensures cause { FailsOnce (O.faults out.old) (O.faults out.new) result }
 {
     match part {
         Part::Hist(table) => put_table(number, table, block, out),
@@ -79,7 +80,7 @@ fn put_parts<O: Sink>(parts: &[Part], block: &mut Block, out: &mut O) -> Result<
         (O.written out.old) (O.written out.new) block.old block.new) }
     ensures short { OnErr result (CutsText (EachHolds parts.now) parts_text
         (O.written out.old) (O.written out.new) block.old) }
-    ensures cause { TriesOnce (O.faults out.old) (O.faults out.new) result }
+    ensures cause { FailsOnce (O.faults out.old) (O.faults out.new) result }
 {
     for (place, part) in parts.iter().enumerate() {
         let number = number_of(&parts[..place], part);
@@ -97,7 +98,7 @@ fn put_report<O: Sink>(results: &Results, out: &mut O) -> Result<(), Failed>
     ensures short { OnErr result ((tables : List Table) → EachHolds results.now.parts.items tables
         → AppendsShort (O.written out.old) (O.written out.new)
         (report_of results.now tables)) }
-    ensures cause { TriesOnce (O.faults out.old) (O.faults out.new) result }
+    ensures cause { FailsOnce (O.faults out.old) (O.faults out.new) result }
 {
     let mut block = Block::new();
     let head = report_head(&results.header, &results.summary);
@@ -123,7 +124,7 @@ pub fn write_report<O: Sink>(results: &Results, out: &mut O) -> Result<(), Fault
         → AppendsShort (O.written out.old) (O.written out.new)
         (report_of results.now tables)) }
     ensures fault { IfErr result (λ fault. fault ≡ Fault.WriteFault) }
-    ensures cause { TriesOnce (O.faults out.old) (O.faults out.new) result }
+    ensures cause { FailsOnce (O.faults out.old) (O.faults out.new) result }
 {
     match put_report(results, out) {
         Ok(()) => Ok(()),

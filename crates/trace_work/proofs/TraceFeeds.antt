@@ -1,15 +1,15 @@
 -- What a piece, and the end of a stream, write of a trace.
-use Rattle.std.proofs.Common.{◌≡◌, ◌≢◌, ◌∙◌, ◌≤◌, ◌<◌, ◌⊎◌, ℕ, List, [], ◌++◌, None, Some, Ok, Err, refl, sym, ap, subst, inl, inr, ⊎_elim, append_assoc, arith, length, length-append, Result, OnOk, OnErr, IfErr, false}
+use Rattle.std.proofs.Common.{◌≡◌, ◌≢◌, ◌∙◌, ◌≤◌, ◌<◌, ◌⊎◌, ℕ, List, [], ◌++◌, None, Some, Ok, Err, refl, sym, ap, subst, inl, inr, ⊎_elim, append_assoc, length, Result, OnOk, OnErr, IfErr, false}
 use Rattle.std.{specs.declared.option.Option.Option, specs.Io.KnownBytes.{Appends, Keeps}}
-use Rattle.tally_base.{specs.declared.fault.Fault.Fault, specs.declared.fault.Fault.TheVariants.WriteFault, specs.Faults.{is_outside, fault_in}, specs.FaultCounts.Rose, specs.Settings.{TraceView, trace_view}, specs.Tally.History, specs.declared.slot.Failed.Failed}
+use Rattle.tally_base.{specs.declared.fault.Fault.Fault, specs.declared.fault.Fault.TheVariants.WriteFault, specs.Faults.{is_outside, fault_in}, specs.Settings.{TraceView, trace_view}, specs.Tally.History, specs.declared.slot.Failed.Failed, specs.FaultCounts.{FailsOnce, Rose}}
 use Rattle.told_text.specs.Texts.{WroteText, WritesText}
-use Rattle.bench_io.{specs.TriesOnce.TriesOnce, specs.Sinks.{AppendsShort, PassesOn}, specs.declared.sink.Sink.Ghosts as SinkGhosts, proofs.Bytes.{Appends-flushed, AppendsShort-flushed, AppendsShort-more, AppendsShort-kept, Keeps-from_none}}
+use Rattle.bench_io.{specs.Sinks.{AppendsShort, PassesOn}, specs.declared.sink.Sink.Ghosts as SinkGhosts, proofs.Bytes.{Appends-flushed, AppendsShort-flushed, AppendsShort-more, AppendsShort-kept, Keeps-from_none}}
 use Rattle.ptu_definitions.{specs.declared.records.Summary.Summary, specs.Kept.Marked, specs.Settled.not_marked, specs.Words.{words_of, rest_of}, specs.Streams.{Reading, record_refusal, last_in, streamed}, proofs.DeliveredLaws.not_marked-append}
 use Rattle.record_stream.{specs.declared.taker.EventTaker.Ghosts, specs.Feeding.{GaveOn, BrokeOn, Fed}, specs.Ending.{GaveRest, BrokeFirst, Ended}}
 use Rattle.gate_plan.{specs.Shifting.Sorting, specs.Histories.{with_groups, history}, proofs.Histories.with_groups-more}
 use Rattle.long_trace.{specs.declared.trace.LongTrace.LongTrace, specs.LongTrace.{Holds, GivenMore, set_of}, specs.Texts.open_text, proofs.Rising.{RisesFrom, open-front}}
 use Rattle.trace_work.{specs.TraceOutcomes.{settled_before, words_traced}, specs.TracePieces.{WroteLast, CutLast, WritesLast, both_ended}, specs.TraceTexts.{settled-adds, settled-rises, history-rest, history-rises}}
-use Rattle.command_work.{specs.Once.{tells_writing, OutOnce}, proofs.Once.stays-same, proofs.Streams.streamed-inside, proofs.TellingLaws.AppendsShort-none}
+use Rattle.command_work.{proofs.Streams.streamed-inside, proofs.TellingLaws.AppendsShort-none}
 use Rattle.photon_pick.proofs.Streams.{clear-from_ok}
 
 with-parts : (by : Sorting) (l m : Marked) → with_groups by (not_marked (l ++ m)) ≡ with_groups by (not_marked l) ++ with_groups by (not_marked m)
@@ -66,9 +66,9 @@ module _ {T : Type 0} (g : Ghosts T) (trace : T → LongTrace) (told : T → Opt
         (it.lines ++ more.0, more.1, AppendsShort-more (told a) (told b) it.lines more.0 it.text, it.empty)
 
     -- What a piece wrote, where the block was flushed.
-    module _ (flushed : Appends (told b) c (held b)) (still : faults ≡ g.faults b) (keeps : (l : Marked) → g.got a b l → g.faults b ≡ g.faults a) where
+    module _ (flushed : Appends (told b) c (held b)) (still : faults ≡ g.faults b) where
       gave-wrote : GaveOn g how a b words now → WroteText (text words) (text now) (told a) c (g.faults a) faults
-      gave-wrote h = let it = gave-adds h in record { more = it.0; adds = it.1; written = Appends-flushed (told a) (told b) c it.0 (held b) it.2 flushed; kept = still ∙ keeps h.more (h.follows a [] none) }
+      gave-wrote h = let it = gave-adds h in record { more = it.0; adds = it.1; written = Appends-flushed (told a) (told b) c it.0 (held b) it.2 flushed; kept = still ∙ h.kept }
 
       pub feeds-on : {X : Type 0} (r : Result X Fault) → Fed g how a b words now r → WritesText (text words) (text now) (record_refusal how now) (told a) c (g.faults a) faults r × OnOk r (Holds (trace b) (settled_before by how now))
       feeds-on (Ok x) fed = ((fed.0, gave-wrote fed.1), gave-holds fed.1)
@@ -77,17 +77,16 @@ module _ {T : Type 0} (g : Ghosts T) (trace : T → LongTrace) (told : T → Opt
             (λ (r : (record_refusal how now ≡ Some fault) × GaveOn g how a b words now). inl (r.0, gave-wrote r.1))
             (λ (r : (fault ≡ WriteFault) × BrokeOn g how a b words now).
             let it = broke-adds r.1 in
-            let rose = r.1.rose in
-            inr (r.0, record { more = it.0; adds = it.1; cut = AppendsShort-kept (told a) (told b) c it.0 it.2 (Keeps-from_none (told b) c (rw it.3 at flushed)); rose = omega (arith, rose, still) }))
+            inr (r.0, record { more = it.0; adds = it.1; cut = AppendsShort-kept (told a) (told b) c it.0 it.2 (Keeps-from_none (told b) c (rw it.3 at flushed)); rose = rw still r.1.rose }))
             fed,
         tt,
       )
 
     -- What it wrote where the flush failed.
-    cut-on : (X : Type 0) → GaveOn g how a b words now → AppendsShort (told b) c (held b) → Rose (g.faults a) faults → WritesText {X = X} (text words) (text now) (record_refusal how now) (told a) c (g.faults a) faults (Err WriteFault)
-    cut-on X h short rose = let it = gave-adds h in inr (refl, record { more = it.0; adds = it.1; cut = AppendsShort-flushed (told a) (told b) c it.0 (held b) it.2 short; rose = rose })
+    cut-on : (X : Type 0) → GaveOn g how a b words now → AppendsShort (told b) c (held b) → Rose (g.faults b) faults → WritesText {X = X} (text words) (text now) (record_refusal how now) (told a) c (g.faults a) faults (Err WriteFault)
+    cut-on X h short rose = let it = gave-adds h in inr (refl, record { more = it.0; adds = it.1; cut = AppendsShort-flushed (told a) (told b) c it.0 (held b) it.2 short; rose = rw h.kept at rose })
 
-    pub feeds-cut : {X : Type 0} (r : Result X Fault) → AppendsShort (told b) c (held b) → Rose (g.faults a) faults → Fed g how a b words now r → WritesText {X = X} (text words) (text now) (record_refusal how now) (told a) c (g.faults a) faults (Err WriteFault)
+    pub feeds-cut : {X : Type 0} (r : Result X Fault) → AppendsShort (told b) c (held b) → Rose (g.faults b) faults → Fed g how a b words now r → WritesText {X = X} (text words) (text now) (record_refusal how now) (told a) c (g.faults a) faults (Err WriteFault)
     feeds-cut {X} (Ok x) short rose fed = cut-on X fed.1 short rose
     feeds-cut {X} (Err fault) short rose fed =
         ⊎_elim
@@ -110,8 +109,8 @@ module _ {T : Type 0} (g : Ghosts T) (trace : T → LongTrace) (told : T → Opt
     last-holds summary rest = rw (history-rest by how (words_of bytes) (clear-from_ok how bytes summary rest.streams)) ((gets (last_in how (words_of bytes)) (rest.follows a [] none)).given.follows (settled_before by how (words_of bytes)) holds)
 
     -- The events were given, and the block was flushed.
-    pub ends-well : (summary : Summary) → Appends (told b) c (held b) → Ended g how a b bytes (Ok summary) → WroteLast o by how (trace a) (trace b) out out' bytes
-    ends-well summary flushed rest =
+    pub ends-well : (summary : Summary) → Appends (told b) c (held b) → faults ≡ g.faults b → Ended g how a b bytes (Ok summary) → WroteLast o by how (trace a) (trace b) out out' bytes
+    ends-well summary flushed still rest =
         let it = last-adds summary rest in
         record {
           clear = ap fault_in rest.streams;
@@ -119,10 +118,11 @@ module _ {T : Type 0} (g : Ghosts T) (trace : T → LongTrace) (told : T → Opt
           more = it.0;
           adds = it.1;
           written = rw (written, written') (Appends-flushed (told a) (told b) c it.0 (held b) it.2 flushed);
+          kept = rw (counted, counted') (still ∙ rest.kept);
         }
 
     -- The flush failed behind them.
-    pub ends-cut : (summary : Summary) → AppendsShort (told b) c (held b) → Rose (g.faults a) faults → Ended g how a b bytes (Ok summary) → CutLast o by how (trace a) out out' bytes
+    pub ends-cut : (summary : Summary) → AppendsShort (told b) c (held b) → Rose (g.faults b) faults → Ended g how a b bytes (Ok summary) → CutLast o by how (trace a) out out' bytes
     ends-cut summary short rose rest =
         let it = last-adds summary rest in
         record {
@@ -130,7 +130,7 @@ module _ {T : Type 0} (g : Ghosts T) (trace : T → LongTrace) (told : T → Opt
           more = it.0;
           adds = it.1;
           cut = rw (written, written') (AppendsShort-flushed (told a) (told b) c it.0 (held b) it.2 short);
-          rose = rw (counted, counted') rose;
+          rose = rw (counted, counted') (rw rest.kept at rose);
         }
 
     -- A write failed at one of the events.
@@ -141,13 +141,12 @@ module _ {T : Type 0} (g : Ghosts T) (trace : T → LongTrace) (told : T → Opt
         let more = some-lines set by (settled_before by how (words_of bytes)) all h.front h.back it.lines some (history-rises by how (words_of bytes)) is (it.closed (settled_before by how (words_of bytes)) holds) in
         (it.lines ++ more.0, more.1, AppendsShort-more (told a) (told b) it.lines more.0 it.text, it.empty)
 
-    pub ends-refused : (fault : Fault) → (fault ≢ WriteFault → is_outside fault ≡ false) → record_refusal how (words_of bytes) ≡ None → held a ≡ [] → Appends (told b) c (held b) → g.faults b ≤ faults → Ended g how a b bytes (Err fault)
-        → ((is_outside fault ≡ false) × (fault_in (streamed how bytes) ≡ Some fault) × Keeps (o.written out) (o.written out')) ⊎ ((fault ≡ WriteFault) × CutLast o by how (trace a) out out' bytes)
-    ends-refused fault inside clear empty flushed later (inl r) =
-        inl (inside (λ e. streamed-no_write how bytes fault r.0 e), ap fault_in r.0, rw (written, written') (Keeps-from_none (told a) c (rw (r.1, empty) at flushed)))
-    ends-refused fault inside clear empty flushed later (inr r) =
+    pub ends-refused : (fault : Fault) → (fault ≢ WriteFault → is_outside fault ≡ false) → record_refusal how (words_of bytes) ≡ None → held a ≡ [] → Appends (told b) c (held b) → faults ≡ g.faults b → Ended g how a b bytes (Err fault)
+        → ((is_outside fault ≡ false) × (fault_in (streamed how bytes) ≡ Some fault) × Keeps (o.written out) (o.written out') × (o.faults out' ≡ o.faults out)) ⊎ ((fault ≡ WriteFault) × CutLast o by how (trace a) out out' bytes)
+    ends-refused fault inside clear empty flushed still (inl r) =
+        inl (inside (λ e. streamed-no_write how bytes fault r.0 e), ap fault_in r.0, rw (written, written') (Keeps-from_none (told a) c (rw (r.1, empty) at flushed)), rw (counted, counted') (still ∙ ap g.faults r.1))
+    ends-refused fault inside clear empty flushed still (inr r) =
         let it = broke-last clear r.1 in
-        let rose = r.1.rose in
         inr (
           r.0,
           record {
@@ -155,7 +154,7 @@ module _ {T : Type 0} (g : Ghosts T) (trace : T → LongTrace) (told : T → Opt
             more = it.0;
             adds = it.1;
             cut = rw (written, written') (AppendsShort-kept (told a) (told b) c it.0 it.2 (Keeps-from_none (told b) c (rw it.3 at flushed)));
-            rose = rw (counted, counted') (omega (arith, rose, later));
+            rose = rw (counted, counted', still) r.1.rose;
           },
         )
 
@@ -165,18 +164,9 @@ module _ {T : Type 0} (g : Ghosts T) (trace : T → LongTrace) (told : T → Opt
     ends-short fault clear empty short (inr r) = let it = broke-last clear r.1 in AppendsShort-none (told b) c (rw it.3 at short)
 
     pub ends-both : (finished : Result Summary Fault) (flushed : Result (Unit {0}) Failed) → IfErr finished (λ fault. fault ≢ WriteFault → is_outside fault ≡ false) → record_refusal how (words_of bytes) ≡ None → held a ≡ []
-        → OnOk flushed (Appends (told b) c (held b)) → OnErr flushed (AppendsShort (told b) c (held b)) → TriesOnce (g.faults b) faults flushed → g.faults a ≤ g.faults b → Ended g how a b bytes finished
+        → OnOk flushed (Appends (told b) c (held b)) → OnErr flushed (AppendsShort (told b) c (held b)) → FailsOnce (g.faults b) faults flushed → Ended g how a b bytes finished
         → WritesLast o by how (trace a) (trace b) out out' bytes (both_ended finished flushed)
-    ends-both (Ok summary) (Ok done) inside clear empty flushed short cause later ended = ends-well summary flushed ended
-    ends-both (Err fault) (Ok done) inside clear empty flushed short cause later ended = ends-refused fault inside clear empty flushed cause.later ended
-    ends-both (Ok summary) (Err failed) inside clear empty flushed short cause later ended = let rose = cause.failed in inr (refl, ends-cut summary short (omega (arith, later, rose)) ended)
-    ends-both (Err fault) (Err failed) inside clear empty flushed short cause later ended = absurd (ends-short fault clear empty short ended)
-
--- no write is tried again that failed
-pub both-once : {T : Type 0} (g : Ghosts T) (how : Reading) (a b : T) (bytes : List ℕ) (faults : ℕ) (finished : Result Summary Fault) (flushed : Result (Unit {0}) Failed) → g.got a a [] → ((l : Marked) → g.got a b l → g.faults b ≡ g.faults a) → TriesOnce (g.faults b) faults flushed → Ended g how a b bytes finished
-    → OutOnce (fault_in (both_ended finished flushed)) (g.faults a) faults
-both-once g how a b bytes faults (Ok summary) (Ok done) none keeps cause ended = cause.kept ∙ keeps (last_in how (words_of bytes)) (ended.follows a [] none)
-both-once g how a b bytes faults (Err fault) (Ok done) none keeps cause (inl ended) = stays-same (tells_writing (Some fault)) _ _ (cause.kept ∙ ap g.faults ended.1)
-both-once g how a b bytes faults (Err fault) (Ok done) none keeps cause (inr ended) = rw ended.0 tt
-both-once g how a b bytes faults (Ok summary) (Err failed) none keeps cause ended = tt
-both-once g how a b bytes faults (Err fault) (Err failed) none keeps cause ended = tt
+    ends-both (Ok summary) (Ok done) inside clear empty flushed short cause ended = ends-well summary flushed cause.kept ended
+    ends-both (Err fault) (Ok done) inside clear empty flushed short cause ended = ends-refused fault inside clear empty flushed cause.kept ended
+    ends-both (Ok summary) (Err failed) inside clear empty flushed short cause ended = inr (refl, ends-cut summary short cause.once ended)
+    ends-both (Err fault) (Err failed) inside clear empty flushed short cause ended = absurd (ends-short fault clear empty short ended)

@@ -6,7 +6,7 @@ use Rattle.bench_io.{specs.declared.sink.Sink.Ghosts, proofs.Bytes.{Appends-tran
 use Rattle.ptu_definitions.{specs.declared.records.Summary.Summary, specs.Words.words_of, specs.Streams.{Reading, record_refusal, streamed}}
 use Rattle.gate_plan.{specs.Shifting.Sorting, specs.Histories.history}
 use Rattle.long_trace.{specs.declared.trace.LongTrace.LongTrace, specs.LongTrace.set_of, specs.Texts.{open_text, whole_text}, specs.Written.{AppendsRest, CutsRest}, proofs.Rising.whole-front}
-use Rattle.command_work.{specs.Outcomes.{Outcome, written}, specs.Once.OutOnce, specs.Tellings.WritesEnd, proofs.Once.once-inside}
+use Rattle.command_work.{specs.Outcomes.{Outcome, written}, specs.Tellings.WritesEnd}
 use Rattle.trace_work.{specs.TraceOutcomes.{words_traced, traced, records_traced}, specs.TracePieces.{traces, WroteLast, WritesLast}}
 
 Keeps-append : (a b : Option (List ℕ)) → Keeps a b → Appends a b []
@@ -46,8 +46,8 @@ module _ {O : Type 0} (o : Ghosts O) (by : Sorting) (how : Reading) (trace now :
       by_answer (Err own) e = ap (end_with (text (words_of bytes))) e
 
   -- The lines of what was kept back were not all written.
-  pub last-refused : (old new : O) (fault : Fault) → OutOnce (Some fault) (o.faults old) (o.faults new) → WritesLast o by how trace now old new bytes (Err fault) → WritesEnd (traces set by how) bytes (o.written old) (o.written new) (o.faults old) (o.faults new) (Err fault)
-  last-refused old new fault once (inl h) =
+  pub last-refused : (old new : O) (fault : Fault) → WritesLast o by how trace now old new bytes (Err fault) → WritesEnd (traces set by how) bytes (o.written old) (o.written new) (o.faults old) (o.faults new) (Err fault)
+  last-refused old new fault (inl h) =
       let is = ends-refused fault h.1 in
       inl (
         ap (λ (end : Outcome). end.fault) is,
@@ -55,10 +55,10 @@ module _ {O : Type 0} (o : Ghosts O) (by : Sorting) (how : Reading) (trace now :
           more = [];
           adds = ap (λ (end : Outcome). end.text) is ∙ sym (append-nil (text (words_of bytes)));
           written = Keeps-append (o.written old) (o.written new) h.2;
-          kept = once-inside fault (o.faults old) (o.faults new) h.0 once;
+          kept = h.3;
         },
       )
-  last-refused old new fault once (inr h) =
+  last-refused old new fault (inr h) =
       let front = whole-front set all in
       inr (
         h.0,
@@ -71,11 +71,11 @@ module _ {O : Type 0} (o : Ghosts O) (by : Sorting) (how : Reading) (trace now :
       )
 
   -- They were written, and then the rest.
-  pub last-ended : (old mid new : O) (r : Result (Unit {0}) Fault) → set_of now ≡ set_of trace → o.faults mid ≡ o.faults old → WroteLast o by how trace now old mid bytes
+  pub last-ended : (old mid new : O) (r : Result (Unit {0}) Fault) → set_of now ≡ set_of trace → WroteLast o by how trace now old mid bytes
       → OnOk r (AppendsRest (o.written mid) (o.written new) (open_text (trace_view (set_of now)) all) (whole_text (trace_view (set_of now)) all))
       → OnErr r (CutsRest (o.written mid) (o.written new) (open_text (trace_view (set_of now)) all) (whole_text (trace_view (set_of now)) all))
       → IfErr r (λ fault. fault ≡ WriteFault) → OnErr r (Rose (o.faults mid) (o.faults new)) → OnOk r (o.faults new ≡ o.faults mid) → WritesEnd (traces set by how) bytes (o.written old) (o.written new) (o.faults old) (o.faults new) r
-  last-ended old mid new (Ok done) same still h all_of cut write rose kept =
+  last-ended old mid new (Ok done) same h all_of cut write rose kept =
       let rest = rw same at all_of in
       let is = ends-whole h.clear in (
         ap (λ (end : Outcome). end.fault) is,
@@ -83,10 +83,10 @@ module _ {O : Type 0} (o : Ghosts O) (by : Sorting) (how : Reading) (trace now :
           more = h.more ++ rest.rest;
           adds = ap (λ (end : Outcome). end.text) is ∙ rest.whole ∙ ap (λ l. l ++ rest.rest) h.adds ∙ append_assoc (text (words_of bytes)) h.more rest.rest;
           written = Appends-trans (o.written old) (o.written mid) (o.written new) h.more rest.rest h.written rest.appended;
-          kept = kept ∙ still;
+          kept = kept ∙ h.kept;
         },
       )
-  last-ended old mid new (Err fault) same still h all_of cut write rose kept =
+  last-ended old mid new (Err fault) same h all_of cut write rose kept =
       let rest = rw same at cut in
       inr (
         write,
@@ -94,6 +94,6 @@ module _ {O : Type 0} (o : Ghosts O) (by : Sorting) (how : Reading) (trace now :
           more = h.more ++ rest.rest;
           adds = ap (λ (end : Outcome). end.text) (ends-whole h.clear) ∙ rest.whole ∙ ap (λ l. l ++ rest.rest) h.adds ∙ append_assoc (text (words_of bytes)) h.more rest.rest;
           cut = AppendsShort-behind (o.written old) (o.written mid) (o.written new) h.more rest.rest h.written rest.cut;
-          rose = rw still at rose;
+          rose = rw h.kept at rose;
         },
       )

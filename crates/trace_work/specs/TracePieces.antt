@@ -1,5 +1,5 @@
 -- What the trace of words writes that come behind others.
-use Rattle.std.specs.Prelude.{ℕ, ◌≡◌, ◌⊎◌, ◌≤◌, List, ◌++◌, OnOk, false, None, Some, Result, Ok, Err}
+use Rattle.std.specs.Prelude.{ℕ, ◌≡◌, ◌⊎◌, ◌≤◌, List, ◌++◌, OnOk, true, false, None, Some, Result, Ok, Err}
 use Rattle.std.specs.Io.KnownBytes.{Appends, Keeps}
 use Rattle.tally_base.{specs.declared.fault.Fault.Fault, specs.declared.fault.Fault.TheVariants.WriteFault, specs.FaultCounts.Rose, specs.Faults.{is_outside, fault_in}, specs.Settings.{TraceView, trace_view}, specs.declared.header.Header.Header, specs.RecordTypes.mode_of}
 use Rattle.bench_io.{specs.Sinks.AppendsShort, specs.declared.sink.Sink.Ghosts}
@@ -7,7 +7,7 @@ use Rattle.ptu_definitions.{specs.Words.words_of, specs.Streams.{Reading, record
 use Rattle.plan_text.{specs.Plan.PlanView, specs.Fits.fits}
 use Rattle.gate_plan.{specs.Shifting.{Sorting, sorting}, specs.Histories.history, specs.Plans.reading_by}
 use Rattle.record_stream.{specs.declared.stream.RecordStream.RecordStream, specs.Standing.{how_of, given_by, greatest_of, refused_with, HasStreamed}}
-use Rattle.long_trace.{specs.declared.trace.LongTrace.LongTrace, specs.LongTrace.{Holds, set_of, taken_of, floor_of}, specs.Texts.open_text}
+use Rattle.long_trace.{specs.declared.trace.LongTrace.LongTrace, specs.LongTrace.{Holds, set_of, taken_of, floor_of, is_going}, specs.Texts.open_text}
 use Rattle.command_work.specs.Tellings.{Telling, WritesPiece, unless_declined}
 use Rattle.trace_work.specs.TraceOutcomes.{settled_before, words_traced, records_traced}
 
@@ -23,8 +23,9 @@ traces set by how = record {
 abbrev pub traces_by : TraceView → PlanView → Header → Telling
 traces_by set plan header = unless_declined (fault_in (fits (mode_of header.record_type) plan)) (traces set (sorting plan) (reading_by plan header))
 
--- The trace is no further on than the stream.
+-- The trace has written its first line and refused nothing, and is no further on than the stream.
 pub record IsBehindStream (stream : RecordStream) (trace : LongTrace) : Type 0 where
+  pub going : is_going trace ≡ true
   pub few : taken_of trace ≤ given_by stream
   pub before : floor_of trace ≤ greatest_of stream
 
@@ -56,6 +57,7 @@ pub record WroteLast {O : Type 0} (o : Ghosts O) (by : Sorting) (how : Reading) 
   pub more : List ℕ
   pub adds : open_text (trace_view (set_of trace)) (history by how (words_of bytes)) ≡ words_traced (Some (trace_view (set_of trace))) by how (words_of bytes) ++ more
   pub written : Appends (o.written old) (o.written new) more
+  pub kept : o.faults new ≡ o.faults old
 
 -- The lines were cut short.
 pub record CutLast {O : Type 0} (o : Ghosts O) (by : Sorting) (how : Reading) (trace : LongTrace) (old new : O) (bytes : List ℕ) : Type 0 where
@@ -69,7 +71,7 @@ pub record CutLast {O : Type 0} (o : Ghosts O) (by : Sorting) (how : Reading) (t
 abbrev pub WritesLast : {O : Type 0} → Ghosts O → Sorting → Reading → LongTrace → LongTrace → O → O → List ℕ → Result (Unit {0}) Fault → Type 0
 WritesLast o by how trace now old new bytes (Ok done) = WroteLast o by how trace now old new bytes
 WritesLast o by how trace now old new bytes (Err fault) =
-    ((is_outside fault ≡ false) × (fault_in (streamed how bytes) ≡ Some fault) × Keeps (o.written old) (o.written new)) ⊎ ((fault ≡ WriteFault) × CutLast o by how trace old new bytes)
+    ((is_outside fault ≡ false) × (fault_in (streamed how bytes) ≡ Some fault) × Keeps (o.written old) (o.written new) × (o.faults new ≡ o.faults old)) ⊎ ((fault ≡ WriteFault) × CutLast o by how trace old new bytes)
 
 -- what ends a stream whose last lines are flushed
 abbrev pub both_ended : {X Y : Type 0} → Result X Fault → Result (Unit {0}) Y → Result (Unit {0}) Fault

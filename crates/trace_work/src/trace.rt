@@ -1,12 +1,12 @@
 // The trace of a plan, written while the file is read.
-ghost use Rattle.std.specs.Prelude.{◌≡◌, ◌<◌, ◌≤◌, ℕ, List, [], OnOk, None, Some};
-ghost use Rattle.tally_base.{specs.Faults.fault_in, specs.Settings.trace_view};
+ghost use Rattle.std.specs.Prelude.{◌≡◌, ◌<◌, ◌≤◌, ℕ, List, [], true, OnOk, None, Some};
+ghost use Rattle.tally_base.specs.Settings.{trace_view};
 ghost use Rattle.ptu_definitions.{specs.Counted.record_limit};
 ghost use Rattle.plan_text.specs.Reading.{plan_view};
 ghost use Rattle.record_stream.specs.Standing.{how_of, given_by, greatest_of, refused_with, HasStreamed};
 ghost use Rattle.gate_plan.specs.Groups.{sorting_of};
-ghost use Rattle.long_trace.specs.LongTrace.{set_of, taken_of, floor_of};
-ghost use Rattle.command_work.{specs.StreamPieces.{TakesOn, StaysOpen}, specs.Once.OutOnce, specs.Tellings.WritesEnd};
+ghost use Rattle.long_trace.specs.LongTrace.{set_of, taken_of, floor_of, is_going};
+ghost use Rattle.command_work.{specs.StreamPieces.{TakesOn, StaysOpen}, specs.Tellings.WritesEnd};
 ghost use Rattle.trace_work.{specs.TraceOutcomes.trace_of, specs.TracePieces.{traces, IsBehindStream, TracesBytes, TracesPiece, WritesLast, both_ended}};
 
 use abs_time::{moved_floor, orders_markers};
@@ -34,6 +34,7 @@ struct TraceLines<'g, 't, 'o, O: Sink> {
     floor: u64,
     ghost few: { taken_of trace.now ≤ taken },
     ghost before: { floor_of trace.now ≤ floor },
+    ghost going: { is_going trace.now ≡ true },
 }
 
 impl<'g, 't, 'o, O: Sink> EventTaker for TraceLines<'g, 't, 'o, O> {
@@ -166,8 +167,7 @@ fn end_lines<'g, 't, 'o, O: Sink>(
         → TracesBytes (sorting_of lines.old.gates.now) (how_of stream) lines.old.trace.now bytes
         → WritesLast O.Sink (sorting_of lines.old.gates.now) (how_of stream) lines.old.trace.now
         lines.new.trace.now lines.old.out.now lines.new.out.now bytes result }
-    ensures once { (bytes : List ℕ) → HasStreamed stream bytes
-        → OutOnce (fault_in result) (O.faults lines.old.out.now) (O.faults lines.new.out.now) }
+    ensures going { is_going lines.new.trace.now ≡ true }
     ensures set { set_of lines.new.trace.now ≡ set_of lines.old.trace.now }
     ensures same { (lines.new.out.ghost_name ≡ lines.old.out.ghost_name)
         × (lines.new.trace.ghost_name ≡ lines.old.trace.ghost_name) }
@@ -226,8 +226,7 @@ fn last_lines<O: Sink>(
         → TracesBytes (sorting_of gates.now) (how_of stream) trace.old bytes
         → WritesLast O.Sink (sorting_of gates.now) (how_of stream) trace.old trace.new out.old out.new
         bytes result }
-    ensures once { (bytes : List ℕ) → HasStreamed stream bytes
-        → OutOnce (fault_in result) (O.faults out.old) (O.faults out.new) }
+    ensures going { is_going trace.new ≡ true }
     ensures set { set_of trace.new ≡ set_of trace.old }
 {
     let mut lines = TraceLines {

@@ -2,7 +2,7 @@ use Rattle.std.proofs.Common.{◌≡◌, arith, [], ◌++◌, Ok, Err, take, ref
 use Rattle.std.{proofs.lemmas.List.length-take, proofs.lemmas.Slice.between_is}
 use Rattle.tally_base.{specs.declared.slot.Slot.TheVariants.Data, proofs.Reasons.HasReason-inside}
 use Rattle.bench_io.{proofs.Givens.{Consumes-nil, Consumes-kept, Consumes-trans}, proofs.States.OnlyReads-refl}
-use Rattle.command_work.{proofs.Pieces.{IsCut-nil, some_used}, specs.Outcomes.IsCut, proofs.Told.{Says-at_end, Says-shown}, proofs.Few.{stops-unread, stops-piece}, proofs.Once.{quiet-none, quiet-inside, once-refl, once-read, once-unread}}
+use Rattle.command_work.{proofs.Pieces.{IsCut-nil, some_used}, specs.Outcomes.IsCut, proofs.Told.{Says-at_end, Says-shown}, proofs.Few.{stops-unread, stops-piece}, proofs.Once.{Rose-kept, quiet-none, quiet-inside, once-refl, once-read, once-unread}}
 use Rattle.ptu_definitions.specs.Headers.{header_answer}
 use Rattle.command_work.proofs.data.read_header.Goals as goal
 
@@ -90,3 +90,6 @@ returns-in-Done-clause-once g c = once-read Data _ _ _ _ quiet-none c.pieces.inv
 
 pub returns-in-Refused-clause-once : goal.returns-in-Refused-clause-once
 returns-in-Refused-clause-once g c = once-read Data _ _ _ _ (quiet-inside c.in-Refused.fault c.in-Refused.ensures.inside) c.pieces.invariant.once c.read.ensures.keeps_other c.read.ensures.opens_none c.in-Ok.ensures.cause.kept
+
+pub returns-in_default-clause-reason : goal.returns-in_default-clause-reason
+returns-in_default-clause-reason g c = (refl, Rose-kept _ _ _ (c.pieces.invariant.once.reads Data) c.in_default.ensures.cause.once)

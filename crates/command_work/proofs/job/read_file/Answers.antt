@@ -1,6 +1,5 @@
 use Rattle.std.proofs.Common.{arith}
-use Rattle.std.{proofs.lemmas.Result.err_from_is_err_and, specs.List.slice_range}
-use Rattle.bench_io.specs.Inputs.{InputState}
+use Rattle.std.{proofs.lemmas.Result.err_from_is_err_and}
 use Rattle.command_work.{specs.Endings.span, proofs.Headed.{leaves-rest, leaves-unheaded}, proofs.Pieces.few_behind}
 use Rattle.command_work.proofs.job.read_file.Goals as goal
 
@@ -16,4 +15,4 @@ returns-clause-leaves g c =
     let found = c.in_ok-found.found in
     let part = c.in_ok-found.ensures.part in
     leaves-rest _ _ _ _ _ (g.met.J.Job.law c.args.job.now) _ (span g.I.Inputs g.O.Sink c.read_header.new.inputs c.read_after.new.inputs c.args.out.now c.read_after.new.out) front.0 _ found.header front.2 front.1 c.read_after.result
-    (few_behind c.read_header.new.buffer found.used found.len 8192 (omega arith) part.ended part.order part.within) c.read_header.ensures.reads.keeps.read_faults c.in_ok-found.ensures.once c.in_ok-found.ensures.stops.few c.read_after.ensures.rest
+    (few_behind c.read_header.new.buffer found.used found.len 8192 (omega arith) part.ended part.order part.within) c.in_ok-found.ensures.once c.in_ok-found.ensures.stops.few c.read_after.ensures.rest

@@ -1,7 +1,7 @@
-use Rattle.std.proofs.Common.{rules, sym, subst, List, ℕ, length, take, ◌-◌}
+use Rattle.std.proofs.Common.{rules, refl, sym, subst, List, ℕ, length, take, ◌-◌}
 use Rattle.tally_base.specs.declared.slot.Slot.TheVariants.{Plan as PlanSlot}
 use Rattle.bench_io.{specs.Given.Consumes, proofs.Givens.Consumes-trans, proofs.States.OnlyReads-trans}
-use Rattle.command_work.{proofs.Texts.read_behind, proofs.Once.{quiet-none, once-read, once-unread}}
+use Rattle.command_work.{proofs.Texts.read_behind, proofs.Once.{Rose-kept, quiet-none, once-read, once-unread}}
 use Rattle.command_work.proofs.plan.read_text.Goals as goal
 
 pub pieces-preserved : goal.pieces-preserved
@@ -20,3 +20,6 @@ returns-in_default-clause-once g c = once-unread PlanSlot _ _ _ c.pieces.invaria
 
 pub returns-then-more-eq0-clause-once : goal.returns-then-more-eq0-clause-once
 returns-then-more-eq0-clause-once g c = once-read PlanSlot _ _ _ _ quiet-none c.pieces.invariant.once c.read.ensures.keeps_other c.read.ensures.opens_none c.in-Ok.ensures.cause.kept
+
+pub returns-in_default-clause-reason : goal.returns-in_default-clause-reason
+returns-in_default-clause-reason g c = (refl, Rose-kept _ _ _ (c.pieces.invariant.once.reads PlanSlot) c.in_default.ensures.cause.once)

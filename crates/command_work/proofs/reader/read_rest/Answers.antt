@@ -24,7 +24,7 @@ pieces-preserved g c =
             let at = inv.so_far.1 bytes h in (
               rw (← append_assoc bytes taken (take c.in-Ok.len c.read.new.into)) (c.in_ok-piece.ensures.takes (bytes ++ taken) at.0),
               so-piece ⊥ at.1 (record { other = c.read.ensures.keeps_other; none = c.read.ensures.opens_none }) c.in-Ok.len c.read.new.into
-                  (omega (arith, c.requires.ready.small, c.pieces.auto.buffer, c.read.auto.into)) c.in-Ok.ensures.gives.0 c.in-Ok.ensures.cause.kept _ _ c.read.ensures.keeps.read_faults
+                  (omega (arith, c.requires.ready.small, c.pieces.auto.buffer, c.read.auto.into)) c.in-Ok.ensures.gives.0 c.in-Ok.ensures.cause.kept _ _
                   (rw inv.same at (c.in_ok-piece.ensures.writes (bytes ++ taken) at.0)),
             ),
       );
@@ -33,7 +33,7 @@ pieces-preserved g c =
 pub returns-in_default-clause-rest : goal.returns-in_default-clause-rest
 returns-in_default-clause-rest g c = λ bytes h.
     let at = c.pieces.invariant.so_far.1 bytes h in
-    rest-unread ⊥ at.1 (record { other = c.read.ensures.keeps_other; none = c.read.ensures.opens_none }) c.in_default.ensures.gives c.in_default.ensures.cause.failed c.in_default.ensures.cause.once
+    rest-unread ⊥ at.1 (record { other = c.read.ensures.keeps_other; none = c.read.ensures.opens_none }) c.in_default.ensures.gives c.in_default.ensures.cause.once
 
 pub returns-then-len-eq0-clause-rest : goal.returns-then-len-eq0-clause-rest
 returns-then-len-eq0-clause-rest g c = λ bytes h.

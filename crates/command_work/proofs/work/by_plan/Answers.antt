@@ -1,10 +1,10 @@
 use Rattle.std.proofs.Common.{ℕ, List, refl, sym, ap, ◌∙◌, subst, inl}
 use Rattle.std.{specs.declared.option.Option.Option, proofs.lemmas.Result.{IfErr-weaker, err_from_is_err_and}}
 use Rattle.tally_base.specs.declared.slot.Slot.TheVariants.{Data}
-use Rattle.bench_io.{specs.Inputs.{File, IsOpened}, proofs.Bytes.{Appends-nil, Keeps-from_none}, proofs.Rises.Rose-behind, proofs.States.Keeps-trans}
+use Rattle.bench_io.{specs.Inputs.{File, IsOpened}, proofs.Bytes.{Appends-nil, Keeps-from_none}}
 use Rattle.plan_text.specs.Reading.{plan_view}
 use Rattle.command_work.{specs.Endings.{Span, HasCauses}, proofs.PlanTold.{has-plan, has-later, none-lacking, names-later, takes-later, answers-unplanned, unplanned-causes, answers-lacking, lacking-causes, plan-answers, plan-causes, plan-files}}
-use Rattle.command_work.{proofs.WorkTold.few-told, proofs.Once.{quiet-inside, stays-same, once-none, once-behind, once-opened, once-unopened}}
+use Rattle.command_work.{proofs.WorkTold.few-told, proofs.Once.{Rose-kept, quiet-inside, out-inside, out-unwritten, once-none, once-behind, once-opened, once-unopened}}
 use Rattle.command_work.proofs.work.by_plan.Goals as goal
 
 pub returns-in_err-plan : goal.returns-in_err-plan
@@ -19,7 +19,7 @@ returns-in_err-plan g c =
       answer = answers-unplanned c.args.plan_name.now c.args.data_name.now (does.writing it) does.memory (does.lacking it) (does.work it) after fault _ c.in_err-plan.ensures.answer;
       causes = unplanned-causes c.args.plan_name.now c.args.data_name.now (does.writing it) does.memory (does.lacking it) (does.work it) before after _ _ fault c.plan_of.ensures.uses.keeps_other (c.requires.first Data) c.in_err-plan.ensures.reason;
       asks = (c.plan_of.ensures.takes, λ asked. let same = c.plan_of.ensures.uses.keeps_other.asked in let first = c.requires.first Data in cc);
-      once = record { inputs = c.in_err-plan.ensures.once; out = stays-same _ _ _ refl };
+      once = record { inputs = c.in_err-plan.ensures.once; out = out-unwritten _ _ _ fault _ c.in_err-plan.ensures.reason };
       files = plan-files c.args.plan_name.now c.args.data_name.now (does.writing it) does.memory (does.lacking it) (does.work it) before after c.plan_of.ensures.names
           (λ opened.
           let asked = g.met.I.Inputs.asked_first c.plan_of.new.inputs Data opened in
@@ -39,7 +39,7 @@ returns-in-Some g c =
       answer = answers-lacking c.args.plan_name.now c.args.data_name.now (does.writing it) does.memory (does.lacking it) (does.work it) after c.in_ok-plan.plan c.in-Some.fault _ c.in_ok-plan.ensures.answer (sym c.in-Some.ensures.answer);
       causes = lacking-causes c.args.plan_name.now c.args.data_name.now (does.writing it) does.memory (does.lacking it) (does.work it) _ c.in-Some.fault c.in-Some.ensures.inside;
       asks = (c.plan_of.ensures.takes, λ asked. let same = c.plan_of.ensures.uses.keeps_other.asked in let first = c.requires.first Data in cc);
-      once = record { inputs = once-none _ _ _ (quiet-inside c.in-Some.fault c.in-Some.ensures.inside) c.in_ok-plan.ensures.once; out = stays-same _ _ _ refl };
+      once = record { inputs = once-none _ _ _ (quiet-inside c.in-Some.fault c.in-Some.ensures.inside) c.in_ok-plan.ensures.once; out = out-inside c.in-Some.fault _ _ c.in-Some.ensures.inside refl };
       files = plan-files c.args.plan_name.now c.args.data_name.now (does.writing it) does.memory (does.lacking it) (does.work it) before after c.plan_of.ensures.names
           (λ opened.
           let asked = g.met.I.Inputs.asked_first c.plan_of.new.inputs Data opened in
@@ -61,7 +61,7 @@ returns-in-Err g c =
     let has = has-later planned after (does.lacking it) view c.open.ensures.keeps_other (has-plan planned (does.lacking it) c.in_ok-plan.plan c.in_ok-plan.ensures.answer (none-lacking _ c.lacks.result c.lacks.ensures.answer c.in_default.not-Some)) in
     record {
       answer = inl refl;
-      causes = ((view, has), Rose-behind _ _ _ (c.plan_of.ensures.uses.keeps.open_faults Data) c.in-Err.ensures.cause.failed, Keeps-from_none _ _ (Appends-nil _));
+      causes = ((view, has), Rose-kept _ _ _ (c.in_ok-plan.ensures.once.openings Data) c.in-Err.ensures.cause.once, Keeps-from_none _ _ (Appends-nil _));
       asks = (
         takes-later planned after c.plan_of.ensures.takes c.open.ensures.keeps_other,
         λ asked. (
@@ -108,7 +108,7 @@ returns-in-Ok g c =
       answer = plan-answers c.args.plan_name.now c.args.data_name.now (does.writing it) does.memory (does.lacking it) (does.work it) after view _ _ _ c.read.result has c.in-Ok.ensures.given is_open c.read.ensures.leaves.answer;
       causes = IfErr-weaker c.read.result _ _
           (λ fault h. plan-causes c.args.plan_name.now c.args.data_name.now (does.writing it) does.memory (does.lacking it) (does.work it) view before span fault has c.in-Ok.ensures.given is_open
-          (Keeps-trans before planned opened c.plan_of.ensures.uses.keeps c.in-Ok.ensures.keeps).read_faults h)
+          (once-opened Data before planned opened c.in_ok-plan.ensures.once c.open.ensures.keeps_other c.open.ensures.reads c.in-Ok.ensures.cause.kept) h)
           c.read.ensures.leaves.reason;
       asks = (
         takes-later opened after (takes-later planned opened c.plan_of.ensures.takes c.open.ensures.keeps_other) c.read.ensures.reads.keeps_other,

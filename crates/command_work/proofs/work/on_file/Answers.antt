@@ -9,7 +9,7 @@ pub returns-in-Err : goal.returns-in-Err
 unfolding HasCauses
 returns-in-Err g c = record {
   answer = inl refl;
-  causes = (tt, c.in-Err.ensures.cause.failed, Keeps-from_none _ _ (Appends-nil _));
+  causes = (tt, c.in-Err.ensures.cause.once, Keeps-from_none _ _ (Appends-nil _));
   asks = (
     c.open.ensures.keeps_other.asked ∙ c.requires.first Plan,
     λ opened.
@@ -42,7 +42,8 @@ returns-in-Ok g c =
     } in
     record {
       answer = file-answers c.args.file.now writing work after _ _ _ _ c.in-Ok.ensures.given is_open c.read.ensures.leaves.answer;
-      causes = IfErr-weaker c.read.result _ _ (λ fault h. file-causes c.args.file.now writing work before span fault c.in-Ok.ensures.given is_open c.in-Ok.ensures.keeps.read_faults h) c.read.ensures.leaves.reason;
+      causes = IfErr-weaker c.read.result _ _ (λ fault h. file-causes c.args.file.now writing work before span fault c.in-Ok.ensures.given is_open
+          (once-opened Data before before opened (once-refl before None quiet-none) c.open.ensures.keeps_other c.open.ensures.reads c.in-Ok.ensures.cause.kept) h) c.read.ensures.leaves.reason;
       asks = (
         ap (λ f. f Plan) c.read.ensures.reads.opens_none.asked ∙ c.open.ensures.keeps_other.asked ∙ c.requires.first Plan,
         λ was. few-told work after _ c.in-Ok.ensures.given c.read.ensures.leaves.few,

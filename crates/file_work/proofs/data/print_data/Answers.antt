@@ -1,7 +1,7 @@
 use Rattle.std.proofs.Common.{◌≡◌, length, rules, ◌++◌, [], take, refl, sym, ap, ◌∙◌, append-nil, arith, inr}
 use Rattle.bench_io.{proofs.Bytes.{Appends-nil, Appends-same}, proofs.Givens.{Consumes-nil, Consumes-kept, Consumes-trans}, proofs.States.{OnlyReads-refl, OnlyReads-trans}}
 use Rattle.list_out.{specs.HeaderText.header_text, proofs.StepTexts.header_text-nil}
-use Rattle.command_work.{proofs.Pieces.IsCut-nil, specs.Outcomes.IsCut, proofs.Told.{Says-at_end, Says-shown}, proofs.Few.{few-none, few-piece}, proofs.Once.{quiet-none, quiet-write, quiet-inside, stays-same, once-refl, once-read, once-unread, Rose-kept}}
+use Rattle.command_work.{proofs.Pieces.IsCut-nil, specs.Outcomes.IsCut, proofs.Told.{Says-at_end, Says-shown}, proofs.Few.{few-none, few-piece}, proofs.Once.{quiet-none, quiet-write, quiet-inside, out-inside, once-refl, once-read, once-unread, Rose-kept}}
 use Rattle.file_work.{proofs.HeaderEnds.{text-appended, text-cut, outcome-done, outcome-refused, outcome-ended}, specs.FileOutcomes.header_outcome}
 use Rattle.tally_base.specs.declared.slot.Slot.TheVariants.{Data}
 use Rattle.file_work.proofs.data.print_data.Goals as goal
@@ -19,7 +19,7 @@ pub returns-in-Err-clause-reason : goal.returns-in-Err-clause-reason
 returns-in-Err-clause-reason g c =
     let so_far = c.pieces.invariant.taken in
     let piece = take c.in-Ok.len c.read.new.into in (
-      Rose-kept _ _ _ c.pieces.invariant.kept c.in-Err.ensures.cause.failed,
+      Rose-kept _ _ _ c.pieces.invariant.kept c.in-Err.ensures.cause.once,
       record {
         taken = so_far.0 ++ piece;
         consumes = Consumes-trans _ _ _ so_far.0 piece so_far.1 c.in-Ok.ensures.gives.0;
@@ -116,13 +116,13 @@ pub returns-in_default-clause-once : goal.returns-in_default-clause-once
 returns-in_default-clause-once g c = record { inputs = once-unread Data _ _ _ c.pieces.invariant.once c.read.ensures.keeps_other c.read.ensures.opens_none c.in_default.ensures.cause.once; out = c.pieces.invariant.kept }
 
 pub returns-then-len-eq0-clause-once : goal.returns-then-len-eq0-clause-once
-returns-then-len-eq0-clause-once g c = record { inputs = once-read Data _ _ _ _ (quiet-inside c.finish.result c.finish.ensures.inside) c.pieces.invariant.once c.read.ensures.keeps_other c.read.ensures.opens_none c.in-Ok.ensures.cause.kept; out = stays-same _ _ _ c.pieces.invariant.kept }
+returns-then-len-eq0-clause-once g c = record { inputs = once-read Data _ _ _ _ (quiet-inside c.finish.result c.finish.ensures.inside) c.pieces.invariant.once c.read.ensures.keeps_other c.read.ensures.opens_none c.in-Ok.ensures.cause.kept; out = out-inside c.finish.result _ _ c.finish.ensures.inside c.pieces.invariant.kept }
 
 pub returns-in-Err-clause-once : goal.returns-in-Err-clause-once
-returns-in-Err-clause-once g c = record { inputs = once-read Data _ _ _ _ quiet-write c.pieces.invariant.once c.read.ensures.keeps_other c.read.ensures.opens_none c.in-Ok.ensures.cause.kept; out = tt }
+returns-in-Err-clause-once g c = record { inputs = once-read Data _ _ _ _ quiet-write c.pieces.invariant.once c.read.ensures.keeps_other c.read.ensures.opens_none c.in-Ok.ensures.cause.kept; out = Rose-kept _ _ _ c.pieces.invariant.kept c.in-Err.ensures.cause.once }
 
 pub returns-in-Ok-Done-clause-once : goal.returns-in-Ok-Done-clause-once
 returns-in-Ok-Done-clause-once g c = record { inputs = once-read Data _ _ _ _ quiet-none c.pieces.invariant.once c.read.ensures.keeps_other c.read.ensures.opens_none c.in-Ok.ensures.cause.kept; out = c.in-Ok-Done.ensures.cause.kept ∙ c.pieces.invariant.kept }
 
 pub returns-in-Ok-Refused-clause-once : goal.returns-in-Ok-Refused-clause-once
-returns-in-Ok-Refused-clause-once g c = record { inputs = once-read Data _ _ _ _ (quiet-inside c.in-Ok-Refused.fault (rw c.in-Ok-Refused.field-0-is at c.in-Ok-Refused.ensures.ends)) c.pieces.invariant.once c.read.ensures.keeps_other c.read.ensures.opens_none c.in-Ok.ensures.cause.kept; out = stays-same _ _ _ (c.in-Ok-Refused.ensures.cause.kept ∙ c.pieces.invariant.kept) }
+returns-in-Ok-Refused-clause-once g c = record { inputs = once-read Data _ _ _ _ (quiet-inside c.in-Ok-Refused.fault (rw c.in-Ok-Refused.field-0-is at c.in-Ok-Refused.ensures.ends)) c.pieces.invariant.once c.read.ensures.keeps_other c.read.ensures.opens_none c.in-Ok.ensures.cause.kept; out = out-inside c.in-Ok-Refused.fault _ _ (rw c.in-Ok-Refused.field-0-is at c.in-Ok-Refused.ensures.ends) (c.in-Ok-Refused.ensures.cause.kept ∙ c.pieces.invariant.kept) }

@@ -20,6 +20,7 @@ put-requires g c =
     let order : floor_after true (last_by c.args.picker.now) (rows f c.loop-k.k) ≤ (f c.loop-k.k).time = (order-at true (last_by c.args.picker.now) f c.args.many c.loop-k.k within can.in_order).1 refl in
     record {
       next = rw c.event.ensures (record {
+        going = c.loop-k.invariant.gave.going;
         photon = all-rows (λ e. is_photon e ≡ true) f c.args.many c.loop-k.k within can.are_photons;
         fits = subst (λ m. KindFits m (f c.loop-k.k).kind) (sym c.loop-k.invariant.gave.same_mode) fits;
         in_order = omega (arith, order, c.loop-k.invariant.gave.last);
@@ -54,7 +55,7 @@ returns-in_err-put-clause-last g c =
     let low = last_by c.args.picker.now in
     let order = subst (λ l. InOrder true low l) part.1 c.requires.can.in_order in
     let front : floor_after true low (rows f c.loop-k.k) ≤ floor_after true low (rows f c.args.many) = subst (λ l. floor_after true low (rows f c.loop-k.k) ≤ floor_after true low l) (sym part.1) (floor-front low (rows f c.loop-k.k) (f c.loop-k.k ∷ part.0) order) in
-    let same : last_by c.put.new.self ≡ last_by c.loop-k.picker = ap last_by c.in_err-put.ensures.kept in
+    let same : last_by c.put.new.self ≡ last_by c.loop-k.picker = c.in_err-put.ensures.closes.same_last in
     omega (arith, front, same, c.loop-k.invariant.gave.last)
 
 pub loop-k-preserved : goal.loop-k-preserved
@@ -68,5 +69,5 @@ loop-k-preserved g c =
     let mid = pen c.loop-k.picker (g.O.Sink.written c.loop-k.out) c.loop-k.block (g.O.Sink.faults c.loop-k.out) in
     let new = pen c.put.new.self (g.O.Sink.written c.put.new.out) c.put.new.block (g.O.Sink.faults c.put.new.out) in
     record {
-      gave = subst (λ l. Gave old new l) (sym (more_rows f c.loop-k.k)) (Gave-more old mid (rows f c.loop-k.k) e gave new soon told.picks.picked (λ behind stands. (told.puts behind stands).puts) told.picks.same_mode told.picks.last told.cause.kept);
+      gave = subst (λ l. Gave old new l) (sym (more_rows f c.loop-k.k)) (Gave-more old mid (rows f c.loop-k.k) e gave new soon told.picks.picked (λ behind stands. (told.puts behind stands).puts) told.picks.same_mode told.picks.going told.picks.last told.cause.kept);
     }

@@ -45,7 +45,7 @@ returns-then-is_err-clause-fed g c = λ before h.
     inr (
       refl,
       block_broke s how c.args.taker.now c.take_block.new.self _ ahead.base ahead.greatest before (before ++ numbers c.args.words.now) es es h.clear (all.1 before h) ((all.1 before h).delivers c.requires.ready.plain)
-          (rw c.keep.ensures.kept at broke) (err_of c.take_block.result (sym c.is_err.ensures.value ∙ c.if-is_err.true) c.take_block.ensures.cause.failed),
+          (rw c.keep.ensures.kept at broke) (err_of c.take_block.result (sym c.is_err.ensures.value ∙ c.if-is_err.true) c.take_block.ensures.cause.once),
     )
 
 pub returns : goal.returns
@@ -72,7 +72,7 @@ returns g c =
           h (all.1 before h) ((all.1 before h).delivers c.requires.ready.plain) (c.go_on.ensures.same_mode ∙ walk.same_mode) placed c.go_on.ensures.base c.go_on.ensures.greatest sums kinds counted;
       fed = λ before h.
           block_fed s how c.args.taker.now c.take_block.new.self _ ahead.base ahead.greatest before (before ++ numbers words) es es h.clear (all.1 before h) ((all.1 before h).delivers c.requires.ready.plain)
-          (rw c.keep.ensures.kept at (ok_of r fine c.take_block.ensures.follows));
+          (rw c.keep.ensures.kept at (ok_of r fine c.take_block.ensures.follows)) (ok_of r fine c.take_block.ensures.cause.kept);
       goes_on =
           let follows = c.requires.ready.follows in
           let many : length (gathered c.keep.new.self) ≡ ahead.len = ap length c.keep.ensures.kept ∙ length-rows (event_at b) ahead.len in

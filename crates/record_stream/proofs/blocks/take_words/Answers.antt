@@ -34,7 +34,7 @@ returns-in_err-take_block-clause-fed g c = λ before h.
     let all : ((before ++ o.0) ++ front) ++ back ≡ before ++ numbers c.args.words.now = ap (λ l. l ++ back) (append_assoc before o.0 front) ∙ append_assoc before (o.0 ++ front) back ∙ ap (λ l. before ++ l) (sym whole) in
     rw (p.1, p.2)
     (subst (λ l. Fed s {X = Unit {0}} how c.args.taker.now c.take_block.new.taker before l (Err c.in_err-take_block.field-0.0)) all
-    (Fed-more s (Unit {0}) how _ _ before _ back _ (Fed-trans s {X = Unit {0}} how _ c.many.taker _ before (before ++ o.0) _ (Err c.in_err-take_block.field-0.0) inv.later o.3 fed)))
+    (Fed-more s (Unit {0}) how _ _ before _ back _ (Fed-trans s {X = Unit {0}} how _ c.many.taker _ before (before ++ o.0) _ (Err c.in_err-take_block.field-0.0) o.3 fed)))
 
 pub many-preserved : goal.many-preserved
 many-preserved g c =
@@ -68,4 +68,4 @@ returns-clause-fed g c = λ before h.
     let fed = rw inv.how at (c.take_block-2.ensures.fed (before ++ o.0) o.2) in
     let all : (before ++ o.0) ++ numbers c.many.rest.now ≡ before ++ numbers c.args.words.now = append_assoc before o.0 (numbers c.many.rest.now) ∙ ap (λ l. before ++ l) (sym o.1) in
     subst (λ l. Fed s how c.args.taker.now c.take_block-2.new.taker before l c.take_block-2.result) all
-    (Fed-trans s how _ c.many.taker _ before (before ++ o.0) _ c.take_block-2.result inv.later o.3 fed)
+    (Fed-trans s how _ c.many.taker _ before (before ++ o.0) _ c.take_block-2.result o.3 fed)

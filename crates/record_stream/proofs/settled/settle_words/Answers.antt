@@ -14,7 +14,7 @@ returns-in_err-settle_word-clause-fed g c = λ before h.
     let p = err_from_is_err_and c.from_residual.result c.from_residual.ensures.1 in
     rw (p.1, p.2)
     (all_at (λ l. Fed s {X = Unit {0}} how c.args.taker.now c.settle_word.new.taker before l (Err c.in_err-settle_word.field-0.0)) before c.args.words.now c.loop-word.word-index _ _ c.loop-word-test.true c.from_le_bytes.ensures
-    (λ more. Fed-more s (Unit {0}) how _ _ before _ more _ (Fed-trans s {X = Unit {0}} how _ c.loop-word.taker _ before us _ (Err c.in_err-settle_word.field-0.0) inv.later (inv.gave before h) fed)))
+    (λ more. Fed-more s (Unit {0}) how _ _ before _ more _ (Fed-trans s {X = Unit {0}} how _ c.loop-word.taker _ before us _ (Err c.in_err-settle_word.field-0.0) (inv.gave before h) fed)))
 
 pub loop-word-preserved : goal.loop-word-preserved
 loop-word-preserved g c =

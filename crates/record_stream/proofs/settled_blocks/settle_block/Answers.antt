@@ -47,7 +47,7 @@ returns-then-is_err-clause-fed g c = λ before h.
     inr (
       refl,
       block_broke s how c.args.taker.now c.take_block.new.self _ ahead.base ahead.greatest before now es went h.behind.clear adds (block_delivers how c.let_go.new.settle before now es went adds.came d)
-          broke (err_of c.take_block.result (sym c.is_err.ensures.value ∙ c.if-is_err.true) c.take_block.ensures.cause.failed),
+          broke (err_of c.take_block.result (sym c.is_err.ensures.value ∙ c.if-is_err.true) c.take_block.ensures.cause.once),
     )
 
 pub returns : goal.returns
@@ -86,7 +86,7 @@ returns g c =
           let now = before ++ numbers words in
           let adds = all.adds sure before h.behind in
           block_fed s how c.args.taker.now c.take_block.new.self _ ahead.base ahead.greatest before now es went h.behind.clear adds (block_delivers how c.let_go.new.settle before now es went adds.came (delivers before h))
-          (ok_of r fine c.take_block.ensures.follows);
+          (ok_of r fine c.take_block.ensures.follows) (ok_of r fine c.take_block.ensures.cause.kept);
       goes_on =
           let more = ok_of r fine c.take_block.ensures.more in
           let moved = rw ready.follows.mode_is at (ok_of r fine c.take_block.ensures.moved) in

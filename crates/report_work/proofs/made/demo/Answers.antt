@@ -4,7 +4,7 @@ use Rattle.tally_base.specs.declared.slot.Slot.TheVariants.{Data}
 use Rattle.bench_io.proofs.Bytes.{Appends-nil, Keeps-from_none}
 use Rattle.plan_text.specs.Reading.{plan_view}
 use Rattle.report_work.{specs.Demo.demo_plan, proofs.Demos.{demo-view, plan-wanted, ends-demo, demo-causes}}
-use Rattle.command_work.{specs.Endings.HasCauses, proofs.Once.stays-same, proofs.Answers.alone-answers}
+use Rattle.command_work.{specs.Endings.HasCauses, proofs.Answers.alone-answers}
 use Rattle.report_work.proofs.made.demo.Goals as goal
 
 pub returns-in_err-plan-clause-answer : goal.returns-in_err-plan-clause-answer
@@ -21,7 +21,10 @@ returns-in_err-plan-clause-causes g c = λ state.
     rw (p.1, p.2, wanted) (Keeps-from_none _ _ (Appends-nil _))
 
 pub returns-in_err-plan-clause-once : goal.returns-in_err-plan-clause-once
-returns-in_err-plan-clause-once g c = stays-same _ _ _ refl
+returns-in_err-plan-clause-once g c =
+    let p = err_from_is_err_and c.from_residual.result c.from_residual.ensures.1 in
+    let wanted = plan-wanted c.in_err-plan.field-0.0 c.in_err-plan.ensures.answer in
+    rw (p.1, p.2, wanted) refl
 
 pub returns-clause-answer : goal.returns-clause-answer
 returns-clause-answer g c = λ state.

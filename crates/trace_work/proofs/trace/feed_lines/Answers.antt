@@ -10,18 +10,16 @@ returns-in-Ok-clause-writes g c = λ going bytes h holds.
     let it = feeds-on _ (λ t. t.trace.now) (λ t. g.O.Sink.written t.out.now) (λ t. t.block) (sorting_of c.args.lines.now.gates.now) _ _ _ _ _ (traced_none _ _ _ _ _ _ _ _)
     (λ l is. record { lines = is.lines; given = is.given; text = rw c.requires.empty at is.text })
     (λ l is. record { lines = is.lines; closed = is.closed; text = rw c.requires.empty at is.text; empty = is.empty })
-    c.args.lines.now.trace.now.set.some_width.0 _ _ holds c.in-Ok.ensures.all c.in-Ok.ensures.cause.kept (λ l is. is.kept) c.feed-fed.result (c.feed-fed.ensures.fed going bytes h) in
+    c.args.lines.now.trace.now.set.some_width.0 _ _ holds c.in-Ok.ensures.all c.in-Ok.ensures.cause.kept c.feed-fed.result (c.feed-fed.ensures.fed going bytes h) in
     record { writes = it.0; stands = it.1 }
 
 pub returns-in-Err-clause-writes : goal.returns-in-Err-clause-writes
 returns-in-Err-clause-writes g c = λ going bytes h holds.
-    let later = c.feed-fed.ensures.later in
-    let rose = c.in-Err.ensures.cause.failed in
     record {
       writes = feeds-cut _ (λ t. t.trace.now) (λ t. g.O.Sink.written t.out.now) (λ t. t.block) (sorting_of c.args.lines.now.gates.now) _ _ _ _ _ (traced_none _ _ _ _ _ _ _ _)
           (λ l is. record { lines = is.lines; given = is.given; text = rw c.requires.empty at is.text })
           (λ l is. record { lines = is.lines; closed = is.closed; text = rw c.requires.empty at is.text; empty = is.empty })
-          c.args.lines.now.trace.now.set.some_width.0 _ _ holds c.feed-fed.result c.in-Err.ensures.short (omega (arith, later, rose)) (c.feed-fed.ensures.fed going bytes h);
+          c.args.lines.now.trace.now.set.some_width.0 _ _ holds c.feed-fed.result c.in-Err.ensures.short c.in-Err.ensures.cause.once (c.feed-fed.ensures.fed going bytes h);
       stands = tt;
     }
 
@@ -37,4 +35,4 @@ returns-in-Err-clause-fed g c = record { same_how = c.feed-fed.ensures.same_how;
 pub returns-in-Ok-clause-behind : goal.returns-in-Ok-clause-behind
 returns-in-Ok-clause-behind g c =
     let taker = c.feed-fed.new.taker in
-    on_ok_weaker c.feed-fed.result (λ f. record { few = omega (arith, f.few, taker.few); before = omega (arith, f.before, taker.before) }) c.feed-fed.ensures.follows
+    on_ok_weaker c.feed-fed.result (λ f. record { going = taker.going; few = omega (arith, f.few, taker.few); before = omega (arith, f.before, taker.before) }) c.feed-fed.ensures.follows

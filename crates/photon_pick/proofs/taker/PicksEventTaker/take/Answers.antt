@@ -1,4 +1,4 @@
-use Rattle.std.proofs.Common.{◌≡◌, ◌∙◌, ◌+◌, Bool, true, false, Some, Err, sym, ap, refl, rules, ⊎_elim}
+use Rattle.std.proofs.Common.{◌≡◌, ◌∙◌, Bool, true, false, Some, Err, sym, ap, refl, rules, ⊎_elim}
 use Rattle.record_write.specs.Picked.{is_too_late}
 use Rattle.photon_pick.proofs.Steps.{wanted-none, wanted-one, Took-passed, Took-picked, Refused-late, Refused-cut}
 use Rattle.photon_pick.proofs.taker.PicksEventTaker.take.Goals as goal
@@ -18,11 +18,11 @@ returns-in-Ok-clause-follows g c = λ start l h.
     let same = c.args.self.now.of_mode in
     let soon : is_too_late c.args.self.now.picker.now.mode c.args.event.now.time ≡ false = is-false _ (λ late. let bad = c.in-Ok.ensures.late.1 late in cc) in
     Took-picked _ _ l h c.args.event.now c.args.late (wanted-one _ c.args.event.now c.args.late (sym c.is_wanted-wanted.ensures ∙ some)) (g.O.Sink.written c.put.new.out) c.put.new.block
-    c.moved_floor-self.result (g.O.Sink.faults c.put.new.out + c.args.self.now.refusals) (g.O.Sink.faults c.put.new.out) c.put.new.self c.moved_floor-self.ensures c.requires.in_order
-    (ap (λ n. n + c.args.self.now.refusals) c.in-Ok.ensures.cause.kept) c.in-Ok.ensures.cause.kept (rw same at soon) c.in-Ok.ensures.picks.picked (λ behind stands. rw same at (c.in-Ok.ensures.puts behind stands).puts)
+    c.moved_floor-self.result (g.O.Sink.faults c.put.new.out) c.put.new.self c.moved_floor-self.ensures c.requires.in_order
+    c.in-Ok.ensures.cause.kept (rw same at soon) c.in-Ok.ensures.picks.picked (λ behind stands. rw same at (c.in-Ok.ensures.puts behind stands).puts)
 
 pub returns-in-Err-clause-broken : goal.returns-in-Err-clause-broken
-returns-in-Err-clause-broken g c = λ start l h.
+returns-in-Err-clause-broken g c = λ start l h none.
     let some : c.is_wanted-wanted.result ≡ true = search rules in
     let same = c.args.self.now.of_mode in
     let one = wanted-one _ c.args.event.now c.args.late (sym c.is_wanted-wanted.ensures ∙ some) in

@@ -1,4 +1,4 @@
-use Rattle.std.proofs.Common.{◌≡◌, ◌∙◌, ◌+◌, true, All, filter, length, ap, sym, subst, refl}
+use Rattle.std.proofs.Common.{◌≡◌, ◌∙◌, ◌+◌, true, All, filter, rules, length, ap, sym, subst, refl}
 use Rattle.std.proofs.lemmas.List.Elements.{All-weaker, All-filter, filter_passes}
 use Rattle.tally_base.{specs.Events.is_photon, specs.Columns.gathered}
 use Rattle.ptu_definitions.specs.Fitting.{KindFits}
@@ -18,6 +18,7 @@ give_photons-given-requires-clause-can g c =
     let all : All (λ e. is_photon e ≡ true) (filter p es) = All-weaker (λ e. p e ≡ true) (λ e. is_photon e ≡ true) (λ e is. chosen-photon (sorting_of t.gates.now) t.group e is) _ (filter_passes p es) in
     let fits : All (λ e. KindFits mode e.kind) es = subst (λ m. All (λ e. KindFits m e.kind) es) (sym t.of_mode) c.requires.fit in
     subst (CanBeGiven t.picker.now) (sym c.choose-many.ensures.chosen) (record {
+      going = t.going (search rules);
       are_photons = all;
       fit = All-filter p (λ e. KindFits mode e.kind) es fits;
       in_order = (order-chosen p (chosen-photon (sorting_of t.gates.now) t.group) (orders_markers t.mode) low t.floor es t.before c.requires.in_order).0;
@@ -34,11 +35,11 @@ invariant_of-self-in_default-clause-before g c =
     let es = gathered c.args.block.now in
     last-chosen p (chosen-photon (sorting_of t.gates.now) t.group) (orders_markers t.mode) low t.floor es t.before c.requires.in_order _ _ c.choose-many.ensures.chosen _ c.give_photons-given.ensures.last (rw c.orders_markers.ensures at c.floor_after-self.ensures)
 
-pub invariant_of-self-clause-of_mode : goal.invariant_of-self-clause-of_mode
-invariant_of-self-clause-of_mode g c = c.give_photons-given.ensures.same_mode ∙ c.args.self.now.of_mode
+pub invariant_of-self-in-Err-clause-of_mode : goal.invariant_of-self-in-Err-clause-of_mode
+invariant_of-self-in-Err-clause-of_mode g c = c.give_photons-given.ensures.same_mode ∙ c.args.self.now.of_mode
 
-pub invariant_of-self-clause-before : goal.invariant_of-self-clause-before
-invariant_of-self-clause-before g c =
+pub invariant_of-self-in-Err-clause-before : goal.invariant_of-self-in-Err-clause-before
+invariant_of-self-in-Err-clause-before g c =
     let t = c.args.self.now in
     let p = is_chosen (sorting_of t.gates.now) t.group in
     let low = last_by t.picker.now in
@@ -59,7 +60,7 @@ returns-in-Err-clause-broken g c =
       back = up.back;
       some = up.some;
       are = up.are;
-      broken = λ start l h. Refused-block _ _ l h t.of_mode es new c.in-Err.fault stopped up.front up.chosen _ refl refl refl refl;
+      broken = λ start l h none. Refused-block _ _ l h t.of_mode es new c.in-Err.fault stopped up.front up.chosen _ refl refl refl refl;
     }
 
 pub returns-clause-follows : goal.returns-clause-follows
@@ -70,5 +71,5 @@ returns-clause-follows g c = λ start l h.
     let old = pen t.picker.now (g.O.Sink.written t.out.now) t.block (g.O.Sink.faults t.out.now) in
     let new = pen c.give_photons-given.new.picker (g.O.Sink.written c.give_photons-given.new.out) c.give_photons-given.new.block (g.O.Sink.faults c.give_photons-given.new.out) in
     let gave : Gave old new (filter p es) = subst (λ ps. Gave old new ps) c.choose-many.ensures.chosen c.in_default.ensures.gave in
-    let counted : t.taken + c.len.result ≡ t.taken + length es = ap (λ n. t.taken + n) c.len.ensures.value in
-    Took-block _ _ l h t.of_mode es new _ _ _ gave c.requires.in_order counted (rw c.orders_markers.ensures at c.floor_after-self.ensures) (ap (λ n. n + t.refusals) gave.kept)
+    let counted : t.taken + c.len-2.result ≡ t.taken + length es = ap (λ n. t.taken + n) c.len-2.ensures.value in
+    Took-block _ _ l h t.of_mode es new _ _ gave c.requires.in_order counted (rw c.orders_markers.ensures at c.floor_after-self.ensures)

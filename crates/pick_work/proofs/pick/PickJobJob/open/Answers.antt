@@ -20,7 +20,7 @@ returns-in_err-start-clause-opens g c =
     let job = c.args.self.now in
     let suits = sym (rw c.mode-mode.ensures at c.in_ok-fits.ensures.answer) in
     let short = rw (c.new-picker.ensures.mode, c.mode-mode.ensures) at c.in_err-start.ensures.short in
-    rw (p.1, p.2, suits) (opens-cut (Unit {0}) (picks (chosen_by (plan_view job.plan.now) job.group) (reading_by (plan_view job.plan.now) c.args.header.now)) _ _ _ _ _ c.in_err-start.field-0.0 _ (picks-start _ _) c.in_err-start.ensures.fault short c.in_err-start.ensures.cause.failed)
+    rw (p.1, p.2, suits) (opens-cut (Unit {0}) (picks (chosen_by (plan_view job.plan.now) job.group) (reading_by (plan_view job.plan.now) c.args.header.now)) _ _ _ _ _ c.in_err-start.field-0.0 _ (picks-start _ _) c.in_err-start.ensures.fault short c.in_err-start.ensures.cause.once)
 
 pub returns-clause-opens : goal.returns-clause-opens
 returns-clause-opens g c =
@@ -36,10 +36,15 @@ returns-clause-tells g c =
 
 pub returns-clause-stands : goal.returns-clause-stands
 returns-clause-stands g c =
-    let none = c.new-picker.ensures.none in
+    let starts = c.in_ok-start.ensures.starts in
+    let none = starts.same_last ∙ c.new-picker.ensures.none in
     record {
       going = c.new-stream.ensures.unrefused;
-      behind = record { same_mode = c.new-picker.ensures.mode ∙ c.mode-mode.ensures ∙ sym (ap (λ (how : Reading). how.mode) c.new-stream.ensures.how); before = omega (arith, none) };
+      behind = record {
+        going = starts.going;
+        same_mode = starts.same_mode ∙ c.new-picker.ensures.mode ∙ c.mode-mode.ensures ∙ sym (ap (λ (how : Reading). how.mode) c.new-stream.ensures.how);
+        before = omega (arith, none);
+      };
       streamed = c.new-stream.ensures.empty;
       picked = has-none _ _ _ none;
     }

@@ -9,4 +9,4 @@ pub returns-clause-same : goal.returns-clause-same
 returns-clause-same g c = ap (λ (how : Reading). picks (is_chosen (sorting_of c.args.self.now.gates) c.args.self.now.group) how) c.pick_piece.ensures.same_how
 
 pub returns-clause-writes : goal.returns-clause-writes
-returns-clause-writes g c = λ bytes h. writes-headed _ _ _ _ _ _ _ _ c.pick_piece.result (c.pick_piece.ensures.writes h.going bytes h.streamed h.picked).0
+returns-clause-writes g c = λ bytes h. writes-headed _ _ _ _ _ _ _ _ c.pick_piece.result (c.pick_piece.ensures.writes bytes h.streamed h.picked).0

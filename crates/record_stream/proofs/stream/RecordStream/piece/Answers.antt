@@ -36,4 +36,4 @@ returns-clause-fed g c = λ bytes h.
     let fed = rw first at (c.in_ok-words.ensures.fed (words_of bytes) h.1) in
     let more = rw c.words.ensures.stays.same_how at (c.words-2.ensures.fed ws stepped) in
     subst (λ l. Fed s how c.args.taker.now c.words-2.new.taker (words_of bytes) l c.words-2.result) (cut-words (begun_in c.args.self.now.carried) bytes c.args.piece.now h.0 (listed c.take-first.result.0) c.take-first.result.1.now c.take-first.ensures.words)
-    (Fed-trans s how _ c.words.new.taker _ (words_of bytes) ws _ c.words-2.result c.words.ensures.stays.later fed.1 more)
+    (Fed-trans s how _ c.words.new.taker _ (words_of bytes) ws _ c.words-2.result fed.1 more)

@@ -59,6 +59,6 @@ loop-at-preserved g c =
       mode = c.in_ok-take.ensures.same_mode ∙ inv.mode;
       floor = floor-step (s.mode t) (s.mode c.loop-at.self) (s.floor t) (s.floor c.loop-at.self) _ (event_at b) at' c.event.result inv.mode c.event.ensures inv.floor c.in_ok-take.ensures.moved;
       follows = λ start l got. subst (λ m. s.got start c.take.new.self m) (on_time-rows l (event_at b) at') (rw c.event.ensures at (c.in_ok-take.ensures.follows start _ (inv.follows start l got)));
-      later = omega (arith, inv.later, c.take.ensures.cause.later);
+      kept = c.in_ok-take.ensures.cause.kept ∙ inv.kept;
       same = g.met.Self.EventTaker.same_more _ _ _ inv.same c.take.ensures.same;
     }

@@ -1,4 +1,4 @@
-use Rattle.std.proofs.Common.{◌≡◌, ◌+◌, ◌≤◌, ◌++◌}
+use Rattle.std.proofs.Common.{◌≡◌, ◌+◌, ◌++◌}
 use Rattle.ptu_definitions.specs.Kept.{Marked}
 use Rattle.tally_base.{specs.Columns.{event_at, rows}, specs.Floors.floor_after}
 use Rattle.abs_time.specs.Floors.{orders_markers}
@@ -13,6 +13,6 @@ invariant-loop-at g l =
       mode : s.mode l.self ≡ s.mode l.fn.self;
       floor : s.floor l.self ≡ floor_after (orders_markers (s.mode l.fn.self)) (s.floor l.fn.self) (rows (event_at l.block) l.at);
       follows : (start : _) (m : Marked) → s.got start l.fn.self m → s.got start l.self (m ++ on_time (rows (event_at l.block) l.at));
-      later : s.faults l.fn.self ≤ s.faults l.self;
+      kept : s.faults l.self ≡ s.faults l.fn.self;
       same : s.same l.fn.self l.self;
     }

@@ -21,7 +21,7 @@ returns-in_err-start-clause-opens g c =
     let view = plan_view job.plan.now in
     let suits = sym (rw c.mode-mode.ensures at c.in_ok-fits.ensures.answer) in
     let short = rw c.new-trace.ensures.set at c.in_err-start.ensures.short in
-    rw (p.1, p.2, suits) (opens-cut (Unit {0}) (traces (trace_view job.set) (sorting view) (reading_by view c.args.header.now)) _ _ _ _ _ c.in_err-start.field-0.0 _ (text-none (trace_view job.set) (sorting view) (reading_by view c.args.header.now)) c.in_err-start.ensures.fault short c.in_err-start.ensures.cause.failed)
+    rw (p.1, p.2, suits) (opens-cut (Unit {0}) (traces (trace_view job.set) (sorting view) (reading_by view c.args.header.now)) _ _ _ _ _ c.in_err-start.field-0.0 _ (text-none (trace_view job.set) (sorting view) (reading_by view c.args.header.now)) c.in_err-start.ensures.fault short c.in_err-start.ensures.cause.once)
 
 pub returns-clause-opens : goal.returns-clause-opens
 returns-clause-opens g c =
@@ -35,15 +35,16 @@ pub returns-clause-tells : goal.returns-clause-tells
 returns-clause-tells g c =
     let job = c.args.self.now in
     let suits = sym (rw c.mode-mode.ensures at c.in_ok-fits.ensures.answer) in
-    let same : set_of c.start.new.self ≡ job.set = ap set_of c.start.ensures.same ∙ c.new-trace.ensures.set in
+    let same : set_of c.start.new.self ≡ job.set = c.start.ensures.starts.same_set ∙ c.new-trace.ensures.set in
     traces-same (trace_view job.set) (trace_view (set_of c.start.new.self)) (plan_view job.plan.now) c.args.header.now (sorting_of c.of-gates.result) (how_of c.new-stream.result) suits (ap (λ (set : TraceSet). trace_view set) same) c.of-gates.ensures.sorting c.new-stream.ensures.how
 
 pub returns-clause-stands : goal.returns-clause-stands
 returns-clause-stands g c =
     let none = c.new-trace.ensures.none in
+    let starts = c.in_ok-start.ensures.starts in
     record {
       going = c.new-stream.ensures.unrefused;
-      behind = rw c.start.ensures.same (record { few = omega (arith, none.0); before = omega (arith, none.1) });
+      behind = record { going = starts.going; few = omega (arith, none.0, starts.same_counts.0); before = omega (arith, none.1, starts.same_counts.1) };
       streamed = c.new-stream.ensures.empty;
-      traced = rw (settled-none _ _, c.start.ensures.same) c.new-trace.ensures.empty;
+      traced = rw (settled-none _ _) (starts.stands _ c.new-trace.ensures.empty);
     }

@@ -1,4 +1,4 @@
-use Rattle.std.proofs.Common.{◌≡◌, ◌<◌, [], length, ap, arith, rules, sym, refl, append-nil}
+use Rattle.std.proofs.Common.{◌≡◌, ◌∙◌, ◌<◌, [], length, ap, arith, rules, sym, refl, append-nil}
 use Rattle.std.proofs.lemmas.Result.{err_from_is_err_and}
 use Rattle.tally_base.specs.Columns.{event_at, gathered, rows}
 use Rattle.gate_plan.specs.Groups.{sorting_of}
@@ -51,6 +51,7 @@ invariant_of-self g c =
     let same = block-length (sorting_of t.gates.now) es _ c.sort_events.ensures.shifted in
     let below = block-below t.mode (sorting_of t.gates.now) (floor_of t.trace.now) t.floor es _ t.before c.requires.in_order c.sort_events.ensures.shifted in
     record {
+      going = c.take_block.ensures.given.same_going ∙ t.going;
       few = omega (arith, t.few, c.take_block.ensures.more, same, c.len-2.ensures.value);
       before = omega (arith, below, c.take_block.ensures.moved, rw c.orders_markers.ensures at c.floor_after-self.ensures);
     }
