@@ -9,7 +9,7 @@ use std::marker::Model;
 use std::slice;
 
 /// A bin of time that has photons, with their numbers in two groups.
-#[derive(Clone, Copy, Debug)]
+#[derive(Clone, Copy)]
 pub struct Entry {
     /// The number of the bin.
     pub index: u64,

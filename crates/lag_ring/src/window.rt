@@ -12,7 +12,7 @@ pub const LAGS: usize = 64;
 pub const FEW_LAGS: usize = 16;
 
 /// One of the two weights of an entry.
-#[derive(Clone, Copy, Debug)]
+#[derive(Clone, Copy)]
 pub enum Side {
     /// How many photons are in the first group.
     First,
