@@ -92,13 +92,6 @@ module _ (set : CoincidenceView) where
         let most = pairs_in-le (is_coincidence set c) (closed ++ xs) in
         omega (arith, all_grown c, can.had.pairs c in_range, pairs_apart-in (is_coincidence set c) (closed ++ xs), most, square)
 
-    pub all_count : set.reach ≤ 2 ^ 20 → length bins ≤ 64 → old.added + (2 * set.reach + length bins) < 2 ^ 64
-    all_count small few =
-        let each : 2 * set.reach + 1 ≤ 2 ^ 21 + 1 = omega arith in
-        let some_closed : length closed ≤ record_limit = omega (arith, can.few) in
-        let product : (2 * set.reach + 1) * length closed ≤ (2 ^ 21 + 1) * record_limit = mul-le-mul each some_closed in
-        omega (arith, can.had.work, small, product, few)
-
     pub all_cells : (cells : Cells) → 0 < length bins → ((c : ℕ) → c < coincidence_cells set → get_or cells.cells c 0 ≡ get_or old.cells c 0 + all_pairs set c r.entries bins)
         → length cells.cells ≡ length old.cells → cells.added ≤ old.added + (2 * set.reach + length bins) → CellsAre set cells (closed ++ xs)
     all_cells cells any step same added = record {

@@ -20,3 +20,4 @@ pub mod Gathers
 pub mod Together
 pub mod GatherRows
 pub mod CellRows
+pub mod Within

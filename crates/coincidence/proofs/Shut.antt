@@ -115,13 +115,6 @@ module _ (set : CoincidenceView) (r : Ring) (old : Cells) (bin : Bin) (closed xs
       let most = pairs_in-le (is_coincidence set c) (closed ++ xs) in
       omega (arith, grown set r bin closed xs can.keep c, can.had.pairs c in_range, pairs_apart-in (is_coincidence set c) (closed ++ xs), most, square)
 
-  pub may_count : set.reach ≤ 2 ^ 20 → old.added + (2 * length r.entries + 1) < 2 ^ 64
-  may_count small =
-      let each : 2 * set.reach + 1 ≤ 2 ^ 21 + 1 = omega arith in
-      let few : length closed ≤ record_limit = omega (arith, can.few) in
-      let product : (2 * set.reach + 1) * length closed ≤ (2 ^ 21 + 1) * record_limit = mul-le-mul each few in
-      omega (arith, can.had.work, entries_within set r bin closed xs can.keep, small, product)
-
   -- the cells count the pairs of the bin too
   pub cells_shut : (cells : Cells) → ((c : ℕ) → c < coincidence_cells set → get_or cells.cells c 0 ≡ get_or old.cells c 0 + bin_pairs set c bin r.entries)
       → length cells.cells ≡ length old.cells → cells.added ≤ old.added + (2 * length r.entries + 1) → CellsAre set cells (closed ++ xs)
@@ -135,9 +128,6 @@ module _ (set : CoincidenceView) (r : Ring) (old : Cells) (bin : Bin) (closed xs
   module _ (far : AllByRecursion (λ e. e.index + set.reach < bin.weights.index) r.entries) where
     pub alone_fits : (c : ℕ) → c < coincidence_cells set → get_or old.cells c 0 + bin_pairs set c bin [] ≤ 2 ^ 80
     alone_fits c in_range = omega (arith, alone set r bin closed xs can.keep far c, may_fit c in_range)
-
-    pub alone_counts : set.reach ≤ 2 ^ 20 → old.added + 1 < 2 ^ 64
-    alone_counts small = omega (arith, may_count small)
 
     pub cells_alone : (cells : Cells) → ((c : ℕ) → c < coincidence_cells set → get_or cells.cells c 0 ≡ get_or old.cells c 0 + bin_pairs set c bin [])
         → length cells.cells ≡ length old.cells → cells.added ≤ old.added + 1 → CellsAre set cells (closed ++ xs)

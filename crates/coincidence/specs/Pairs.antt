@@ -1,5 +1,5 @@
 -- The pairs of photons of two groups by the difference of their times.
-use Rattle.std.specs.Prelude.{ℕ, ◌+◌, ◌-◌, ◌/◌, Bool, false, not, ◌&&◌, ◌||◌, ◌==◌, nat_le, List, Option, None, Some, length, filter, count_by, sum_by}
+use Rattle.std.specs.Prelude.{ℕ, ◌+◌, ◌-◌, ◌*◌, ◌/◌, Bool, false, not, ◌&&◌, ◌||◌, ◌==◌, nat_le, List, Option, None, Some, length, filter, count_by, sum_by}
 use Rattle.std.specs.List.{range_with_len, slice_get}
 use Rattle.tally_base.{specs.declared.event.Event.Event, specs.Events.{is_photon, is_in}, specs.Settings.CoincidenceView, specs.Tally.History}
 
@@ -42,6 +42,10 @@ coincidences set c h = pairs_apart (is_coincidence set c) h
 -- the photons of either group
 abbrev pub photons_of_groups : CoincidenceView → History → History
 photons_of_groups set h = filter (λ x. in_first set x || in_second set x) h
+
+-- how many additions a table of these events may make: for each photon two for each tick before it in reach, and one for its own
+abbrev pub work : CoincidenceView → History → ℕ
+work set h = (2 * set.reach + 1) * length (photons_of_groups set h)
 
 -- the same with the groups exchanged
 abbrev pub exchanged : CoincidenceView → CoincidenceView

@@ -68,7 +68,6 @@ fn keep_all<L: Ledger>(
     requires sized { length cells.old.cells ≡ coincidence_cells (coincidence_view set.now) }
     requires fits { HasRoom (coincidence_view set.now) cells.old
         (λ c. sum_by (λ bin. bin_pairs (coincidence_view set.now) c bin []) bins.now) }
-    requires room { cells.old.added + length bins.now < 2 ^ 64 }
     ensures ring { (closed xs : History)
         → CanKeepAll (coincidence_view set.now) ring.old bins.now closed xs
         → RingIs (coincidence_view set.now) ring.new (closed ++ xs) }

@@ -30,7 +30,7 @@ pub struct Coincidence {
 impl Coincidence {
     ghost use Rattle.std.specs.Prelude.{◌<◌, IfOk, slice_index, true};
     ghost use Rattle.tally_base.{specs.Settings.coincidence_cells, specs.Settings.PartSettings.CoincidenceSettings};
-    ghost use Rattle.coincidence.{specs.Coincidence.{Holds, set_of, settings, cells_in, spent_by}, specs.Pairs.coincidences};
+    ghost use Rattle.coincidence.{specs.Coincidence.{Holds, set_of, settings, cells_in, spent_by}, specs.Pairs.{coincidences, work}};
 
     /// A table of no events, with all the memory that it ever takes, or `AllocError` where it is wanting.
     pub fn open(alloc: Global, set: CoincidenceSet) -> Result<Coincidence, AllocError>
@@ -66,13 +66,15 @@ impl Coincidence {
     }
 
     /// How many pairs cell `at` counts, which is below the number of cells. Before the table is closed,
-    /// those of the open bin are left out.
+    /// those of the open bin are left out. The additions to all cells are within the work of the events.
     pub fn cell(&self, at: u32) -> u128
         requires inside { at < coincidence_cells (coincidence_view (set_of self.now)) }
         ensures pairs { ⟦<Coincidence as Tally>⟧.closed self.now ≡ true
             → (h : History) → Holds self.now h
             → result ≡ coincidences (coincidence_view (set_of self.now)) at h }
         ensures place { slice_index (cells_in self.now).cells at ≡ result }
+        ensures work { (h : History) → Holds self.now h
+            → spent_by self.now ≤ work (coincidence_view (set_of self.now)) h }
     {
         self.pairing.cells.get(at)
     }

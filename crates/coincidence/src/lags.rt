@@ -57,7 +57,6 @@ fn add_single_ticks<L: Ledger>(
     requires inside { (count ≤ LAGS) × (least + count ≤ set.reach) }
     requires fits { HasRoom (coincidence_view set) cells.old
         (λ c. strip_sum direction (coincidence_view set) c least count sums.now) }
-    requires room { cells.old.added + count < 2 ^ 64 }
     ensures cells { CountsMore (coincidence_view set) cells.old cells.new
         (λ c. strip_sum direction (coincidence_view set) c least count sums.now) }
     ensures spends { Spends cells.old cells.new steps.old steps.new count }
@@ -85,7 +84,6 @@ fn add_groups<L: Ledger>(
     requires inside { (count ≤ LAGS) × (least + count ≤ set.reach) }
     requires fits { HasRoom (coincidence_view set) cells.old
         (λ c. strip_sum direction (coincidence_view set) c least count sums.now) }
-    requires room { cells.old.added + count < 2 ^ 64 }
     ensures cells { CountsMore (coincidence_view set) cells.old cells.new
         (λ c. strip_sum direction (coincidence_view set) c least count sums.now) }
     ensures spends { Spends cells.old cells.new steps.old steps.new count }
@@ -113,7 +111,6 @@ fn add_sums<L: Ledger>(
     requires inside { (count ≤ LAGS) × (least + count ≤ set.reach) }
     requires fits { HasRoom (coincidence_view set) cells.old
         (λ c. strip_sum direction (coincidence_view set) c least count sums.now) }
-    requires room { cells.old.added + count < 2 ^ 64 }
     ensures cells { CountsMore (coincidence_view set) cells.old cells.new
         (λ c. strip_sum direction (coincidence_view set) c least count sums.now) }
     ensures spends { Spends cells.old cells.new steps.old steps.new count }
@@ -145,7 +142,6 @@ fn pair_strip<L: Ledger>(
         later.now }
     requires fits { HasRoom (coincidence_view set) cells.old
         (λ c. window_sum direction (coincidence_view set) c least count top window.now low later.now) }
-    requires room { cells.old.added + count < 2 ^ 64 }
     ensures cells { CountsMore (coincidence_view set) cells.old cells.new
         (λ c. window_sum direction (coincidence_view set) c least count top window.now low later.now) }
     ensures spends { Spends cells.old cells.new steps.old steps.new count }
@@ -172,7 +168,6 @@ fn pair_window<L: Ledger>(
         later.now }
     requires fits { HasRoom (coincidence_view set) cells.old
         (λ c. window_sum direction (coincidence_view set) c 0 set.reach top window.now low later.now) }
-    requires room { cells.old.added + set.reach < 2 ^ 64 }
     ensures cells { CountsMore (coincidence_view set) cells.old cells.new
         (λ c. window_sum direction (coincidence_view set) c 0 set.reach top window.now low later.now) }
     ensures spends { Spends cells.old cells.new steps.old steps.new set.reach }
@@ -247,7 +242,6 @@ fn pair_over<L: Ledger>(
     requires opens { IsOpenFor set.reach top low window.old later.now }
     requires fits { HasRoom (coincidence_view set) cells.old
         (λ c. lag_sum direction (coincidence_view set) c (ring.now.entries ++ later.now) later.now) }
-    requires room { cells.old.added + set.reach < 2 ^ 64 }
     ensures cells { CountsMore (coincidence_view set) cells.old cells.new
         (λ c. lag_sum direction (coincidence_view set) c (ring.now.entries ++ later.now) later.now) }
     ensures spends { Spends cells.old cells.new steps.old steps.new set.reach }
@@ -272,7 +266,6 @@ pub(crate) fn pair_lags<L: Ledger>(
     requires few { length later.now ≤ 64 }
     requires fits { HasRoom (coincidence_view set) cells.old
         (λ c. lag_sum direction (coincidence_view set) c (ring.now.entries ++ later.now) later.now) }
-    requires room { cells.old.added + set.reach < 2 ^ 64 }
     ensures cells { CountsMore (coincidence_view set) cells.old cells.new
         (λ c. lag_sum direction (coincidence_view set) c (ring.now.entries ++ later.now) later.now) }
     ensures spends { Spends cells.old cells.new steps.old steps.new set.reach }

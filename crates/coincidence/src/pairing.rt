@@ -147,7 +147,6 @@ pub(crate) fn add_pairs<L: Ledger>(
 )
     requires inside { shifted / set.width < length cells.old.cells }
     requires sum { slice_index cells.old.cells (shifted / set.width) + earlier * later ≤ 2 ^ 80 }
-    requires count { cells.old.added < 2 ^ 64 - 1 }
     ensures cells { (c : ℕ) → c < length cells.old.cells
         → slice_index cells.new.cells c ≡ slice_index cells.old.cells c
         + (if shifted / set.width == c then earlier * later else 0) }
@@ -173,7 +172,6 @@ fn pair_earlier<L: Ledger>(
     requires after { earlier.now.index < index }
     requires fits { HasRoom (coincidence_view set) cells.old
         (λ c. pairs_of direction (coincidence_view set) c index later earlier.now) }
-    requires count { cells.old.added + 1 < 2 ^ 64 }
     ensures cells { CountsMore (coincidence_view set) cells.old cells.new
         (λ c. pairs_of direction (coincidence_view set) c index later earlier.now) }
     ensures spends { Spends cells.old cells.new steps.old steps.new 1 }
@@ -206,7 +204,6 @@ fn pair_direction<L: Ledger>(
     requires after { AllByRecursion (λ e. e.index < index) entries.now }
     requires fits { HasRoom (coincidence_view set) cells.old
         (λ c. pairs_of_all direction (coincidence_view set) c index later entries.now) }
-    requires count { cells.old.added + length entries.now < 2 ^ 64 }
     ensures cells { CountsMore (coincidence_view set) cells.old cells.new
         (λ c. pairs_of_all direction (coincidence_view set) c index later entries.now) }
     ensures spends { Spends cells.old cells.new steps.old steps.new (length entries.now) }
@@ -231,7 +228,6 @@ fn pair_groups<L: Ledger>(
     requires after { AllByRecursion (λ e. e.index < later.now.index) entries.now }
     requires fits { HasRoom (coincidence_view set) cells.old
         (λ c. pairs_with (coincidence_view set) c later.now entries.now) }
-    requires count { cells.old.added + 2 * length entries.now < 2 ^ 64 }
     ensures cells { CountsMore (coincidence_view set) cells.old cells.new
         (λ c. pairs_with (coincidence_view set) c later.now entries.now) }
     ensures spends { Spends cells.old cells.new steps.old steps.new (2 * length entries.now) }
@@ -256,7 +252,6 @@ fn pair_single_ticks<L: Ledger>(
     requires after { AllByRecursion (λ e. e.index < later.now.index) entries.now }
     requires fits { HasRoom (coincidence_view set) cells.old
         (λ c. pairs_with (coincidence_view set) c later.now entries.now) }
-    requires count { cells.old.added + 2 * length entries.now < 2 ^ 64 }
     ensures cells { CountsMore (coincidence_view set) cells.old cells.new
         (λ c. pairs_with (coincidence_view set) c later.now entries.now) }
     ensures spends { Spends cells.old cells.new steps.old steps.new (2 * length entries.now) }
@@ -276,7 +271,6 @@ fn pair_entries<L: Ledger>(
     requires after { AllByRecursion (λ e. e.index < later.now.index) entries.now }
     requires fits { HasRoom (coincidence_view set.now) cells.old
         (λ c. pairs_with (coincidence_view set.now) c later.now entries.now) }
-    requires count { cells.old.added + 2 * length entries.now < 2 ^ 64 }
     ensures cells { CountsMore (coincidence_view set.now) cells.old cells.new
         (λ c. pairs_with (coincidence_view set.now) c later.now entries.now) }
     ensures spends { Spends cells.old cells.new steps.old steps.new (2 * length entries.now) }
@@ -300,7 +294,6 @@ pub(crate) fn pair_inside<L: Ledger>(
     requires both { bin.now.both ≤ bin.now.weights.a * bin.now.weights.b }
     requires fits { HasRoom (coincidence_view set.now) cells.old
         (λ c. bin_pairs (coincidence_view set.now) c bin.now []) }
-    requires count { cells.old.added + 1 < 2 ^ 64 }
     ensures cells { CountsMore (coincidence_view set.now) cells.old cells.new
         (λ c. bin_pairs (coincidence_view set.now) c bin.now []) }
     ensures spends { Spends cells.old cells.new steps.old steps.new 1 }
@@ -324,7 +317,6 @@ fn pair<L: Ledger>(
     requires both { bin.now.both ≤ bin.now.weights.a * bin.now.weights.b }
     requires fits { HasRoom (coincidence_view set.now) cells.old
         (λ c. bin_pairs (coincidence_view set.now) c bin.now ring.now.entries) }
-    requires count { cells.old.added + (2 * length ring.now.entries + 1) < 2 ^ 64 }
     ensures cells { CountsMore (coincidence_view set.now) cells.old cells.new
         (λ c. bin_pairs (coincidence_view set.now) c bin.now ring.now.entries) }
     ensures spends { Spends cells.old cells.new steps.old steps.new

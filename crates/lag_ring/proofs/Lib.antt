@@ -4,3 +4,4 @@ pub mod Sums
 pub mod Between
 pub mod Kept
 pub mod Windows
+pub mod Places

@@ -3,6 +3,7 @@
 //! `fold_count` and `tau_cascade` stand on it.
 #![tactic(auto)]
 
+mod additions;
 mod buffer;
 mod cells;
 mod ring;

@@ -1,6 +1,5 @@
 -- What an event does to the photons of the two groups.
 use Rattle.std.proofs.Common.{◌≡◌, ℕ, ◌≤◌, max, Bool, true, false, ◌&&◌, ◌||◌, cond, List, [], ◌∷◌, length, fold, refl, sym, arith}
-use mir.Val.{bool_byte}
 use Rattle.std.{specs.List.AllByRecursion, proofs.Math.Nat.div-one, proofs.lemmas.Bool.false≢true, proofs.lemmas.List.Sums.{length-filter, count_by-le-length}}
 use Rattle.tally_base.{specs.declared.settings.CorrelationSet.CorrelationSet, specs.Events.{is_photon, is_in}, specs.Settings.{CorrelationView, correlation_view}, specs.Tally.{History, moves_floor, greatest_time}, specs.Limits.record_limit}
 use Rattle.lag_ring.{proofs.Lists.{all_both, all_filter, all_passed}, proofs.Rising.all_weaker}

@@ -2,8 +2,8 @@
 use Rattle.std.proofs.Common.{◌≡◌, ℕ, ◌+◌, ◌-◌, ◌*◌, ◌^◌, ◌<◌, ◌≤◌, true, false, ◌&&◌, cond, eqb, List, [], ◌∷◌, ◌++◌, length, get_or, refl, sym, ◌∙◌, append_assoc, append-nil, subst, arith, length-append}
 use Rattle.std.{specs.List.{sum_by, count_by, AllByRecursion}, proofs.Math.Nat.mul-le-mul, proofs.lemmas.List.Sums.{sum_by-append, sum_by_push}}
 use Rattle.tally_base.{specs.Settings.CorrelationView, specs.Tally.History, specs.Limits.record_limit}
-use Rattle.lag_ring.{specs.declared.ring.Entry.Entry, specs.Cells.Cells, specs.Ring.{Ring, IsRising}, proofs.Lists.{all_front, all_back, of_some}, proofs.Rising.{all_weaker, all_push, rising_push}, proofs.Sums.{pairs-append, sum_by-agree, sum_by-same, sum_by-zero}}
-use Rattle.tau_cascade.{specs.Correlation.{bin, in_first, in_second, correlation, skipped_lags, lag_count}, specs.Work.occupied, specs.Levels.{IsBin, RingIs, CellsAre, weight_before}, specs.Paired.paired, specs.Bins.{Follow, CanShutAll}, proofs.Pairs.{correlation-le, occupied-more, few_occupied}}
+use Rattle.lag_ring.{specs.declared.ring.Entry.Entry, specs.Cells.{Cells, added_at}, specs.Ring.{Ring, IsRising}, proofs.Lists.{all_front, all_back, of_some}, proofs.Rising.{all_weaker, all_push, rising_push}, proofs.Sums.{pairs-append, sum_by-agree, sum_by-same, sum_by-zero}}
+use Rattle.tau_cascade.{specs.Correlation.{bin, in_first, in_second, correlation, skipped_lags, lag_count}, specs.Work.occupied, specs.Levels.{IsBin, RingIs, CellsAre, weight_before}, specs.Paired.paired, specs.Bins.{Follow, CanShutAll}, proofs.Pairs.{correlation-le, occupied-more}}
 
 module _ (set : CorrelationView) (level : ℕ) where
   -- at each lag the bins have what the photons have
@@ -77,17 +77,11 @@ module _ (set : CorrelationView) (level : ℕ) where
     work_all : cells.added + (set.lags - skipped) * length es ≤ lag_count set level * occupied level (closed ++ xs)
     work_all = rw (is_skipped, occupied_all es closed xs can.bins) (let was = can.cells.work in grind arith)
 
-    pub all_count : set.lags ≤ 128 → cells.added + (set.lags - skipped) * length es < 2 ^ 64
-    all_count lags =
-        let some : occupied level (closed ++ xs) ≤ record_limit = few_occupied set level (closed ++ xs) (rw (length-append closed xs) can.few) in
-        let most : lag_count set level ≤ 128 = omega arith in
-        let product : lag_count set level * occupied level (closed ++ xs) ≤ 128 * record_limit = mul-le-mul most some in
-        omega (arith, work_all, product)
-
     pub cells_all : (new : Cells) → ((p : ℕ) → p < set.lags - skipped → get_or new.cells p 0 ≡ get_or cells.cells p 0 + paired (p + skipped + 1) r.entries es)
-        → length new.cells ≡ length cells.cells → new.added ≤ cells.added + (set.lags - skipped) * length es → CellsAre set level new (closed ++ xs)
-    cells_all new pairs same added = record {
+        → length new.cells ≡ length cells.cells → new.added ≤ cells.added + (set.lags - skipped) * length es → ((p : ℕ) → added_at new p ≤ added_at cells p + length es) → CellsAre set level new (closed ++ xs)
+    cells_all new pairs same added each = record {
       count = same ∙ can.cells.count;
       pairs = λ p inside. rw (← is_skipped) (pairs p (rw is_skipped inside) ∙ sym (all_more p (rw is_skipped inside)));
       work = omega (arith, added, work_all);
+      each = λ p. omega (arith, each p, can.cells.each p, occupied_all es closed xs can.bins);
     }

@@ -28,7 +28,7 @@ module _ (set : CorrelationView) (level : ℕ) (l : Level) (o : Entry) (es : Lis
     passed l' opened rung same =
         let whole = parts set level l es some closed open' xs can (o ∷ ss) open'' joined in
         let may = may_shut set level l es some closed open' xs can (o ∷ ss) open'' joined in
-        let cells = cells_all set level (skipped_lags set level) refl l.ring l.cells (o ∷ ss) closed whole.0 may l.cells (λ p inside. rw (paired-far set.lags (p + skipped_lags set level + 1) (omega arith) l.ring.entries (o ∷ ss) all_out shut_spaced) (omega arith)) refl (omega arith) in
+        let cells = cells_all set level (skipped_lags set level) refl l.ring l.cells (o ∷ ss) closed whole.0 may l.cells (λ p inside. rw (paired-far set.lags (p + skipped_lags set level + 1) (omega arith) l.ring.entries (o ∷ ss) all_out shut_spaced) (omega arith)) refl (omega arith) (λ p. omega arith) in
         let kept = ring_far set level lags o ss l.ring closed whole.0 can.was.ring whole.3 behind shut_spaced in
         (whole.0, whole.1, took set level l es some closed open' xs can (o ∷ ss) open'' joined l' opened (rw rung kept) (rw same cells))
 

@@ -1,8 +1,8 @@
 -- Pairs of dense bins, lag by lag.
 use Rattle.std.proofs.Common.{◌≡◌, ◌∙◌, ℕ, zero, suc, ◌+◌, ◌-◌, ◌*◌, ◌^◌, ◌<◌, ◌≤◌, true, false, ltb, eqb, cond, List, [], ◌∷◌, ◌++◌, length, get_or, take, drop, refl, sym, ap, subst, arith, append_assoc}
 use Rattle.std.{specs.List.{sum_by, filter, AllByRecursion}, proofs.Math.Nat.mul-le-mul_left, proofs.lemmas.Bool.Decides.nat_tests, proofs.lemmas.List.{take-append-drop, take_more, take_all, drop_more, length-drop}, proofs.lemmas.List.Sums.{sum_by-cons, sum_by-append, sum_by-le-sum_by}}
-use Rattle.lag_ring.{specs.declared.ring.Entry.Entry, specs.declared.window.Side.TheVariants.{First, Second}, specs.Ring.IsRising, specs.Window.{weight_of, weight_at}, proofs.Lists.{all_back, all_both}, proofs.Rising.{all_weaker, all_push, rising_back}, proofs.Sums.{sum_by-same, sum_by-agree, sum_by-filter, sum_by-zero}, proofs.Windows.{window-before, part-le}}
-use Rattle.tau_cascade.{specs.Levels.weight_before, specs.Paired.paired, specs.Dense.{window_pairs, FitsWindow}, proofs.Nexts.below_bins, proofs.Visits.rising_drop}
+use Rattle.lag_ring.{specs.declared.ring.Entry.Entry, specs.declared.window.Side.TheVariants.{First, Second}, specs.Cells.{Cells, added_at}, specs.Ring.IsRising, specs.Window.{weight_of, weight_at}, proofs.Lists.{all_back, all_both}, proofs.Rising.{all_weaker, all_push, rising_back}, proofs.Sums.{sum_by-same, sum_by-agree, sum_by-filter, sum_by-zero}, proofs.Windows.{window-before, part-le}}
+use Rattle.tau_cascade.{specs.Levels.weight_before, specs.Paired.paired, specs.Dense.{window_pairs, FitsWindow, AddsOnce}, proofs.Nexts.below_bins, proofs.Visits.rising_drop}
 
 -- bins that aren't before an index count nowhere
 before_only : (k index : ℕ) (es fs : List Entry) → 0 < k → AllByRecursion (λ f. index ≤ f.index) fs → weight_before k index (es ++ fs) ≡ weight_before k index es
@@ -103,3 +103,14 @@ once_each lags skipped start list some =
     let bins : 1 ≤ length list - start = omega (arith, some, length-drop start list) in
     let product : (lags - skipped) * 1 ≤ (lags - skipped) * (length list - start) = mul-le-mul_left (lags - skipped) bins in
     omega (arith, product)
+
+-- cells behind those that were added to are added to
+pub once_more : (at i mid n : ℕ) → mid ≡ at + i → (a b c : Cells) → AddsOnce at i a b → AddsOnce mid n b c → AddsOnce at (i + n) a c
+once_more at i mid n is a b c first second = record {
+  once = λ p. (elim (ltb p mid) as (λ t. ltb p mid ≡ t → added_at c p ≤ added_at a p + 1) [
+    | true ↦ λ under. let low : p < mid = grind arith in omega (arith, second.before p low, first.once p)
+    | false ↦ λ under. let high : at + i ≤ p = grind arith in omega (arith, first.behind p high, second.once p)
+  ]) refl;
+  before = λ p low. second.before p (omega arith) ∙ first.before p low;
+  behind = λ p high. second.behind p (omega arith) ∙ first.behind p (omega arith);
+}

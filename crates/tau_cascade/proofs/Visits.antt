@@ -1,11 +1,23 @@
 -- One entry more in the loop over entries.
 use Rattle.std.proofs.Common.{length, sym, ap, ◌∙◌, ◌≡◌, ℕ, zero, suc, [], ◌∷◌, ◌++◌, drop, refl, ◌+◌, ◌-◌, ◌*◌, ◌<◌, ◌≤◌, true, false, ◌&&◌, eqb, ltb, leb, List, get_or, take, cond, arith}
-use Rattle.std.{specs.List.{sum_by, AllByRecursion}, proofs.Math.Nat.mul-le-mul_right, proofs.lemmas.Grind.common_steps, proofs.lemmas.List.drop_more, proofs.lemmas.List.Elements.All-from_recursion, proofs.lemmas.List.Sums.{sum_by_more, sum_by_more_le, sum_by-append, sum_by-take-le, sum_by-take-drop}}
-use Rattle.lag_ring.{specs.declared.ring.Entry.Entry, specs.Ring.IsRising, proofs.Rising.all_weaker, proofs.Sums.sum_by-zero}
+use Rattle.std.{specs.List.{sum_by, count_by, AllByRecursion}, proofs.Math.Nat.mul-le-mul_right, proofs.lemmas.Grind.common_steps, proofs.lemmas.List.drop_more, proofs.lemmas.List.Elements.All-from_recursion, proofs.lemmas.List.Sums.{sum_by-le-sum_by, sum_by_more, sum_by_more_le, sum_by-append, sum_by-take-le, sum_by-take-drop}}
+use Rattle.lag_ring.{specs.declared.ring.Entry.Entry, specs.Ring.IsRising, proofs.Rising.all_weaker, proofs.Between.{between, count-between}, proofs.Sums.sum_by-zero}
 use Rattle.tau_cascade.{specs.Levels.{weight_before, entries_at_lags}, proofs.Lags.at_lags}
 
 bounded : (old u v a w most : ℕ) → u + a ≤ v → old + v * w ≤ most → old + u * w + a * w ≤ most
 bounded old u v a w most part whole = let scaled : (u + a) * w ≤ v * w = mul-le-mul_right w part in omega (arith, scaled)
+
+-- how many entries stand k before the index
+abbrev pub entries_before : ℕ → ℕ → List Entry → ℕ
+entries_before k n es = count_by (λ f. eqb (f.index + k) n) es
+
+-- Of those that rise it is one at most.
+pub once_before : (es : List Entry) (i k n : ℕ) → IsRising es → entries_before k n (take i es) ≤ 1
+once_before es i k n rising =
+    let few = sum_by-take-le (λ (f : Entry). cond (eqb (f.index + k) n) 1 0) es i in
+    let one = count-between es (n - k) (n - k + 1) rising in
+    let among : entries_before k n es ≤ count_by (between (n - k) (n - k + 1)) es = sum_by-le-sum_by (λ (f : Entry). cond (eqb (f.index + k) n) 1 0) (λ (f : Entry). cond (between (n - k) (n - k + 1) f) 1 0) es (λ f. grind (arith, common_steps)) in
+    omega (arith, few, one, among)
 
 -- e is the entry at place i
 module _ (es : List Entry) (i : ℕ) (none : Entry) (inside : i < length es) where
@@ -20,6 +32,12 @@ module _ (es : List Entry) (i : ℕ) (none : Entry) (inside : i < length es) whe
 
   pub lags_more : (skipped lags n : ℕ) → entries_at_lags skipped lags n (take (i + 1) es) ≡ entries_at_lags skipped lags n (take i es) + cond (ltb skipped (n - e.index) && leb (n - e.index) lags) 1 0
   lags_more skipped lags n = sum_by_more (λ f. cond (at_lags skipped lags n f) 1 0) es i none inside
+
+  pub once_more : (k n : ℕ) → AllByRecursion (λ f. f.index < n) es → entries_before k n (take i es) + cond (eqb k (n - e.index)) 1 0 ≡ entries_before k n (take (i + 1) es)
+  once_more k n below =
+      let before = All-from_recursion (λ f. f.index < n) es below i none inside in
+      let same : eqb k (n - e.index) ≡ eqb (e.index + k) n = grind (arith, common_steps) in
+      rw same (sym (sum_by_more (λ f. cond (eqb (f.index + k) n) 1 0) es i none inside))
 
   pub is_before : (n : ℕ) → AllByRecursion (λ f. f.index < n) es → e.index < n
   is_before n all = All-from_recursion (λ f. f.index < n) es all i none inside

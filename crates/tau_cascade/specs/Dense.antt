@@ -1,7 +1,7 @@
 -- Pairs of bins with what stands in a window.
 use Rattle.std.specs.Prelude.{ℕ, ◌≡◌, ◌+◌, ◌-◌, ◌^◌, ◌<◌, ◌≤◌, List, length, slice_index, sum_by}
 use Rattle.std.specs.List.{AllByRecursion}
-use Rattle.lag_ring.{specs.declared.ring.Entry.Entry, specs.declared.window.Side.TheVariants.{First, Second}, specs.Ring.IsRising, specs.Window.{weight_of, product_at}}
+use Rattle.lag_ring.{specs.declared.ring.Entry.Entry, specs.declared.window.Side.TheVariants.{First, Second}, specs.Ring.IsRising, specs.Cells.{Cells, added_at}, specs.Window.{weight_of, product_at}}
 
 -- the second weights of later bins times what stands so many lags before each in a window of 192 lags
 abbrev pub window_pairs : List ℕ → ℕ → List Entry → ℕ → ℕ
@@ -25,3 +25,9 @@ SameOutside at count old new =
 -- the bins rise, and some from a place on are the last of them
 abbrev pub EndsFrom : ℕ → List Entry → Type 0
 EndsFrom start list = (start ≤ length list) × IsRising list
+
+-- so many cells from one on had one addition more at most, and no others had any
+pub record AddsOnce (at count : ℕ) (old new : Cells) : Type 0 where
+  pub once : (p : ℕ) → added_at new p ≤ added_at old p + 1
+  pub before : (p : ℕ) → p < at → added_at new p ≡ added_at old p
+  pub behind : (p : ℕ) → at + count ≤ p → added_at new p ≡ added_at old p

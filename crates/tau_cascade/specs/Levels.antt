@@ -2,7 +2,7 @@
 use Rattle.std.specs.Prelude.{◌≡◌, ℕ, ◌+◌, ◌-◌, ◌*◌, ◌/◌, ◌<◌, ◌≤◌, suc, ⊤, ◌==◌, ◌&&◌, nat_lt, nat_le, count_by, sum_by, Option, None, Some, List, [], ◌∷◌, ◌++◌, length, slice_index}
 use Rattle.std.specs.List.{AllByRecursion}
 use Rattle.tally_base.{specs.Settings.CorrelationView, specs.Tally.History, specs.Limits.record_limit}
-use Rattle.lag_ring.{specs.declared.ring.Entry.Entry, specs.Ring.{Ring, IsRising}, specs.Cells.Cells, specs.Kept.{weight_where, Weighs, Keeps}}
+use Rattle.lag_ring.{specs.declared.ring.Entry.Entry, specs.Ring.{Ring, IsRising}, specs.Cells.{Cells, added_at}, specs.Kept.{weight_where, Weighs, Keeps}}
 use Rattle.tau_cascade.{specs.declared.level.Level.Level, specs.Correlation.{bin, in_first, in_second, correlation, skipped_lags, lag_count}, specs.Work.occupied}
 
 -- the first weight of the entry that stands k before the index, or 0
@@ -38,6 +38,7 @@ module _ (set : CorrelationView) (level : ℕ) where
     pub count : length cells.cells ≡ lag_count set level
     pub pairs : (p : ℕ) → p < lag_count set level → slice_index cells.cells p ≡ correlation set level (p + skipped_lags set level + 1) closed
     pub work : cells.added ≤ lag_count set level * occupied level closed
+    pub each : (p : ℕ) → added_at cells p ≤ occupied level closed
 
   -- a level to which the photons of closed bins, and after them those of the open one, came
   pub record LevelIs (l : Level) (closed open' : History) : Type 0 where

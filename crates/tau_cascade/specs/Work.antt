@@ -1,7 +1,8 @@
 -- How many additions a correlation of these events may make.
-use Rattle.std.specs.Prelude.{ℕ, ◌+◌, ◌*◌, ◌/◌, zero, suc, Bool, false, ◌||◌, ◌==◌, List, [], ◌∷◌, map, if◌then◌else◌}
+use Rattle.std.specs.Prelude.{ℕ, ◌+◌, ◌*◌, ◌/◌, ◌≤◌, zero, suc, Bool, false, ◌||◌, ◌==◌, List, [], ◌∷◌, map, if◌then◌else◌}
 use Rattle.tally_base.{specs.Settings.CorrelationView, specs.Tally.History}
-use Rattle.tau_cascade.specs.Correlation.{bin, photons_of}
+use Rattle.lag_ring.specs.Cells.{Cells, added_at}
+use Rattle.tau_cascade.specs.Correlation.{bin, lag_count, photons_of}
 
 -- whether a number is in a list
 abbrev pub appears : ℕ → List ℕ → Bool
@@ -16,6 +17,11 @@ distinct (n ∷ ns) = (if appears n ns then 0 else 1) + distinct ns
 -- how many bins of the level have photons of the list
 abbrev pub occupied : ℕ → History → ℕ
 occupied level h = distinct (map (bin level) h)
+
+-- The additions that made a level's cells are at most its lags times its occupied bins, and those to one cell at most its occupied bins.
+pub record IsWithinWork (set : CorrelationView) (level : ℕ) (cells : Cells) (h : History) : Type 0 where
+  pub all : cells.added ≤ lag_count set level * occupied level h
+  pub each : (p : ℕ) → added_at cells p ≤ occupied level h
 
 -- how many lags a level has, by an even number of lags
 abbrev pub lags_at : CorrelationView → ℕ → ℕ

@@ -2,7 +2,7 @@
 ghost use Rattle.std.specs.Prelude.{◌≡◌, ◌≢◌, ℕ, ◌+◌, ◌-◌, ◌^◌, ◌<◌, ◌≤◌, IfSome, IsTrue, filter, length, nat_lt, slice_index, sum_by, take, drop};
 ghost use Rattle.std.specs.List.{AllByRecursion};
 ghost use Rattle.lag_ring.{specs.Ring.IsRising, specs.declared.window.Side.TheVariants.{First, Second}, specs.Window.{weight_of, ServesLater}, specs.Cells.Spends};
-ghost use Rattle.tau_cascade.{specs.Paired.paired, specs.Dense.{window_pairs, FitsWindow, SameOutside, EndsFrom}};
+ghost use Rattle.tau_cascade.{specs.Paired.{paired, AddsAtMost}, specs.Dense.{window_pairs, FitsWindow, SameOutside, AddsOnce, EndsFrom}};
 
 use arrayvec::ArrayVec;
 use lag_ring::{
@@ -41,11 +41,11 @@ const END: u64 = 1 << 63;
 fn add_some<L: Ledger>(cells: &mut PairCells, at: u32, pairs: u32, steps: &mut Steps<L>)
     requires inside { at < length cells.old.cells }
     requires sum { slice_index cells.old.cells at + pairs ≤ 2 ^ 80 }
-    requires count { cells.old.added < 2 ^ 64 - 1 }
     ensures cell { slice_index cells.new.cells at ≡ slice_index cells.old.cells at + pairs }
     ensures others { (p : ℕ) → p ≢ at
         → slice_index cells.new.cells p ≡ slice_index cells.old.cells p }
     ensures spends { Spends cells.old cells.new steps.old steps.new 1 }
+    ensures once { AddsOnce at 1 cells.old cells.new }
 {
     cells.add(at, u128::from(pairs), steps);
 }
@@ -64,11 +64,11 @@ pub(crate) fn add_sums<L: Ledger>(
     requires places { at + count < 2 ^ 32 }
     requires fits { (i : ℕ) → i < count → slice_index cells.old.cells (at + i)
         + slice_index sums.now (length sums.now - 1 - i) ≤ 2 ^ 80 }
-    requires room { cells.old.added + count < 2 ^ 64 }
     ensures cells { (i : ℕ) → i < count → slice_index cells.new.cells (at + i)
         ≡ slice_index cells.old.cells (at + i) + slice_index sums.now (length sums.now - 1 - i) }
     ensures others { SameOutside at count cells.old.cells cells.new.cells }
     ensures spends { Spends cells.old cells.new steps.old steps.new count }
+    ensures once { AddsOnce at count cells.old cells.new }
 {
     for i in 0..count {
         add_some(cells, at + i, sums[sums.len() - 1 - i as usize], steps);
@@ -93,12 +93,12 @@ fn pair_strip<L: Ledger>(
     requires window { ServesLater Second PLACES TOP low window.now later.now }
     requires fits { (i : ℕ) → i < count → slice_index cells.old.cells (at + i)
         + window_pairs window.now low later.now (least + 1 + i) ≤ 2 ^ 80 }
-    requires room { cells.old.added + count < 2 ^ 64 }
     ensures cells { (i : ℕ) → i < count → slice_index cells.new.cells (at + i)
         ≡ slice_index cells.old.cells (at + i)
         + window_pairs window.now low later.now (least + 1 + i) }
     ensures others { SameOutside at count cells.old.cells cells.new.cells }
     ensures spends { Spends cells.old cells.new steps.old steps.new count }
+    ensures once { AddsOnce at count cells.old cells.new }
 {
     let from = TOP as usize - LAGS - least as usize;
     let sums = lag_sums(window, Side::Second, low, from, later);
@@ -120,11 +120,11 @@ fn pair_window<L: Ledger>(
     requires window { ServesLater Second PLACES TOP low window.now later.now }
     requires fits { (p : ℕ) → p < lags - skipped → slice_index cells.old.cells p
         + window_pairs window.now low later.now (p + skipped + 1) ≤ 2 ^ 80 }
-    requires room { cells.old.added + (lags - skipped) < 2 ^ 64 }
     ensures cells { (p : ℕ) → p < lags - skipped → slice_index cells.new.cells p
         ≡ slice_index cells.old.cells p
         + window_pairs window.now low later.now (p + skipped + 1) }
     ensures spends { Spends cells.old cells.new steps.old steps.new (lags - skipped) }
+    ensures each { AddsAtMost 1 cells.old cells.new }
 {
     let all = lags - skipped;
     for strip in 0..all.div_ceil(LAGS as u32) {
@@ -149,11 +149,11 @@ fn pair_few<L: Ledger>(
     requires window { ServesLater Second PLACES TOP low window.now later.now }
     requires fits { (p : ℕ) → p < lags - skipped → slice_index cells.old.cells p
         + window_pairs window.now low later.now (p + skipped + 1) ≤ 2 ^ 80 }
-    requires room { cells.old.added + (lags - skipped) < 2 ^ 64 }
     ensures cells { (p : ℕ) → p < lags - skipped → slice_index cells.new.cells p
         ≡ slice_index cells.old.cells p
         + window_pairs window.now low later.now (p + skipped + 1) }
     ensures spends { Spends cells.old cells.new steps.old steps.new (lags - skipped) }
+    ensures each { AddsAtMost 1 cells.old cells.new }
 {
     let from = TOP as usize - FEW_LAGS - skipped as usize;
     let sums = few_lag_sums(window, Side::Second, low, from, later);
@@ -257,11 +257,11 @@ fn pair_few_together<L: Ledger>(
     requires window { FitsWindow lags low list.now (drop start list.now) }
     requires fits { (p : ℕ) → p < lags - skipped → slice_index cells.old.cells p
         + paired (p + skipped + 1) (take start list.now) (drop start list.now) ≤ 2 ^ 80 }
-    requires room { cells.old.added + (lags - skipped) < 2 ^ 64 }
     ensures cells { (p : ℕ) → p < lags - skipped → slice_index cells.new.cells p
         ≡ slice_index cells.old.cells p
         + paired (p + skipped + 1) (take start list.now) (drop start list.now) }
     ensures spends { Spends cells.old cells.new steps.old steps.new (lags - skipped) }
+    ensures each { AddsAtMost 1 cells.old cells.new }
 {
     let mut window = [0; PLACES];
     let top = u64::from(TOP);
@@ -284,11 +284,11 @@ fn pair_many_together<L: Ledger>(
     requires window { FitsWindow lags low list.now (drop start list.now) }
     requires fits { (p : ℕ) → p < lags - skipped → slice_index cells.old.cells p
         + paired (p + skipped + 1) (take start list.now) (drop start list.now) ≤ 2 ^ 80 }
-    requires room { cells.old.added + (lags - skipped) < 2 ^ 64 }
     ensures cells { (p : ℕ) → p < lags - skipped → slice_index cells.new.cells p
         ≡ slice_index cells.old.cells p
         + paired (p + skipped + 1) (take start list.now) (drop start list.now) }
     ensures spends { Spends cells.old cells.new steps.old steps.new (lags - skipped) }
+    ensures each { AddsAtMost 1 cells.old cells.new }
 {
     let mut window = [0; PLACES];
     let top = u64::from(TOP);
@@ -313,11 +313,11 @@ pub(crate) fn pair_together<L: Ledger>(
     requires window { FitsWindow lags low list.now (drop start list.now) }
     requires fits { (p : ℕ) → p < lags - skipped → slice_index cells.old.cells p
         + paired (p + skipped + 1) (take start list.now) (drop start list.now) ≤ 2 ^ 80 }
-    requires room { cells.old.added + (lags - skipped) < 2 ^ 64 }
     ensures cells { (p : ℕ) → p < lags - skipped → slice_index cells.new.cells p
         ≡ slice_index cells.old.cells p
         + paired (p + skipped + 1) (take start list.now) (drop start list.now) }
     ensures spends { Spends cells.old cells.new steps.old steps.new (lags - skipped) }
+    ensures each { AddsAtMost 1 cells.old cells.new }
 {
     if lags - skipped <= FEW_LAGS as u32 {
         pair_few_together(cells, skipped, lags, list, start, low, steps);

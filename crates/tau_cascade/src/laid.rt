@@ -2,7 +2,7 @@
 // just out of reach, so that all have places in a short window.
 ghost use Rattle.std.specs.Prelude.{◌≡◌, ℕ, ◌+◌, ◌-◌, ◌*◌, ◌%◌, ◌^◌, ◌<◌, ◌≤◌, ◌==◌, ◌++◌, true, false, List, length, min, slice_index, sum_by, take, drop, if◌then◌else◌};
 ghost use Rattle.lag_ring.{specs.Ring.IsRising, specs.declared.window.Side.TheVariants.{First, Second}, specs.Window.{weight_at, product_at}, specs.Cells.Spends};
-ghost use Rattle.tau_cascade.{specs.Paired.paired, specs.Laid.{laid, laid_on, laid_pairs, IsBehind, IsLight, IsLaid}};
+ghost use Rattle.tau_cascade.{specs.Paired.{paired, AddsAtMost}, specs.Laid.{laid, laid_on, laid_pairs, IsBehind, IsLight, IsLaid}};
 
 use crate::dense::add_sums;
 use lag_ring::{Entry, FEW_LAGS, PairCells};
@@ -171,11 +171,11 @@ fn pair_sums<L: Ledger>(
     requires fits { (p : ℕ) → p < lags - skipped → slice_index cells.old.cells p
         + laid_pairs window.now (laid (lags + 1) was.index was.place list.now) (p + skipped + 1)
         ≤ 2 ^ 80 }
-    requires room { cells.old.added + (lags - skipped) < 2 ^ 64 }
     ensures cells { (p : ℕ) → p < lags - skipped → slice_index cells.new.cells p
         ≡ slice_index cells.old.cells p
         + laid_pairs window.now (laid (lags + 1) was.index was.place list.now) (p + skipped + 1) }
     ensures spends { Spends cells.old cells.new steps.old steps.new (lags - skipped) }
+    ensures each { AddsAtMost 1 cells.old cells.new }
 {
     let from = TOP - sums.len() - skipped as usize;
     sum_laid(sums, window, list, u64::from(lags) + 1, was, from);
@@ -198,11 +198,11 @@ fn pair_laid<L: Ledger>(
     requires fits { (p : ℕ) → p < lags - skipped → slice_index cells.old.cells p
         + laid_pairs window.now (laid (lags + 1) was.index was.place list.now) (p + skipped + 1)
         ≤ 2 ^ 80 }
-    requires room { cells.old.added + (lags - skipped) < 2 ^ 64 }
     ensures cells { (p : ℕ) → p < lags - skipped → slice_index cells.new.cells p
         ≡ slice_index cells.old.cells p
         + laid_pairs window.now (laid (lags + 1) was.index was.place list.now) (p + skipped + 1) }
     ensures spends { Spends cells.old cells.new steps.old steps.new (lags - skipped) }
+    ensures each { AddsAtMost 1 cells.old cells.new }
 {
     if lags - skipped <= HALF_LAGS as u32 {
         let mut sums = [0; HALF_LAGS];
@@ -237,12 +237,12 @@ fn pair_light<L: Ledger>(
         × IsRising list.now }
     requires fits { (p : ℕ) → p < lags - skipped → slice_index cells.old.cells p
         + paired (p + skipped + 1) (take start list.now) (drop start list.now) ≤ 2 ^ 80 }
-    requires room { cells.old.added + (lags - skipped) < 2 ^ 64 }
     ensures cells { result ≡ true → (p : ℕ) → p < lags - skipped → slice_index cells.new.cells p
         ≡ slice_index cells.old.cells p
         + paired (p + skipped + 1) (take start list.now) (drop start list.now) }
     ensures none { result ≡ false → (cells.new ≡ cells.old) × (steps.new ≡ steps.old) }
     ensures spends { Spends cells.old cells.new steps.old steps.new (lags - skipped) }
+    ensures each { AddsAtMost 1 cells.old cells.new }
 {
     let mut window = [0; PLACES];
     let none = Laying {
@@ -282,13 +282,13 @@ pub(crate) fn pair_close<L: Ledger>(
     requires list { (start ≤ length list.now) × IsRising list.now }
     requires fits { (p : ℕ) → p < lags - skipped → slice_index cells.old.cells p
         + paired (p + skipped + 1) (take start list.now) (drop start list.now) ≤ 2 ^ 80 }
-    requires count { cells.old.added + (lags - skipped) * (length list.now - start) < 2 ^ 64 }
     ensures cells { result ≡ true → (p : ℕ) → p < lags - skipped → slice_index cells.new.cells p
         ≡ slice_index cells.old.cells p
         + paired (p + skipped + 1) (take start list.now) (drop start list.now) }
     ensures none { result ≡ false → (cells.new ≡ cells.old) × (steps.new ≡ steps.old) }
     ensures spends { Spends cells.old cells.new steps.old steps.new
         ((lags - skipped) * (length list.now - start)) }
+    ensures each { AddsAtMost (length list.now - start) cells.old cells.new }
 {
     if start >= list.len() || list.len() > CLOSE_BINS || lags > CLOSE_LAGS {
         return false;

@@ -1,8 +1,8 @@
 // Pairs of bins with those before them.
 ghost use Rattle.std.specs.Prelude.{◌≡◌, ℕ, ◌+◌, ◌-◌, ◌*◌, ◌^◌, ◌<◌, ◌≤◌, length, take, drop, slice_index, if◌then◌else◌, ◌==◌, ◌&&◌, nat_lt, nat_le};
 ghost use Rattle.std.specs.List.{AllByRecursion};
-ghost use Rattle.lag_ring.{specs.Ring.IsRising, specs.Cells.Spends};
-ghost use Rattle.tau_cascade.{specs.Levels.{weight_before, entries_at_lags}, specs.Paired.paired};
+ghost use Rattle.lag_ring.{specs.Ring.IsRising, specs.Cells.{Spends, added_at}};
+ghost use Rattle.tau_cascade.{specs.Levels.{weight_before, entries_at_lags}, specs.Paired.{paired, AddsAtMost}};
 
 use crate::dense::{ROOM, is_dense, pair_together, window_from};
 use crate::laid::pair_close;
@@ -25,11 +25,12 @@ fn add_at_lag<L: Ledger>(
     requires lags { (skipped ≤ lags) × (length cells.old.cells ≡ lags - skipped) }
     requires sum { skipped < lag → lag ≤ lags
         → slice_index cells.old.cells (lag - skipped - 1) + earlier * later ≤ 2 ^ 80 }
-    requires count { skipped < lag → lag ≤ lags → cells.old.added < 2 ^ 64 - 1 }
     ensures cells { (p : ℕ) → p < lags - skipped → slice_index cells.new.cells p
         ≡ slice_index cells.old.cells p + (if p + skipped + 1 == lag then earlier * later else 0) }
     ensures spends { Spends cells.old cells.new steps.old steps.new
         (if nat_lt skipped lag && nat_le lag lags then 1 else 0) }
+    ensures each { (p : ℕ) → added_at cells.new p ≤ added_at cells.old p
+        + (if p + skipped + 1 == lag then 1 else 0) }
 {
     if lag > u64::from(skipped) && lag <= u64::from(lags) {
         let pairs = u128::from(earlier) * u128::from(later);
@@ -54,12 +55,12 @@ fn pair_entries<L: Ledger>(
     requires after { AllByRecursion (λ e. e.index < index) entries.now }
     requires fits { (p : ℕ) → p < lags - skipped → slice_index cells.old.cells p
         + weight_before (p + skipped + 1) index entries.now * weight ≤ 2 ^ 80 }
-    requires count { cells.old.added + entries_at_lags skipped lags index entries.now < 2 ^ 64 }
     ensures cells { (p : ℕ) → p < lags - skipped → slice_index cells.new.cells p
         ≡ slice_index cells.old.cells p
         + weight_before (p + skipped + 1) index entries.now * weight }
     ensures spends { Spends cells.old cells.new steps.old steps.new
         (entries_at_lags skipped lags index entries.now) }
+    ensures each { AddsAtMost 1 cells.old cells.new }
 {
     for e in entries {
         let lag = index - e.index;
@@ -87,12 +88,12 @@ fn pair_some<L: Ledger>(
     requires after { AllByRecursion (λ e. e.index < index) entries.now }
     requires fits { (p : ℕ) → p < lags - skipped → slice_index cells.old.cells p
         + weight_before (p + skipped + 1) index entries.now * weight ≤ 2 ^ 80 }
-    requires count { cells.old.added + entries_at_lags skipped lags index entries.now < 2 ^ 64 }
     ensures cells { (p : ℕ) → p < lags - skipped → slice_index cells.new.cells p
         ≡ slice_index cells.old.cells p
         + weight_before (p + skipped + 1) index entries.now * weight }
     ensures spends { Spends cells.old cells.new steps.old steps.new
         (entries_at_lags skipped lags index entries.now) }
+    ensures each { AddsAtMost 1 cells.old cells.new }
 {
     if entries.len() > 0 {
         if weight > 0 {
@@ -171,12 +172,12 @@ fn pair_each<L: Ledger>(
     requires rising { IsRising list.now }
     requires fits { (p : ℕ) → p < lags - skipped → slice_index cells.old.cells p
         + paired (p + skipped + 1) (take start list.now) (drop start list.now) ≤ 2 ^ 80 }
-    requires count { cells.old.added + (lags - skipped) * (length list.now - start) < 2 ^ 64 }
     ensures cells { (p : ℕ) → p < lags - skipped → slice_index cells.new.cells p
         ≡ slice_index cells.old.cells p
         + paired (p + skipped + 1) (take start list.now) (drop start list.now) }
     ensures spends { Spends cells.old cells.new steps.old steps.new
         ((lags - skipped) * (length list.now - start)) }
+    ensures each { AddsAtMost (length list.now - start) cells.old cells.new }
 {
     let mut from = 0;
     for at in start..list.len() {
@@ -208,12 +209,12 @@ fn pair_run<L: Ledger>(
     requires rising { IsRising list.now }
     requires fits { (p : ℕ) → p < lags - skipped → slice_index cells.old.cells p
         + paired (p + skipped + 1) (take start list.now) (drop start list.now) ≤ 2 ^ 80 }
-    requires count { cells.old.added + (lags - skipped) * (length list.now - start) < 2 ^ 64 }
     ensures cells { (p : ℕ) → p < lags - skipped → slice_index cells.new.cells p
         ≡ slice_index cells.old.cells p
         + paired (p + skipped + 1) (take start list.now) (drop start list.now) }
     ensures spends { Spends cells.old cells.new steps.old steps.new
         ((lags - skipped) * (length list.now - start)) }
+    ensures each { AddsAtMost (length list.now - start) cells.old cells.new }
 {
     match window_from(lags, list, start) {
         Some(low) => pair_together(cells, skipped, lags, list, start, low, steps),
@@ -254,12 +255,12 @@ fn pair_runs<L: Ledger>(
     requires rising { IsRising list.now }
     requires fits { (p : ℕ) → p < lags - skipped → slice_index cells.old.cells p
         + paired (p + skipped + 1) (take start list.now) (drop start list.now) ≤ 2 ^ 80 }
-    requires count { cells.old.added + (lags - skipped) * (length list.now - start) < 2 ^ 64 }
     ensures cells { (p : ℕ) → p < lags - skipped → slice_index cells.new.cells p
         ≡ slice_index cells.old.cells p
         + paired (p + skipped + 1) (take start list.now) (drop start list.now) }
     ensures spends { Spends cells.old cells.new steps.old steps.new
         ((lags - skipped) * (length list.now - start)) }
+    ensures each { AddsAtMost (length list.now - start) cells.old cells.new }
 {
     let mut at = start;
     'runs: while at < list.len() {
@@ -284,12 +285,12 @@ fn pair_by_density<L: Ledger>(
     requires rising { IsRising list.now }
     requires fits { (p : ℕ) → p < lags - skipped → slice_index cells.old.cells p
         + paired (p + skipped + 1) (take start list.now) (drop start list.now) ≤ 2 ^ 80 }
-    requires count { cells.old.added + (lags - skipped) * (length list.now - start) < 2 ^ 64 }
     ensures cells { (p : ℕ) → p < lags - skipped → slice_index cells.new.cells p
         ≡ slice_index cells.old.cells p
         + paired (p + skipped + 1) (take start list.now) (drop start list.now) }
     ensures spends { Spends cells.old cells.new steps.old steps.new
         ((lags - skipped) * (length list.now - start)) }
+    ensures each { AddsAtMost (length list.now - start) cells.old cells.new }
 {
     if is_dense(skipped, lags, list, start) {
         pair_runs(cells, skipped, lags, list, start, steps);
@@ -314,12 +315,12 @@ pub(crate) fn pair_all<L: Ledger>(
     requires rising { IsRising list.now }
     requires fits { (p : ℕ) → p < lags - skipped → slice_index cells.old.cells p
         + paired (p + skipped + 1) (take start list.now) (drop start list.now) ≤ 2 ^ 80 }
-    requires count { cells.old.added + (lags - skipped) * (length list.now - start) < 2 ^ 64 }
     ensures cells { (p : ℕ) → p < lags - skipped → slice_index cells.new.cells p
         ≡ slice_index cells.old.cells p
         + paired (p + skipped + 1) (take start list.now) (drop start list.now) }
     ensures spends { Spends cells.old cells.new steps.old steps.new
         ((lags - skipped) * (length list.now - start)) }
+    ensures each { AddsAtMost (length list.now - start) cells.old cells.new }
 {
     if !pair_close(cells, skipped, lags, list, start, steps) {
         pair_by_density(cells, skipped, lags, list, start, steps);

@@ -1,23 +1,17 @@
 use Rattle.std.proofs.Common.{arith, ◌∙◌}
 use Rattle.std.{proofs.Props.props, proofs.Math.Logic.{∥∥₁_map, ∥∥₁_elim}}
 use Rattle.tally_base.specs.Settings.{coincidence_view}
-use Rattle.coincidence.{proofs.Chain.{all_fit, all_count, all_cells}, proofs.Together.shut_parts}
+use Rattle.coincidence.{proofs.Chain.{all_fit, all_cells}, proofs.Together.shut_parts}
 use Rattle.coincidence.proofs.closing.shut_together.Goals as goal
 
 pub pair_lags-requires-clause-fits : goal.pair_lags-requires-clause-fits
 pair_lags-requires-clause-fits g c = λ at inside. ∥∥₁_elim c.requires.stands (hlevel props) (λ w. omega (arith, all_fit (coincidence_view c.args.set.now) c.args.ring.now c.args.cells.now c.args.bins.now w.0 w.1 w.2 c.args.set.now.some_reach.0 c.requires.window.0 at inside, shut_parts (coincidence_view c.args.set.now) c.args.ring.now c.args.cells.now c.args.bins.now w.0 w.1 w.2 c.args.later.now c.requires.entries at))
-
-pub pair_lags-requires-clause-room : goal.pair_lags-requires-clause-room
-pair_lags-requires-clause-room g c = ∥∥₁_elim c.requires.stands (hlevel props) (λ w. omega (arith, all_count (coincidence_view c.args.set.now) c.args.ring.now c.args.cells.now c.args.bins.now w.0 w.1 w.2 c.args.set.now.some_reach.0 c.requires.window.0 c.args.set.now.some_reach.1 c.requires.some.1))
 
 pub pair_lags-requires-2-clause-sized : goal.pair_lags-requires-2-clause-sized
 pair_lags-requires-2-clause-sized g c = ∥∥₁_elim c.requires.stands (hlevel props) (λ w. c.pair_lags.ensures.spends.same ∙ w.2.had.count)
 
 pub pair_lags-requires-2-clause-fits : goal.pair_lags-requires-2-clause-fits
 pair_lags-requires-2-clause-fits g c = λ at inside. ∥∥₁_elim c.requires.stands (hlevel props) (λ w. omega (arith, all_fit (coincidence_view c.args.set.now) c.args.ring.now c.args.cells.now c.args.bins.now w.0 w.1 w.2 c.args.set.now.some_reach.0 c.requires.window.0 at inside, shut_parts (coincidence_view c.args.set.now) c.args.ring.now c.args.cells.now c.args.bins.now w.0 w.1 w.2 c.args.later.now c.requires.entries at, c.pair_lags.ensures.cells at inside))
-
-pub pair_lags-requires-2-clause-room : goal.pair_lags-requires-2-clause-room
-pair_lags-requires-2-clause-room g c = ∥∥₁_elim c.requires.stands (hlevel props) (λ w. omega (arith, all_count (coincidence_view c.args.set.now) c.args.ring.now c.args.cells.now c.args.bins.now w.0 w.1 w.2 c.args.set.now.some_reach.0 c.requires.window.0 c.args.set.now.some_reach.1 c.requires.some.1, c.pair_lags.ensures.spends.added))
 
 pub keep_all-requires-clause-stands : goal.keep_all-requires-clause-stands
 keep_all-requires-clause-stands g c = ∥∥₁_map c.requires.stands (λ w. (w.0, w.1, w.2.keep))
@@ -27,9 +21,6 @@ keep_all-requires-clause-sized g c = ∥∥₁_elim c.requires.stands (hlevel pr
 
 pub keep_all-requires-clause-fits : goal.keep_all-requires-clause-fits
 keep_all-requires-clause-fits g c = λ at inside. ∥∥₁_elim c.requires.stands (hlevel props) (λ w. omega (arith, all_fit (coincidence_view c.args.set.now) c.args.ring.now c.args.cells.now c.args.bins.now w.0 w.1 w.2 c.args.set.now.some_reach.0 c.requires.window.0 at inside, shut_parts (coincidence_view c.args.set.now) c.args.ring.now c.args.cells.now c.args.bins.now w.0 w.1 w.2 c.args.later.now c.requires.entries at, c.pair_lags.ensures.cells at inside, c.pair_lags-2.ensures.cells at inside))
-
-pub keep_all-requires-clause-room : goal.keep_all-requires-clause-room
-keep_all-requires-clause-room g c = ∥∥₁_elim c.requires.stands (hlevel props) (λ w. omega (arith, all_count (coincidence_view c.args.set.now) c.args.ring.now c.args.cells.now c.args.bins.now w.0 w.1 w.2 c.args.set.now.some_reach.0 c.requires.window.0 c.args.set.now.some_reach.1 c.requires.some.1, c.pair_lags.ensures.spends.added, c.pair_lags-2.ensures.spends.added))
 
 pub returns-clause-ring : goal.returns-clause-ring
 returns-clause-ring g c = λ closed xs can. c.keep_all.ensures.ring closed xs can.keep

@@ -2,7 +2,7 @@ use Rattle.std.proofs.Common.{◌<◌}
 use Rattle.std.{specs.List.AllByRecursion-prop, proofs.Props.props, proofs.Math.Logic.{∥∥₁_elim, ∥∥₁_map}}
 use Rattle.tally_base.specs.Settings.{coincidence_view}
 use Rattle.lag_ring.specs.declared.ring.Entry.{Entry}
-use Rattle.coincidence.proofs.Shut.{both_fit, before, may_fit, may_count, cells_shut}
+use Rattle.coincidence.proofs.Shut.{both_fit, before, may_fit, cells_shut}
 use Rattle.coincidence.proofs.pairing.append.Goals as goal
 
 pub pair-requires-clause-after : goal.pair-requires-clause-after
@@ -13,9 +13,6 @@ pair-requires-clause-both g c = ∥∥₁_elim c.requires.stands (hlevel props) 
 
 pub pair-requires-clause-fits : goal.pair-requires-clause-fits
 pair-requires-clause-fits g c = ∥∥₁_elim c.requires.stands (hlevel props) (λ w. may_fit (coincidence_view c.args.set.now) c.args.ring.now c.args.cells.now c.args.bin.now w.0 w.1 w.2)
-
-pub pair-requires-clause-count : goal.pair-requires-clause-count
-pair-requires-clause-count g c = ∥∥₁_elim c.requires.stands (hlevel props) (λ w. may_count (coincidence_view c.args.set.now) c.args.ring.now c.args.cells.now c.args.bin.now w.0 w.1 w.2 c.args.set.now.some_reach.1)
 
 pub returns-clause-cells : goal.returns-clause-cells
 returns-clause-cells g c = λ closed xs can. cells_shut (coincidence_view c.args.set.now) c.args.ring.now c.args.cells.now c.args.bin.now closed xs can c.pair.new.cells c.pair.ensures.cells c.pair.ensures.spends.same c.pair.ensures.spends.added

@@ -1,6 +1,6 @@
 use Rattle.std.{proofs.Props.props, proofs.Math.Logic.∥∥₁_elim}
 use Rattle.tally_base.specs.Settings.{coincidence_view}
-use Rattle.coincidence.proofs.Shut.{both_fit, alone_fits, alone_counts, cells_alone, ring_alone}
+use Rattle.coincidence.proofs.Shut.{both_fit, alone_fits, cells_alone, ring_alone}
 use Rattle.coincidence.proofs.pairing.begin.Goals as goal
 
 pub pair_inside-requires-clause-both : goal.pair_inside-requires-clause-both
@@ -8,9 +8,6 @@ pair_inside-requires-clause-both g c = ∥∥₁_elim c.requires.stands (hlevel 
 
 pub pair_inside-requires-clause-fits : goal.pair_inside-requires-clause-fits
 pair_inside-requires-clause-fits g c = ∥∥₁_elim c.requires.stands (hlevel props) (λ w. alone_fits (coincidence_view c.args.set.now) c.args.ring.now c.args.cells.now c.args.bin.now w.0 w.1 w.2 c.requires.far)
-
-pub pair_inside-requires-clause-count : goal.pair_inside-requires-clause-count
-pair_inside-requires-clause-count g c = ∥∥₁_elim c.requires.stands (hlevel props) (λ w. alone_counts (coincidence_view c.args.set.now) c.args.ring.now c.args.cells.now c.args.bin.now w.0 w.1 w.2 c.requires.far c.args.set.now.some_reach.1)
 
 pub returns-clause-ring : goal.returns-clause-ring
 returns-clause-ring g c = λ closed xs can. rw c.restart.ensures.alone (ring_alone (coincidence_view c.args.set.now) c.args.ring.now c.args.bin.now closed xs can c.requires.far c.args.set.now.some_reach.0)

@@ -1,5 +1,5 @@
-use Rattle.std.proofs.Common.{◌≡◌, ℕ, ◌+◌, ◌<◌, ◌≤◌, length, get_or}
-use Rattle.lag_ring.specs.Cells.{downwards_at}
+use Rattle.std.proofs.Common.{◌≡◌, ℕ, ◌+◌, ◌<◌, ◌≤◌, ◌++◌, length, get_or}
+use Rattle.lag_ring.specs.Cells.{downwards_at, downwards_from}
 use Rattle.lag_ring.proofs.cells.add_row_downwards.Given as goal
 
 abbrev pub invariant-loop-q : goal.invariant-loop-q
@@ -7,5 +7,6 @@ invariant-loop-q g l = record {
   done : (c : ℕ) → l.from < c + l.q → get_or l.cells c 0 ≡ get_or l.fn.cells c 0 + downwards_at l.from l.row c;
   left : (c : ℕ) → c + l.q ≤ l.from → get_or l.cells c 0 ≡ get_or l.fn.cells c 0;
   same : length l.cells ≡ length l.fn.cells;
+  places : l.additions.places ≡ l.fn.additions.places ++ downwards_from l.from l.q;
   steps : l.steps ≡ l.fn.steps + l.q;
 }

@@ -1,5 +1,5 @@
-use Rattle.std.proofs.Common.{◌≡◌, ℕ, ◌+◌, ◌<◌, ◌≤◌, length, get_or}
-use Rattle.lag_ring.specs.Cells.{upwards_at}
+use Rattle.std.proofs.Common.{◌≡◌, ℕ, ◌+◌, ◌<◌, ◌≤◌, ◌++◌, length, get_or}
+use Rattle.lag_ring.specs.Cells.{upwards_at, upwards_from}
 use Rattle.lag_ring.proofs.cells.add_row_upwards.Given as goal
 
 abbrev pub invariant-loop-q : goal.invariant-loop-q
@@ -7,5 +7,6 @@ invariant-loop-q g l = record {
   done : (c : ℕ) → c < l.from + l.q → get_or l.cells c 0 ≡ get_or l.fn.cells c 0 + upwards_at l.from l.row c;
   left : (c : ℕ) → l.from + l.q ≤ c → get_or l.cells c 0 ≡ get_or l.fn.cells c 0;
   same : length l.cells ≡ length l.fn.cells;
+  places : l.additions.places ≡ l.fn.additions.places ++ upwards_from l.from l.q;
   steps : l.steps ≡ l.fn.steps + l.q;
 }

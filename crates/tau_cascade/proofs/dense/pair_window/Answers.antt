@@ -1,5 +1,5 @@
 use Rattle.std.proofs.Common.{◌≡◌, ◌∙◌, ◌<◌, ◌+◌, ◌-◌, ◌*◌, ℕ, min, arith}
-use Rattle.tau_cascade.{specs.Dense.window_pairs, proofs.Together.strip_more}
+use Rattle.tau_cascade.{specs.Dense.window_pairs, proofs.Together.{strip_more, once_more}}
 use Rattle.tau_cascade.proofs.dense.pair_window.Goals as goal
 
 pub loop-strip-preserved : goal.loop-strip-preserved
@@ -16,5 +16,6 @@ loop-strip-preserved g c =
       left = λ p from. e.others.1 p (omega arith) ∙ inv.left p (omega arith);
       same = omega (arith, inv.same, e.spends.same);
       added = omega (arith, inv.added, e.spends.added, next, so_far);
+      once = rw next (once_more 0 at' at' c.min-count.result (omega arith) c.args.cells.now c.loop-strip.cells c.pair_strip.new.cells (rw so_far at inv.once) e.once);
       steps = omega (arith, inv.steps, e.spends.steps);
     }

@@ -1,5 +1,5 @@
 use Rattle.std.proofs.Common.{◌≡◌, ℕ, ◌+◌, ◌-◌, ◌*◌, ◌<◌, ◌≤◌, length, get_or, min}
-use Rattle.tau_cascade.specs.Dense.{window_pairs}
+use Rattle.tau_cascade.specs.Dense.{window_pairs, AddsOnce}
 use Rattle.tau_cascade.proofs.dense.pair_window.Given as goal
 
 abbrev pub invariant-loop-strip : goal.invariant-loop-strip
@@ -8,5 +8,6 @@ invariant-loop-strip g l = record {
   left : (p : ℕ) → l.strip * 64 ≤ p → get_or l.cells.cells p 0 ≡ get_or l.initial.cells.cells p 0;
   same : length l.cells.cells ≡ length l.initial.cells.cells;
   added : l.cells.added ≤ l.initial.cells.added + min (l.strip * 64) (l.lags - l.skipped);
+  once : AddsOnce 0 (min (l.strip * 64) (l.lags - l.skipped)) l.initial.cells l.cells;
   steps : l.steps + l.initial.cells.added ≡ l.initial.steps + l.cells.added;
 }

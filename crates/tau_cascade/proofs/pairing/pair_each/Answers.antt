@@ -1,6 +1,6 @@
 use Rattle.std.proofs.Common.{◌<◌, ◌≤◌, ◌+◌, length, rules, arith}
 use Rattle.lag_ring.specs.declared.ring.Entry.{Entry}
-use Rattle.tau_cascade.proofs.Nexts.{below_bins, is_near, few_next, paired_next, far_next, paired_part, none_paired, added_next, count_next}
+use Rattle.tau_cascade.proofs.Nexts.{below_bins, is_near, few_next, paired_next, far_next, paired_part, none_paired, added_next}
 use Rattle.tau_cascade.proofs.pairing.pair_each.Goals as goal
 
 abbrev none : Entry
@@ -13,6 +13,7 @@ loop-at-init g c = record {
   cells = λ p inside. omega (arith, none_paired (p + c.args.skipped + 1) c.args.start c.args.list.now c.requires.start);
   same = search rules;
   added = omega arith;
+  each = λ p. omega arith;
   steps = search rules;
 }
 
@@ -45,14 +46,6 @@ pair_some-requires-clause-fits g c = λ p inside.
     let part = paired_part c.args.list.now c.search_reach-from.result c.loop-at.at c.args.lags none within c.search_reach-from.ensures.place c.requires.rising c.args.start behind k in
     omega (arith, next, part, c.loop-at.invariant.cells p inside, c.requires.fits p inside)
 
-pub pair_some-requires-clause-count : goal.pair_some-requires-clause-count
-pair_some-requires-clause-count g c =
-    let within : c.loop-at.at < length c.args.list.now = search (rules, arith) in
-    let behind : c.args.start ≤ c.loop-at.at = search (rules, arith) in
-    let few = few_next c.args.list.now c.search_reach-from.result c.loop-at.at c.args.lags none within c.search_reach-from.ensures.place c.requires.rising c.args.skipped in
-    let all = count_next c.args.lags c.args.skipped c.args.start c.loop-at.at (length c.args.list.now) c.args.cells.now.added c.loop-at.cells.added _ behind within c.loop-at.invariant.added few in
-    omega (arith, all, c.requires.count)
-
 pub loop-at-preserved : goal.loop-at-preserved
 loop-at-preserved g c =
     let within : c.loop-at.at < length c.args.list.now = search (rules, arith) in
@@ -68,5 +61,6 @@ loop-at-preserved g c =
           omega (arith, next, e.cells p inside, c.loop-at.invariant.cells p inside);
       same = search rules;
       added = (let all = added_next c.args.lags c.args.skipped c.args.start c.loop-at.at c.args.cells.now.added c.loop-at.cells.added _ behind c.loop-at.invariant.added few in omega (arith, all, e.spends.added));
+      each = λ p. omega (arith, e.each p, c.loop-at.invariant.each p, behind);
       steps = omega (arith, e.spends.steps, c.loop-at.invariant.steps);
     }

@@ -1,5 +1,5 @@
 use Rattle.std.proofs.Common.{rules, arith, ◌≡◌, ◌≤◌, ◌+◌, ◌-◌, get_or, take}
-use Rattle.tau_cascade.{specs.Levels.weight_before, proofs.Visits.{pairs_fit, cells_more, lags_more, rest_near}}
+use Rattle.tau_cascade.{specs.Levels.weight_before, proofs.Visits.{pairs_fit, cells_more, lags_more, rest_near, once_more, once_before}}
 use Rattle.lag_ring.specs.declared.ring.Entry.{Entry}
 use Rattle.tau_cascade.proofs.pairing.pair_entries.Goals as goal
 
@@ -15,6 +15,7 @@ loop-e-preserved g c =
       cells = cells_more c.args.entries.now c.loop-e.e-index none c.loop-e-test.true c.args.cells.now.cells c.loop-e.cells.cells c.add_at_lag.new.cells.cells c.args.skipped c.args.lags c.args.index c.args.weight c.requires.after c.loop-e.invariant.cells c.add_at_lag.ensures.cells;
       same = search rules;
       added = omega (arith, c.add_at_lag.ensures.spends.added, c.loop-e.invariant.added, lags_more c.args.entries.now c.loop-e.e-index none c.loop-e-test.true c.args.skipped c.args.lags c.args.index);
+      each = λ p. omega (arith, c.add_at_lag.ensures.each p, c.loop-e.invariant.each p, once_more c.args.entries.now c.loop-e.e-index none c.loop-e-test.true (p + c.args.skipped + 1) c.args.index c.requires.after);
       steps = omega (arith, c.add_at_lag.ensures.spends.steps, c.loop-e.invariant.steps);
     }
 
@@ -24,3 +25,9 @@ returns-then-lag-from-clause-cells g c = λ p inside.
     let near : c.args.index - (get_or c.args.entries.now c.loop-e.e-index none).index ≤ c.args.skipped = omega (arith, c.if-lag-from.true, c.from.ensures) in
     let rest : weight_before (p + c.args.skipped + 1) c.args.index c.args.entries.now ≡ weight_before (p + c.args.skipped + 1) c.args.index (take c.loop-e.e-index c.args.entries.now) = rest_near c.args.entries.now c.loop-e.e-index none c.loop-e-test.true c.requires.rising c.args.skipped c.args.index near (p + c.args.skipped + 1) (omega arith) in
     rw rest (c.loop-e.invariant.cells p inside)
+
+pub returns-then-lag-from-clause-each : goal.returns-then-lag-from-clause-each
+returns-then-lag-from-clause-each g c = λ p. omega (arith, c.loop-e.invariant.each p, once_before c.args.entries.now c.loop-e.e-index (p + c.args.skipped + 1) c.args.index c.requires.rising)
+
+pub returns-clause-each : goal.returns-clause-each
+returns-clause-each g c = λ p. omega (arith, c.loop-e.invariant.each p, once_before c.args.entries.now c.loop-e.e-index (p + c.args.skipped + 1) c.args.index c.requires.rising)

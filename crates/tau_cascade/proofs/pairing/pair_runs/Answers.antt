@@ -1,6 +1,6 @@
 use Rattle.std.proofs.Common.{◌≡◌, ◌+◌, ◌-◌, ◌*◌, ◌≤◌, length, rules, arith}
-use Rattle.lag_ring.specs.declared.ring.Entry.{Entry}
-use Rattle.tau_cascade.proofs.Runs.{run, run_rising, run_long, paired_run, paired_upto, runs_added, runs_count}
+use Rattle.lag_ring.{specs.declared.ring.Entry.Entry, specs.Cells.added_at}
+use Rattle.tau_cascade.proofs.Runs.{run, run_rising, run_long, paired_run, paired_upto, runs_added}
 use Rattle.tau_cascade.proofs.pairing.pair_runs.Goals as goal
 
 abbrev none : Entry
@@ -22,16 +22,6 @@ pair_run-requires-clause-fits g c = λ p inside.
     let upto = paired_upto c.args.list.now c.first_in_reach-from.result c.runs.at c.run_end-end.result c.args.lags none first end.more end.within c.requires.rising c.args.start inv.behind k in
     omega (arith, next, upto, inv.cells p inside, c.requires.fits p inside)
 
-pub pair_run-requires-clause-count : goal.pair_run-requires-clause-count
-pair_run-requires-clause-count g c =
-    let first = c.first_in_reach-from.ensures.place in
-    let end = c.run_end-end.ensures in
-    let inv = c.runs.invariant in
-    let long = run_long c.args.list.now c.first_in_reach-from.result c.runs.at c.run_end-end.result c.args.lags none first end.more end.within c.requires.rising in
-    let count : length (run c.args.list.now c.first_in_reach-from.result c.runs.at c.run_end-end.result c.args.lags none first end.more end.within c.requires.rising) - (c.runs.at - c.first_in_reach-from.result) ≡ c.run_end-end.result - c.runs.at = omega (arith, long, first, end.more) in
-    let all = runs_count (c.args.lags - c.args.skipped) c.args.start c.runs.at c.run_end-end.result (length c.args.list.now) c.args.cells.now.added c.runs.cells.added ((c.args.lags - c.args.skipped) * (c.run_end-end.result - c.runs.at)) inv.behind (omega (arith, end.more)) end.within inv.added (omega arith) in
-    rw count (omega (arith, all, c.requires.count))
-
 pub runs-preserved : goal.runs-preserved
 runs-preserved g c =
     let first = c.first_in_reach-from.ensures.place in
@@ -50,5 +40,6 @@ runs-preserved g c =
           omega (arith, next, e.cells p inside, inv.cells p inside);
       same = search rules;
       added = (let all = runs_added (c.args.lags - c.args.skipped) c.args.start c.runs.at c.run_end-end.result c.args.cells.now.added c.runs.cells.added ((c.args.lags - c.args.skipped) * (c.run_end-end.result - c.runs.at)) inv.behind (omega (arith, end.more)) inv.added (omega arith) in omega (arith, all, more));
+      each = λ p. (let one : added_at c.pair_run.new.cells p ≤ added_at c.runs.cells p + (c.run_end-end.result - c.runs.at) = (rw count at (e.each p)) in omega (arith, one, inv.each p, inv.behind, end.more));
       steps = omega (arith, e.spends.steps, inv.steps);
     }

@@ -2,7 +2,7 @@ use Rattle.std.proofs.Common.{◌≡◌, ◌∙◌, ◌-◌, ◌++◌, Some, len
 use Rattle.std.{proofs.Props.props, proofs.Math.Logic.∥∥₁_elim, proofs.lemmas.List.{take-append-drop, take_rest, length-drop}}
 use Rattle.tally_base.specs.Settings.{correlation_view}
 use Rattle.lag_ring.{specs.Ring.IsRising, proofs.Rising.rising_back}
-use Rattle.tau_cascade.{proofs.Keeping.{rising-prop, ring_last}, proofs.Paired.{all_rising, all_fit, all_count, cells_all}}
+use Rattle.tau_cascade.{proofs.Keeping.{rising-prop, ring_last}, proofs.Paired.{all_rising, all_fit, cells_all}}
 use Rattle.tau_cascade.proofs.level.Level.shut_all.Goals as goal
 
 pub pair_all-requires-clause-rising : goal.pair_all-requires-clause-rising
@@ -14,10 +14,6 @@ pair_all-requires-clause-rising g c =
 pub pair_all-requires-clause-fits : goal.pair_all-requires-clause-fits
 pair_all-requires-clause-fits g c = λ p inside. rw c.requires.ring (∥∥₁_elim c.requires.stands (hlevel props) (λ w.
     all_fit (correlation_view c.args.set.now) c.args.level c.skipped_lags-skipped.result c.skipped_lags-skipped.ensures.skipped c.args.self.now.ring c.args.self.now.cells (drop c.args.start c.args.list.now) w.0 w.1 w.2 p inside))
-
-pub pair_all-requires-clause-count : goal.pair_all-requires-clause-count
-pair_all-requires-clause-count g c = rw (← length-drop c.args.start c.args.list.now) (∥∥₁_elim c.requires.stands (hlevel props) (λ w.
-    all_count (correlation_view c.args.set.now) c.args.level c.skipped_lags-skipped.result c.skipped_lags-skipped.ensures.skipped c.args.self.now.ring c.args.self.now.cells (drop c.args.start c.args.list.now) w.0 w.1 w.2 (omega (arith, c.args.set.now.some_lags))))
 
 pub keep_all-requires-clause-rising : goal.keep_all-requires-clause-rising
 keep_all-requires-clause-rising g c =
@@ -50,4 +46,4 @@ returns-in-Some-clause-ring g c = λ closed xs can.
 pub returns-in-Some-clause-cells : goal.returns-in-Some-clause-cells
 returns-in-Some-clause-cells g c = λ closed xs can.
     cells_all (correlation_view c.args.set.now) c.args.level c.skipped_lags-skipped.result c.skipped_lags-skipped.ensures.skipped c.args.self.now.ring c.args.self.now.cells (drop c.args.start c.args.list.now) closed xs can c.pair_all.new.cells
-    (λ p inside. (rw c.requires.ring at (c.pair_all.ensures.cells p inside))) c.pair_all.ensures.spends.same (rw (length-drop c.args.start c.args.list.now) c.pair_all.ensures.spends.added)
+    (λ p inside. (rw c.requires.ring at (c.pair_all.ensures.cells p inside))) c.pair_all.ensures.spends.same (rw (length-drop c.args.start c.args.list.now) c.pair_all.ensures.spends.added) (rw (length-drop c.args.start c.args.list.now) c.pair_all.ensures.each)
