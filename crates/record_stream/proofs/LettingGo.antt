@@ -5,7 +5,7 @@ use Rattle.tally_base.{specs.declared.event.Event.Event, specs.declared.header.M
 use Rattle.ptu_definitions.{specs.Kept.{Marked, floor_of, greatest, is_late}, specs.Settled.{delivered, is_overtaken, not_marked, ordered, put_in, settles}, specs.Streams.{Reading, events_in}, specs.Times.events, proofs.DeliveredLaws.{delivered-append, delivered_after, delivered_after-ordered, not_marked-append, not_marked-false}, proofs.StreamLemmas.{greatest-push, later}}
 use Rattle.abs_time.{specs.Placing.IsSmall, specs.Floors.{orders_markers, moved_floor}, proofs.Floors.{moves_by, moved_floor-push}}
 use Rattle.record_stream.{specs.Blocks.{on_time, IsInLine, PlacesRise}, specs.Keeping.{CanWait, HasCome}, specs.LettingGo.{LetsGo, IsDelivered}, proofs.Adding.{greatest-on_time, on_time-push, in_line-event}, proofs.Eaches.not_late, proofs.Placed.not_late as not_late_by, proofs.Settles.{ordered-on, that_goes, those_waiting, count_going, count_waiting}}
-use Rattle.settle.{specs.Settling.told, specs.Standing.{HasSettled, kept_back, last_place, last_time, reach_of, was_popped}, specs.declared.settle.Settle.Settle, specs.Passing.place_after}
+use Rattle.settle.{specs.Settling.told, specs.Standing.{HasSettled, kept_back, next_place, last_time, reach_of, was_popped}, specs.declared.settle.Settle.Settle, specs.Passing.place_after}
 
 -- The greatest time of events in order.
 on_true : (mode : Mode) (top : ℕ) (e : Event) → (IsTrue (moves_floor (orders_markers mode) e) → top ≤ e.time) → IsTrue (is_ordered mode e) → top ≤ e.time
@@ -93,7 +93,7 @@ places-at low f (suc n) i lt all =
 
 -- One event more.
 module _ (mode : Mode) (low : ℕ) (from old new : Settle) (came went : List Event) (e : Event) (l : LetsGo mode low from old came went) where
-  module _ (went' : List Event) (on : is_ordered mode e ≡ true) (small : IsSmall mode e) (place : last_place new ≡ e.place) (reach : reach_of new ≡ reach_of old) (unpopped : was_popped new ≡ false) where
+  module _ (went' : List Event) (on : is_ordered mode e ≡ true) (small : IsSmall mode e) (place : next_place new ≡ e.place + 1) (reach : reach_of new ≡ reach_of old) (unpopped : was_popped new ≡ false) where
     lets_none : went' ≡ went ++ [] → All (CanWait mode) (kept_back new) → length (kept_back new) ≤ length (kept_back old) + 1 → last_time new ≡ last_time old → LetsGo mode low from new (came ++ e ∷ []) went'
     lets_none outs fit few same =
         let still : went' ≡ went = outs ∙ append-nil went in

@@ -5,7 +5,7 @@ use Rattle.tally_base.{specs.declared.event.Event.Event, specs.declared.header.M
 use Rattle.ptu_definitions.{specs.Fitting.KindFits, specs.Kept.mark, specs.Prefixes.each_after, specs.Settled.{not_marked, ordered, Rises, settles}, specs.Streams.{Reading, events_in}, specs.Times.events, proofs.DeliveredLaws.{delivered-append, delivered_after}, proofs.SettledLemmas.IsNonDecreasingBy-Rises, proofs.SettlingLemmas.each-weaker}
 use Rattle.abs_time.{specs.Placing.placed_by, specs.Floors.orders_markers, proofs.Floors.moves_by}
 use Rattle.record_stream.{specs.Blocks.{on_time, AllFit, PlacesRise}, specs.Keeping.{CanWait, IsKeeping}, specs.LettingGo.{AreOrdered, ComesNext, IsFull, LetsGo, IsDelivered}, specs.Walking.{how_of, greatest_of, clock_in}, specs.declared.walk.Walk.Walk, proofs.LettingGo.place-push}
-use Rattle.settle.{specs.Passing.{ComesBehind, ComesOn, HasPassed, place_after, time_after}, specs.Standing.{HasSettled, kept_back, last_place, last_time, reach_of, was_popped}, specs.declared.settle.Settle.Settle}
+use Rattle.settle.{specs.Passing.{ComesBehind, ComesOn, HasPassed, next_after, place_after, time_after}, specs.Standing.{HasSettled, kept_back, next_place, last_time, reach_of, was_popped}, specs.declared.settle.Settle.Settle}
 
 -- Lists of which each event is in order.
 pub ordered-same : (mode : Mode) (es : List Event) → AreOrdered mode es → ordered mode es ≡ es
@@ -33,12 +33,12 @@ floor-all : (mode : Mode) (t : ℕ) (es : List Event) → AreOrdered mode es →
 floor-all mode t [] all = refl
 floor-all mode t (e ∷ es) all = ap (λ b. floor_after (orders_markers mode) (if b then e.time else t) es) (moves-on mode e all.0) ∙ floor-all mode e.time es all.1
 
-comes-line : (mode : Mode) (place low t : ℕ) (es : List Event) → place ≤ low → PlacesRise low es → InOrder (orders_markers mode) t es → AreOrdered mode es → ComesOn place t es
-comes-line mode place low t [] below places line all = tt
-comes-line mode place low t (e ∷ es) below places line all =
+comes-line : (mode : Mode) (next low t : ℕ) (es : List Event) → next ≤ low + 1 → PlacesRise low es → InOrder (orders_markers mode) t es → AreOrdered mode es → ComesOn next t es
+comes-line mode next low t [] below places line all = tt
+comes-line mode next low t (e ∷ es) below places line all =
     let h : low < e.place = places.0 in
     let step = line-on mode t e es all.0 line in
-    (omega (arith, below, h), step.0, comes-line mode e.place e.place e.time es (omega arith) places.1 step.1 all.1)
+    (omega (arith, below, h), step.0, comes-line mode (e.place + 1) e.place e.time es (omega arith) places.1 step.1 all.1)
 
 line-waiting : (mode : Mode) (t : ℕ) (w : List Event) → All (λ (x : Event). t ≤ x.time) w → IsNonDecreasingBy (λ (x : Event). x.time) w → All (CanWait mode) w → InOrder (orders_markers mode) t w
 line-waiting mode t [] low up fit = tt
@@ -93,6 +93,11 @@ block-joins f from n w gone rest went stay held goes stays within one =
 pub time-rows : (t : ℕ) (f : ℕ → Event) (n : ℕ) → 0 < n → time_after t (rows f n) ≡ (f (n - 1)).time
 time-rows t f zero some = absurd (omega (arith, some))
 time-rows t f (suc n) some = let e : suc n - 1 ≡ n = omega arith in rw e (time-push t (rows f n) (f n))
+
+pub next-behind : (next place : ℕ) (es : List Event) → 0 < length es → next_after next es ≡ place_after place es + 1
+next-behind next place [] some = absurd (omega (arith, some))
+next-behind next place (e ∷ []) some = refl
+next-behind next place (e ∷ x ∷ es) some = next-behind (e.place + 1) e.place (x ∷ es) (omega arith)
 
 pub place-rows : (place : ℕ) (f : ℕ → Event) (n : ℕ) → 0 < n → place_after place (rows f n) ≡ (f (n - 1)).place
 place-rows place f zero some = absurd (omega (arith, some))
@@ -176,7 +181,7 @@ module _ (walk : Walk) (from : Settle) (came went stay : List Event) (settles : 
   pub stays-rising : IsNonDecreasingBy (λ (x : Event). x.time) stay
   stays-rising = IsNonDecreasingBy-Rises (time_after (last_time from) went) stay stay-rises
 
-  pub comes_behind : (time place : ℕ) → time ≡ time_after (last_time from) went → place ≡ place_after (last_place from) came → ComesBehind from came went stay time place
+  pub comes_behind : (time place : ℕ) → time ≡ time_after (last_time from) went → place + 1 ≡ next_after (next_place from) came → ComesBehind from came went stay time place
   comes_behind time place time_is place_is = record {
     unpopped = keeps.unpopped;
     some = omega (arith, keeps.reach, settles);
@@ -184,13 +189,13 @@ module _ (walk : Walk) (from : Settle) (came went stay : List Event) (settles : 
     greatest = top;
     low = low-top;
     below = recursion_from_All (λ (x : Event). x.time ≤ top) (kept_back from) below;
-    comes = comes-line mode (last_place from) low top came (keeps.behind settles) next.places line all;
+    comes = comes-line mode (next_place from) low top came (keeps.behind settles) next.places line all;
     joined = joined;
     time_is = time_is;
     place_is = place_is;
   }
 
-  pub lets_passed : (new : Settle) → kept_back new ≡ stay → length stay ≡ length (kept_back from) → last_time new ≡ time_after (last_time from) went → last_place new ≡ place_after low came → reach_of new ≡ reach_of from → was_popped new ≡ false
+  pub lets_passed : (new : Settle) → kept_back new ≡ stay → length stay ≡ length (kept_back from) → last_time new ≡ time_after (last_time from) went → next_place new ≡ place_after low came + 1 → reach_of new ≡ reach_of from → was_popped new ≡ false
       → LetsGo mode low from new came went
   lets_passed new kept as_many time place reach unpopped =
       let count : length (kept_back from) + length came ≡ length went + length stay = sym (length-append (kept_back from) came) ∙ ap length joined ∙ length-append went stay in

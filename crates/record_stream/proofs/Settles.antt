@@ -5,7 +5,7 @@ use Rattle.tally_base.{specs.declared.event.Event.Event, specs.declared.fault.Fa
 use Rattle.ptu_definitions.{specs.Kept.{Marked, floor_of}, specs.Settled.{is_overtaken, ordered, settles, put_in, not_marked}, specs.Streams.{Reading, events_in}, specs.Times.{event_after, events}, proofs.DeliveredLaws.not_marked-append, proofs.SettledLemmas.length-put_in, proofs.SettlingLemmas.each-put_in, proofs.StreamLemmas.{events-push, events_in-push, fresh}}
 use Rattle.abs_time.{specs.Placing.mode_of as clock_mode, specs.Placing.placed_by, specs.Floors.moved_floor, proofs.Floors.moved_floor-push}
 use Rattle.record_stream.{specs.Keeping.{CanWait, IsKeeping, HasCome, tells, refused_for}, specs.OneMore.with_marks, specs.Settling.{Tells, Told}, specs.Walking.{how_of, given_by, records_of, summary_in, clock_in, Gave}, specs.declared.taker.EventTaker.Ghosts, specs.declared.walk.Walk.Walk}
-use Rattle.settle.{specs.Standing.{HasSettled, kept_back, last_place, last_time, reach_of, was_popped}, specs.declared.settle.Settle.Settle}
+use Rattle.settle.{specs.Standing.{HasSettled, kept_back, next_place, last_time, reach_of, was_popped}, specs.declared.settle.Settle.Settle}
 
 -- whether an event is in order, by the mode of the clock of a walk
 pub by_clock : (walk : Walk) (e : Event) (r : Bool) (mode : Mode) (b : Bool) → r ≡ is_ordered mode e → mode ≡ clock_mode walk.clock → r ≡ b → is_ordered (how_of walk).mode e ≡ b
@@ -83,7 +83,7 @@ greatest-push mode l e late last now moved in_order is =
 
 -- What waits then.
 pub kept_on : (old new : Walk) (from now : Settle) → IsKeeping old from → how_of new ≡ how_of old → reach_of now ≡ reach_of from → was_popped now ≡ false → All (CanWait (how_of old).mode) (kept_back now)
-    → last_place now ≤ placed_by (clock_in new) → given_by new + length (kept_back now) ≤ records_of new → IsKeeping new now
+    → next_place now ≤ placed_by (clock_in new) + 1 → given_by new + length (kept_back now) ≤ records_of new → IsKeeping new now
 kept_on old new from now keeps same_how same_reach unpopped fit behind room = record {
   reach = same_reach ∙ keeps.reach ∙ sym (ap (λ (h : Reading). h.policy.settle) same_how);
   unpopped = unpopped;

@@ -4,7 +4,7 @@ use Rattle.std.{specs.declared.option.Option.Option, specs.List.All}
 use Rattle.tally_base.{specs.declared.event.Event.Event, specs.declared.fault.Fault.Fault, specs.declared.fault.Fault.TheVariants.BackwardTime, specs.declared.header.Mode.Mode, specs.Events.{is_ordered, stops_late}, specs.RecordTypes.mode_of}
 use Rattle.ptu_definitions.{specs.Kept.{Marked, floor_of}, specs.Settled.{is_overtaken, ordered, settles, not_marked}, specs.Streams.{Reading, events_in}, specs.Times.events, specs.declared.records.Summary.Summary}
 use Rattle.abs_time.{specs.Placing.{IsSmall, placed_by}, specs.declared.clock.Clock.Clock}
-use Rattle.settle.{specs.Standing.{HasSettled, kept_back, last_place, last_time, reach_of, was_popped}, specs.declared.settle.Settle.Settle}
+use Rattle.settle.{specs.Standing.{HasSettled, kept_back, next_place, last_time, reach_of, was_popped}, specs.declared.settle.Settle.Settle}
 use Rattle.record_stream.{specs.Feeding.IsAt, specs.declared.walk.Walk.Walk}
 
 -- an event in order that fits its mode
@@ -17,7 +17,7 @@ pub record IsKeeping (walk : Walk) (settle : Settle) : Type 0 where
   pub reach : reach_of settle ≡ walk.policy.settle
   pub unpopped : was_popped settle ≡ false
   pub fit : All (CanWait (mode_of walk.record_type)) (kept_back settle)
-  pub behind : walk.policy.settle ≢ 0 → last_place settle ≤ placed_by walk.clock
+  pub behind : walk.policy.settle ≢ 0 → next_place settle ≤ placed_by walk.clock + 1
   pub room : walk.given + length (kept_back settle) ≤ walk.sums.records
 
 -- The events in order of these words came, and those that are settled by now were emitted.

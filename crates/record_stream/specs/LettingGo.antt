@@ -5,7 +5,7 @@ use Rattle.tally_base.{specs.declared.event.Event.Event, specs.declared.header.M
 use Rattle.ptu_definitions.{specs.Settled.{delivered, not_marked, ordered}, specs.Streams.{Reading, events_in}, specs.Times.events}
 use Rattle.abs_time.{specs.Placing.placed_by, specs.Floors.orders_markers}
 use Rattle.record_stream.{specs.Blocks.{on_time, AllFit, IsInLine, PlacesRise}, specs.Keeping.CanWait, specs.Walking.{how_of, greatest_of, clock_in}, specs.declared.walk.Walk.Walk}
-use Rattle.settle.{specs.Standing.{HasSettled, kept_back, last_place, last_time, reach_of, was_popped}, specs.declared.settle.Settle.Settle, specs.Passing.place_after}
+use Rattle.settle.{specs.Standing.{HasSettled, kept_back, next_place, last_time, reach_of, was_popped}, specs.declared.settle.Settle.Settle, specs.Passing.place_after}
 
 -- each event is in order
 abbrev pub AreOrdered : Mode → List Event → Type 0
@@ -30,7 +30,7 @@ pub record LetsGo (mode : Mode) (low : ℕ) (from settle : Settle) (came went : 
   pub fit : All (CanWait mode) (kept_back settle)
   pub reach : reach_of settle ≡ reach_of from
   pub unpopped : was_popped settle ≡ false
-  pub behind : last_place settle ≤ place_after low came
+  pub behind : next_place settle ≤ place_after low came + 1
   pub few : length went ≤ length came
   pub count : length went + length (kept_back settle) ≤ length (kept_back from) + length came
 

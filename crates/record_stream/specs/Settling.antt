@@ -3,7 +3,7 @@ use Rattle.std.specs.Prelude.{ℕ, ◌≡◌, ◌≢◌, ◌+◌, ◌<◌, ◌�
 use Rattle.tally_base.{specs.declared.event.Event.Event, specs.declared.fault.Fault.Fault, specs.declared.fault.Fault.TheVariants.WriteFault, specs.FaultCounts.Rose}
 use Rattle.ptu_definitions.{specs.Kept.{Marked, floor_of}, specs.Settled.{ordered, not_marked}, specs.Streams.Reading}
 use Rattle.abs_time.specs.Placing.{placed_by, IsSmall}
-use Rattle.settle.{specs.Standing.{HasSettled, kept_back, last_place, last_time}, specs.declared.settle.Settle.Settle}
+use Rattle.settle.{specs.Standing.{HasSettled, kept_back, next_place, last_time}, specs.declared.settle.Settle.Settle}
 use Rattle.record_stream.{specs.Feeding.Follows, specs.Keeping.{HasCome, IsKeeping, tells, refused_for}, specs.OneMore.with_marks, specs.Walking.{how_of, given_by, records_of, clock_in, summary_in, IsBehind}, specs.declared.taker.EventTaker.Ghosts, specs.declared.walk.Walk.Walk}
 
 -- It took these words and refused none, and the events in order of these came.
@@ -13,7 +13,7 @@ pub record IsSettledBehind (walk : Walk) (settle : Settle) (words : List ℕ) : 
 
 -- The next event: behind those that were pushed, and of a record that is counted and placed.
 pub record ComesUp (walk : Walk) (settle : Settle) (e : Event) : Type 0 where
-  pub next : last_place settle < e.place
+  pub next : next_place settle ≤ e.place
   pub placed : e.place ≤ placed_by (clock_in walk)
   pub room : given_by walk + length (kept_back settle) < records_of walk
   pub small : IsSmall (how_of walk).mode e

@@ -3,7 +3,7 @@ ghost use Rattle.std.specs.Prelude.{◌≡◌, ◌≢◌, ◌+◌, ◌<◌, ◌�
 ghost use Rattle.tally_base.{specs.declared.fault.Fault.TheVariants.WriteFault, specs.FaultCounts.FailsOnce, specs.Events.is_ordered};
 ghost use Rattle.ptu_definitions.{specs.Fours.numbers, specs.Kept.Marked, specs.Settled.marked_as};
 ghost use Rattle.abs_time.specs.Placing.{IsSmall, placed_by};
-ghost use Rattle.settle.specs.Standing.{HasSettled, kept_back, last_place, last_time};
+ghost use Rattle.settle.specs.Standing.{HasSettled, kept_back, last_time};
 ghost use Rattle.record_stream.{specs.Feeding.{Follows, Fed}, specs.Keeping.{CanWait, IsKeeping, HasCome}, specs.Settling.{IsSettledBehind, IsFollowedBy, IsReady, ComesUp, SettlesOn, StaysKept, Tells}, specs.Ending.BrokeFirst, specs.OneMore.with_marks, specs.Walking.{how_of, given_by, records_of, clock_in, summary_in, IsBehind, KeepsPlace, Stays}};
 
 use crate::count::stops_late;

@@ -1,10 +1,10 @@
 -- Photons are read back from their words.
-use Rattle.std.proofs.Common.{◌≡◌, ◌∙◌, ◌+◌, ◌*◌, ◌/◌, ◌%◌, ◌^◌, ◌<◌, ◌≤◌, ℕ, Bool, true, false, None, Some, List, [], ◌∷◌, ◌++◌, length, map, refl, ap, arith, nat_lt, nat_le, ◌&&◌, not, if◌then◌else◌}
-use Rattle.std.{specs.declared.option.Option.Option, specs.List.{AllByRecursion, filter}, proofs.lemmas.List.{length-map, length_push, map_push}, proofs.lemmas.List.Elements.recursion_from_All, proofs.lemmas.Bool.Decides.nat_tests}
+use Rattle.std.proofs.Common.{◌≡◌, ◌∙◌, ◌+◌, ◌*◌, ◌/◌, ◌%◌, ◌^◌, ◌<◌, ◌≤◌, ℕ, Bool, true, false, None, Some, List, [], ◌∷◌, ◌++◌, length, map, refl, ap, arith, nat_lt, nat_le, ◌&&◌, ◌||◌, not, if◌then◌else◌, subst, append_assoc, append-nil}
+use Rattle.std.{specs.declared.option.Option.Option, specs.List.{AllByRecursion, filter}, proofs.lemmas.List.{length-map, length_push, map_push, map-append}, proofs.lemmas.List.Sums.sum_by-append, proofs.lemmas.List.Elements.recursion_from_All, proofs.lemmas.Bool.Decides.nat_tests}
 use Rattle.tally_base.{specs.declared.event.Event.Event, specs.declared.event.EventKind.TheVariants.Photon as PhotonEvent, specs.declared.event.Policy.Policy, specs.declared.fault.Fault.Fault, specs.declared.fault.Fault.TheVariants.{ReservedRecord, TimeLimit}, specs.declared.header.Mode.Mode, specs.declared.header.Mode.TheVariants.{T2, T3}, specs.Events.{is_ordered, stops_late}, specs.Limits.wrap_limit}
-use Rattle.ptu_definitions.{specs.declared.records.Raw.TheVariants.Photon, specs.Kept.{mark, marked, kept, is_late, greatest, ordered_time}, specs.Prefixes.{each_after, listed}, specs.Settled.{Rises, delivered}, specs.Streams.{Reading, late_refusal, refusal, refusals, record_refusal, given}, specs.Times.{base, event_after, events}, proofs.DeliveredLaws.is_late_by-0, proofs.Firsts.given-all, proofs.SettledLemmas.Rises-IsNonDecreasingBy, proofs.StreamLemmas.{later, greatest-push}}
+use Rattle.ptu_definitions.{specs.declared.records.Raw.TheVariants.Photon, specs.Kinds.{is_photon, is_wrap}, specs.Kept.{mark, marked, kept, is_late, greatest, ordered_time}, specs.Prefixes.{each_after, listed}, specs.Settled.{Rises, delivered}, specs.Streams.{Reading, late_refusal, refusal, refusals, record_refusal, given}, specs.Times.{amount, base, event_after, events}, proofs.DeliveredLaws.is_late_by-0, proofs.Firsts.given-all, proofs.SettledLemmas.Rises-IsNonDecreasingBy, proofs.StreamLemmas.{later, greatest-push}}
 use Rattle.short_file.{specs.TimedEvents.{Timed, timed}, proofs.WordBytes.IsWord}
-use Rattle.record_write.{specs.Picked.{unit_of, wrap_word, photon_word, picked_words, picked_events, is_too_late, meaning_in, IsPhotonOf, IsPhotonOrWrap, CanBePicked}, proofs.Meanings.{wrap-meaning, photon-meaning, wrap-small, photon-small}, proofs.Walks.{Walks, IsAt, records_of, walk}}
+use Rattle.record_write.{specs.Picked.{unit_of, wrap_word, photon_word, picked_words, picked_events, is_too_late, meaning_in, IsPhotonOf, IsPhotonOrWrap, CanBePicked, StaysWithin}, proofs.Meanings.{wrap-meaning, photon-meaning, wrap-small, photon-small}, proofs.Walks.{Walks, IsAt, records_of, walk, at-wrap, at-photon}}
 
 pub rising : (mode : Mode) (photons : List Event) → CanBePicked mode photons → Rises 0 photons
 rising mode photons can = Rises-IsNonDecreasingBy 0 photons can.in_order (λ d some. omega arith)
@@ -34,6 +34,28 @@ photons-and-wraps mode = over mode (λ before words photons. AllByRecursion (IsP
   wrap = λ before units words photons some few room rest. (rw (wrap-meaning mode units some few) refl, rest);
   photon = λ before e input dtime words photons same fits here late rest. (rw (photon-meaning mode input dtime e.time fits) refl, rest);
 })
+
+-- No wrap passes the greatest time.
+last-within : (mode : Mode) (photons : List Event) → CanBePicked mode photons → base (records_of mode (picked_words mode photons)) ≤ wrap_limit
+unfolding events
+last-within mode photons can =
+    let walks = over mode (λ before words photons. base (records_of mode before) ≤ wrap_limit → base (records_of mode (before ++ words)) ≤ wrap_limit) (record {
+      none = λ before low. rw (append-nil before) low;
+      wrap = λ before units words photons some few room rest low.
+          let now = (at-wrap mode before (base (records_of mode before)) (greatest mode (events (records_of mode before))) units (record { base = refl; greatest = omega arith }) some few).base in
+          subst (λ l. base (records_of mode l) ≤ wrap_limit) (append_assoc before (wrap_word units ∷ []) words) (rest (omega (arith, now, room)));
+      photon = λ before e input dtime words photons same fits here late rest low.
+          let now = (at-photon mode before (base (records_of mode before)) (greatest mode (events (records_of mode before))) input dtime e.time (record { base = refl; greatest = omega arith }) fits here late).base in
+          subst (λ l. base (records_of mode l) ≤ wrap_limit) (append_assoc before (photon_word mode input dtime e.time ∷ []) words) (rest (omega (arith, now, low)));
+    }) in
+    walks photons can (omega arith)
+
+pub within : (mode : Mode) (photons : List Event) → CanBePicked mode photons → StaysWithin mode (picked_words mode photons)
+within mode photons can = λ front back are.
+    let all = last-within mode photons can in
+    let parts : base (records_of mode (picked_words mode photons)) ≡ base (records_of mode front) + base (records_of mode back) =
+    ap (λ l. base (records_of mode l)) are ∙ ap base (map-append (meaning_in mode) front back) ∙ sum_by-append amount (records_of mode front) (records_of mode back) in
+    omega (arith, all, parts)
 
 -- The events are the photons.
 abbrev AreEvents : Mode → List ℕ → List ℕ → List Event → Type 0

@@ -26,7 +26,7 @@ pub record IsAt (mode : Mode) (before : List ℕ) (sum top : ℕ) : Type 0 where
   pub base : base (records_of mode before) ≡ sum
   pub greatest : greatest mode (events (records_of mode before)) ≤ top
 
-at-wrap : (mode : Mode) (before : List ℕ) (sum top units : ℕ) → IsAt mode before sum top → 0 < units → units < unit_of mode → IsAt mode (before ++ wrap_word units ∷ []) (sum + unit_of mode * units) top
+pub at-wrap : (mode : Mode) (before : List ℕ) (sum top units : ℕ) → IsAt mode before sum top → 0 < units → units < unit_of mode → IsAt mode (before ++ wrap_word units ∷ []) (sum + unit_of mode * units) top
 at-wrap mode before sum top units is some few =
     let raw = wrap-meaning mode units some few in
     let records = records_of mode before in
@@ -44,7 +44,7 @@ ordered-photon : (mode : Mode) (place input dtime time : ℕ) → ordered_time m
 ordered-photon T2 place input dtime time = refl
 ordered-photon T3 place input dtime time = refl
 
-at-photon : (mode : Mode) (before : List ℕ) (sum top input dtime time : ℕ) → IsAt mode before sum top → KindFits mode (PhotonEvent input dtime) → sum + time % unit_of mode ≡ time → top ≤ time
+pub at-photon : (mode : Mode) (before : List ℕ) (sum top input dtime time : ℕ) → IsAt mode before sum top → KindFits mode (PhotonEvent input dtime) → sum + time % unit_of mode ≡ time → top ≤ time
     → IsAt mode (before ++ photon_word mode input dtime time ∷ []) sum time
 at-photon mode before sum top input dtime time is fits here late =
     let raw = photon-meaning mode input dtime time fits in

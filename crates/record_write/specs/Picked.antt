@@ -2,7 +2,7 @@
 use Rattle.std.specs.Prelude.{ℕ, ◌+◌, ◌-◌, ◌*◌, ◌/◌, ◌%◌, ◌^◌, ◌==◌, ◌≡◌, ◌≤◌, ◌||◌, nat_lt, length, Bool, true, false, List, [], ◌∷◌, ◌++◌, None, Some, map, replicate, if◌then◌else◌}
 use Rattle.std.{specs.List.All, specs.List.Sorted.IsNonDecreasingBy, specs.declared.option.Option.Option}
 use Rattle.tally_base.{specs.declared.event.Event.Event, specs.declared.event.Policy.Policy, specs.declared.event.EventKind.EventKind, specs.declared.event.EventKind.TheVariants.{Photon, Marker}, specs.declared.header.Mode.Mode, specs.declared.header.Mode.TheVariants.{T2, T3}, specs.Events.is_photon, specs.Limits.wrap_limit}
-use Rattle.ptu_definitions.{specs.declared.records.Raw.Raw, specs.Fitting.KindFits, specs.Kinds.is_wrap, specs.Kinds.is_photon as is_record_photon, specs.Layouts.meaning_of, specs.Prefixes.{each, last}, specs.Times.events}
+use Rattle.ptu_definitions.{specs.declared.records.Raw.Raw, specs.Fitting.KindFits, specs.Kinds.is_wrap, specs.Kinds.is_photon as is_record_photon, specs.Layouts.meaning_of, specs.Prefixes.{each, last}, specs.Streams.{reading, record_refusal, given}, specs.Times.{base, events}}
 use Rattle.short_file.specs.ShortFiles.{short_file, short_type}
 
 -- how many ticks one unit of a wrap has
@@ -80,6 +80,10 @@ picked_events mode photons = events (map (meaning_in mode) (picked_words mode ph
 abbrev pub IsPhotonOrWrap : Mode → ℕ → Type 0
 IsPhotonOrWrap mode word = (is_record_photon (meaning_in mode word) || is_wrap (meaning_in mode word)) ≡ true
 
+-- The wraps of no front of the words add up to more than 2^62 (`wrap_limit`).
+abbrev pub StaysWithin : Mode → List ℕ → Type 0
+StaysWithin mode words = (front back : List ℕ) → words ≡ front ++ back → base (map (meaning_in mode) front) ≤ wrap_limit
+
 -- Photons that can be written, and a policy by which a stream gives them at once and takes as many records as they have words.
 pub record TakesAll (policy : Policy) (mode : Mode) (photons : List Event) : Type 0 where
   pub can : CanBePicked mode photons
@@ -89,3 +93,8 @@ pub record TakesAll (policy : Policy) (mode : Mode) (photons : List Event) : Typ
 -- these events, and none of them late
 abbrev pub all_given : Mode → List Event → List (Event × Bool)
 all_given mode photons = map (λ e. (e, false)) (picked_events mode photons)
+
+-- By a policy a stream refuses none of the records, and gives these events and no more.
+pub record GivesAll (policy : Policy) (mode : Mode) (photons : List Event) : Type 0 where
+  pub unrefused : record_refusal (reading (short_type mode) policy) (picked_words mode photons) ≡ None
+  pub given : given (reading (short_type mode) policy) (picked_words mode photons) ≡ all_given mode photons

@@ -1,15 +1,15 @@
 // The law of written photons, as the contract of a function that does nothing.
-ghost use Rattle.std.specs.Prelude.{◌≡◌, List, None, Ok, map};
+ghost use Rattle.std.specs.Prelude.{◌≡◌, List, Ok, map};
 ghost use Rattle.std.specs.List.{All};
 ghost use Rattle.tally_base.{specs.declared.event.Event.Event, specs.declared.event.Policy.Policy, specs.declared.header.Mode.Mode};
-ghost use Rattle.ptu_definitions.{specs.Headers.header_answer, specs.Kept.kept, specs.Streams.{reading, record_refusal, given}, specs.Words.words_of};
-ghost use Rattle.short_file.{specs.ShortFiles.{bytes_in, short_fields, short_type}, specs.TimedEvents.timed};
-ghost use Rattle.record_write.specs.Picked.{picked_words, picked_file, picked_events, CanBePicked, IsPhotonOrWrap, TakesAll, all_given};
+ghost use Rattle.ptu_definitions.{specs.Headers.header_answer, specs.Kept.kept, specs.Words.words_of};
+ghost use Rattle.short_file.{specs.ShortFiles.{bytes_in, short_fields}, specs.TimedEvents.timed};
+ghost use Rattle.record_write.specs.Picked.{picked_words, picked_file, picked_events, CanBePicked, IsPhotonOrWrap, StaysWithin, TakesAll, GivesAll};
 
 /// Photons that can be written are read back: from their file come their words, each word is one of
-/// these photons or a wrap, and the events are these photons, at their times. None of them is late, and
-/// no record is refused, whatever becomes of late events and of reserved records: so a stream gives these
-/// events and no more.
+/// these photons or a wrap, no front of the words passes the greatest time, and the events are these photons,
+/// at their times. None of them is late, and no record is refused, whatever becomes of late events and of reserved
+/// records: so a stream gives these events and no more.
 pub fn picked_photons_are_read()
     ensures header { (mode : Mode) (photons : List Event)
         → header_answer (picked_file mode photons)
@@ -18,15 +18,12 @@ pub fn picked_photons_are_read()
         → words_of (bytes_in (picked_words mode photons)) ≡ picked_words mode photons }
     ensures records { (mode : Mode) (photons : List Event) → CanBePicked mode photons
         → All (IsPhotonOrWrap mode) (picked_words mode photons) }
+    ensures within { (mode : Mode) (photons : List Event) → CanBePicked mode photons
+        → StaysWithin mode (picked_words mode photons) }
     ensures photons { (mode : Mode) (photons : List Event) → CanBePicked mode photons
         → map timed (picked_events mode photons) ≡ map timed photons }
     ensures in_time { (mode : Mode) (photons : List Event) → CanBePicked mode photons
         → kept mode (picked_events mode photons) ≡ picked_events mode photons }
-    ensures unrefused { (mode : Mode) (photons : List Event) (policy : Policy)
-        → TakesAll policy mode photons
-        → record_refusal (reading (short_type mode) policy) (picked_words mode photons) ≡ None }
     ensures given { (mode : Mode) (photons : List Event) (policy : Policy)
-        → TakesAll policy mode photons
-        → given (reading (short_type mode) policy) (picked_words mode photons)
-        ≡ all_given mode photons }
+        → TakesAll policy mode photons → GivesAll policy mode photons }
 {}

@@ -1,13 +1,13 @@
 -- One event more.
-use Rattle.std.proofs.Common.{◌≡◌, ◌-◌, ◌<◌, ◌≤◌, ℕ, suc, Some, get_or, List, [], ◌∷◌, ◌++◌, Bool, true, false, cond, length, refl, sym, ap, subst, ◌∙◌, append-nil, arith, nat_lt, slice_get}
+use Rattle.std.proofs.Common.{◌≡◌, ◌+◌, ◌-◌, ◌<◌, ◌≤◌, ℕ, suc, Some, get_or, List, [], ◌∷◌, ◌++◌, Bool, true, false, cond, length, refl, sym, ap, subst, ◌∙◌, append-nil, arith, nat_lt, slice_get}
 use Rattle.std.{specs.List.{All, AllByRecursion, AllWithin, remove}, proofs.lemmas.List.Elements.{All-from_recursion, recursion_from_All}, specs.List.Sorted.IsNonDecreasingBy, proofs.lemmas.List.get_or_default, proofs.lemmas.Bool.{ltb-true, ltb-false}}
 use Rattle.tally_base.specs.declared.event.Event.{Event}
 use Rattle.ptu_definitions.{specs.Settled.{is_overtaken, not_overtaken, put_in, in_time, settles}, specs.Settling.IsOpen, proofs.SettledLemmas.{length-put_in, put_in-rising}, proofs.SettlingLemmas.{each-put_in, each-weaker, is_late, is_not_late, joined-late, joined-put, joined-give, open-none, open-late, open-wait, open-emit, settled-is, settles-late, settles-more}}
 use Rattle.settle.{specs.Settling.{Precedes, IsInOrder}, specs.Standing.IsSettled}
 
 -- order by time and place stays
-in_order-pick : (b : Bool) (e x : Event) (xs : List Event) (place : ℕ) → nat_lt e.time x.time ≡ b → place < e.place → x.place ≤ place → AllByRecursion (λ y. Precedes x y) xs → IsInOrder xs → IsInOrder (put_in e xs) → IsInOrder (cond b (e ∷ x ∷ xs) (x ∷ put_in e xs))
-in_order-pick true e x xs place is above at before up rest =
+in_order-pick : (b : Bool) (e x : Event) (xs : List Event) (next : ℕ) → nat_lt e.time x.time ≡ b → next ≤ e.place → x.place < next → AllByRecursion (λ y. Precedes x y) xs → IsInOrder xs → IsInOrder (put_in e xs) → IsInOrder (cond b (e ∷ x ∷ xs) (x ∷ put_in e xs))
+in_order-pick true e x xs next is above at before up rest =
     let h : e.time < x.time = ltb-true e.time x.time is in (
       (
         record { in_time = omega arith; ties = λ same. absurd (omega arith) },
@@ -16,20 +16,20 @@ in_order-pick true e x xs place is above at before up rest =
       ),
       (before, up),
     )
-in_order-pick false e x xs place is above at before up rest =
+in_order-pick false e x xs next is above at before up rest =
     let h : x.time ≤ e.time = ltb-false e.time x.time is in
     (each-put_in (λ y. Precedes x y) e xs (record { in_time = h; ties = λ same. omega arith }) before, rest)
 
-pub in_order-put_in : (e : Event) (xs : List Event) (place : ℕ) → place < e.place → AllByRecursion (λ x. x.place ≤ place) xs → IsInOrder xs → IsInOrder (put_in e xs)
-in_order-put_in e [] place above all up = (tt, tt)
-in_order-put_in e (x ∷ xs) place above all up =
-    in_order-pick (nat_lt e.time x.time) e x xs place refl above all.0 up.0 up.1 (in_order-put_in e xs place above all.1 up.1)
+pub in_order-put_in : (e : Event) (xs : List Event) (next : ℕ) → next ≤ e.place → AllByRecursion (λ x. x.place < next) xs → IsInOrder xs → IsInOrder (put_in e xs)
+in_order-put_in e [] next above all up = (tt, tt)
+in_order-put_in e (x ∷ xs) next above all up =
+    in_order-pick (nat_lt e.time x.time) e x xs next refl above all.0 up.0 up.1 (in_order-put_in e xs next above all.1 up.1)
 
-places-later : (place now : ℕ) (xs : List Event) → place < now → AllByRecursion (λ x. x.place ≤ place) xs → AllByRecursion (λ x. x.place ≤ now) xs
-places-later place now xs h all = each-weaker (λ x. x.place ≤ place) (λ x. x.place ≤ now) xs (λ x le. omega arith) all
+places-later : (next now : ℕ) (xs : List Event) → next ≤ now → AllByRecursion (λ x. x.place < next) xs → AllByRecursion (λ x. x.place < now + 1) xs
+places-later next now xs h all = each-weaker (λ x. x.place < next) (λ x. x.place < now + 1) xs (λ x lt. omega arith) all
 
-places-put_in : (e : Event) (place : ℕ) (xs : List Event) → place < e.place → AllByRecursion (λ x. x.place ≤ place) xs → AllByRecursion (λ x. x.place ≤ e.place) (put_in e xs)
-places-put_in e place xs h all = each-put_in (λ x. x.place ≤ e.place) e xs (omega arith) (places-later place e.place xs h all)
+places-put_in : (e : Event) (next : ℕ) (xs : List Event) → next ≤ e.place → AllByRecursion (λ x. x.place < next) xs → AllByRecursion (λ x. x.place < e.place + 1) (put_in e xs)
+places-put_in e next xs h all = each-put_in (λ x. x.place < e.place + 1) e xs (omega arith) (places-later next e.place xs h all)
 
 -- Nothing pushed.
 in_time-none : (k : ℕ) → in_time k [] ≡ []
@@ -42,34 +42,34 @@ settled-none k w is =
     subst P (sym is) (record { joined = sym (in_time-none k); in_order = tt; places = tt; unpopped = λ _. open-none k })
 
 -- What a push leaves.
-pub settled-late : (k : ℕ) (popped : Bool) (w : List Event) (last place : ℕ) (es g : List Event) (e : Event) → IsSettled k popped w last place es g → popped ≡ false → e.time < last → place < e.place → IsSettled k popped w last e.place (es ++ e ∷ []) (g ++ [])
-settled-late k popped w last place es g e settled still early above =
+pub settled-late : (k : ℕ) (popped : Bool) (w : List Event) (last next : ℕ) (es g : List Event) (e : Event) → IsSettled k popped w last next es g → popped ≡ false → e.time < last → next ≤ e.place → IsSettled k popped w last (e.place + 1) (es ++ e ∷ []) (g ++ [])
+settled-late k popped w last next es g e settled still early above =
     let now : IsOpen k es g w last = settled.unpopped still in
     let late : is_overtaken k es e ≡ true = is_late k es g w last e now early in
     rw append-nil (record {
       joined = joined-late k es g w e late settled.joined;
       in_order = settled.in_order;
-      places = places-later place e.place w above settled.places;
+      places = places-later next e.place w above settled.places;
       unpopped = λ _. open-late k es g w last e now early;
     })
 
-pub settled-wait : (k : ℕ) (popped : Bool) (w new : List Event) (last place : ℕ) (es g : List Event) (e : Event) → IsSettled k popped w last place es g → popped ≡ false → last ≤ e.time → place < e.place → length w < k → new ≡ put_in e w → IsSettled k popped new last e.place (es ++ e ∷ []) (g ++ [])
-settled-wait k popped w new last place es g e settled still in_time above few is =
+pub settled-wait : (k : ℕ) (popped : Bool) (w new : List Event) (last next : ℕ) (es g : List Event) (e : Event) → IsSettled k popped w last next es g → popped ≡ false → last ≤ e.time → next ≤ e.place → length w < k → new ≡ put_in e w → IsSettled k popped new last (e.place + 1) (es ++ e ∷ []) (g ++ [])
+settled-wait k popped w new last next es g e settled still in_time above few is =
     let now : IsOpen k es g w last = settled.unpopped still in
     let late : is_overtaken k es e ≡ false = is_not_late k es g w last e now (omega arith) in_time in
     rw (append-nil, is) (record {
       joined = joined-put k es g w last e late now in_time settled.joined;
-      in_order = in_order-put_in e w place above settled.places settled.in_order;
-      places = places-put_in e place w above settled.places;
+      in_order = in_order-put_in e w next above settled.places settled.in_order;
+      places = places-put_in e next w above settled.places;
       unpopped = λ _. open-wait k es g w last e now in_time few;
     })
 
-pub settled-emit : (k : ℕ) (popped : Bool) (w rest : List Event) (last place : ℕ) (es g : List Event) (e x : Event) → IsSettled k popped w last place es g → popped ≡ false → last ≤ e.time → place < e.place → length w ≡ k → x ∷ rest ≡ put_in e w → IsSettled k popped rest x.time e.place (es ++ e ∷ []) (g ++ x ∷ [])
-settled-emit k popped w rest last place es g e x settled still in_time above full is =
+pub settled-emit : (k : ℕ) (popped : Bool) (w rest : List Event) (last next : ℕ) (es g : List Event) (e x : Event) → IsSettled k popped w last next es g → popped ≡ false → last ≤ e.time → next ≤ e.place → length w ≡ k → x ∷ rest ≡ put_in e w → IsSettled k popped rest x.time (e.place + 1) (es ++ e ∷ []) (g ++ x ∷ [])
+settled-emit k popped w rest last next es g e x settled still in_time above full is =
     let now : IsOpen k es g w last = settled.unpopped still in
     let late : is_overtaken k es e ≡ false = is_not_late k es g w last e now (omega arith) in_time in
-    let order : IsInOrder (x ∷ rest) = subst IsInOrder (sym is) (in_order-put_in e w place above settled.places settled.in_order) in
-    let places : AllByRecursion (λ y. y.place ≤ e.place) (x ∷ rest) = subst (AllByRecursion (λ y. y.place ≤ e.place)) (sym is) (places-put_in e place w above settled.places) in
+    let order : IsInOrder (x ∷ rest) = subst IsInOrder (sym is) (in_order-put_in e w next above settled.places settled.in_order) in
+    let places : AllByRecursion (λ y. y.place < e.place + 1) (x ∷ rest) = subst (AllByRecursion (λ y. y.place < e.place + 1)) (sym is) (places-put_in e next w above settled.places) in
     record {
       joined = joined-give k (es ++ e ∷ []) g (put_in e w) rest x (sym is) (joined-put k es g w last e late now in_time settled.joined);
       in_order = order.1;
@@ -104,9 +104,9 @@ tells-one k popped w rest last place es g e x settled still in_time full as_many
     (joined-give k (es ++ e ∷ []) g (put_in e w) rest x (sym is) (joined-put k es g w last e late now in_time settled.joined)))
 
 -- the event emitted is the least
-pub least_one : (k : ℕ) (popped : Bool) (w rest : List Event) (last place : ℕ) (es g : List Event) (e x : Event) → IsSettled k popped w last place es g → place < e.place → x ∷ rest ≡ put_in e w → AllByRecursion (λ y. Precedes x y) rest
-least_one k popped w rest last place es g e x settled above is =
-    let order : IsInOrder (x ∷ rest) = subst IsInOrder (sym is) (in_order-put_in e w place above settled.places settled.in_order) in order.0
+pub least_one : (k : ℕ) (popped : Bool) (w rest : List Event) (last next : ℕ) (es g : List Event) (e x : Event) → IsSettled k popped w last next es g → next ≤ e.place → x ∷ rest ≡ put_in e w → AllByRecursion (λ y. Precedes x y) rest
+least_one k popped w rest last next es g e x settled above is =
+    let order : IsInOrder (x ∷ rest) = subst IsInOrder (sym is) (in_order-put_in e w next above settled.places settled.in_order) in order.0
 
 -- in rising times all before one that is no later are no later
 pub all_before : (xs : List Event) (at t : ℕ) (z : Event) → IsNonDecreasingBy (λ (x : Event). x.time) xs → 0 < at → at ≤ length xs → (get_or xs (at - 1) z).time ≤ t → AllWithin (λ (x : Event). x.time ≤ t) xs 0 at

@@ -1,22 +1,27 @@
 -- Events that come in order behind all that are kept back.
-use Rattle.std.specs.Prelude.{ℕ, ◌≡◌, ◌<◌, ◌≤◌, ◌++◌, false, List, [], ◌∷◌, length}
+use Rattle.std.specs.Prelude.{ℕ, ◌+◌, ◌≡◌, ◌<◌, ◌≤◌, ◌++◌, false, List, [], ◌∷◌, length}
 use Rattle.std.specs.List.{AllByRecursion}
 use Rattle.tally_base.specs.declared.event.Event.{Event}
 use Rattle.ptu_definitions.{specs.Prefixes.each_after, specs.Settled.{marked_as, settles}}
-use Rattle.settle.{specs.Standing.{HasSettled, kept_back, last_place, last_time, reach_of, was_popped}, specs.declared.settle.Settle.Settle}
+use Rattle.settle.{specs.Standing.{HasSettled, kept_back, next_place, last_time, reach_of, was_popped}, specs.declared.settle.Settle.Settle}
 
--- no place and no time falls: each place is greater than the one before it and the first greater than this, and no
+-- no place and no time falls: each place is greater than the one before it and the first no less than this, and no
 -- time is less than the one before it or than this
 abbrev pub ComesOn : ℕ → ℕ → List Event → Type 0
-ComesOn place time [] = Unit {0}
-ComesOn place time (e ∷ es) = (place < e.place) × (time ≤ e.time) × ComesOn e.place e.time es
+ComesOn next time [] = Unit {0}
+ComesOn next time (e ∷ es) = (next ≤ e.place) × (time ≤ e.time) × ComesOn (e.place + 1) e.time es
 
 -- the place of the last of these events, or this one
 abbrev pub place_after : ℕ → List Event → ℕ
 place_after place [] = place
 place_after place (e ∷ es) = place_after e.place es
 
--- and its time
+-- the least place behind them
+abbrev pub next_after : ℕ → List Event → ℕ
+next_after next [] = next
+next_after next (e ∷ es) = next_after (e.place + 1) es
+
+-- the time of the last of them
 abbrev pub time_after : ℕ → List Event → ℕ
 time_after time [] = time
 time_after time (e ∷ es) = time_after e.time es
@@ -30,10 +35,10 @@ pub record ComesBehind (s : Settle) (came went stay : List Event) (time place : 
   pub greatest : ℕ
   pub low : last_time s ≤ greatest
   pub below : AllByRecursion (λ x. x.time ≤ greatest) (kept_back s)
-  pub comes : ComesOn (last_place s) greatest came
+  pub comes : ComesOn (next_place s) greatest came
   pub joined : kept_back s ++ came ≡ went ++ stay
   pub time_is : time ≡ time_after (last_time s) went
-  pub place_is : place ≡ place_after (last_place s) came
+  pub place_is : place + 1 ≡ next_after (next_place s) came
 
 -- Behind some events these came, and with them these were let go, none of them late.
 pub record HasPassed (old new : Settle) (pushed given came went : List Event) : Type 0 where

@@ -1,9 +1,9 @@
 -- What a push of an event does.
-use Rattle.std.specs.Prelude.{ℕ, ◌≡◌, ◌≤◌, ◌++◌, ◌&&◌, not, nat_lt, true, false, None, IfSome, is_some, List, [], ◌∷◌, length}
+use Rattle.std.specs.Prelude.{ℕ, ◌+◌, ◌≡◌, ◌≤◌, ◌++◌, ◌&&◌, not, nat_lt, true, false, None, IfSome, is_some, List, [], ◌∷◌, length}
 use Rattle.std.{specs.declared.option.Option.Option, specs.Option.option_to_list, specs.List.AllByRecursion}
 use Rattle.tally_base.specs.declared.event.Event.{Event}
 use Rattle.ptu_definitions.specs.Settled.{is_overtaken, put_in, settles}
-use Rattle.settle.{specs.Settling.{Precedes, told}, specs.Standing.{HasSettled, kept_back, last_place, last_time, reach_of, was_popped}, specs.declared.settle.{Settle.Settle, Settled.Settled}}
+use Rattle.settle.{specs.Settling.{Precedes, told}, specs.Standing.{HasSettled, kept_back, next_place, last_time, reach_of, was_popped}, specs.declared.settle.{Settle.Settle, Settled.Settled}}
 
 -- Behind some events this one came. If it is late it tells so, and else the least of all, if one is emitted.
 pub record HasPushed (old new : Settle) (pushed given : List Event) (event : Event) (answer : Settled) : Type 0 where
@@ -27,6 +27,6 @@ pub record MovesTo (old new : Settle) (emitted : Option Event) : Type 0 where
 
 -- The last event has this place, and all else that it was made with or forbidden is as before.
 pub record StandsBehind (old new : Settle) (last : ℕ) : Type 0 where
-  pub place : last_place new ≡ last
+  pub place : next_place new ≡ last + 1
   pub same_reach : reach_of new ≡ reach_of old
   pub same_popped : was_popped new ≡ was_popped old

@@ -1,5 +1,6 @@
 -- What a value that settles events stands for.
-use Rattle.std.specs.Prelude.{ℕ, ◌≡◌, ◌≤◌, ◌++◌, Bool, false, List}
+use Rattle.std.specs.Prelude.{ℕ, ◌+◌, ◌≡◌, ◌<◌, ◌++◌, Bool, false, None, Some, List}
+use Rattle.std.specs.declared.option.Option.{Option}
 use Rattle.std.specs.List.{AllByRecursion}
 use Rattle.tally_base.specs.declared.event.Event.{Event}
 use Rattle.ptu_definitions.{specs.Settled.in_time, specs.Settling.IsOpen}
@@ -17,20 +18,24 @@ kept_back s = s.waiting.items
 abbrev pub last_time : Settle → ℕ
 last_time s = s.last
 
--- the place of the last event pushed, or 0 where there is none
-abbrev pub last_place : Settle → ℕ
-last_place s = s.place
+abbrev pub next_behind : Option ℕ → ℕ
+next_behind None = 0
+next_behind (Some place) = place + 1
+
+-- the least place that the next event may have: any where there was none, and else one behind the last
+abbrev pub next_place : Settle → ℕ
+next_place s = next_behind s.place
 
 abbrev pub was_popped : Settle → Bool
 was_popped s = s.popped
 
 -- The events emitted or popped and those kept back, which are in order, make up the kept list of those pushed.
-pub record IsSettled (k : ℕ) (popped : Bool) (waiting : List Event) (last place : ℕ) (pushed given : List Event) : Type 0 where
+pub record IsSettled (k : ℕ) (popped : Bool) (waiting : List Event) (last next : ℕ) (pushed given : List Event) : Type 0 where
   pub joined : given ++ waiting ≡ in_time k pushed
   pub in_order : IsInOrder waiting
-  pub places : AllByRecursion (λ x. x.place ≤ place) waiting
+  pub places : AllByRecursion (λ x. x.place < next) waiting
   pub unpopped : popped ≡ false → IsOpen k pushed given waiting last
 
 -- These events were pushed, and these were emitted or popped.
 abbrev pub HasSettled : Settle → List Event → List Event → Type 0
-HasSettled s pushed given = IsSettled s.reach s.popped s.waiting.items s.last s.place pushed given
+HasSettled s pushed given = IsSettled s.reach s.popped s.waiting.items s.last (next_place s) pushed given

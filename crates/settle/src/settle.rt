@@ -25,7 +25,7 @@ pub struct Settle {
     reach: u32,
     waiting: ArrayVec<Event, 64>,
     last: u64,
-    place: u64,
+    place: Option<u64>,
     popped: bool,
     ghost few: { array_vec_len waiting ≤ reach },
     ghost limit: { reach ≤ 64 },
@@ -34,7 +34,7 @@ pub struct Settle {
 }
 
 impl Settle {
-    ghost use Rattle.settle.{specs.Passing.{ComesBehind, HasPassed}, specs.Pushing.{HasPushed, KeepsOrEmits, MovesTo, StandsBehind}, specs.Standing.{reach_of, kept_back, last_time, last_place, was_popped, HasSettled}};
+    ghost use Rattle.settle.{specs.Passing.{ComesBehind, HasPassed}, specs.Pushing.{HasPushed, KeepsOrEmits, MovesTo, StandsBehind}, specs.Standing.{reach_of, kept_back, last_time, next_place, was_popped, HasSettled}};
 
     /// Keeps back at most so many events, and none yet.
     pub fn new(k: u32) -> Settle
@@ -42,7 +42,7 @@ impl Settle {
         ensures empty { HasSettled result [] [] }
         ensures reach { reach_of result ≡ k }
         ensures none { kept_back result ≡ [] }
-        ensures first { last_place result ≡ 0 }
+        ensures first { next_place result ≡ 0 }
         ensures low { last_time result ≡ 0 }
         ensures unpopped { was_popped result ≡ false }
     {
@@ -50,7 +50,7 @@ impl Settle {
             reach: k,
             waiting: ArrayVec::new(),
             last: 0,
-            place: 0,
+            place: None,
             popped: false,
         }
     }
@@ -70,11 +70,11 @@ impl Settle {
         self.last
     }
 
-    /// Takes the next event. It is late where more events than are kept back at most came before it and
-    /// have a greater time. Otherwise the least of it and those kept back is emitted, if as many as may be
-    /// are kept back.
+    /// Takes the next event, at a greater place than the one before it. It is late where more events than are
+    /// kept back at most came before it and have a greater time. Otherwise the least of it and those kept back is
+    /// emitted, if as many as may be are kept back.
     pub fn push(&mut self, event: Event) -> Settled
-        requires behind { last_place self.old < event.place }
+        requires behind { next_place self.old ≤ event.place }
         requires unpopped { was_popped self.old ≡ false }
         ensures pushed { (pushed given : List Event) → HasSettled self.old pushed given
             → HasPushed self.old self.new pushed given event result }
@@ -82,7 +82,7 @@ impl Settle {
         ensures moves { MovesTo self.old self.new result.emitted }
         ensures stands { StandsBehind self.old self.new event.place }
     {
-        self.place = event.place;
+        self.place = Some(event.place);
         if event.time < self.last {
             return Settled {
                 emitted: None,
@@ -128,7 +128,7 @@ impl Settle {
     {
         self.waiting.as_mut_slice().copy_from_slice(stay);
         self.last = time;
-        self.place = place;
+        self.place = Some(place);
     }
 
     /// Takes out the least of the events kept back. No event can be pushed any more.

@@ -2,8 +2,8 @@ use Rattle.std.proofs.Common.{rules, ◌≡◌, ◌+◌, ◌-◌, ◌<◌, ◌++
 use Rattle.tally_base.{specs.declared.event.Event.Event, specs.Columns.{event_at, gathered, rows, time_at}, specs.declared.block.Block.Block, proofs.BlockRows.length-rows}
 use Rattle.ptu_definitions.{specs.Settled.{not_marked, ordered}, specs.Streams.events_in, specs.Times.events}
 use Rattle.abs_time.specs.Placing.{placed_by}
-use Rattle.settle.{specs.Standing.{kept_back, last_place, last_time}, specs.declared.settle.Settle.Settle, specs.Passing.{place_after, time_after}}
-use Rattle.record_stream.{specs.Walking.{how_of, clock_in}, proofs.Passed.{block-joins, comes_behind, delivers_passed, lets_passed, place-rows, stays-low, stays-rising, time-rows}}
+use Rattle.settle.{specs.Standing.{kept_back, next_place, last_time}, specs.declared.settle.Settle.Settle, specs.Passing.{next_after, place_after, time_after}}
+use Rattle.record_stream.{specs.Walking.{how_of, clock_in}, proofs.Passed.{block-joins, comes_behind, delivers_passed, lets_passed, next-behind, place-rows, stays-low, stays-rising, time-rows}}
 use Rattle.record_stream.proofs.letting_go.pass_block.Goals as goal
 
 -- what is written behind no events
@@ -97,10 +97,12 @@ returns c =
       lets_go =
           let place = place_is b (placed_by (clock_in walk)) c.len-len.result c.event.result some c.len-len.ensures.count c.event.ensures in
           lets_passed walk s (gathered b) went stay c.requires.settles c.requires.keeps c.requires.full comes cuts.joined c.pass.new.self c.pass.ensures.waits cuts.as_many
-          (c.pass.ensures.time ∙ time) (stands.place ∙ place) stands.same_reach (stands.same_popped ∙ c.requires.keeps.unpopped);
+          (c.pass.ensures.time ∙ time) (stands.place ∙ ap (λ n. n + 1) place) stands.same_reach (stands.same_popped ∙ c.requires.keeps.unpopped);
       delivers = λ words h.
-          let place = place_is b (last_place s) c.len-len.result c.event.result some c.len-len.ensures.count c.event.ensures in
-          let behind = comes_behind walk s (gathered b) went stay c.requires.settles c.requires.keeps c.requires.full comes cuts.joined c.time.result c.event.result.place time place in
+          let low = placed_by (clock_in walk) in
+          let place = place_is b low c.len-len.result c.event.result some c.len-len.ensures.count c.event.ensures in
+          let next : c.event.result.place + 1 ≡ next_after (next_place s) (gathered b) = ap (λ n. n + 1) place ∙ sym (next-behind (next_place s) low (gathered b) (omega (arith, some, length-rows (event_at b) b.len))) in
+          let behind = comes_behind walk s (gathered b) went stay c.requires.settles c.requires.keeps c.requires.full comes cuts.joined c.time.result c.event.result.place time next in
           let passed = c.pass.ensures.passed (ordered how.mode (events (map how.meaning words))) (not_marked (events_in how words)) (gathered b) went h.come.settled behind in
           delivers_passed how s c.pass.new.self words (gathered b) went c.requires.settles c.requires.keeps.reach comes.ordered passed;
       unsorted = search rules;
