@@ -54,7 +54,7 @@ module _ (plan_name name : List ℕ) (writing : Writing (PlanView → List ℕ �
       (λ slot h. (rw h.0 tt, h.1, kept))
       (λ slot h. (rw h.0 tt, h.1, h.2, rw h.0 (kept, h.3)))
       (λ h. absurd h)
-      (λ h. (kept, inl (other.asked ∙ first)))
+      (λ h. (kept, inl (other.asked ∙ first, h)))
       reason
 
   -- a plan that lacks something ends the run
@@ -107,7 +107,7 @@ plan-causes plan_name name writing memory lacks work view before span fault has 
           subst (λ (end : Outcome). Cuts writing end span.old span.new) (sym (outcome-planned plan_name name writing memory lacks work plan_file data_file view (has.is_plan plan_file may.0) has.whole))
           (cuts-told (under view writing) writing (work view) span.after (span.before.given Data) span.old span.new data_file (λ end h. cuts-under writing view end span.old span.new h) none opened w.1 may.1),
     ))
-    (λ want. (want.keeps, inr (view, has, opened, subst (WantsBehind memory view) (sym (all-taken (span.before.given Data) (span.after.given Data) want.taken none want.consumes)) want.wants)))
+    (λ want. (want.keeps, inr (record { plan = view; has = has; opened = opened; wants = subst (WantsBehind memory view) (sym (all-taken (span.before.given Data) (span.after.given Data) want.taken none want.consumes)) want.wants })))
     reason
 
 -- a plan that lacks something has no cause outside

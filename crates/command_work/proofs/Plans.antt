@@ -1,10 +1,10 @@
 -- What was read of a plan is what its file answers.
-use Rattle.std.proofs.Common.{◌≡◌, ◌<◌, ◌≤◌, ◌+◌, ℕ, List, [], ◌++◌, length, take, true, false, Some, Ok, Err, refl, sym, ap, ◌∙◌, arith, inl, inr, append-nil, ◌≢◌, Result, IfErr}
+use Rattle.std.proofs.Common.{◌≡◌, ◌<◌, ◌≤◌, ◌+◌, ℕ, List, [], ◌++◌, length, take, true, false, Some, Ok, Err, refl, sym, ap, ◌∙◌, arith, inl, inr, append-nil, ◌≢◌, ◌⊎◌, Result, IfErr, IsErrAnd}
 use Rattle.std.{proofs.lemmas.Bool.{cases_Bool, cases_lt}, proofs.lemmas.List.{length-append, length-take-le}}
 use Rattle.tally_base.{specs.declared.fault.Fault.Fault, specs.declared.fault.Fault.TheVariants.{OpenFault, ReadFault, WriteFault, OutOfMemory}, specs.declared.slot.Slot.Slot, specs.declared.slot.Slot.TheVariants.Plan as PlanSlot, specs.declared.header.Mode.Mode, specs.Faults.{is_outside, fault_in, HasReason}}
-use Rattle.bench_io.{specs.Given.{Given, no_bytes, Consumes, IsAtEnd}, specs.Inputs.{InputState, Keeps, KeepsOther, OnlyReads}, proofs.States.Keeps-trans}
-use Rattle.plan_text.{specs.declared.plan.Plan.Plan, specs.Plan.PlanView, specs.Reading.{text_limit, plan_answer, plan_seen}, specs.Fits.IsMisfit, proofs.Documents.plan_answer_long, proofs.Misfits.names_part}
-use Rattle.command_work.{specs.PlanPieces.{AnswersPlan, OnlyUses}, proofs.Told.file-splits, proofs.Once.{IsQuiet, quiet-none, quiet-memory, quiet-inside}}
+use Rattle.bench_io.{specs.Given.{Given, no_bytes, Consumes, IsAtEnd}, specs.Inputs.{File, InputState, Keeps, KeepsOther, OnlyReads}, proofs.States.Keeps-trans}
+use Rattle.plan_text.{specs.declared.plan.Plan.Plan, specs.Plan.PlanView, specs.Reading.{text_limit, plan_answer, plan_seen, IsCalledFor}, specs.Fits.IsMisfit, proofs.Documents.plan_answer_long, proofs.Misfits.names_part}
+use Rattle.command_work.{specs.Endings.{HasWholePlan, WantsForPlan}, specs.PlanPieces.{AnswersPlan, OnlyUses}, proofs.Told.{all-taken, file-splits}, proofs.Once.{IsQuiet, quiet-none, quiet-memory, quiet-inside}}
 
 -- bytes that end the file, or are too many for a plan by themselves
 same_answer : (taken more : List ℕ) → (length taken < text_limit + 1 → more ≡ []) → plan_answer (taken ++ more) ≡ plan_answer taken
@@ -27,12 +27,23 @@ plan_told after start taken (Err fault) none opened took ended answer = elim (ca
       record { text = taken ++ split.more; present = split.parts; answer = same_answer taken split.more (λ short. split.follows (ended short)) ∙ sym (answer enough) })
 ]
 
-pub plan_reason : (opening reading : Slot → Type 0) (writing : Type 0) (fault : Fault) → (fault ≢ OutOfMemory → is_outside fault ≡ false) → HasReason opening reading writing (Unit {0}) fault
-plan_reason o r w (OpenFault slot) h = let inside = h (λ e. cc) in cc
-plan_reason o r w (ReadFault slot) h = let inside = h (λ e. cc) in cc
-plan_reason o r w WriteFault h = let inside = h (λ e. cc) in cc
-plan_reason o r w OutOfMemory h = tt
-plan_reason o r w _ h = tt
+-- a fault of the bytes of a plan is one from outside only for want of memory
+plan_reason : (opening reading : Slot → Type 0) (writing memory : Type 0) (fault : Fault) → (fault ≢ OutOfMemory → is_outside fault ≡ false) → (fault ≡ OutOfMemory → memory) → HasReason opening reading writing memory fault
+plan_reason o r w m (OpenFault slot) h want = let inside = h (λ e. cc) in cc
+plan_reason o r w m (ReadFault slot) h want = let inside = h (λ e. cc) in cc
+plan_reason o r w m WriteFault h want = let inside = h (λ e. cc) in cc
+plan_reason o r w m OutOfMemory h want = want refl
+plan_reason o r w m _ h want = tt
+
+-- a plan for which memory is wanting was read whole
+plan_wanted : (after : InputState) (start : Given) (taken : List ℕ) → start ≡ no_bytes → after.opened PlanSlot ≡ true → Consumes start (after.given PlanSlot) taken → (length taken < text_limit + 1 → IsAtEnd (after.given PlanSlot)) → length taken ≤ text_limit → HasWholePlan after
+plan_wanted after start taken none opened took ended few = record { opened = opened; ended = ended (omega (arith, few)); few = rw (all-taken start (after.given PlanSlot) taken none took) few }
+
+-- why the bytes that were read of a plan are refused
+pub plan-reasons : (opening reading : Slot → Type 0) (writing : Type 0) (after : InputState) (start : Given) (taken : List ℕ) (r : Result Plan Fault) → start ≡ no_bytes → after.opened PlanSlot ≡ true → Consumes start (after.given PlanSlot) taken
+    → (length taken < text_limit + 1 → IsAtEnd (after.given PlanSlot)) → IfErr r (λ fault. fault ≢ OutOfMemory → is_outside fault ≡ false) → IfErr r (IsCalledFor taken) → IfErr r (HasReason opening reading writing (WantsForPlan after))
+plan-reasons o r w after start taken (Ok plan) none opened took ended inside called = tt
+plan-reasons o r w after start taken (Err fault) none opened took ended inside called = plan_reason o r w _ fault inside (λ is. inr (plan_wanted after start taken none opened took ended (rw is at called)))
 
 quiet-unless : (fault : Fault) → (fault ≢ OutOfMemory → is_outside fault ≡ false) → IsQuiet (Some fault)
 quiet-unless OutOfMemory h = quiet-memory

@@ -2,9 +2,9 @@
 use Rattle.std.specs.Prelude.{ℕ, ◌≡◌, ◌⊎◌, ◌+◌, ◌≤◌, ◌<◌, List, ◌++◌, length, true, false, None, Some, Result, Ok, Err, IsErrAnd, IfErr}
 use Rattle.std.{specs.declared.option.Option.Option, specs.Io.KnownBytes.{Keeps, Appends}}
 use Rattle.tally_base.{specs.declared.slot.Slot.Slot, specs.declared.slot.Slot.TheVariants.{Plan, Data}, specs.declared.fault.Fault.Fault, specs.declared.fault.Fault.TheVariants.{Usage, OpenFault}, specs.Faults.{line_of, is_outside, fault_in, HasReason}, specs.FaultCounts.Rose, specs.declared.header.Header.Header, specs.RecordTypes.mode_of}
-use Rattle.bench_io.{specs.Sinks.AppendsShort, specs.Given.IsOf, specs.Inputs.{File, InputState, IsOpened}, specs.declared.inputs.Inputs.Ghosts as InputGhosts, specs.declared.sink.Sink.Ghosts as SinkGhosts}
+use Rattle.bench_io.{specs.Sinks.AppendsShort, specs.Given.{IsOf, IsAtEnd}, specs.Inputs.{File, InputState, IsOpened}, specs.declared.inputs.Inputs.Ghosts as InputGhosts, specs.declared.sink.Sink.Ghosts as SinkGhosts}
 use Rattle.ptu_definitions.specs.Headers.{header_answer}
-use Rattle.plan_text.{specs.Plan.PlanView, specs.Reading.{text_limit, plan_answer}, specs.Fits.fits}
+use Rattle.plan_text.{specs.Plan.{PlanView, parts_of}, specs.Reading.{text_limit, plan_answer}, specs.Fits.fits}
 use Rattle.command_work.{specs.Once.{InputsOnce, OutOnce}, specs.Outcomes.{Outcome, refused, status}, specs.Behaviours.{piece_limit, Work, Writing, AtEnd, AsItReads, so_far, under, Memory, ForPlan, ForTables, Behaviour, NoCommand, Alone, OnFile, ByPlan}}
 
 -- ## What the files call for
@@ -139,8 +139,19 @@ CutsShort (Alone written) end old new = (end.fault ≡ None) × AppendsShort old
 CutsShort (OnFile file writing work) end old new = Cuts writing end old new
 CutsShort (ByPlan plan file writing memory lacks work) end old new = Cuts writing end old new
 
--- The bytes that were taken from the file are a header that the plan's parts suit, and less than one piece behind it.
+-- The plan was opened and read to its end, and is no longer than a plan may be.
+pub record HasWholePlan (after : InputState) : Type 0 where
+  pub opened : after.opened Plan ≡ true
+  pub ended : IsAtEnd (after.given Plan)
+  pub few : length (after.given Plan).bytes ≤ text_limit
+
+-- Memory may be wanting for a plan: for its text, before it is asked for; or for its document, once the whole was read.
+abbrev pub WantsForPlan : InputState → Type 0
+WantsForPlan after = (after.asked Plan ≡ false) ⊎ HasWholePlan after
+
+-- The plan has a table, and the bytes that were taken from the file are a header that its parts suit, and less than one piece behind it.
 pub record StopsAtHeader (plan : PlanView) (taken : List ℕ) : Type 0 where
+  pub tables : 0 < length (parts_of plan)
   pub header : Header
   pub behind : List ℕ
   pub answer : header_answer taken ≡ Ok (header, behind)
@@ -152,13 +163,20 @@ abbrev pub WantsBehind : Memory → PlanView → List ℕ → Type 0
 WantsBehind ForPlan plan taken = ⊥
 WantsBehind ForTables plan taken = StopsAtHeader plan taken
 
--- What a run leaves where memory was refused: nothing is written, and the data were not asked for, or the tables take memory and the plan suits the header that the reads of FILE gave.
+-- The data were opened, behind a plan that lacks nothing, and memory may be wanting behind the bytes that their reads gave.
+pub record StopsBehind (memory : Memory) (lacks : PlanView → Option Fault) (after : InputState) : Type 0 where
+  pub plan : PlanView
+  pub has : HasPlan after lacks plan
+  pub opened : after.opened Data ≡ true
+  pub wants : WantsBehind memory plan (after.given Data).bytes
+
+-- What a run leaves that ends for want of memory: nothing is written, and the command takes memory there. By a plan that is for the plan, and the data were not asked for; or for its tables.
 abbrev pub RunsOut : Behaviour → InputState → Option (List ℕ) → Option (List ℕ) → Type 0
 RunsOut NoCommand after old new = ⊥
 RunsOut (Alone end) after old new = Keeps old new
 RunsOut (OnFile file writing work) after old new = ⊥
 RunsOut (ByPlan plan file writing memory lacks work) after old new =
-    Keeps old new × ((after.asked Data ≡ false) ⊎ ((view : PlanView) × HasPlan after lacks view × (after.opened Data ≡ true) × WantsBehind memory view (after.given Data).bytes))
+    Keeps old new × (((after.asked Data ≡ false) × WantsForPlan after) ⊎ StopsBehind memory lacks after)
 
 -- No more of a plan is read than one byte more than a plan may have.
 abbrev pub TakesPlan : InputState → Type 0

@@ -3,7 +3,7 @@ use Rattle.std.specs.Prelude.{ℕ, ◌≡◌, ◌⊎◌, ◌<◌, ◌≤◌, Lis
 use Rattle.tally_base.{specs.declared.slot.Slot.Slot, specs.declared.slot.Slot.TheVariants.Plan as PlanSlot, specs.declared.fault.Fault.Fault, specs.Faults.{is_outside, HasReason}, specs.FaultCounts.Rose}
 use Rattle.bench_io.{specs.Inputs.{File, InputState, Keeps, KeepsOther}, specs.Given.{Consumes, IsAtEnd}}
 use Rattle.plan_text.{specs.declared.plan.Plan.Plan, specs.Reading.{text_limit, plan_answer, plan_seen}}
-use Rattle.command_work.{specs.Endings.FileOf}
+use Rattle.command_work.{specs.Endings.{FileOf, WantsForPlan}}
 
 -- The name is meant for the slot, which was not asked for yet.
 pub record MayOpen (state : InputState) (slot : Slot) (name : List ℕ) : Type 0 where
@@ -31,10 +31,10 @@ pub record IsRead (plan_file : File) (result : Result Plan Fault) : Type 0 where
 abbrev pub AnswersPlan : InputState → Result Plan Fault → Type 0
 AnswersPlan after result = IsErrAnd result (λ fault. is_outside fault ≡ true) ⊎ ((plan_file : File) → FileOf after PlanSlot plan_file → IsRead plan_file result)
 
--- The plan could not be opened, or a read failed where no more bytes were taken than a plan may have, or memory was refused.
+-- The plan could not be opened, or a read failed where no more bytes were taken than a plan may have, or memory was wanting for the plan.
 abbrev pub PlanReason : InputState → InputState → Fault → Type 0
 PlanReason before after = HasReason
     (λ slot. (slot ≡ PlanSlot) × Rose (before.open_faults slot) (after.open_faults slot))
     (λ slot. (slot ≡ PlanSlot) × (after.opened slot ≡ true) × Rose (before.read_faults slot) (after.read_faults slot) × (length (after.given PlanSlot).bytes ≤ text_limit))
     ⊥
-    (Unit {0})
+    (WantsForPlan after)

@@ -1,5 +1,6 @@
 pub mod Firsts
 pub mod Steps
+pub mod Spans
 pub mod BinSteps
 pub mod Ends
 pub mod Given

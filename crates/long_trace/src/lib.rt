@@ -5,6 +5,7 @@
 mod closed;
 mod counting;
 mod ending;
+pub mod laws;
 mod lines;
 mod trace;
 

@@ -10,3 +10,4 @@ pub mod Ends
 pub mod Streams
 pub mod Stays
 pub mod CanBeWritten
+pub mod BeforeLate

@@ -1,9 +1,9 @@
-// The law of the photons that are picked, as the contract of a function that does nothing.
-ghost use Rattle.std.specs.Prelude.{ℕ};
-ghost use Rattle.tally_base.{specs.declared.event.Policy.Policy, specs.declared.header.RecordType.RecordType, specs.RecordTypes.mode_of};
+// Laws of the photons that are picked, each as the contract of a function that does nothing.
+ghost use Rattle.std.specs.Prelude.{ℕ, List};
+ghost use Rattle.tally_base.{specs.declared.event.Event.Event, specs.declared.event.Policy.Policy, specs.declared.header.Mode.Mode, specs.declared.header.RecordType.RecordType, specs.RecordTypes.mode_of};
 ghost use Rattle.ptu_definitions.specs.Streams.{reading};
 ghost use Rattle.gate_plan.specs.Shifting.{Sorting};
-ghost use Rattle.photon_pick.{specs.Chosen.is_chosen, specs.Ends.CanBeWritten};
+ghost use Rattle.photon_pick.{specs.Chosen.is_chosen, specs.Ends.CanBeWritten, specs.Late.writable, specs.BeforeLate.AreBeforeLate};
 
 /// The photons of a group in the kept list of any words can be written where none of them is too late:
 /// they fit the mode of the record type, and their times never fall, whether late events are left out or
@@ -13,4 +13,10 @@ ghost use Rattle.photon_pick.{specs.Chosen.is_chosen, specs.Ends.CanBeWritten};
 pub fn kept_photons_can_be_written()
     ensures { (record_type : RecordType) (policy : Policy) (sorting : Sorting) (group : ℕ)
         → CanBeWritten (mode_of record_type) (is_chosen sorting group) (reading record_type policy) }
+{}
+
+/// The photons that are written are those before the first that is too late.
+pub fn those_before_a_late_one_are_written()
+    ensures { (mode : Mode) (photons : List Event)
+        → AreBeforeLate mode (writable mode photons) photons }
 {}

@@ -12,3 +12,4 @@ pub mod Called
 pub mod ByKind
 pub mod PartLists
 pub mod Bound
+pub mod FirstVersion

@@ -19,7 +19,7 @@ broken_before (rule ∷ before) after n at (inr later) = inr (broken_before befo
 pub all_before : (before after : List Rule) → AllHold (before ++ after) → AllHold before
 all_before before after all = λ n at b. all n at (broken_before before after n at b)
 
-all_after : (before after : List Rule) → AllHold (before ++ after) → AllHold after
+pub all_after : (before after : List Rule) → AllHold (before ++ after) → AllHold after
 all_after before after all = λ n at b. all n at (broken_after before after n at b)
 
 -- a rule on each thing of a list
@@ -73,7 +73,7 @@ kind_whole kind d all =
     all_kept_in (kind.read d) (tables kind d) (each_holds (λ table. is_some (kind.read d table)) 1 (tables kind d) (λ at b. all_after (kind.before d) (last_rule kind d ∷ []) all kind.last at (inl (refl, b))))
 
 -- Each rule on the list holds.
-abbrev Holds : Data → TableList → Type 0
+abbrev pub Holds : Data → TableList → Type 0
 Holds d list = AllHold (list.rules d)
 
 kinds_whole : (kinds : List Kind) (d : Data) → AllByRecursion (Holds d) (map list_of_kind kinds)
@@ -100,7 +100,7 @@ plan_kept d =
     ∙ ap (or_next (all_kept (document_rules d))) (kept_by_lists table_lists d)
 
 -- where the rules on all lists hold, those on each do
-lists_hold : (lists : List TableList) (d : Data) → AllHold (flat_map (λ list. list.rules d) lists) → AllByRecursion (Holds d) lists
+pub lists_hold : (lists : List TableList) (d : Data) → AllHold (flat_map (λ list. list.rules d) lists) → AllByRecursion (Holds d) lists
 lists_hold [] d all = tt
 lists_hold (list ∷ lists) d all =
     let more = flat_map (λ list. list.rules d) lists in

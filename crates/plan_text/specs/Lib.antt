@@ -15,6 +15,7 @@ pub mod Shifts
 pub mod Kinds
 pub mod Document
 pub mod Plan
+pub mod FirstVersion
 pub mod Bound
 pub mod Reading
 pub mod Fits

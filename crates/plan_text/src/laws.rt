@@ -1,8 +1,8 @@
 // Laws of plans, as the contracts of functions that do nothing.
-ghost use Rattle.std.specs.Prelude.{◌≡◌, ◌≢◌, ◌↔◌, ◌≤◌, ℕ, List, Some, Ok, Err};
+ghost use Rattle.std.specs.Prelude.{◌≡◌, ◌≢◌, ◌↔◌, ◌≤◌, ℕ, List, Some, Ok, Err, false};
 ghost use Rattle.toml.specs.Data.{Members, table};
 ghost use Rattle.tally_base.{specs.declared.fault.Fault.Fault, specs.declared.fault.Fault.TheVariants.OutOfMemory, specs.declared.header.Mode.Mode};
-ghost use Rattle.plan_text.{specs.declared.plan.Plan.Plan, specs.Plan.{PlanView, plan}, specs.Reading.{document, plan_answer, IsCalledFor, IsValid, HaveSameTables}, specs.Fits.{fits, IsMisfit}, specs.Bound.{bound, greatest_bound}};
+ghost use Rattle.plan_text.{specs.declared.plan.Plan.Plan, specs.Plan.{PlanView, plan}, specs.Version.is_second, specs.FirstVersion.SaysFirst, specs.Reading.{document, plan_answer, IsCalledFor, IsValid, HaveSameTables}, specs.Fits.{fits, IsMisfit}, specs.Bound.{bound, greatest_bound}};
 
 /// What bytes answer as a plan is the one fault that they call for, or the plan of a document that breaks
 /// no rule.
@@ -32,4 +32,11 @@ pub fn bounded()
     ensures most { (bytes : List ℕ) (view : PlanView) → plan_answer bytes ≡ Ok view
         → bound view ≤ greatest_bound }
     ensures number { greatest_bound ≡ 261745146 }
+{}
+
+/// A plan that is not of version 2 is read as before there was one: it shifts no dtime, puts no event in its place,
+/// has at most one gate a group, no cube and no fold, and no row of its images runs backwards.
+pub fn version_1_is_read_as_before()
+    ensures { (bytes : List ℕ) (ms : Members) (view : PlanView) → document bytes ≡ Some ms
+        → is_second (table ms) ≡ false → plan_answer bytes ≡ Ok view → SaysFirst view }
 {}

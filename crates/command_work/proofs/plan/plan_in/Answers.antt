@@ -3,7 +3,7 @@ use Rattle.bench_io.specs.Inputs.{IsOpened}
 use Rattle.std.{specs.declared.option.Option.Option, proofs.lemmas.Result.{IfErr-weaker, err_from_is_err_and}, proofs.lemmas.List.length-take-le}
 use Rattle.tally_base.specs.declared.slot.Slot.TheVariants.{Plan as PlanSlot}
 use Rattle.plan_text.specs.Reading.{text_limit}
-use Rattle.command_work.{proofs.Plans.{uses-read, plan_told, plan_reason, plan-quiet, ended_short}, proofs.Told.all-taken, proofs.Once.{Rose-kept, quiet-none, once-refl, once-none, once-behind, once-opened, once-unopened}}
+use Rattle.command_work.{proofs.Plans.{uses-read, plan_told, plan-reasons, plan-quiet, ended_short}, proofs.Told.all-taken, proofs.Once.{Rose-kept, quiet-none, once-refl, once-none, once-behind, once-opened, once-unopened}}
 use Rattle.command_work.proofs.plan.plan_in.Goals as goal
 
 pub returns-in-Err-clause-uses : goal.returns-in-Err-clause-uses
@@ -23,7 +23,12 @@ returns-clause-answer g c =
     c.read_plan.ensures.answer
 
 pub returns-clause-reason : goal.returns-clause-reason
-returns-clause-reason g c = IfErr-weaker c.read_plan.result _ _ (λ fault h. plan_reason _ _ _ fault h) c.read_plan.ensures.inside
+returns-clause-reason g c =
+    let after = g.I.Inputs.state c.read_text.new.inputs in
+    let took = c.in_ok-len.ensures.filled in
+    let ended = ended_short (text_limit + 1) c.in_ok-len.len c.read_text.new.text (after.given PlanSlot) (Prim.search rules) took.room took.ended in
+    let is_open = ap (λ f. f PlanSlot) c.read_text.ensures.reads.opens_none.opened ∙ c.in-Ok.ensures.opened in
+    plan-reasons _ _ _ after _ _ c.read_plan.result c.in-Ok.ensures.given is_open took.taken ended c.read_plan.ensures.inside c.read_plan.ensures.refused
 
 pub returns-in-Err-clause-takes : goal.returns-in-Err-clause-takes
 returns-in-Err-clause-takes g c = λ opened.

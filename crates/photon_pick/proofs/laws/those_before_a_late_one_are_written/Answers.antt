@@ -1,0 +1,5 @@
+use Rattle.photon_pick.proofs.BeforeLate.{before-late}
+use Rattle.photon_pick.proofs.laws.those_before_a_late_one_are_written.Goals as goal
+
+pub returns : goal.returns
+returns c = before-late

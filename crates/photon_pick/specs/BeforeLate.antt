@@ -1,0 +1,12 @@
+-- The photons before the first that is too late to be written.
+use Rattle.std.specs.Prelude.{◌≡◌, true, List, [], ◌∷◌, ◌++◌}
+use Rattle.tally_base.{specs.declared.event.Event.Event, specs.declared.header.Mode.Mode}
+use Rattle.record_write.specs.Picked.{is_too_late}
+use Rattle.photon_pick.specs.Late.{too_late}
+
+-- They are the first of these photons, none of them is too late, and behind them is nothing, or first one that is.
+pub record AreBeforeLate (mode : Mode) (front photons : List Event) : Type 0 where
+  pub behind : List Event
+  pub parts : photons ≡ front ++ behind
+  pub in_time : too_late mode front ≡ []
+  pub next : (e : Event) (more : List Event) → behind ≡ e ∷ more → is_too_late mode e.time ≡ true
