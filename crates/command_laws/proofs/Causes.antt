@@ -290,10 +290,10 @@ module _ (plan_name : List ℕ) (group : ℕ) (file : List ℕ) (plan_file data_
           inl (ap (λ (o : Outcome). o.fault) (picked-end h.0 h.1 h.2 _ (h.3, h.5) h.4 h.6 (inr (inr (inr (inr (all, refl)))))))
 
 -- what it writes of a file with a header is listed
-pub pick-is-listed : (plan_name : List ℕ) (group : ℕ) (file name : List ℕ) (plan_file data_file : File)
+pub pick-is-listed : (plan_name file name : List ℕ) (group : ℕ) (plan_file data_file : File)
     → ListsWritten group plan_file data_file name (ends_with (Pick plan_name group file) plan_file data_file).text
 unfolding short_file
-pick-is-listed plan_name group file name plan_file data_file view header behind usable headed suits few =
+pick-is-listed plan_name file name group plan_file data_file view header behind usable headed suits few =
     let end = records_picked view group header behind in
     let is = picked-end plan_name group file plan_file data_file view header behind end usable headed suits (picked-holds view group header behind) in
     let text : end.text ≡ picked_file (mode_of header.record_type) (photons_written group view header behind) = refl in

@@ -35,7 +35,7 @@ pub fn picked_photons_are_listed()
 /// call for, is a file of photons: `events` lists just those that were written, at their places in that file, and none of
 /// them as late, where its words are at most 2^40.
 pub fn what_is_picked_is_listed()
-    ensures { (plan_name : List ℕ) (group : ℕ) (file name : List ℕ) (plan_file data_file : File)
+    ensures { (plan_name file name : List ℕ) (group : ℕ) (plan_file data_file : File)
         → ListsWritten group plan_file data_file name
         (ends_with (Pick plan_name group file) plan_file data_file).text }
 {}

@@ -3,7 +3,8 @@ use Rattle.std.specs.Prelude.{ℕ, ◌≡◌, ◌⊎◌, ◌≤◌, List, ◌++�
 use Rattle.std.{specs.declared.option.Option.Option, specs.Io.KnownBytes.{Keeps, Appends}}
 use Rattle.tally_base.{specs.declared.slot.Slot.TheVariants.Data, specs.declared.fault.Fault.Fault, specs.FaultCounts.Rose, specs.Faults.{is_outside, fault_in, HasReason}}
 use Rattle.bench_io.specs.Given.{Given, Consumes, MayFollow}
-use Rattle.command_work.{specs.Told.Says, specs.Behaviours.{piece_limit, Work, Writing, so_far}, specs.Endings.{Cuts, Span, Once}}
+use Rattle.plan_text.specs.Plan.{PlanView}
+use Rattle.command_work.{specs.Told.Says, specs.Behaviours.{piece_limit, Work, Writing, Memory, so_far, under}, specs.Endings.{Cuts, Span, Once, WantsBehind}}
 
 -- The bytes taken end so, whatever may stand behind them, and this text was written.
 pub record EndsWork (work : Work) (start now : Given) (old new : Option (List ℕ)) (fault : Option Fault) : Type 0 where
@@ -67,3 +68,7 @@ pub record LeavesWork (writing : Writing (List ℕ → List ℕ)) (wanting : Lis
   pub once : Once span (fault_in result)
   -- few bytes were taken
   pub few : TakesFew work.goes_on (span.before.given Data) (span.after.given Data)
+
+-- The same of work by a plan.
+abbrev pub LeavesPlanned : Writing (PlanView → List ℕ → List ℕ) → Memory → (PlanView → Work) → PlanView → Span → Result (Unit {0}) Fault → Type 0
+LeavesPlanned writing memory work plan = LeavesWork (under plan writing) (WantsBehind memory plan) (work plan)

@@ -5,7 +5,7 @@ ghost use Rattle.tally_base.{specs.declared.slot.Slot.Slot, specs.declared.slot.
 ghost use Rattle.bench_io.specs.Inputs.{OnlyReads};
 ghost use Rattle.ptu_definitions.specs.Counted.{record_limit};
 ghost use Rattle.plan_text.{specs.Plan.PlanView, specs.Reading.plan_view};
-ghost use Rattle.command_work.{specs.Behaviours.{Work, Writing, Memory, OnFile, ByPlan, under}, specs.Endings.{Does, WantsBehind, span}, specs.Works.{WantsNone, LeavesWork}};
+ghost use Rattle.command_work.{specs.Behaviours.{Work, Writing, Memory, OnFile, ByPlan}, specs.Endings.{Does, span}, specs.Works.{WantsNone, LeavesWork, LeavesPlanned}};
 
 use crate::plan::plan_of;
 use bench_io::{Inputs, Sink};
@@ -73,9 +73,8 @@ pub trait PlanWork {
             × (plan.now.policy.records ≤ record_limit) }
         requires whole { lacking self.now (plan_view plan.now) ≡ None }
         ensures reads { OnlyReads Data (I.state inputs.old) (I.state inputs.new) }
-        ensures leaves { LeavesWork (under (plan_view plan.now) (writing self.now))
-            (WantsBehind memory (plan_view plan.now)) (work self.now (plan_view plan.now))
-            (span I.Inputs O.Sink inputs.old inputs.new out.old out.new) result };
+        ensures leaves { LeavesPlanned (writing self.now) memory (work self.now)
+            (plan_view plan.now) (span I.Inputs O.Sink inputs.old inputs.new out.old out.new) result };
 }
 
 /// Reads PLAN whole. Where it is a plan and lacks nothing, opens FILE, and does the command's work

@@ -8,7 +8,7 @@ use Rattle.plan_text.{specs.Plan.PlanView, specs.Fits.fits}
 use Rattle.gate_plan.{specs.Shifting.{Sorting, sorting}, specs.Histories.history, specs.Plans.reading_by}
 use Rattle.record_stream.{specs.declared.stream.RecordStream.RecordStream, specs.Standing.{how_of, given_by, greatest_of, refused_with, HasStreamed}}
 use Rattle.long_trace.{specs.declared.trace.LongTrace.LongTrace, specs.LongTrace.{Holds, set_of, taken_of, floor_of, is_going}, specs.Texts.open_text}
-use Rattle.command_work.specs.Tellings.{Telling, WritesPiece, unless_declined}
+use Rattle.command_work.specs.Tellings.{Telling, WritesPiece, WritesEnd, unless_declined}
 use Rattle.trace_work.specs.TraceOutcomes.{settled_before, words_traced, records_traced}
 
 -- the trace of the settings
@@ -72,6 +72,17 @@ abbrev pub WritesLast : {O : Type 0} → Ghosts O → Sorting → Reading → Lo
 WritesLast o by how trace now old new bytes (Ok done) = WroteLast o by how trace now old new bytes
 WritesLast o by how trace now old new bytes (Err fault) =
     ((is_outside fault ≡ false) × (fault_in (streamed how bytes) ≡ Some fault) × Keeps (o.written old) (o.written new) × (o.faults new ≡ o.faults old)) ⊎ ((fault ≡ WriteFault) × CutLast o by how trace old new bytes)
+
+-- the same of a stream and a trace that stand for the same bytes
+abbrev pub EndsLines : {O : Type 0} → Ghosts O → Sorting → RecordStream → LongTrace → LongTrace → O → O → Result (Unit {0}) Fault → Type 0
+EndsLines o by stream trace now old new result =
+    (bytes : List ℕ) → HasStreamed stream bytes → TracesBytes by (how_of stream) trace bytes → WritesLast o by (how_of stream) trace now old new bytes result
+
+-- What ending both wrote is the end of the trace's text.
+abbrev pub EndsTrace : {O : Type 0} → Ghosts O → Sorting → RecordStream → LongTrace → O → O → Result (Unit {0}) Fault → Type 0
+EndsTrace o by stream trace old new result =
+    (bytes : List ℕ) → HasStreamed stream bytes → TracesBytes by (how_of stream) trace bytes
+    → WritesEnd (traces (trace_view (set_of trace)) by (how_of stream)) bytes (o.written old) (o.written new) (o.faults old) (o.faults new) result
 
 -- what ends a stream whose last lines are flushed
 abbrev pub both_ended : {X Y : Type 0} → Result X Fault → Result (Unit {0}) Y → Result (Unit {0}) Fault

@@ -7,7 +7,7 @@ ghost use Rattle.record_stream.specs.Standing.{how_of, given_by, greatest_of, re
 ghost use Rattle.gate_plan.specs.Groups.{sorting_of};
 ghost use Rattle.long_trace.specs.LongTrace.{set_of, taken_of, floor_of, is_going};
 ghost use Rattle.command_work.{specs.StreamPieces.{TakesOn, StaysOpen}, specs.Tellings.WritesEnd};
-ghost use Rattle.trace_work.{specs.TraceOutcomes.trace_of, specs.TracePieces.{traces, IsBehindStream, TracesBytes, TracesPiece, WritesLast, both_ended}};
+ghost use Rattle.trace_work.{specs.TraceOutcomes.trace_of, specs.TracePieces.{traces, IsBehindStream, TracesBytes, TracesPiece, EndsLines, EndsTrace, both_ended}};
 
 use abs_time::{moved_floor, orders_markers};
 use arrayvec::ArrayVec;
@@ -163,10 +163,8 @@ fn end_lines<'g, 't, 'o, O: Sink>(
     requires stands { (lines.old.taken ≡ given_by stream) × (lines.old.floor ≡ greatest_of stream) }
     requires going { refused_with stream ≡ None }
     requires empty { lines.old.block ≡ [] }
-    ensures writes { (bytes : List ℕ) → HasStreamed stream bytes
-        → TracesBytes (sorting_of lines.old.gates.now) (how_of stream) lines.old.trace.now bytes
-        → WritesLast O.Sink (sorting_of lines.old.gates.now) (how_of stream) lines.old.trace.now
-        lines.new.trace.now lines.old.out.now lines.new.out.now bytes result }
+    ensures writes { EndsLines O.Sink (sorting_of lines.old.gates.now) stream
+        lines.old.trace.now lines.new.trace.now lines.old.out.now lines.new.out.now result }
     ensures going { is_going lines.new.trace.now ≡ true }
     ensures set { set_of lines.new.trace.now ≡ set_of lines.old.trace.now }
     ensures same { (lines.new.out.ghost_name ≡ lines.old.out.ghost_name)
@@ -202,10 +200,7 @@ fn end_trace<O: Sink>(
     requires mode { mode ≡ (how_of stream).mode }
     requires going { refused_with stream ≡ None }
     requires behind { IsBehindStream stream trace }
-    ensures { (bytes : List ℕ) → HasStreamed stream bytes
-        → TracesBytes (sorting_of gates.now) (how_of stream) trace bytes
-        → WritesEnd (traces (trace_view (set_of trace)) (sorting_of gates.now) (how_of stream)) bytes
-        (O.written out.old) (O.written out.new) (O.faults out.old) (O.faults out.new) result }
+    ensures { EndsTrace O.Sink (sorting_of gates.now) stream trace out.old out.new result }
 {
     last_lines(stream, mode, gates, &mut trace, out)?;
     trace.finish(out)
@@ -222,10 +217,8 @@ fn last_lines<O: Sink>(
     requires mode { mode ≡ (how_of stream).mode }
     requires going { refused_with stream ≡ None }
     requires behind { IsBehindStream stream trace.old }
-    ensures writes { (bytes : List ℕ) → HasStreamed stream bytes
-        → TracesBytes (sorting_of gates.now) (how_of stream) trace.old bytes
-        → WritesLast O.Sink (sorting_of gates.now) (how_of stream) trace.old trace.new out.old out.new
-        bytes result }
+    ensures writes { EndsLines O.Sink (sorting_of gates.now) stream
+        trace.old trace.new out.old out.new result }
     ensures going { is_going trace.new ≡ true }
     ensures set { set_of trace.new ≡ set_of trace.old }
 {
