@@ -23,6 +23,18 @@ greatest-on_time mode top e on = by_case (is_ordered mode e) on
     by_case true on = let h : top ≤ e.time = on refl in omega (arith, h)
     by_case false on = omega arith
 
+-- the clock with a record more, of which no event is late
+pub clock-push : (mode : Mode) (n base top : ℕ) (records : List Raw) (raw : Raw) → IsClock mode n base top records → IsOnTime mode top (event_of (n + 1) base raw)
+    → IsClock mode (n + 1) (base + amount raw) (greatest_with mode top (event_of (n + 1) base raw)) (records ++ raw ∷ [])
+clock-push mode n base top records (Photon input time dtime) clock on =
+    let e : Event = record { place = n + 1; kind = PhotonEvent input dtime; time = base + time } in
+    rw add-zero (subst (λ t. IsClock mode (n + 1) base t (records ++ Photon input time dtime ∷ [])) (greatest-on_time mode top e on) (IsClock-photon mode n base top input time dtime records clock))
+clock-push mode n base top records (Marker bits time) clock on =
+    let e : Event = record { place = n + 1; kind = MarkerEvent bits; time = base + time } in
+    rw add-zero (subst (λ t. IsClock mode (n + 1) base t (records ++ Marker bits time ∷ [])) (greatest-on_time mode top e on) (IsClock-marker mode n base top bits time records clock))
+clock-push mode n base top records (Wrap ticks) clock on = IsClock-wrap mode n base top ticks records clock
+clock-push mode n base top records Reserved clock on = rw add-zero (IsClock-reserved mode n base top records clock)
+
 pub on_time-push : (es more : List Event) (l : Marked) → (l ++ on_time es) ++ on_time more ≡ l ++ on_time (es ++ more)
 on_time-push es more l = append_assoc l (on_time es) (on_time more) ∙ ap (λ m. l ++ m) (sym (map-append (λ (e : Event). (e, false)) es more))
 
