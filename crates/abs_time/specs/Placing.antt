@@ -1,5 +1,5 @@
 -- What a clock stands for.
-use Rattle.std.specs.Prelude.{ℕ, ◌≡◌, ◌+◌, ◌≤◌, ◌&&◌, IsTrue, nat_lt, List, [], ◌∷◌, length, if◌then◌else◌, Result, Ok, Err}
+use Rattle.std.specs.Prelude.{ℕ, ◌≡◌, ◌+◌, ◌≤◌, ◌&&◌, IsTrue, nat_lt, List, [], ◌∷◌, ◌++◌, length, if◌then◌else◌, Result, Ok, Err}
 use Rattle.tally_base.{specs.declared.event.Event.Event, specs.declared.fault.Fault.Fault, specs.declared.fault.Fault.TheVariants.TimeLimit, specs.declared.header.Mode.Mode, specs.Events.is_ordered, specs.Limits.time_limit}
 use Rattle.ptu_definitions.{specs.declared.records.Raw.Raw, specs.Kinds.is_wrap, specs.Times.{base, event_after, events, passes}, specs.Kept.{is_late, greatest}, specs.Fitting.KindFits}
 use Rattle.abs_time.{specs.declared.clock.Clock.Clock, specs.declared.clock.Placed.Placed, specs.declared.clock.Placed.TheVariants.Event as InOrder, specs.declared.clock.Placed.TheVariants.{Late, Wrap, Reserved}}
@@ -25,6 +25,10 @@ greatest_by clock = clock.greatest
 -- The clock placed these records.
 abbrev pub HasPlaced : Clock → List Raw → Type 0
 HasPlaced clock records = IsClock clock.mode clock.placed clock.base clock.greatest records
+
+-- Behind all that the clock placed, these records lead to these numbers.
+abbrev pub LeadsOn : Clock → ℕ → ℕ → ℕ → List Raw → Type 0
+LeadsOn clock count sum top more = (records : List Raw) → HasPlaced clock records → IsClock (mode_of clock) count sum top (records ++ more)
 
 -- an event, where the ordered ones before it have this greatest time
 abbrev pub against : Mode → ℕ → Event → Placed

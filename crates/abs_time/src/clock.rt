@@ -31,7 +31,7 @@ pub struct Clock {
 }
 
 impl Clock {
-    ghost use Rattle.abs_time.specs.Placing.{IsClock, mode_of, placed_by, greatest_by, HasPlaced, base_of, against, place_answer, IsSmall, Moves, IsAtPlace, IsNext};
+    ghost use Rattle.abs_time.specs.Placing.{IsClock, LeadsOn, mode_of, placed_by, greatest_by, HasPlaced, base_of, against, place_answer, IsSmall, Moves, IsAtPlace, IsNext};
     ghost use Rattle.ptu_definitions.{specs.Fitting.Fits, specs.Kept.ordered_time};
 
     /// The clock of a file of this mode, before its first record.
@@ -81,12 +81,13 @@ impl Clock {
         self.greatest
     }
 
-    /// Goes on behind records that were placed by the same rules without it, since a block of them needs no
-    /// test for each. By now so many are placed; their wraps add up to `base`, at most 2^62, and `greatest` is
-    /// the greatest time of the events in order.
+    /// Goes on behind more records that were placed by the same rules without it, since a block of them needs no
+    /// test for each. With them so many are placed; the wraps of all add up to `base`, at most 2^62, and `greatest`
+    /// is the greatest time of the events in order.
     #[inline(always)]
     pub fn go_on(&mut self, placed: u64, base: u64, greatest: u64)
-        requires { base ≤ wrap_limit }
+        requires limit { base ≤ wrap_limit }
+        requires stands { ∥ ((more : List Raw) × LeadsOn self.old placed base greatest more) ∥₁ }
         ensures placed { (records : List Raw)
             → IsClock (mode_of self.old) placed base greatest records → HasPlaced self.new records }
         ensures count { placed_by self.new ≡ placed }

@@ -1,6 +1,6 @@
 -- One word more of which none is refused and no event is late.
 use Rattle.std.proofs.Common.{◌≡◌, ◌+◌, ◌<◌, ◌≤◌, ◌^◌, ℕ, List, [], ◌∷◌, ◌++◌, Bool, true, false, max, None, Ok, map, refl, sym, ap, subst, ◌∙◌, append_assoc, append-nil, arith, add-zero, ◌&&◌, IsTrue, nat_lt, if◌then◌else◌}
-use Rattle.std.{proofs.lemmas.List.map-append, proofs.lemmas.List.Elements.All-push, proofs.lemmas.Bool.Decides.nat_tests}
+use Rattle.std.{proofs.lemmas.List.{map-append, map_push}, proofs.lemmas.List.Elements.All-push, proofs.lemmas.Bool.Decides.nat_tests}
 use Rattle.tally_base.{specs.declared.event.Event.Event, specs.declared.event.EventKind.TheVariants.{Photon as PhotonEvent, Marker as MarkerEvent}, specs.declared.header.Mode.Mode, specs.declared.header.Mode.TheVariants.{T2, T3}, specs.Events.{is_ordered, stops_reserved}, specs.Limits.{time_limit, wrap_limit}, proofs.Floors.{floor-push, order-push}}
 use Rattle.ptu_definitions.{specs.declared.records.Raw.Raw, specs.declared.records.Raw.TheVariants.{Photon, Marker, Wrap, Reserved}, specs.Kinds.is_reserved, specs.Times.{event_after, event_of, events, amount}, specs.Fitting.{Fits, KindFits}, specs.Kept.{Marked, ordered_time}, specs.Streams.{Reading, events_in}, proofs.StreamLemmas.{clear-push, events-push, events_in-push, fresh}}
 use Rattle.abs_time.{specs.declared.clock.Placed.Placed, specs.declared.clock.Placed.TheVariants.{Event as InOrderPlaced, Late, Wrap as WrapPlaced, Reserved as ReservedPlaced}, specs.Placing.{IsClock, against, place_answer}, proofs.ClockLemmas.{IsClock-photon, IsClock-marker, IsClock-wrap, IsClock-reserved, answer-photon, answer-marker, answer-wrap, answer-reserved}, specs.Floors.orders_markers, proofs.Floors.moves_by}
@@ -23,69 +23,54 @@ greatest-on_time mode top e on = by_case (is_ordered mode e) on
     by_case true on = let h : top ≤ e.time = on refl in omega (arith, h)
     by_case false on = omega arith
 
+-- the clock with a record more, of which no event is late
+pub clock-push : (mode : Mode) (n base top : ℕ) (records : List Raw) (raw : Raw) → IsClock mode n base top records → IsOnTime mode top (event_of (n + 1) base raw)
+    → IsClock mode (n + 1) (base + amount raw) (greatest_with mode top (event_of (n + 1) base raw)) (records ++ raw ∷ [])
+clock-push mode n base top records (Photon input time dtime) clock on =
+    let e : Event = record { place = n + 1; kind = PhotonEvent input dtime; time = base + time } in
+    rw add-zero (subst (λ t. IsClock mode (n + 1) base t (records ++ Photon input time dtime ∷ [])) (greatest-on_time mode top e on) (IsClock-photon mode n base top input time dtime records clock))
+clock-push mode n base top records (Marker bits time) clock on =
+    let e : Event = record { place = n + 1; kind = MarkerEvent bits; time = base + time } in
+    rw add-zero (subst (λ t. IsClock mode (n + 1) base t (records ++ Marker bits time ∷ [])) (greatest-on_time mode top e on) (IsClock-marker mode n base top bits time records clock))
+clock-push mode n base top records (Wrap ticks) clock on = IsClock-wrap mode n base top ticks records clock
+clock-push mode n base top records Reserved clock on = rw add-zero (IsClock-reserved mode n base top records clock)
+
 pub on_time-push : (es more : List Event) (l : Marked) → (l ++ on_time es) ++ on_time more ≡ l ++ on_time (es ++ more)
 on_time-push es more l = append_assoc l (on_time es) (on_time more) ∙ ap (λ m. l ++ m) (sym (map-append (λ (e : Event). (e, false)) es more))
 
 module _ (how : Reading) (n base top : ℕ) (before ws : List ℕ) (w : ℕ) (es : List Event)
     (a : Adds how n base top before ws es) (room : n < how.policy.records) where
-  adds-placed : (raw : Raw) (p : Placed) (more : List Event) (base' top' : ℕ)
-      → raw ≡ how.meaning w → (is_reserved raw && stops_reserved how.policy.reserved) ≡ false
-      → Ok p ≡ place_answer how.mode (map how.meaning ws) raw → IsEarly p → event_in p ≡ more → marks_of p ≡ on_time more
-      → IsClock how.mode (n + 1) base' top' (map how.meaning ws ++ raw ∷ [])
-      → Adds how (n + 1) base' top' before (ws ++ w ∷ []) (es ++ more)
-  adds-placed raw p more base' top' means go answers early is marks clock =
+  adds-placed : (raw : Raw) (p : Placed) → raw ≡ how.meaning w → (is_reserved raw && stops_reserved how.policy.reserved) ≡ false
+      → Ok p ≡ place_answer how.mode (map how.meaning ws) raw → IsEarly p → event_in p ≡ event_of (n + 1) base raw → marks_of p ≡ on_time (event_of (n + 1) base raw) → IsOnTime how.mode top (event_of (n + 1) base raw)
+      → Adds how (n + 1) (base + amount raw) (greatest_with how.mode top (event_of (n + 1) base raw)) before (ws ++ w ∷ []) (es ++ event_of (n + 1) base raw)
+  adds-placed raw p means go answers early is marks on =
+      let more = event_of (n + 1) base raw in
       let fresh_is : how.policy.settle ≡ 0 → fresh how ws (how.meaning w) ≡ on_time more = λ plain. ap (fresh how ws) (sym means) ∙ fresh-plain how ws raw p plain (sym answers) ∙ marks in
       let late : refused_late how (map how.meaning ws) (how.meaning w) ≡ None = ap (refused_late how (map how.meaning ws)) (sym means) ∙ refused-early how (map how.meaning ws) raw p early (sym answers) in
       let comes_is : event_after (map how.meaning ws) (how.meaning w) ≡ more = ap (event_after (map how.meaning ws)) (sym means) ∙ (comes how.mode (map how.meaning ws) raw p (sym answers)).0 ∙ is in
       record {
         clear = clear-push how ws w a.clear (refusal-ok how ws w n raw p a.clock.placed room means go (sym answers) ∙ late);
-        clock = rw map-append (rw means at clock);
+        clock =
+            subst (λ l. IsClock how.mode (n + 1) (base + amount raw) (greatest_with how.mode top more) l) (ap (λ (r : Raw). map how.meaning ws ++ r ∷ []) means ∙ sym (map_push how.meaning ws w))
+            (clock-push how.mode n base top (map how.meaning ws) raw a.clock on);
         came =
             ap events (map-append how.meaning ws (w ∷ [])) ∙ events-push (map how.meaning ws) (how.meaning w) ∙ ap (λ l. events (map how.meaning ws) ++ l) comes_is
             ∙ ap (λ l. l ++ more) a.came ∙ append_assoc (events (map how.meaning before)) es more;
         delivers = λ plain. events_in-push how ws w ∙ ap (λ m. events_in how ws ++ m) (fresh_is plain) ∙ ap (λ l. l ++ on_time more) (a.delivers plain) ∙ on_time-push es more (events_in how before);
       }
 
-  adds-photon : (input time dtime : ℕ) → Photon input time dtime ≡ how.meaning w
-      → IsOnTime how.mode top (event_of (n + 1) base (Photon input time dtime))
-      → Adds how (n + 1) base (greatest_with how.mode top (event_of (n + 1) base (Photon input time dtime))) before (ws ++ w ∷ []) (es ++ event_of (n + 1) base (Photon input time dtime))
-  adds-photon input time dtime means on =
-      let e : Event = record { place = n + 1; kind = PhotonEvent input dtime; time = base + time } in
-      adds-placed (Photon input time dtime) (InOrderPlaced e) (e ∷ []) base (greatest_with how.mode top (e ∷ [])) means refl
-      (ap Ok (sym (against-on_time how.mode top e on)) ∙ answer-photon how.mode n base top input time dtime (map how.meaning ws) a.clock) tt refl refl
-      (subst (λ t. IsClock how.mode (n + 1) base t (map how.meaning ws ++ Photon input time dtime ∷ [])) (greatest-on_time how.mode top e on) (IsClock-photon how.mode n base top input time dtime (map how.meaning ws) a.clock))
-
-  adds-marker : (bits time : ℕ) → Marker bits time ≡ how.meaning w
-      → IsOnTime how.mode top (event_of (n + 1) base (Marker bits time))
-      → Adds how (n + 1) base (greatest_with how.mode top (event_of (n + 1) base (Marker bits time))) before (ws ++ w ∷ []) (es ++ event_of (n + 1) base (Marker bits time))
-  adds-marker bits time means on =
-      let e : Event = record { place = n + 1; kind = MarkerEvent bits; time = base + time } in
-      adds-placed (Marker bits time) (InOrderPlaced e) (e ∷ []) base (greatest_with how.mode top (e ∷ [])) means refl
-      (ap Ok (sym (against-on_time how.mode top e on)) ∙ answer-marker how.mode n base top bits time (map how.meaning ws) a.clock) tt refl refl
-      (subst (λ t. IsClock how.mode (n + 1) base t (map how.meaning ws ++ Marker bits time ∷ [])) (greatest-on_time how.mode top e on) (IsClock-marker how.mode n base top bits time (map how.meaning ws) a.clock))
-
-  adds-wrap : (ticks : ℕ) → Wrap ticks ≡ how.meaning w → base + ticks ≤ wrap_limit
-      → Adds how (n + 1) (base + ticks) top before (ws ++ w ∷ []) (es ++ [])
-  adds-wrap ticks means few =
-      adds-placed (Wrap ticks) WrapPlaced [] (base + ticks) top means refl
-      (answer-wrap how.mode n base top ticks (map how.meaning ws) (omega (arith, few)) (omega (arith, few)) a.clock) tt refl refl
-      (IsClock-wrap how.mode n base top ticks (map how.meaning ws) a.clock)
-
-  adds-reserved : Reserved ≡ how.meaning w → (is_reserved Reserved && stops_reserved how.policy.reserved) ≡ false
-      → Adds how (n + 1) base top before (ws ++ w ∷ []) (es ++ [])
-  adds-reserved means go =
-      adds-placed Reserved ReservedPlaced [] base top means go
-      (answer-reserved how.mode (map how.meaning ws)) tt refl refl
-      (IsClock-reserved how.mode n base top (map how.meaning ws) a.clock)
-
   -- a word that is not refused and no late event
   pub adds-push : (raw : Raw) → raw ≡ how.meaning w → (is_reserved raw && stops_reserved how.policy.reserved) ≡ false
       → base + amount raw ≤ wrap_limit → IsOnTime how.mode top (event_of (n + 1) base raw)
       → Adds how (n + 1) (base + amount raw) (greatest_with how.mode top (event_of (n + 1) base raw)) before (ws ++ w ∷ []) (es ++ event_of (n + 1) base raw)
-  adds-push (Photon input time dtime) means go few on = rw add-zero (adds-photon input time dtime means on)
-  adds-push (Marker bits time) means go few on = rw add-zero (adds-marker bits time means on)
-  adds-push (Wrap ticks) means go few on = adds-wrap ticks means few
-  adds-push Reserved means go few on = rw add-zero (adds-reserved means go)
+  adds-push (Photon input time dtime) means go few on =
+      let e : Event = record { place = n + 1; kind = PhotonEvent input dtime; time = base + time } in
+      adds-placed (Photon input time dtime) (InOrderPlaced e) means go (ap Ok (sym (against-on_time how.mode top e on)) ∙ answer-photon how.mode n base top input time dtime (map how.meaning ws) a.clock) tt refl refl on
+  adds-push (Marker bits time) means go few on =
+      let e : Event = record { place = n + 1; kind = MarkerEvent bits; time = base + time } in
+      adds-placed (Marker bits time) (InOrderPlaced e) means go (ap Ok (sym (against-on_time how.mode top e on)) ∙ answer-marker how.mode n base top bits time (map how.meaning ws) a.clock) tt refl refl on
+  adds-push (Wrap ticks) means go few on = adds-placed (Wrap ticks) WrapPlaced means go (answer-wrap how.mode n base top ticks (map how.meaning ws) (omega (arith, few)) (omega (arith, few)) a.clock) tt refl refl on
+  adds-push Reserved means go few on = adds-placed Reserved ReservedPlaced means go (answer-reserved how.mode (map how.meaning ws)) tt refl refl on
 
 -- the events stay in line
 pub in_line-event : (mode : Mode) (low top : ℕ) (es : List Event) (e : Event) → IsInLine mode low top es → e.time ≤ time_limit → KindFits mode e.kind

@@ -1,11 +1,11 @@
 -- One word more in a block.
-use Rattle.std.proofs.Common.{◌≡◌, ◌+◌, ◌<◌, ◌≤◌, ℕ, List, [], ◌∷◌, ◌++◌, Bool, true, false, length, map, get_or, refl, sym, ap, subst, ◌∙◌, add-zero, append-nil, arith, ⊎_elim, ◌&&◌, nat_le, count_by, cond}
-use Rattle.std.{specs.Int.{from_le_bytes, w32}, proofs.lemmas.Bool.cases_Bool, proofs.lemmas.List.Sums.{get_or-le-sum_by, sum_by-cons}, proofs.lemmas.List.Elements.filter-append}
+use Rattle.std.proofs.Common.{◌≡◌, ◌+◌, ◌<◌, ◌≤◌, ℕ, List, [], ◌∷◌, ◌++◌, Bool, true, false, length, map, get_or, refl, sym, ap, subst, ◌∙◌, add-zero, append-nil, append_assoc, arith, ⊎_elim, ◌&&◌, nat_le, count_by, cond}
+use Rattle.std.{specs.Int.{from_le_bytes, w32}, proofs.lemmas.Bool.cases_Bool, proofs.lemmas.List.Sums.{get_or-le-sum_by, sum_by-cons}, proofs.lemmas.List.Elements.filter-append, proofs.lemmas.List.map_push}
 use Rattle.tally_base.{specs.declared.event.Event.Event, specs.declared.header.Mode.Mode, specs.Events.{is_ordered, stops_reserved}, specs.Limits.wrap_limit}
 use Rattle.ptu_definitions.{specs.declared.records.Raw.Raw, specs.Kinds.is_reserved, specs.Times.{event_of, events, amount}, specs.Fitting.Fits, specs.Fours.numbers, specs.Streams.{Reading, events_in}}
-use Rattle.abs_time.specs.Placing.{base_of}
+use Rattle.abs_time.specs.Placing.{base_of, IsClock}
 use Rattle.record_layout.{specs.declared.row.Row.Row, specs.Rowed.raw_of}
-use Rattle.record_stream.{specs.Blocks.{chosen, Adds, IsInLine, greatest_with}, specs.Rows.{ordered_below, greatest_with_row}, specs.Walking.{how_of, greatest_of, clock_in, AddsBehind, Gathers}, specs.declared.walk.Walk.Walk, proofs.Adding.{adds-push, in_line-push}, proofs.RowEvents.{greatest-row, on_time-row}}
+use Rattle.record_stream.{specs.Blocks.{chosen, Adds, IsInLine, greatest_with}, specs.Rows.{ordered_below, greatest_with_row}, specs.Walking.{how_of, greatest_of, clock_in, AddsBehind, Gathers}, specs.declared.walk.Walk.Walk, proofs.Adding.{adds-push, clock-push, in_line-push}, proofs.RowEvents.{greatest-row, on_time-row}}
 
 -- counting by a test of what words mean, over their bytes
 count_by-meanings : (p : Raw → Bool) (meaning : ℕ → Raw) (words : List (List ℕ))
@@ -69,6 +69,18 @@ module _ (how : Reading) (low base top base' top' n : ℕ) (in_order in_order' :
       let greatest : top' ≡ greatest_with how.mode top (event_of (n + 1) base (raw_of row)) = top_is ∙ sym (greatest-row (n + 1) base row how.mode top) in
       rw (counted, sum, greatest, events_are) pushed
 
+  pub leads-more : (next : ℕ) (records : List Raw) (ws : List ℕ) (w : ℕ) → next ≡ n + 1 → raw_of row ≡ how.meaning w → row.amount ≡ amount (how.meaning w) → (in_order ≡ true → IsClock how.mode n base top (records ++ map how.meaning ws))
+      → in_order' ≡ true → IsClock how.mode next base' top' (records ++ map how.meaning (ws ++ w ∷ []))
+  leads-more next records ws w counted means amounts clock sure =
+      let two = both in_order (nat_le top top') (sym in_order_is ∙ sure) in
+      let on = on_time-row (n + 1) base row how.mode top (rw top_is at two.1) in
+      let sum : base' ≡ base + amount (raw_of row) = base_is ∙ ap (λ k. base + k) (amounts ∙ ap amount (sym means)) in
+      let greatest : top' ≡ greatest_with how.mode top (event_of (n + 1) base (raw_of row)) = top_is ∙ sym (greatest-row (n + 1) base row how.mode top) in
+      let pushed = clock-push how.mode n base top (records ++ map how.meaning ws) (raw_of row) (clock two.0) on in
+      let all : (records ++ map how.meaning ws) ++ raw_of row ∷ [] ≡ records ++ map how.meaning (ws ++ w ∷ []) =
+      append_assoc records (map how.meaning ws) (raw_of row ∷ []) ∙ ap (λ (r : Raw). records ++ (map how.meaning ws ++ r ∷ [])) means ∙ ap (λ l. records ++ l) (sym (map_push how.meaning ws w)) in
+      rw (counted, sum, greatest, ← all) pushed
+
 -- All events of a list, or those in order alone.
 pub chosen-append : (only : Bool) (mode : Mode) (xs ys : List Event) → chosen only mode (xs ++ ys) ≡ chosen only mode xs ++ chosen only mode ys
 chosen-append false mode xs ys = refl
@@ -86,6 +98,7 @@ gathers-none walk words only sum greatest es no_words none sum_is low greatest_i
   chosen = chosen-none only (how_of walk).mode;
   places = record { rises = tt; last = omega arith };
   in_line = λ sure. record { in_order = tt; greatest = refl; fit = λ k d lt. absurd (omega (arith, lt)) };
+  leads = λ sure records h. rw (append-nil, add-zero) h;
   adds = λ sure before h.
       rw (append-nil, add-zero) (record {
         clear = h.clear;

@@ -2,7 +2,7 @@
 use Rattle.std.specs.Prelude.{ℕ, Bool, true, not, IsTrue, ◌&&◌, ◌≡◌, ◌+◌, ◌^◌, ◌<◌, ◌≤◌, List, [], ◌∷◌, ◌++◌, length, map, count_by}
 use Rattle.tally_base.{specs.declared.event.Event.Event, specs.Columns.{count, sorted}, specs.declared.block.Block.Block, specs.Events.{is_ordered, stops_reserved}, specs.Limits.wrap_limit}
 use Rattle.ptu_definitions.{specs.declared.records.{Raw.Raw, Summary.Summary}, specs.Kept.Marked, specs.Kinds.is_reserved, specs.Streams.{Reading, reading}, specs.Fours.numbers}
-use Rattle.abs_time.{specs.declared.clock.Clock.Clock, specs.Placing.{base_of, greatest_by, placed_by, IsSmall}, specs.Floors.moved_floor}
+use Rattle.abs_time.{specs.declared.clock.Clock.Clock, specs.Placing.{base_of, greatest_by, placed_by, IsSmall, LeadsOn}, specs.Floors.moved_floor}
 use Rattle.record_stream.{specs.Blocks.chosen as chosen_of, specs.Blocks.{Adds, IsInLine, RisesWithin}, specs.Feeding.{IsAt, Follows}, specs.declared.taker.EventTaker.Ghosts, specs.OneMore.with_event, specs.Summing.summed, specs.declared.walk.Walk.Walk}
 
 abbrev pub how_of : Walk → Reading
@@ -46,6 +46,10 @@ abbrev pub AddsBehind : Walk → List (List ℕ) → ℕ → ℕ → List Event 
 AddsBehind walk words sum greatest es =
     (before : List ℕ) → IsBehind walk before → Adds (how_of walk) (placed_by (clock_in walk) + length words) sum greatest before (before ++ numbers words) es
 
+-- They lead the clock to this sum of wraps and this greatest time.
+abbrev pub LeadsBehind : Walk → List (List ℕ) → ℕ → ℕ → Type 0
+LeadsBehind walk words sum greatest = LeadsOn (clock_in walk) (placed_by (clock_in walk) + length words) sum greatest (map (how_of walk).meaning (numbers words))
+
 -- These are the events of some words that come next, or those in order alone. Up to this sum of wraps and this greatest
 -- time none of them is late, where that is said.
 pub record Gathers (walk : Walk) (words : List (List ℕ)) (only_ordered in_order : Bool) (sum greatest : ℕ) (es : List Event) : Type 0 where
@@ -54,6 +58,7 @@ pub record Gathers (walk : Walk) (words : List (List ℕ)) (only_ordered in_orde
   pub chosen : es ≡ chosen_of only_ordered (how_of walk).mode came
   pub places : RisesWithin (placed_by (clock_in walk)) (placed_by (clock_in walk) + length words) came
   pub in_line : in_order ≡ true → IsInLine (how_of walk).mode (greatest_of walk) greatest came
+  pub leads : in_order ≡ true → LeadsBehind walk words sum greatest
   pub adds : in_order ≡ true → AddsBehind walk words sum greatest came
 
 -- None of these words can be refused as one too many, for its wraps or as reserved.

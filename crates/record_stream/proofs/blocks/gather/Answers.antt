@@ -1,10 +1,10 @@
-use Rattle.std.proofs.Common.{◌≡◌, ◌+◌, ◌^◌, ◌<◌, ◌≤◌, ◌++◌, [], ℕ, length, take, get_or, length-take-le, refl, sym, ap, subst, ◌∙◌, arith, rules}
+use Rattle.std.proofs.Common.{◌≡◌, ◌+◌, ◌^◌, ◌<◌, ◌≤◌, ◌++◌, [], ◌∷◌, ℕ, length, map, take, get_or, length-take-le, refl, sym, ap, subst, ◌∙◌, arith, rules}
 use Rattle.std.{proofs.lemmas.List.take_all, specs.Int.{from_le_bytes, w32}}
 use Rattle.ptu_definitions.{proofs.FittingLemmas.meaning-fits, specs.Layouts.meaning_of, specs.Fours.numbers, specs.Times.{amount, event_of}}
 use Rattle.tally_base.{specs.Limits.wrap_limit, specs.Columns.{event_at, written}, proofs.BlockRows.length-rows}
-use Rattle.abs_time.specs.Placing.{placed_by}
+use Rattle.abs_time.specs.Placing.{placed_by, mode_of, IsClock}
 use Rattle.record_layout.{specs.declared.row.Row.Row, specs.Rowed.raw_of}
-use Rattle.record_stream.{specs.Blocks.{chosen, Adds}, specs.Rows.{ordered_below, gathered_below, event_below, greatest_with_row}, specs.Walking.{how_of, greatest_of, clock_in, Gathers}, proofs.Adding.places-push, proofs.Fours.more_at, proofs.Gathering.{chosen-append, gathers-none, none-reserved, in_line-more, adds-more}, proofs.RowEvents.chosen-row, proofs.Wraps.amount-small}
+use Rattle.record_stream.{specs.Blocks.{chosen, Adds}, specs.Rows.{ordered_below, gathered_below, event_below, greatest_with_row}, specs.Walking.{how_of, greatest_of, clock_in, Gathers}, proofs.Adding.places-push, proofs.Fours.more_at, proofs.Gathering.{chosen-append, gathers-none, none-reserved, in_line-more, leads-more, adds-more}, proofs.RowEvents.chosen-row, proofs.Wraps.amount-small}
 use Rattle.record_stream.proofs.blocks.gather.Goals as goal
 
 pub place-requires-clause-base : goal.place-requires-clause-base
@@ -61,6 +61,11 @@ loop-i-preserved g c =
         chosen = chosen_is;
         places = record { rises = places.rises; last = omega (arith, places.last, next) };
         in_line = in_line-more how (greatest_of walk) ahead.base ahead.greatest now.base now.greatest n ahead.in_order now.in_order old.came came row c.place.ensures.goes.base top_is c.place.ensures.goes.in_order refl w means (meaning-fits walk.record_type w) below old.in_line;
+        leads = λ sure records h.
+            more_at (λ l. IsClock (mode_of (clock_in walk)) (placed_by (clock_in walk) + length (take (i + 1) words)) now.base now.greatest (records ++ map how.meaning l)) [] words i [] w c.loop-i-test.true refl
+            (subst (λ m. IsClock m (placed_by (clock_in walk) + length (take (i + 1) words)) now.base now.greatest (records ++ map how.meaning (numbers (take i words) ++ w ∷ []))) (sym walk.same_mode)
+            (leads-more how (greatest_of walk) ahead.base ahead.greatest now.base now.greatest n ahead.in_order now.in_order old.came came row c.place.ensures.goes.base top_is c.place.ensures.goes.in_order refl
+            (placed_by (clock_in walk) + length (take (i + 1) words)) records (numbers (take i words)) w (omega (arith, next)) means amounts (λ o. subst (λ m. IsClock m n ahead.base ahead.greatest (records ++ map how.meaning (numbers (take i words)))) walk.same_mode (rw count at (old.leads o records h))) sure));
         adds = λ sure before h.
             more_at (λ l. Adds how (placed_by (clock_in walk) + length (take (i + 1) words)) now.base now.greatest before l came) before words i [] w c.loop-i-test.true refl
             (adds-more how (greatest_of walk) ahead.base ahead.greatest now.base now.greatest n ahead.in_order now.in_order old.came came row c.place.ensures.goes.base top_is c.place.ensures.goes.in_order refl

@@ -1,6 +1,6 @@
-use Rattle.std.proofs.Common.{◌≡◌, ◌+◌, ◌++◌, ℕ, true, length, map, refl, ap, sym, inr, ◌∙◌, arith, rules}
+use Rattle.std.proofs.Common.{◌≡◌, ◌+◌, ◌++◌, ℕ, true, length, map, refl, ap, sym, subst, inr, ◌∙◌, arith, rules}
 use Rattle.ptu_definitions.{specs.Fours.numbers, specs.Kinds.counts_of}
-use Rattle.abs_time.{specs.Placing.placed_by, specs.Floors.orders_markers}
+use Rattle.abs_time.{specs.Placing.{placed_by, LeadsOn}, specs.Floors.orders_markers}
 use Rattle.record_stream.{specs.OneMore.with_block, specs.Blocks.BrokeAmong, specs.Summing.summed, specs.Walking.{how_of, greatest_of, clock_in}, proofs.Gathering.gathers-all, proofs.Given.{ok_of, err_of, block_at, block_fed, block_broke, floors_below}}
 use Rattle.record_stream.proofs.blocks.take_block.Goals as goal
 use Rattle.tally_base.{specs.Columns.{event_at, gathered, written}, proofs.BlockRows.length-rows, proofs.Lower.order-lower}
@@ -17,6 +17,15 @@ take_block-requires-clause-room g c =
     let all = gathers-all c.args.walk.now c.args.words.now ahead.in_order ahead.base ahead.greatest es c.gather-ahead.ensures.gathers sure in
     let many : length (gathered c.keep.new.self) ≡ ahead.len = ap length c.keep.ensures.kept ∙ length-rows (event_at b) ahead.len in
     omega (arith, many, c.requires.ready.follows.few, walk.few_given, walk.few, walk.limit, c.gather-ahead.ensures.few, c.kinds-counts.ensures.records, c.if-not-room.false)
+
+pub go_on-requires-clause-stands : goal.go_on-requires-clause-stands
+go_on-requires-clause-stands g c =
+    let walk = c.args.walk.now in
+    let words = c.args.words.now in
+    let ahead = c.gather-ahead.result in
+    let count : placed_by (clock_in walk) + length words ≡ c.placed.result + c.kinds-counts.result.records = omega (arith, c.placed.ensures.value, c.kinds-counts.ensures.records) in
+    let leads = c.gather-ahead.ensures.gathers.leads (search rules) in
+    ∣ (map (how_of walk).meaning (numbers words), subst (λ n. LeadsOn (clock_in walk) n ahead.base ahead.greatest (map (how_of walk).meaning (numbers words))) count leads) ∣₁
 
 pub take_block-requires-clause-in_order : goal.take_block-requires-clause-in_order
 take_block-requires-clause-in_order g c =

@@ -1,6 +1,6 @@
 use Rattle.std.proofs.Common.{◌≡◌, ◌+◌, ◌≤◌, ◌++◌, ℕ, List, true, length, map, refl, ap, sym, subst, inr, ◌∙◌, arith, rules}
 use Rattle.ptu_definitions.{specs.Fours.numbers, specs.Kinds.counts_of}
-use Rattle.abs_time.{specs.Placing.placed_by, specs.Floors.orders_markers}
+use Rattle.abs_time.{specs.Placing.{placed_by, LeadsOn}, specs.Floors.orders_markers}
 use Rattle.record_stream.{specs.Blocks.BrokeAmong, specs.LettingGo.IsDelivered, specs.Settling.IsSettledBehind, specs.Summing.summed, specs.Walking.{how_of, clock_in}, proofs.Given.{ok_of, err_of, block_at, block_fed, block_broke, floors_below}, proofs.LettingGo.{block_delivers, come_block}, proofs.Ordered.{comes-ordered, delivers-ordered, place-ordered}}
 use Rattle.record_stream.proofs.settled_blocks.settle_block.Goals as goal
 use Rattle.tally_base.{specs.Columns.{event_at, gathered}, proofs.BlockRows.length-rows, proofs.Lower.order-lower}
@@ -22,6 +22,15 @@ take_block-requires-clause-room g c =
 
 pub take_block-requires-clause-fit : goal.take_block-requires-clause-fit
 take_block-requires-clause-fit g c = rw c.requires.ready.follows.mode_is c.let_go.ensures.lets_go.line.fit
+
+pub go_on-requires-clause-stands : goal.go_on-requires-clause-stands
+go_on-requires-clause-stands g c =
+    let walk = c.args.walk.now in
+    let words = c.args.words.now in
+    let ahead = c.gather-ahead.result in
+    let count : placed_by (clock_in walk) + length words ≡ c.placed.result + c.kinds-counts.result.records = omega (arith, c.placed.ensures.value, c.kinds-counts.ensures.records) in
+    let leads = c.gather-ahead.ensures.gathers.leads (search rules) in
+    ∣ (map (how_of walk).meaning (numbers words), subst (λ n. LeadsOn (clock_in walk) n ahead.base ahead.greatest (map (how_of walk).meaning (numbers words))) count leads) ∣₁
 
 pub take_block-requires-clause-in_order : goal.take_block-requires-clause-in_order
 take_block-requires-clause-in_order g c =
