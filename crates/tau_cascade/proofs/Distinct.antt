@@ -47,7 +47,3 @@ distinct-late ns (m ∷ ms) n below some all =
     let there : appears n (ns ++ m ∷ []) ≡ true = rw (appears-push n m ns, all.0) (grind (arith, common_steps)) in
     let same : (ns ++ m ∷ []) ++ ms ≡ ns ++ m ∷ ms = append_assoc ns (m ∷ []) ms in
     sym (ap distinct same) ∙ distinct-again (ns ++ m ∷ []) ms n there all.1 ∙ push
-
-pub distinct-le-length : (ns : List ℕ) → distinct ns ≤ length ns
-distinct-le-length [] = omega arith
-distinct-le-length (n ∷ ns) = let rest = distinct-le-length ns in elim (appears n ns) as (λ b. cond b 0 1 + distinct ns ≤ length (n ∷ ns)) [ true ↦ omega arith | false ↦ omega arith ]

@@ -1,6 +1,6 @@
 -- Bins that come to a level, and what they are merged into.
-use Rattle.std.proofs.Common.{◌≡◌, ◌≢◌, ℕ, suc, ◌+◌, ◌/◌, ◌^◌, ◌<◌, ◌≤◌, Bool, true, false, not, cond, eqb, Option, None, Some, List, [], ◌∷◌, ◌++◌, length, map, take, drop, get_or, refl, sym, ap, ◌∙◌, append_assoc, append-nil, arith, slice_set, slice_range}
-use Rattle.std.{specs.List.{sum_by, count_by, AllByRecursion}, proofs.Math.Nat.{div-div-eq-div-mul, div-one}, proofs.lemmas.Grind.common_steps, proofs.lemmas.List.{take_more_set, drop_more, drop-set-add, length-drop}, proofs.lemmas.Slice.first_rest, proofs.lemmas.List.Sums.{sum_by-cons, sum_by-append}}
+use Rattle.std.proofs.Common.{◌≡◌, ◌≢◌, ℕ, suc, ◌+◌, ◌/◌, ◌^◌, ◌<◌, ◌≤◌, Bool, true, false, not, cond, eqb, Option, None, Some, List, [], ◌∷◌, ◌++◌, length, map, take, drop, get_or, refl, sym, ap, ◌∙◌, append_assoc, append-nil, arith, slice_set}
+use Rattle.std.{specs.List.{sum_by, count_by, AllByRecursion}, proofs.Math.Nat.{div-div-eq-div-mul, div-one}, proofs.lemmas.Grind.common_steps, proofs.lemmas.List.{take_more_set, drop_more, drop-set-add, length-drop}, proofs.lemmas.List.Sums.{sum_by-cons, sum_by-append}}
 use mir.Val.{bool_byte}
 use Rattle.tally_base.{specs.Settings.CorrelationView, specs.Tally.History}
 use Rattle.lag_ring.{specs.declared.ring.Entry.Entry, proofs.Lists.{all_back, all_join, of_some}, proofs.Rising.all_weaker}
@@ -173,7 +173,3 @@ merge_more levels came list start i count index a b a' b' more none whole inside
     let written : drop start (slice_set list (start + count) own) ≡ slice_set (drop start list) count own = drop-set-add start list count own in
     let long : count < length (drop start list) = omega (arith, length-drop start list) in
     rw (opens, grows, written) (merged_next levels came (drop start list) i count own next none whole inside refl so_far long same is)
-
--- the first bin is open where none was
-pub onto_none : (levels : ℕ) (came : List Entry) (none : Entry) → 0 < length came → merged_onto None (map (raised levels) came) ≡ merged (raised levels (get_or came 0 none)) (map (raised levels) (slice_range came 1 (length came)))
-onto_none levels came none some = ap (λ ys. merged_onto None (map (raised levels) ys)) (first_rest came none some)

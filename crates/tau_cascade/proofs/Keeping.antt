@@ -1,6 +1,6 @@
 -- What the ring of a level keeps once some bins are closed.
-use Rattle.std.proofs.Common.{◌≡◌, ℕ, ◌+◌, ◌-◌, ◌<◌, ◌≤◌, Bool, true, false, cond, leb, None, Some, List, [], ◌∷◌, ◌++◌, length, take, drop, get_or, slice_get, refl, sym, ap, ◌∙◌, append_assoc, append-nil, subst, arith, length-append}
-use Rattle.std.{specs.List.{filter, AllByRecursion, AllByRecursion-prop}, proofs.Props.props, proofs.lemmas.Bool.false≢true, proofs.lemmas.List.{drop_more, take_more, take-append-drop, length-take-le}, proofs.lemmas.List.Elements.filter-append}
+use Rattle.std.proofs.Common.{◌≡◌, ℕ, ◌+◌, ◌-◌, ◌<◌, ◌≤◌, Bool, true, false, cond, leb, None, Some, List, [], ◌∷◌, ◌++◌, length, take, drop, get_or, slice_get, refl, sym, ap, ◌∙◌, append_assoc, append-nil, subst, arith}
+use Rattle.std.{specs.List.{filter, AllByRecursion, AllByRecursion-prop}, proofs.Props.props, proofs.lemmas.Bool.false≢true, proofs.lemmas.List.{drop_more, take_more, take-append-drop}, proofs.lemmas.List.Elements.filter-append}
 use Rattle.tally_base.{specs.Settings.CorrelationView, specs.Tally.History}
 use Rattle.lag_ring.{specs.declared.ring.Entry.Entry, specs.Ring.{Ring, ring, IsRising}, proofs.Lists.{all_back, all_filter}, proofs.Rising.{all_push, all_weaker, filter_passed}}
 use Rattle.tau_cascade.{specs.Correlation.bin, specs.Levels.{IsBin, RingIs}, specs.Bins.Follow, proofs.Closes.{filter_none, ring_after}}
@@ -107,9 +107,6 @@ kept_below front bins i none inside rising =
     let split = split_at front bins i none inside in
     let all : IsRising ((front ++ take i bins) ++ get_or bins i none ∷ drop (i + 1) bins) = rw (← split) rising in
     all_below (front ++ take i bins) (drop (i + 1) bins) (get_or bins i none) all
-
-pub kept_room : (front bins : List Entry) (i reach : ℕ) → i < length bins → length (front ++ bins) ≤ reach → length (front ++ take i bins) < reach
-kept_room front bins i reach inside room = omega (arith, room, length-append front bins, length-append front (take i bins), length-take-le i bins (omega arith))
 
 -- from one bin on, all are kept
 pub kept_from : (before start : ℕ) (bins : List Entry) (none : Entry) → 0 < start → start ≤ length bins → before ≤ (get_or bins (start - 1) none).index → AllByRecursion (λ e. before ≤ e.index) (drop start bins) → AllByRecursion (λ e. before ≤ e.index) (drop (start - 1) bins)

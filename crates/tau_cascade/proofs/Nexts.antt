@@ -1,6 +1,6 @@
 -- The pairs of one bin more with the ring and the bins before it.
 use Rattle.std.proofs.Common.{◌≡◌, ℕ, ◌+◌, ◌-◌, ◌*◌, ◌<◌, ◌≤◌, cond, eqb, List, [], ◌∷◌, ◌++◌, length, get_or, take, drop, refl, sym, ap, ◌∙◌, append_assoc, append-nil, subst, arith}
-use Rattle.std.{specs.List.AllByRecursion, proofs.Math.Nat.mul-le-mul_left, proofs.lemmas.List.{take_more, take-append-drop, take-take, drop-take, drop-append-le, drop_all, length-take-le}, proofs.lemmas.List.Sums.sum_by-append}
+use Rattle.std.{specs.List.AllByRecursion, proofs.lemmas.List.{take_more, take-append-drop, take-take, drop-take, drop-append-le, drop_all, length-take-le}, proofs.lemmas.List.Sums.sum_by-append}
 use Rattle.lag_ring.{specs.declared.ring.Entry.Entry, specs.Ring.IsRising, proofs.Lists.all_back, proofs.Rising.{all_weaker, rising_front, rising_back}}
 use Rattle.tau_cascade.{specs.Levels.{weight_before, entries_at_lags}, specs.Paired.paired, proofs.Keeping.{all_below, split_at}, proofs.Lags.few_at_lags, proofs.Visits.none_at_lag}
 
@@ -105,8 +105,3 @@ pub added_next : (lags skipped start i before now few : ℕ) → start ≤ i →
 added_next lags skipped start i before now few behind so_far some =
     let one : i + 1 - start ≡ (i - start) + 1 = omega arith in
     rw one (omega (arith, so_far, some))
-
-pub count_next : (lags skipped start i n before now few : ℕ) → start ≤ i → i < n → now ≤ before + (lags - skipped) * (i - start) → few ≤ lags - skipped → now + few ≤ before + (lags - skipped) * (n - start)
-count_next lags skipped start i n before now few behind inside so_far some =
-    let more : (lags - skipped) * (i + 1 - start) ≤ (lags - skipped) * (n - start) = mul-le-mul_left (lags - skipped) (omega arith) in
-    omega (arith, added_next lags skipped start i before now few behind so_far some, more)

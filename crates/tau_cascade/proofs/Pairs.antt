@@ -1,9 +1,9 @@
 -- What the pairs of a bin with the ring do to the cells of a level.
-use Rattle.std.proofs.Common.{◌≡◌, ℕ, ◌+◌, ◌*◌, ◌<◌, ◌≤◌, ◌++◌, length, map, get_or, ap, ◌∙◌, arith}
+use Rattle.std.proofs.Common.{◌≡◌, ℕ, ◌+◌, ◌*◌, ◌<◌, ◌≤◌, ◌++◌, length, map, get_or, ap, ◌∙◌}
 use Rattle.std.{specs.List.{count_by, AllByRecursion}, proofs.lemmas.List.{length-map, map-append}, proofs.lemmas.List.Sums.{sum_by-le, count_by-le-length}}
-use Rattle.tally_base.{specs.Settings.CorrelationView, specs.Tally.History, specs.Limits.record_limit}
+use Rattle.tally_base.{specs.Settings.CorrelationView, specs.Tally.History}
 use Rattle.lag_ring.proofs.Lists.{all_map}
-use Rattle.tau_cascade.{specs.Correlation.{bin, is_pair, correlation}, specs.Work.{distinct, occupied}, proofs.Distinct.{distinct-late, distinct-le-length}}
+use Rattle.tau_cascade.{specs.Correlation.{bin, is_pair, correlation}, specs.Work.{distinct, occupied}, proofs.Distinct.{distinct-late}}
 
 -- there are no more pairs than places squared
 pub correlation-le : (set : CorrelationView) (level k : ℕ) (h : History) → correlation set level k h ≤ length h * length h
@@ -15,7 +15,3 @@ module _ (set : CorrelationView) (level : ℕ) where
   occupied-more closed xs n before some here =
       ap distinct (map-append (bin level) closed xs)
       ∙ distinct-late (map (bin level) closed) (map (bin level) xs) n (all_map (λ m. m < n) (bin level) closed before) (rw (length-map xs) some) (all_map (λ m. m ≡ n) (bin level) xs here)
-
-  -- there are no more bins than photons
-  pub few_occupied : (xs : History) → length xs ≤ record_limit → occupied level xs ≤ record_limit
-  few_occupied xs few = let same : length (map (bin level) xs) ≡ length xs = length-map xs (bin level) in omega (arith, same, few, distinct-le-length (map (bin level) xs))

@@ -1,6 +1,6 @@
 -- Bins that pass a level with no pair.
 use Rattle.std.proofs.Common.{◌≡◌, ℕ, suc, ◌+◌, ◌-◌, ◌*◌, ◌/◌, ◌^◌, ◌<◌, ◌≤◌, Some, List, [], ◌∷◌, ◌++◌, length, map, take, drop, set, get_or, refl, sym, ap, ◌∙◌, subst, arith}
-use Rattle.std.{specs.List.AllByRecursion, proofs.Math.Nat.{div-mul-le_self, div-le_self, mul-le-mul_right}, proofs.lemmas.Nat.{shl-shr, shr-shr}, proofs.lemmas.List.{take_more, take-take, map_push, get_or-drop, get_or-take, get_or-map, drop-set, drop_more, length-map, length-drop, length-set, length-take-le}}
+use Rattle.std.{specs.List.AllByRecursion, proofs.Math.Nat.{div-le_self}, proofs.lemmas.Nat.{shl-shr, shr-shr}, proofs.lemmas.List.{take_more, take-take, map_push, get_or-drop, get_or-take, get_or-map, drop-set, drop_more, length-map, length-drop, length-set, length-take-le}}
 use Rattle.tally_base.{specs.Settings.CorrelationView, specs.Tally.History}
 use Rattle.lag_ring.{specs.declared.ring.Entry.Entry, specs.Ring.ring, proofs.Rising.all_weaker}
 use Rattle.tau_cascade.{specs.declared.level.Level.Level, specs.Correlation.{bin, skipped_lags}, specs.Levels.IsBin, specs.Bins.{raised, lowered, merged_onto, stretch, IsSpaced, Follow, CanTake, Took}, proofs.Keeping.last_of, proofs.Paired.cells_all, proofs.Spaced.{merged-apart, spaced_front, spaced_behind, spaced_nearer, spaced_take, all_take, spaced-raised, paired-far, all_behind, ring_far}, proofs.Takes.{parts, may_shut, took}}
@@ -116,9 +116,3 @@ raised-again up (e ∷ es) = rw (shr-shr e.index up 1, raised-again up es) refl
 -- a distance that is more than the lags some levels up is some distance
 pub some_apart : (lags apart k : ℕ) → lags < apart / 2 ^ k → 0 < apart
 some_apart lags apart k far = omega (arith, div-le_self apart (2 ^ k), far)
-
--- an index before another one some levels up
-pub lowered_fits : (i n k : ℕ) → i < n / 2 ^ k → i * 2 ^ k ≤ n
-lowered_fits i n k below =
-    let most : i * 2 ^ k ≤ n / 2 ^ k * 2 ^ k = mul-le-mul_right (2 ^ k) (omega arith) in
-    omega (arith, most, div-mul-le_self n (2 ^ k))

@@ -1,6 +1,6 @@
 -- Runs of bins, one window after the other.
 use Rattle.std.proofs.Common.{◌≡◌, ◌∙◌, ℕ, ◌+◌, ◌-◌, ◌*◌, ◌<◌, ◌≤◌, cond, eqb, List, [], ◌∷◌, ◌++◌, length, get_or, take, drop, refl, ap, append_assoc, arith}
-use Rattle.std.{specs.List.AllByRecursion, proofs.Math.Nat.mul-le-mul_left, proofs.lemmas.List.{take-append-drop, take-take, drop-take, drop-append-le, drop-drop, length-take-le, length-drop}, proofs.lemmas.List.Sums.sum_by-append}
+use Rattle.std.{specs.List.AllByRecursion, proofs.lemmas.List.{take-append-drop, take-take, drop-take, drop-append-le, drop-drop, length-take-le, length-drop}, proofs.lemmas.List.Sums.sum_by-append}
 use Rattle.lag_ring.{specs.declared.ring.Entry.Entry, specs.Ring.IsRising, proofs.Lists.all_front, proofs.Rising.{all_weaker, rising_front}}
 use Rattle.tau_cascade.{specs.Levels.weight_before, specs.Paired.paired, proofs.Nexts.{paired-append, take_parts, paired_part}, proofs.Together.from_first, proofs.Visits.{none_at_lag, rising_drop}}
 
@@ -70,8 +70,3 @@ pub runs_added : (n start at' end' before now few : ℕ) → start ≤ at' → a
 runs_added n start at' end' before now few behind more so_far some =
     let both : end' - start ≡ (at' - start) + (end' - at') = omega arith in
     rw both (omega (arith, so_far, some))
-
-pub runs_count : (n start at' end' m before now few : ℕ) → start ≤ at' → at' ≤ end' → end' ≤ m → now ≤ before + n * (at' - start) → few ≤ n * (end' - at') → now + few ≤ before + n * (m - start)
-runs_count n start at' end' m before now few behind more inside so_far some =
-    let upto : n * (end' - start) ≤ n * (m - start) = mul-le-mul_left n (omega arith) in
-    omega (arith, runs_added n start at' end' before now few behind more so_far some, upto)

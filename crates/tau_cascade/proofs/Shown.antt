@@ -83,11 +83,6 @@ shown_cells closed shut set ls count time h is i cs read =
     let found = read_of ls i (λ (l : Level). l.cells) cs read in
     rw (← found.2) (closed_cells closed shut set ls count time h is i found.0 found.1)
 
-pub shown_count : (closed : Bool) (set : CorrelationSet) (ls : List Level) (count time : ℕ) (h : History) → StandsFor closed set ls count time h → (i : ℕ) (cs : Cells) → option_map (λ (l : Level). l.cells) (slice_get ls i) ≡ Some cs → length cs.cells ≡ lag_count (correlation_view set) i
-shown_count closed set ls count time h is i cs read =
-    let found = read_of ls i (λ (l : Level). l.cells) cs read in
-    rw (← found.2) (level_count closed set ls count time h is i found.0 found.1)
-
 pub shown_ring : (closed : Bool) (set : CorrelationSet) (ls : List Level) (count time : ℕ) (h : History) → StandsFor closed set ls count time h → (i : ℕ) (r : Ring) → option_map (λ (l : Level). l.ring) (slice_get ls i) ≡ Some r → length r.entries ≤ set.lags
 shown_ring closed set ls count time h is i r read =
     let found = read_of ls i (λ (l : Level). l.ring) r read in

@@ -1,6 +1,6 @@
 -- One entry more in the loop over entries.
-use Rattle.std.proofs.Common.{length, sym, ap, ◌∙◌, ◌≡◌, ℕ, zero, suc, [], ◌∷◌, ◌++◌, drop, refl, ◌+◌, ◌-◌, ◌*◌, ◌<◌, ◌≤◌, true, false, ◌&&◌, eqb, ltb, leb, List, get_or, take, cond, arith}
-use Rattle.std.{specs.List.{sum_by, count_by, AllByRecursion}, proofs.Math.Nat.mul-le-mul_right, proofs.lemmas.Grind.common_steps, proofs.lemmas.List.drop_more, proofs.lemmas.List.Elements.All-from_recursion, proofs.lemmas.List.Sums.{sum_by-le-sum_by, sum_by_more, sum_by_more_le, sum_by-append, sum_by-take-le, sum_by-take-drop}}
+use Rattle.std.proofs.Common.{length, sym, ◌≡◌, ℕ, zero, suc, [], ◌∷◌, drop, refl, ◌+◌, ◌-◌, ◌*◌, ◌<◌, ◌≤◌, true, false, ◌&&◌, eqb, ltb, leb, List, get_or, take, cond, arith}
+use Rattle.std.{specs.List.{sum_by, count_by, AllByRecursion}, proofs.Math.Nat.mul-le-mul_right, proofs.lemmas.Grind.common_steps, proofs.lemmas.List.drop_more, proofs.lemmas.List.Elements.All-from_recursion, proofs.lemmas.List.Sums.{sum_by-le-sum_by, sum_by_more, sum_by_more_le, sum_by-take-le, sum_by-take-drop}}
 use Rattle.lag_ring.{specs.declared.ring.Entry.Entry, specs.Ring.IsRising, proofs.Rising.all_weaker, proofs.Between.{between, count-between}, proofs.Sums.sum_by-zero}
 use Rattle.tau_cascade.{specs.Levels.{weight_before, entries_at_lags}, proofs.Lags.at_lags}
 
@@ -82,16 +82,6 @@ rest_near es i none inside rising skipped n near k above =
     let both = sum_by-take-drop (λ f. cond (eqb (f.index + k) n) f.a 0) es i in
     omega (arith, both, zeros)
 
-pub lags_so_far : (es : List Entry) (i skipped lags n : ℕ) → entries_at_lags skipped lags n (take i es) ≤ entries_at_lags skipped lags n es
-lags_so_far es i skipped lags n = sum_by-take-le (λ f. cond (at_lags skipped lags n f) 1 0) es i
-
 -- where each entry stands before the index by more than the lags, none stands at one
 pub none_at_lag : (es : List Entry) (lags n k : ℕ) → AllByRecursion (λ f. f.index + lags < n) es → k ≤ lags → weight_before k n es ≡ 0
 none_at_lag es lags n k far few = sum_by-zero (λ f. f.index + lags < n) (λ f. cond (eqb (f.index + k) n) f.a 0) es far (λ f before. let not : eqb (f.index + k) n ≡ false = grind arith in rw not refl)
-
--- entries in two lists that lie one after the other
-module _ (front back es : List Entry) (is : front ++ back ≡ es) where
-  pub weight_both : (k n w : ℕ) → weight_before k n es * w ≡ weight_before k n front * w + weight_before k n back * w
-  weight_both k n w =
-      let both : weight_before k n es ≡ weight_before k n front + weight_before k n back = ap (weight_before k n) (sym is) ∙ sum_by-append (λ f. cond (eqb (f.index + k) n) f.a 0) front back in
-      rw both (grind arith)

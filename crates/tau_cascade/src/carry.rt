@@ -104,9 +104,14 @@ fn end_first<L: Ledger>(
     ensures rest { (came : History) → CanEnd (correlation_view set.now) level (first.old ∷ rest.old) came → CanEnd (correlation_view set.now) (level + 1) rest.new came }
     ensures steps { steps.new + (first.old.cells.added + spent rest.old) ≡ steps.old + (first.new.cells.added + spent rest.new) }
 {
-    if let Some(last) = first.end(set, level, steps) {
+    let none = Entry {
+        index: 0,
+        a: 0,
+        b: 0,
+    };
+    let mut spare = [none; LIST];
+    if let Some(last) = first.end(set, level, &mut spare, steps) {
         let mut bins = [last; LIST];
-        let mut spare = [last; LIST];
         let one = Coming {
             closed: Closed { from: 0, count: 1 },
             levels: 1,

@@ -5,7 +5,7 @@ ghost use Rattle.lag_ring.{specs.Ring.IsRising, specs.Ring.ring as ring_of};
 ghost use Rattle.tally_base.{specs.Settings.correlation_view, specs.Tally.History};
 ghost use Rattle.tau_cascade.{specs.Correlation.skipped_lags, specs.Levels.{RingIs, CellsAre}};
 
-use crate::bins::{LIST, RING, lay_out, merge_onto, raised};
+use crate::bins::{RING, lay_out, merge_onto, raised};
 use crate::pairing::pair_all;
 use lag_ring::{Entry, LagRing, PairCells};
 use std::alloc::{AllocError, Global};
@@ -232,13 +232,15 @@ impl Level {
         self.open = Some(last);
     }
 
-    /// Closes the open bin, and answers it.
+    /// Closes the open bin, and answers it. What is in `list` is lost.
     pub(crate) fn end<L: Ledger>(
         &mut self,
         set: &CorrelationSet,
         level: u32,
+        list: &mut [Entry],
         steps: &mut Steps<L>,
     ) -> Option<Entry>
+        requires room { RING < length list.old }
         requires stands { ∥ ((closed : History) × (open' : History)
             × CanFinish (correlation_view set.now) level self.old closed open') ∥₁ }
         ensures follows { (closed open' : History)
@@ -248,8 +250,7 @@ impl Level {
     {
         match self.open {
             Some(last) => {
-                let mut list = [last; LIST];
-                let from = lay_out(&self.ring, &mut list);
+                let from = lay_out(&self.ring, list);
                 list[from] = last;
                 self.shut_all(set, level, &list[..from + 1], from, steps);
                 self.open = None;

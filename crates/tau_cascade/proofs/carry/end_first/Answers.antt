@@ -4,10 +4,8 @@ use Rattle.tally_base.specs.Settings.{correlation_view}
 use Rattle.tau_cascade.proofs.Carries.{can_finish, next_come}
 use Rattle.tau_cascade.proofs.carry.end_first.Goals as goal
 
-pub end-requires : goal.end-requires
-end-requires g c = record {
-  stands = ∥∥₁_map c.requires.stands (λ w. (w.1.chain.0, w.1.chain.1, can_finish (correlation_view c.args.set.now) c.args.level _ _ w.0 w.1));
-}
+pub end-requires-clause-stands : goal.end-requires-clause-stands
+end-requires-clause-stands g c = ∥∥₁_map c.requires.stands (λ w. (w.1.chain.0, w.1.chain.1, can_finish (correlation_view c.args.set.now) c.args.level _ _ w.0 w.1))
 
 pub carry_all-requires-clause-stands : goal.carry_all-requires-clause-stands
 carry_all-requires-clause-stands g c = ∥∥₁_map c.requires.stands (λ w.

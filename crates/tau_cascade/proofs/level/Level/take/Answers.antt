@@ -1,4 +1,4 @@
-use Rattle.std.proofs.Common.{◌≡◌, ◌∙◌, ◌+◌, ◌<◌, ◌≤◌, length, map, take, rules, arith}
+use Rattle.std.proofs.Common.{◌≡◌, ◌∙◌, ◌+◌, ◌<◌, ◌≤◌, length, map, take, arith}
 use Rattle.std.{proofs.Props.props, proofs.Math.Logic.{∥∥₁_map, ∥∥₁_elim}, proofs.lemmas.List.{length-map, take-take, drop-take}}
 use Rattle.tally_base.specs.Settings.{correlation_view}
 use Rattle.tau_cascade.{specs.Bins.raised, proofs.Takes.{first_fit, second_fit, parts, may_shut, took}}
@@ -12,7 +12,7 @@ lay_out-from-requires g c =
 pub merge_onto-merged-requires-clause-room : goal.merge_onto-merged-requires-clause-room
 merge_onto-merged-requires-clause-room g c =
     let few : length c.args.self.now.ring.entries ≤ c.args.set.now.lags = ∥∥₁_elim c.requires.stands (hlevel props) (λ w. omega (arith, w.3.was.ring.keeps.within, w.3.was.ring.reach)) in
-    let long : length c.lay_out-from.new.list ≡ length c.args.list.now = search rules in
+    let long = c.lay_out-from.auto.list in
     omega (arith, few, c.requires.room, c.args.set.now.some_lags, c.lay_out-from.ensures.count, long)
 
 pub merge_onto-merged-requires-clause-counts : goal.merge_onto-merged-requires-clause-counts
