@@ -34,18 +34,17 @@ module _ {T : Type 0} (g : Ghosts T) (walk : Walk) (start : T) (all : List Event
       → OnErr r ((s : T) (l : Marked) → g.got s taker l → g.broke s new (l ++ (e, false) ∷ [])) → IfErr r (λ fault. fault ≡ WriteFault) → FailsOnce (g.faults taker) (g.faults new) r
       → IfErr r (λ fault. (fault ≡ WriteFault) × BrokeFirst g start new (marked_as false all))
   broke_one (Ok x) now taker new left rest last e h is breaks fault cause = tt
-  broke_one (Err y) now taker new left rest last e h is breaks fault cause =
-      (
-        fault,
-        record {
-          front = marked_as false (h.front ++ e ∷ []);
-          back = marked_as false rest;
-          some = omega (arith, length-map {B = Event × Bool} (h.front ++ e ∷ []) (λ (x : Event). (x, false)), length-append h.front (e ∷ []));
-          adds = ap (marked_as false) (parts_one all h.front left rest e h.adds is) ∙ map-append (λ (x : Event). (x, false)) (h.front ++ e ∷ []) rest;
-          broken = λ s l got. subst (λ m. g.broke s new m) (marked_one h.front e l) (breaks s (l ++ marked_as false h.front) (h.follows s l got));
-          rose = subst (λ n. Rose n (g.faults new)) h.kept cause.once;
-        },
-      )
+  broke_one (Err y) now taker new left rest last e h is breaks fault cause = (
+    fault,
+    record {
+      front = marked_as false (h.front ++ e ∷ []);
+      back = marked_as false rest;
+      some = omega (arith, length-map {B = Event × Bool} (h.front ++ e ∷ []) (λ (x : Event). (x, false)), length-append h.front (e ∷ []));
+      adds = ap (marked_as false) (parts_one all h.front left rest e h.adds is) ∙ map-append (λ (x : Event). (x, false)) (h.front ++ e ∷ []) rest;
+      broken = λ s l got. subst (λ m. g.broke s new m) (marked_one h.front e l) (breaks s (l ++ marked_as false h.front) (h.follows s l got));
+      rose = subst (λ n. Rose n (g.faults new)) h.kept cause.once;
+    },
+  )
 
   pub gave_one : {X : Type 0} (x : X) (now next : Walk) (taker new : T) (left rest : List Event) (last low : ℕ) (e : Event) → GaveFirst g walk start all now taker left last → left ≡ e ∷ rest
       → ((s : T) (l : Marked) → g.got s taker l → g.got s new (l ++ (e, false) ∷ [])) → Notes now next e false → KeepsPlace now next → Follows g (how_of now).mode (given_by next) low new

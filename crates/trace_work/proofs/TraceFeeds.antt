@@ -1,5 +1,5 @@
 -- What a piece, and the end of a stream, write of a trace.
-use Rattle.std.proofs.Common.{◌≡◌, ◌≢◌, ◌∙◌, ◌≤◌, ◌<◌, ◌⊎◌, ℕ, List, [], ◌++◌, None, Some, Ok, Err, refl, sym, ap, subst, inl, inr, ⊎_elim, append_assoc, length, Result, OnOk, OnErr, IfErr, false}
+use Rattle.std.proofs.Common.{◌≡◌, ◌≢◌, ◌∙◌, ◌<◌, ◌⊎◌, ℕ, List, [], ◌++◌, None, Some, Ok, Err, refl, sym, ap, subst, inl, inr, ⊎_elim, append_assoc, Result, OnOk, OnErr, IfErr, false}
 use Rattle.std.{specs.declared.option.Option.Option, specs.Io.KnownBytes.{Appends, Keeps}}
 use Rattle.tally_base.{specs.declared.fault.Fault.Fault, specs.declared.fault.Fault.TheVariants.WriteFault, specs.Faults.{is_outside, fault_in}, specs.Settings.{TraceView, trace_view}, specs.Tally.History, specs.declared.slot.Failed.Failed, specs.FaultCounts.{FailsOnce, Rose}}
 use Rattle.told_text.specs.Texts.{WroteText, WritesText}

@@ -3,7 +3,7 @@ use Rattle.std.proofs.Common.{◌≡◌, ◌∙◌, ℕ, List, [], ◌++◌, Non
 use Rattle.std.{specs.declared.option.Option.Option, specs.Io.KnownBytes.{Appends, Keeps}}
 use Rattle.tally_base.{specs.declared.fault.Fault.Fault, specs.declared.fault.Fault.TheVariants.WriteFault, specs.Faults.fault_in, specs.FaultCounts.Rose, specs.Settings.{TraceView, trace_view}, specs.Tally.History}
 use Rattle.bench_io.{specs.declared.sink.Sink.Ghosts, proofs.Bytes.{Appends-trans, AppendsShort-behind, AppendsShort-more}}
-use Rattle.ptu_definitions.{specs.declared.records.Summary.Summary, specs.Words.words_of, specs.Streams.{Reading, record_refusal, streamed}}
+use Rattle.ptu_definitions.{specs.declared.records.Summary.Summary, specs.Words.words_of, specs.Streams.{Reading, streamed}}
 use Rattle.gate_plan.{specs.Shifting.Sorting, specs.Histories.history}
 use Rattle.long_trace.{specs.declared.trace.LongTrace.LongTrace, specs.LongTrace.set_of, specs.Texts.{open_text, whole_text}, specs.Written.{AppendsRest, CutsRest}, proofs.Rising.whole-front}
 use Rattle.command_work.{specs.Outcomes.{Outcome, written}, specs.Tellings.WritesEnd}

@@ -1,7 +1,7 @@
 -- What holds of the trace of bytes that grow.
 use Rattle.std.proofs.Common.{◌≡◌, ◌∙◌, ℕ, List, None, Some, Ok, Err, refl, sym, ap, Result}
 use Rattle.tally_base.{specs.declared.fault.Fault.Fault, specs.declared.settings.TraceSet.TraceSet, specs.declared.header.Header.Header, specs.RecordTypes.mode_of, specs.Settings.trace_view, specs.Faults.fault_in}
-use Rattle.ptu_definitions.{specs.Headers.header_answer, specs.Words.words_of, specs.Streams.{Reading, record_refusal, streamed}, proofs.Firsts.record_refusal-inside}
+use Rattle.ptu_definitions.{specs.Headers.header_answer, specs.Words.words_of, specs.Streams.{Reading, record_refusal}, proofs.Firsts.record_refusal-inside}
 use Rattle.plan_text.{specs.Plan.PlanView, specs.Fits.fits}
 use Rattle.gate_plan.{specs.Shifting.{Sorting, sorting}, specs.Plans.reading_by}
 use Rattle.record_stream.{specs.declared.stream.RecordStream.RecordStream, specs.Standing.how_of}

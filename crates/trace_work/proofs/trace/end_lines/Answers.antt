@@ -1,6 +1,5 @@
 use Rattle.std.proofs.Common.{refl}
 use Rattle.gate_plan.specs.Groups.{sorting_of}
-use Rattle.record_stream.specs.Standing.{how_of}
 use Rattle.trace_work.{specs.TraceLines.traced_none, proofs.TraceFeeds.ends-both}
 use Rattle.command_work.proofs.Streams.{streamed-clear, not_written}
 use Rattle.trace_work.proofs.trace.end_lines.Goals as goal
