@@ -20,7 +20,7 @@ use tally_base::{Block, Event, Failed, Fault, TraceSet, floor_behind, is_in};
 /// empty has a line once a photon comes in a later one, and the last such bin at the end. Then it is printed how
 /// many photons came before the origin, and for each count below 1,024 how many bins have it, of those up to
 /// the last that isn't empty; those of a greater count are counted in one number. How much it keeps doesn't
-/// depend on the file.
+/// depend on the file. `start` is called first and once, and nothing behind a refused call.
 #[derive(Drop)]
 pub struct LongTrace {
     set: TraceSet,
@@ -72,8 +72,8 @@ impl LongTrace {
         }
     }
 
-    /// Writes the first line. It is the first call, and the only one of its kind. Refuses with `WriteFault` where
-    /// a write fails: then a beginning of the line that isn't all of it was written.
+    /// Writes the first line. Refuses with `WriteFault` where a write fails: then a beginning of the line that
+    /// isn't all of it was written.
     pub fn start<O: Sink>(&mut self, out: &mut O) -> Result<(), Fault>
         requires first { was_begun self.old ≡ false }
         ensures text { OnOk result (Appends (O.written out.old) (O.written out.new)

@@ -14,7 +14,7 @@ use tally_base::{Event, EventKind, Failed, Fault, Mode};
 
 /// Writes a file of photons: first its header, and then the photons in order of time. A T2 file has the
 /// record type HydraHarp2T2 and a T3 file HydraHarp2T3. Before a photon come the wraps that lead to its
-/// time. It takes no memory.
+/// time. `start` is called first and once, and nothing behind a refused call. It takes no memory.
 #[derive(Drop)]
 pub struct Picker {
     mode: Mode,
@@ -50,8 +50,7 @@ impl Picker {
         self.mode
     }
 
-    /// Writes the header of the file, 112 bytes, which come before all photons. It is the first call, and the
-    /// only one of its kind.
+    /// Writes the header of the file, 112 bytes, which come before all photons.
     pub fn start<O: Sink>(&mut self, out: &mut O) -> Result<(), Fault>
         requires first { was_begun self.old ≡ false }
         ensures all { OnOk result (Appends (O.written out.old) (O.written out.new)
@@ -99,8 +98,8 @@ impl Picker {
 
     /// Puts a photon behind those before it into a block, which passes it on to the sink.
     ///
-    /// Behind `start` only, and behind no refused call. Its input must be at most 64 in T2 and 63 in T3, its dtime
-    /// 0 in T2 and at most 32,767 in T3, and its time no less than that of the photon before it. Refuses with `PickTime` one whose wraps would add up to
+    /// Its input must be at most 64 in T2 and 63 in T3, its dtime 0 in T2 and at most 32,767 in T3, and its
+    /// time no less than that of the photon before it. Refuses with `PickTime` one whose wraps would add up to
     /// more than 2^62, and then puts nothing. Where a write fails, a front of the bytes that are held and of
     /// this photon's words was written, and the block holds none.
     pub fn put<O: Sink>(&mut self, e: &Event, block: &mut Block, out: &mut O) -> Result<(), Fault>
