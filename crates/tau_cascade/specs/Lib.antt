@@ -6,6 +6,7 @@ pub mod Paired
 pub mod Dense
 pub mod Laid
 pub mod Bins
+pub mod Coming
 pub mod StandsFor
 pub mod Cascade
 pub mod Laws

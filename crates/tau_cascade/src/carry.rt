@@ -1,7 +1,7 @@
 // What goes from level to level.
 ghost use Rattle.std.specs.Prelude.{◌≡◌, ◌+◌, ◌<◌, ◌≤◌, ◌∷◌, ◌++◌, length, take, drop};
 ghost use Rattle.tally_base.{specs.Settings.correlation_view, specs.Tally.History};
-ghost use Rattle.tau_cascade.{specs.Levels.{CanEnd, Chain, Complete, LevelDone, spent}, specs.Bins.{stretch, IsSpaced, CanCome, Carries}};
+ghost use Rattle.tau_cascade.{specs.Levels.{CanEnd, Chain, Complete, LevelDone, spent}, specs.Bins.{stretch, CanCome, Carries}, specs.Coming.IsComing};
 
 use crate::bins::{FULL_BLOCK, LEVELS, LIST, RING};
 use crate::level::{Closed, Level};
@@ -32,10 +32,7 @@ pub(crate) fn carry_all<L: Ledger>(
     steps: &mut Steps<L>,
 )
     requires sized { (length bins.old ≡ LIST) × (length spare.old ≡ LIST) }
-    requires places { (coming.closed.from ≤ RING) × (coming.closed.count ≤ FULL_BLOCK) }
-    requires up { coming.levels ≤ level + 1 }
-    requires spaced { 0 < coming.apart → IsSpaced coming.apart
-        (take coming.closed.count (drop coming.closed.from bins.old)) }
+    requires comes { IsComing coming level bins.old }
     requires stands { ∥ ((came : History) × (xs : History) × CanCome (correlation_view set.now) level
         levels.old (stretch coming.closed.from coming.closed.count coming.levels bins.old) came xs) ∥₁ }
     requires depth { level + length levels.old ≤ LEVELS }

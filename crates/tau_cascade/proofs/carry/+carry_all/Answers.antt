@@ -22,8 +22,8 @@ pass-requires-clause-spaced g t c =
     let far = c.in-Some-alone.ensures in
     let some = some_apart c.args.set.now.lags c.reach.result up far.apart in
     let same = c.reach.ensures.value some in
-    let spaced : IsSpaced c.reach.result (take count (drop from c.args.bins.now)) = rw same (c.requires.spaced (omega (arith, some, same))) in
-    here_spaced c.args.bins.now from count up c.in-Some-alone.alone.open none (c.reach.ensures.place some) c.if-count-gt0.true (omega (arith, c.requires.sized, c.requires.places)) c.reach.result spaced c.args.set.now.lags far.apart far.before
+    let spaced : IsSpaced c.reach.result (take count (drop from c.args.bins.now)) = rw same (c.requires.comes.spaced (omega (arith, some, same))) in
+    here_spaced c.args.bins.now from count up c.in-Some-alone.alone.open none (c.reach.ensures.place some) c.if-count-gt0.true (omega (arith, c.requires.sized, c.requires.comes.places)) c.reach.result spaced c.args.set.now.lags far.apart far.before
 
 pub carry_all-requires : goal.carry_all-requires
 carry_all-requires g t c κs within =
@@ -35,26 +35,25 @@ carry_all-requires g t c κs within =
     let far = c.in-Some-alone.ensures in
     let some = some_apart c.args.set.now.lags c.reach.result up far.apart in
     let same = c.reach.ensures.value some in
-    let spaced : IsSpaced c.reach.result (take count (drop from c.args.bins.now)) = rw same (c.requires.spaced (omega (arith, some, same))) in (
+    let spaced : IsSpaced c.reach.result (take count (drop from c.args.bins.now)) = rw same (c.requires.comes.spaced (omega (arith, some, same))) in (
       search rules,
       (
         within,
         (
           (search rules, c.requires.sized.1),
           (
-            (omega (arith, c.requires.places), c.requires.places.1),
+            record {
+              places = (omega (arith, c.requires.comes.places), c.requires.comes.places.1);
+              up = omega (arith, c.requires.comes.up);
+              spaced = λ apart.
+                  rw c.pass.ensures.bins (next_spaced c.args.bins.now from count up c.in-Some-alone.alone.open none (c.reach.ensures.place some) c.if-count-gt0.true (omega (arith, c.requires.sized, c.requires.comes.places)) c.reach.result spaced c.in-Some-alone.alone.apart far.nearer far.next);
+            },
             (
-              omega (arith, c.requires.up),
-              (
-                (λ apart. rw c.pass.ensures.bins (next_spaced c.args.bins.now from count up c.in-Some-alone.alone.open none (c.reach.ensures.place some) c.if-count-gt0.true (omega (arith, c.requires.sized, c.requires.places)) c.reach.result spaced c.in-Some-alone.alone.apart far.nearer far.next)),
-                (
-                  ∥∥₁_map c.requires.stands (λ w.
-                      let can = (rw c.in-Some.ensures.cases.0 at w.2) in
-                      let took = c.pass.ensures.follows c.args.level can.chain.0 can.chain.1 w.1 (can_take view c.args.level _ _ es w.0 w.1 can) in
-                      (can.chain.0, took.0, rw (one_more c.args.level, ← raised-again up (take count (drop (from - 1) c.pass.new.bins))) (come_on view c.args.level _ _ es w.0 w.1 can c.pass.new.self _ took.0 took.1 took.2))),
-                  omega (arith, c.requires.depth, c.in-Some.ensures.cases.1),
-                ),
-              ),
+              ∥∥₁_map c.requires.stands (λ w.
+                  let can = (rw c.in-Some.ensures.cases.0 at w.2) in
+                  let took = c.pass.ensures.follows c.args.level can.chain.0 can.chain.1 w.1 (can_take view c.args.level _ _ es w.0 w.1 can) in
+                  (can.chain.0, took.0, rw (one_more c.args.level, ← raised-again up (take count (drop (from - 1) c.pass.new.bins))) (come_on view c.args.level _ _ es w.0 w.1 can c.pass.new.self _ took.0 took.1 took.2))),
+              omega (arith, c.requires.depth, c.in-Some.ensures.cases.1),
             ),
           ),
         ),
@@ -87,26 +86,20 @@ carry_all-requires-in-None g t c κs within =
     let from = c.args.coming.closed.from in
     let count = c.args.coming.closed.count in
     let es = stretch from count c.args.coming.levels c.args.bins.now in
-    let few : c.take-closed.result.count ≤ 64 = omega (arith, c.take-closed.ensures.places.1, c.requires.places, length-take (from + count - from) (drop from c.args.bins.now)) in (
+    let few : c.take-closed.result.count ≤ 64 = omega (arith, c.take-closed.ensures.places.1, c.requires.comes.places, length-take (from + count - from) (drop from c.args.bins.now)) in (
       search rules,
       (
         within,
         (
           (search rules, c.requires.sized.0),
           (
-            (c.take-closed.ensures.places.0, few),
+            record { places = (c.take-closed.ensures.places.0, few); up = omega arith; spaced = λ apart. absurd (omega arith) },
             (
-              omega arith,
-              (
-                (λ apart. absurd (omega arith)),
-                (
-                  ∥∥₁_map c.requires.stands (λ w.
-                      let can = (rw c.in-Some.ensures.cases.0 at w.2) in
-                      let took = c.take-closed.ensures.follows can.chain.0 can.chain.1 w.1 (rw (part from count) (can_take view c.args.level _ _ es w.0 w.1 can)) in
-                      (can.chain.0, took.0, rw (one_more c.args.level) (come_on view c.args.level _ _ es w.0 w.1 can c.take-closed.new.self _ took.0 took.1 took.2))),
-                  omega (arith, c.requires.depth, c.in-Some.ensures.cases.1),
-                ),
-              ),
+              ∥∥₁_map c.requires.stands (λ w.
+                  let can = (rw c.in-Some.ensures.cases.0 at w.2) in
+                  let took = c.take-closed.ensures.follows can.chain.0 can.chain.1 w.1 (rw (part from count) (can_take view c.args.level _ _ es w.0 w.1 can)) in
+                  (can.chain.0, took.0, rw (one_more c.args.level) (come_on view c.args.level _ _ es w.0 w.1 can c.take-closed.new.self _ took.0 took.1 took.2))),
+              omega (arith, c.requires.depth, c.in-Some.ensures.cases.1),
             ),
           ),
         ),
