@@ -2,7 +2,7 @@
 use Rattle.std.proofs.Common.{rules, ◌≡◌, ℕ, zero, suc, ◌+◌, ◌*◌, ◌%◌, ◌<◌, ◌≤◌, take, slice_get, Bool, true, false, List, [], ◌∷◌, ◌++◌, length, map, sym, ap, ◌∙◌, refl, append_assoc, append-nil, zero-add, add-zero, Some, subst, arith}
 use Rattle.std.{proofs.Math.Nat.mul-le-mul_left, specs.Option.{option_map, option_map_or}, proofs.lemmas.Grind.common_steps, proofs.lemmas.List.{map-append, take_all}, proofs.lemmas.List.Sums.sum_by-cons}
 use Rattle.tally_base.{specs.declared.settings.CorrelationSet.CorrelationSet, specs.Settings.{CorrelationView, correlation_view}, specs.Tally.History}
-use Rattle.tau_cascade.{specs.declared.level.Level.Level, specs.declared.cascade.Cascade.Cascade, specs.Cascade.{Holds, set_of, spent_by, added_below}, specs.StandsFor.{StandsFor, WentThrough}, specs.Correlation.{bin, lag_count, photons_of}, specs.Work.{occupied, IsWithinWork, lags_at, work_from, work}, specs.Levels.{Chain, Complete, CellsAre, spent}, proofs.Distinct.distinct-le-append}
+use Rattle.tau_cascade.{specs.declared.level.Level.Level, specs.declared.cascade.Cascade.Cascade, specs.Cascade.{Holds, set_of, spent_by, added_below}, specs.StandsFor.{StandsFor, WentThrough}, specs.Correlation.{bin, lag_count, photons_of}, specs.Work.{occupied, IsWithinLevelWork, lags_at, work_from, work}, specs.Levels.{Chain, Complete, CellsAre, spent}, proofs.Distinct.distinct-le-append}
 
 occupied-le : (level : ℕ) (all front back : History) → all ≡ front ++ back → occupied level front ≤ occupied level all
 occupied-le level all front back same = rw (same, map-append (bin level) front back) (distinct-le-append (map (bin level) front) (map (bin level) back))
@@ -10,13 +10,13 @@ occupied-le level all front back same = rw (same, map-append (bin level) front b
 even_lags : (set : CorrelationView) (level : ℕ) → set.lags % 2 ≡ 0 → lag_count set level ≡ lags_at set level
 even_lags set level even = grind (arith, common_steps)
 
-one_level : (set : CorrelationView) (level : ℕ) (l : Level) (all front back : History) → all ≡ front ++ back → CellsAre set level l.cells front → IsWithinWork set level l.cells all
+one_level : (set : CorrelationView) (level : ℕ) (l : Level) (all front back : History) → all ≡ front ++ back → CellsAre set level l.cells front → IsWithinLevelWork set level l.cells all
 one_level set level l all front back same cells =
     let fewer = occupied-le level all front back same in
     let product : lag_count set level * occupied level front ≤ lag_count set level * occupied level all = mul-le-mul_left (lag_count set level) fewer in
     record { all = omega (arith, cells.work, product); each = λ p. omega (arith, cells.each p, fewer) }
 
-level_work : (set : CorrelationView) (level : ℕ) (l : Level) (all : History) → set.lags % 2 ≡ 0 → IsWithinWork set level l.cells all → l.cells.added ≤ lags_at set level * occupied level all
+level_work : (set : CorrelationView) (level : ℕ) (l : Level) (all : History) → set.lags % 2 ≡ 0 → IsWithinLevelWork set level l.cells all → l.cells.added ≤ lags_at set level * occupied level all
 level_work set level l all even is = rw (← even_lags set level even) is.all
 
 open_work : (set : CorrelationView) → set.lags % 2 ≡ 0 → (level : ℕ) (ls : List Level) (all came later : History) → all ≡ came ++ later → Chain set level ls came → spent ls ≤ work_from set level (length ls) all
@@ -30,7 +30,7 @@ shut_work set even level [] all is = omega arith
 shut_work set even level (l ∷ ls) all is =
     rw (sum_by-cons (λ (l : Level). l.cells.added) l ls) (omega (arith, level_work set level l all even (one_level set level l all all [] (sym (append-nil all)) is.0.cells), shut_work set even (suc level) ls all is.1))
 
-open_within : (set : CorrelationView) (level : ℕ) (ls : List Level) (all came later : History) → all ≡ came ++ later → Chain set level ls came → (i : ℕ) (l : Level) → slice_get ls i ≡ Some l → IsWithinWork set (level + i) l.cells all
+open_within : (set : CorrelationView) (level : ℕ) (ls : List Level) (all came later : History) → all ≡ came ++ later → Chain set level ls came → (i : ℕ) (l : Level) → slice_get ls i ≡ Some l → IsWithinLevelWork set (level + i) l.cells all
 open_within set level [] all came later same chain i l read = cc
 open_within set level (x ∷ ls) all came later same chain zero l read =
     let split : all ≡ chain.0 ++ (chain.1 ++ later) = same ∙ ap (λ xs. xs ++ later) chain.2 ∙ append_assoc chain.0 chain.1 later in
@@ -42,7 +42,7 @@ open_within set level (x ∷ ls) all came later same chain (suc i) l read =
     let rest = open_within set (suc level) ls all chain.0 (chain.1 ++ later) split chain.4 i l read in
     (rw next at rest)
 
-shut_within : (set : CorrelationView) (level : ℕ) (ls : List Level) (all : History) → Complete set level ls all → (i : ℕ) (l : Level) → slice_get ls i ≡ Some l → IsWithinWork set (level + i) l.cells all
+shut_within : (set : CorrelationView) (level : ℕ) (ls : List Level) (all : History) → Complete set level ls all → (i : ℕ) (l : Level) → slice_get ls i ≡ Some l → IsWithinLevelWork set (level + i) l.cells all
 shut_within set level [] all is i l read = cc
 shut_within set level (x ∷ ls) all is zero l read =
     let here : x ≡ l = cc in
@@ -53,7 +53,7 @@ shut_within set level (x ∷ ls) all is (suc i) l read =
     (rw next at rest)
 
 -- each level's additions are within its own work
-pub level_within : (closed : Bool) (set : CorrelationView) (ls : List Level) (xs : History) → WentThrough closed set ls xs → (i : ℕ) (l : Level) → slice_get ls i ≡ Some l → IsWithinWork set i l.cells xs
+pub level_within : (closed : Bool) (set : CorrelationView) (ls : List Level) (xs : History) → WentThrough closed set ls xs → (i : ℕ) (l : Level) → slice_get ls i ≡ Some l → IsWithinLevelWork set i l.cells xs
 level_within false set ls xs is i l read = (rw zero-add at (open_within set 0 ls xs xs [] (sym (append-nil xs)) is i l read))
 level_within true set ls xs is i l read = (rw zero-add at (shut_within set 0 ls xs is i l read))
 

@@ -19,7 +19,7 @@ abbrev pub occupied : ℕ → History → ℕ
 occupied level h = distinct (map (bin level) h)
 
 -- The additions that made a level's cells are at most its lags times its occupied bins, and those to one cell at most its occupied bins.
-pub record IsWithinWork (set : CorrelationView) (level : ℕ) (cells : Cells) (h : History) : Type 0 where
+pub record IsWithinLevelWork (set : CorrelationView) (level : ℕ) (cells : Cells) (h : History) : Type 0 where
   pub all : cells.added ≤ lag_count set level * occupied level h
   pub each : (p : ℕ) → added_at cells p ≤ occupied level h
 

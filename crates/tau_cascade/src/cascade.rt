@@ -33,7 +33,7 @@ impl Cascade {
     ghost use Rattle.std.specs.Prelude.{◌≡◌, ◌+◌, ◌-◌, ◌<◌, ◌≤◌, ◌++◌, true, IfOk, None, Some, length, slice_index};
     ghost use Rattle.std.specs.Option.{ForSome, option_map};
     ghost use Rattle.tally_base.{specs.Settings.PartSettings.CorrelationSettings, specs.Columns.{events_in, IsSorted}};
-    ghost use Rattle.tau_cascade.{specs.Cascade.{Holds, cells_at, ring_at, open_at, set_of, spent_by, added_below}, specs.Correlation.{correlation, lag_count, skipped_lags, photons_of}, specs.Opens.open_bin, specs.Work.{work, IsWithinWork}};
+    ghost use Rattle.tau_cascade.{specs.Cascade.{Holds, cells_at, ring_at, open_at, set_of, spent_by, added_below}, specs.Correlation.{correlation, lag_count, skipped_lags, photons_of}, specs.Opens.open_bin, specs.Work.{work, IsWithinLevelWork}};
 
     /// A correlation of no events, with all the memory that it ever takes, or `AllocError` where it is
     /// wanting.
@@ -86,7 +86,7 @@ impl Cascade {
         ensures work { (h : History) → Holds self.now h
             → spent_by self.now ≤ work (correlation_view (set_of self.now)) h }
         ensures own { (h : History) → Holds self.now h
-            → IsWithinWork (correlation_view (set_of self.now)) level result.now
+            → IsWithinLevelWork (correlation_view (set_of self.now)) level result.now
             (photons_of (correlation_view (set_of self.now)) h) }
     {
         &self.levels[level as usize].cells
