@@ -1,5 +1,5 @@
 // The tables of a plan are opened.
-ghost use Rattle.std.specs.Prelude.{◌≡◌, ◌++◌, map, IfOk, OnOk};
+ghost use Rattle.std.specs.Prelude.{◌≡◌, ◌<◌, ◌++◌, length, map, IfOk, IfErr, OnOk};
 ghost use Rattle.tally_base.{specs.Settings.{PartSettings, hist_view, trace_view, startstop_view, coincidence_view, image_view, correlation_view, cube_view, fold_view}, specs.Settings.PartSettings.{HistSettings, TraceSettings, StartStopSettings, CoincidenceSettings, ImageSettings, CorrelationSettings, CubeSettings, FoldSettings}};
 ghost use Rattle.plan_text.{specs.Plan.parts_of, specs.Reading.plan_view};
 ghost use Rattle.plan_parts.specs.Parts.{settings_in, IsOpened, AllOpened};
@@ -101,6 +101,7 @@ fn open_list<S: OpensPart>(
     ensures settings { OnOk result (settings_in parts.new.items ≡ settings_in parts.old.items
         ++ map S.settings sets.now) }
     ensures opened { AllOpened parts.old.items → OnOk result (AllOpened parts.new.items) }
+    ensures wanting { IfErr result (λ error. 0 < length sets.now) }
 {
     for set in sets {
         let part = set.open(alloc)?;
@@ -109,12 +110,13 @@ fn open_list<S: OpensPart>(
     Ok(())
 }
 
-/// The tables of a plan, in the order of the report, which were given nothing.
+/// The tables of a plan, in the order of the report, which were given nothing. Memory is wanting only for a table.
 #[tactic(auto, using(crate::proofs::Opens::behind_all))]
 pub fn open_all(alloc: Global, plan: &Plan) -> Result<Vec<Part>, AllocError>
     ensures settings { IfOk result (λ parts.
         settings_in parts.items ≡ parts_of (plan_view plan.now)) }
     ensures opened { IfOk result (λ parts. AllOpened parts.items) }
+    ensures wanting { IfErr result (λ error. 0 < length (parts_of (plan_view plan.now))) }
 {
     let mut parts = Vec::new(alloc);
     open_list(alloc, plan.histograms.as_slice(), &mut parts)?;

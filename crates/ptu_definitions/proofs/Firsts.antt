@@ -2,7 +2,7 @@
 use Rattle.std.proofs.Common.{◌≡◌, ◌<◌, ℕ, zero, suc, List, [], ◌∷◌, ◌++◌, None, Some, length, take, get_or, refl, sym, ap, ◌∙◌, append_assoc, append-nil, arith, ◌↔◌, Bool, true, false, ◌&&◌, ◌+◌, nat_le, map, if◌then◌else◌}
 use Rattle.std.specs.declared.option.Option.{Option}
 use Rattle.tally_base.{specs.declared.event.Event.Event, specs.declared.header.Mode.Mode, specs.Faults.is_outside, specs.declared.fault.Fault.TheVariants.{RecordLimit, ReservedRecord, BackwardTime, TimeLimit}, specs.Events.{stops_late, stops_reserved}, specs.declared.fault.Fault.Fault}
-use Rattle.ptu_definitions.{specs.Kinds.is_reserved, specs.Times.{events, event_after, passes}, specs.Kept.greatest, specs.Settled.is_late_by, specs.Prefixes.{each_after, listed, first}, specs.Streams.{Reading, late_refusal, refusal, refusals, record_refusal, events_in, given}, specs.Firsts.IsFirst, proofs.StreamLemmas.{listed-none, listed-rest, refused-push, refused-more, given-clear, given-refused, given-stays}}
+use Rattle.ptu_definitions.{specs.Kinds.is_reserved, specs.Times.{events, event_after, passes}, specs.Kept.greatest, specs.Settled.is_late_by, specs.Prefixes.{each_after, listed, first}, specs.Streams.{Reading, late_refusal, refusal, refusals, record_refusal, unrefused_after, events_in, given}, specs.Firsts.IsFirst, proofs.StreamLemmas.{listed-none, listed-rest, refused-push, refused-more, unrefused-all, unrefused-upto}}
 
 abbrev after : Reading → List ℕ → List ℕ → List Fault
 after how before ws = each_after (λ before word. listed (refusal how before word)) before ws
@@ -67,8 +67,12 @@ none-where-clear how ws h = none_after how [] ws h
 pub none-refused : (how : Reading) (words : List ℕ) → record_refusal how words ≡ None ↔ ((k d : ℕ) → k < length words → refusal how (take k words) (get_or words k d) ≡ None)
 none-refused how words = (λ h. none-where-clear how words (first-none _ h), λ none. ap first (clear how words none))
 
+pub unrefused-none : (how : Reading) (words : List ℕ) → record_refusal how words ≡ None → unrefused_after how [] words ≡ words
+unrefused-none how words h = unrefused-all how words (first-none _ h)
+
 pub given-all : (how : Reading) (words : List ℕ) → record_refusal how words ≡ None → given how words ≡ events_in how words
-given-all how words h = given-clear how words (first-none _ h)
+unfolding given
+given-all how words h = ap (events_in how) (unrefused-none how words h)
 
 -- The stream up to its first refused word, and the whole stream from there.
 upto : (front : List ℕ) (w : ℕ) (more words : List ℕ) → words ≡ front ++ w ∷ more → words ≡ (front ++ w ∷ []) ++ more
@@ -82,11 +86,13 @@ refused-first how words fault least =
     ap (record_refusal how) (upto least.front least.word least.more words least.parts)
     ∙ refused-more how (least.front ++ least.word ∷ []) least.more fault (refused-upto how fault words least)
 
+pub unrefused-before : (how : Reading) (words : List ℕ) (fault : Fault) (least : IsFirst how fault [] words) → unrefused_after how [] words ≡ least.front
+unrefused-before how words fault least =
+    ap (unrefused_after how []) least.parts ∙ unrefused-upto how least.front least.word least.more fault (clear how least.front least.unrefused) least.refused
+
 pub given-before : (how : Reading) (words : List ℕ) (fault : Fault) (least : IsFirst how fault [] words) → given how words ≡ events_in how least.front
-given-before how words fault least =
-    ap (given how) (upto least.front least.word least.more words least.parts)
-    ∙ given-stays how (least.front ++ least.word ∷ []) least.more fault (refused-upto how fault words least)
-    ∙ given-refused how least.front least.word fault (clear how least.front least.unrefused) least.refused
+unfolding given
+given-before how words fault least = ap (events_in how) (unrefused-before how words fault least)
 
 -- Each refusal of a record is one that the bytes call for.
 abbrev Inside : Option Fault → Type 0

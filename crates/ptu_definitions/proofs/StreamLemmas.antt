@@ -69,13 +69,21 @@ unrefused-clear how before (w ∷ ws) more clear =
     let rest : refusals_after how (before ++ w ∷ []) ws ≡ [] = listed-rest (refusal how before w) _ clear in
     rw here (ap (λ l. w ∷ l) (unrefused-clear how (before ++ w ∷ []) ws more rest ∙ rw (append_assoc before (w ∷ []) ws) refl))
 
+pub unrefused-all : (how : Reading) (ws : List ℕ) → refusals how ws ≡ [] → unrefused_after how [] ws ≡ ws
+unfolding refusals
+unrefused-all how ws clear = ap (unrefused_after how []) (sym (append-nil ws)) ∙ unrefused-clear how [] ws [] clear ∙ append-nil ws
+
+pub unrefused-upto : (how : Reading) (ws : List ℕ) (w : ℕ) (more : List ℕ) (fault : Fault) → refusals how ws ≡ [] → refusal how ws w ≡ Some fault → unrefused_after how [] (ws ++ w ∷ more) ≡ ws
+unfolding refusals
+unrefused-upto how ws w more fault clear some = unrefused-clear how [] ws (w ∷ more) clear ∙ rw some (append-nil ws)
+
 pub given-clear : (how : Reading) (ws : List ℕ) → refusals how ws ≡ [] → given how ws ≡ events_in how ws
-unfolding given refusals
-given-clear how ws clear = ap (events_in how) (ap (unrefused_after how []) (sym (append-nil ws)) ∙ unrefused-clear how [] ws [] clear ∙ append-nil ws)
+unfolding given
+given-clear how ws clear = ap (events_in how) (unrefused-all how ws clear)
 
 pub given-refused : (how : Reading) (ws : List ℕ) (w : ℕ) (fault : Fault) → refusals how ws ≡ [] → refusal how ws w ≡ Some fault → given how (ws ++ w ∷ []) ≡ events_in how ws
-unfolding given refusals
-given-refused how ws w fault clear some = ap (events_in how) (unrefused-clear how [] ws (w ∷ []) clear ∙ rw some (append-nil ws))
+unfolding given
+given-refused how ws w fault clear some = ap (events_in how) (unrefused-upto how ws w [] fault clear some)
 
 -- the words before the first refusal stay, whatever comes behind
 unless-front : (w : ℕ) (o : Option Fault) (a b tail : List ℕ) → a ≡ b ++ tail → (more : List ℕ) × (unless_refused w a o ≡ unless_refused w b o ++ more)

@@ -2,7 +2,7 @@
 ghost use Rattle.std.specs.Prelude.{◌==◌, filter, ◌≡◌, ◌≢◌, ◌↔◌, ◌⊎◌, ◌++◌, ◌∷◌, [], ◌+◌, ◌<◌, ◌≤◌, ◌^◌, ℕ, List, Result, Ok, length, take, get_or};
 ghost use Rattle.tally_base.specs.declared.fault.Fault.TheVariants as Fault;
 ghost use Rattle.tally_base.{specs.declared.fault.Fault.Fault, specs.declared.header.Header.Header, specs.declared.event.Event.Event, specs.declared.header.Mode.Mode};
-ghost use Rattle.ptu_definitions.{specs.Headers.{HasAnswer, header_answer}, specs.TagList.{Item, IsFront, IsHeader}, specs.Begins.{Front, BeginsWith, IsFrontOf, Nest, IsBegun, ShowsItems, ShowsNoMore}, specs.Seen.{seen, seen_preamble, begun, IsLongestFront, HasLongestFront, HasNoFront}, specs.Shown.Shows, specs.Endings.{Ending, EndsAs, HasHeader}, specs.Kept.{marked, kept, is_late, greatest, floor_of}, specs.Settled.{not_overtaken, in_time, is_late_by, ordered, kept_by, settled_by, late_by, delivered, delivered_last, not_marked, those_marked}, specs.Streams.{Reading, refusal, record_refusal, events_in, given}, specs.Firsts.IsFirst};
+ghost use Rattle.ptu_definitions.{specs.Headers.{HasAnswer, header_answer}, specs.TagList.{Item, IsFront, IsHeader}, specs.Begins.{Front, BeginsWith, IsFrontOf, Nest, IsBegun, ShowsItems, ShowsNoMore}, specs.Seen.{seen, seen_preamble, begun, IsLongestFront, HasLongestFront, HasNoFront}, specs.Shown.Shows, specs.Endings.{Ending, EndsAs, HasHeader}, specs.Kept.{marked, kept, is_late, greatest, floor_of}, specs.Settled.{not_overtaken, in_time, is_late_by, ordered, kept_by, settled_by, late_by, delivered, delivered_last, not_marked, those_marked}, specs.Streams.{Reading, refusal, record_refusal, unrefused_after, events_in, given}, specs.Firsts.IsFirst};
 ghost use Rattle.std.specs.List.Sorted.{IsPermutation, IsNonDecreasingBy};
 
 /// Exactly one answer applies to a file, and it is the one that the function finds.
@@ -109,6 +109,15 @@ pub fn first_refusal()
     ensures no_more { (how : Reading) (words more : List ℕ) (fault : Fault)
         → record_refusal how words ≡ Some fault
         → given how (words ++ more) ≡ given how words }
+{}
+
+/// The words before the first that is refused are those in front of the least refused record, and all where there is
+/// none.
+pub fn the_words_before_a_refusal()
+    ensures before { (how : Reading) (words : List ℕ) (fault : Fault)
+        (least : IsFirst how fault [] words) → unrefused_after how [] words ≡ least.front }
+    ensures all { (how : Reading) (words : List ℕ)
+        → record_refusal how words ≡ None → unrefused_after how [] words ≡ words }
 {}
 
 /// The greatest time of the events in order that are not late is that of all events in order.

@@ -1,10 +1,10 @@
 -- What an engine stands for.
-use Rattle.std.specs.Prelude.{◌≡◌, ℕ, All, ◌+◌, List, length, sum_by, None, Result, Ok, Err, ◌⊎◌}
+use Rattle.std.specs.Prelude.{◌≡◌, ◌<◌, ℕ, All, ◌+◌, List, length, sum_by, None, Result, Ok, Err, ◌⊎◌}
 use Rattle.std.specs.declared.option.Option.{Option}
-use Rattle.tally_base.{specs.declared.fault.Fault.Fault, specs.declared.header.Header.Header, specs.Settings.{PartSettings, entries}, specs.declared.fault.Fault.TheVariants.OutOfMemory}
+use Rattle.tally_base.{specs.declared.fault.Fault.Fault, specs.declared.header.Header.Header, specs.declared.header.Mode.Mode, specs.Settings.{PartSettings, entries}, specs.declared.fault.Fault.TheVariants.OutOfMemory}
 use Rattle.ptu_definitions.{specs.Streams.{Reading, streamed}, specs.Words.words_of}
 use Rattle.record_stream.specs.Standing.{how_of, refused_with, carried_by, kept_back_by, bytes_in, HasStreamed}
-use Rattle.plan_text.specs.Plan.{PlanView, parts_of}
+use Rattle.plan_text.{specs.Plan.{PlanView, parts_of}, specs.Fits.fits}
 use Rattle.gate_plan.{specs.Shifting.{Sorting, sorting}, specs.Groups.sorting_of, specs.Histories.{history, settled_history}, specs.Plans.reading_by}
 use Rattle.plan_parts.{specs.Parts.{settings_in, AllHold, AllClosed, IsWithinWork, entries_in}, specs.declared.results.Results.Results}
 use Rattle.tally_engine.specs.declared.engine.Engine.{Engine}
@@ -82,7 +82,7 @@ abbrev pub Finishes : Engine → List ℕ → Result Results Fault → Type 0
 Finishes engine bytes (Ok results) = IsCounted engine bytes results
 Finishes engine bytes (Err fault) = streamed (reading_of engine) bytes ≡ Err fault
 
--- An engine is opened where the parts suit the mode, or else their fault is answered. Only memory may be wanting.
-abbrev pub OpensAs : {A : Type 0} → Result (Unit {0}) Fault → Result A Fault → Type 0
-OpensAs fit (Ok engine) = fit ≡ Ok tt
-OpensAs fit (Err fault) = (fit ≡ Err fault) ⊎ ((fit ≡ Ok tt) × (fault ≡ OutOfMemory))
+-- An engine is opened where the parts suit the mode, or else their fault is answered. Only memory may be wanting, and only where there is a table.
+abbrev pub OpensAs : {A : Type 0} → Mode → PlanView → Result A Fault → Type 0
+OpensAs mode plan (Ok engine) = fits mode plan ≡ Ok tt
+OpensAs mode plan (Err fault) = (fits mode plan ≡ Err fault) ⊎ ((fits mode plan ≡ Ok tt) × (fault ≡ OutOfMemory) × (0 < length (parts_of plan)))

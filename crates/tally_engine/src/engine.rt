@@ -34,7 +34,7 @@ pub struct Engine {
 
 impl Engine {
     ghost use Rattle.std.specs.Prelude.{◌+◌, ◌*◌, ◌<◌, ◌≤◌, [], ◌++◌, length, Err, OnOk, IfOk, IfErr};
-    ghost use Rattle.plan_text.{specs.Fits.fits, specs.Reading.plan_view, specs.Bound.bound as plan_bound};
+    ghost use Rattle.plan_text.{specs.Reading.plan_view, specs.Bound.bound as plan_bound};
     ghost use Rattle.tally_engine.specs.Engine.{OpensAs, reading_of, refused_by, bytes_fed, HasFed, IsFor, SameEngine, Finishes, held, bound};
     ghost use Rattle.ptu_definitions.{specs.Shown.Shows, specs.Streams.{record_refusal, streamed}, specs.Words.words_of};
     ghost use Rattle.tally_base.specs.Faults.{fault_in};
@@ -45,7 +45,7 @@ impl Engine {
     /// `OutOfMemory` where memory for a table is wanting. The greatest number of records is 1 to 2^40.
     pub fn open(alloc: Global, plan: &Plan, header: &Header) -> Result<Engine, Fault>
         requires records { (0 < plan.now.policy.records) × (plan.now.policy.records ≤ record_limit) }
-        ensures answer { OpensAs (fits (mode_of header.now.record_type) (plan_view plan.now)) result }
+        ensures answer { OpensAs (mode_of header.now.record_type) (plan_view plan.now) result }
         ensures made { IfOk result (λ engine. IsFor engine (plan_view plan.now) header.now) }
         ensures empty { IfOk result (λ engine. HasFed engine []) }
         ensures going { IfOk result (λ engine. refused_by engine ≡ None) }
