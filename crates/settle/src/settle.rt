@@ -131,15 +131,15 @@ impl Settle {
         self.place = Some(place);
     }
 
-    /// Takes out the least of the events kept back. No event can be pushed any more.
+    /// Takes out the least of the events kept back, if there is one. No event can be pushed any more.
     pub fn pop(&mut self) -> Option<Event>
         ensures settled { (pushed given : List Event) → HasSettled self.old pushed given
             → HasSettled self.new pushed (given ++ option_to_list result) }
         ensures least { kept_back self.old ≡ option_to_list result ++ kept_back self.new }
         ensures some { is_some result ≡ nat_lt 0 (length (kept_back self.old)) }
         ensures same_reach { reach_of self.new ≡ reach_of self.old }
-        ensures rises { IfSome result (λ x. last_time self.old ≤ x.time) }
-        ensures time { IfSome result (λ x. last_time self.new ≡ x.time) }
+        ensures moves { MovesTo self.old self.new result }
+        ensures same_place { next_place self.new ≡ next_place self.old }
         ensures popped { was_popped self.new ≡ true }
     {
         self.popped = true;
