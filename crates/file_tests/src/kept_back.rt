@@ -19,14 +19,14 @@ fn at(place: u64, time: u64) -> Event
 #[test]
 fn one_place_too_late(_rt: HostRuntime) -> Result<(), Fail> {
     let mut settle = Settle::new(1);
-    holds(settle.push(at(1, 9)).emitted == None, 1)?;
+    holds(settle.push(at(0, 9)).emitted == None, 1)?;
     holds(settle.held() == 1, 2)?;
-    holds(settle.push(at(2, 8)).emitted == Some(at(2, 8)), 3)?;
-    let late = settle.push(at(3, 7));
+    holds(settle.push(at(1, 8)).emitted == Some(at(1, 8)), 3)?;
+    let late = settle.push(at(2, 7));
     holds(late.late, 4)?;
     holds(settle.last() == 8, 5)?;
     holds(late.emitted == None, 6)?;
-    holds(settle.pop() == Some(at(1, 9)), 7)?;
+    holds(settle.pop() == Some(at(0, 9)), 7)?;
     holds(settle.pop() == None, 8)?;
     Ok(())
 }

@@ -31,11 +31,14 @@ fn the_last_time_is_written(rt: HostRuntime) -> Result<(), Fail> {
     let mut sink = MemorySink::new(alloc, 20_000, Vec::new(alloc))?;
     let mut picker = Picker::new(Mode::T2);
     holds(picker.start(&mut sink).is_ok(), 1)?;
-    let late = picker.photon(&photon(9, 1, 0, LAST + 1), &mut sink);
-    holds(late == Err(Fault::PickTime { place: 9 }), 2)?;
-    holds(sink.bytes().len() == HEADER, 3)?;
-    holds(picker.photon(&photon(10, 1, 0, LAST), &mut sink).is_ok(), 4)?;
-    holds(sink.bytes().len() == 16_504, 5)?;
+    holds(picker.photon(&photon(9, 1, 0, LAST), &mut sink).is_ok(), 2)?;
+    holds(sink.bytes().len() == 16_504, 3)?;
+    let mut short = MemorySink::new(alloc, 20_000, Vec::new(alloc))?;
+    let mut refusing = Picker::new(Mode::T2);
+    holds(refusing.start(&mut short).is_ok(), 4)?;
+    let late = refusing.photon(&photon(10, 1, 0, LAST + 1), &mut short);
+    holds(late == Err(Fault::PickTime { place: 10 }), 5)?;
+    holds(short.bytes().len() == HEADER, 6)?;
     Ok(())
 }
 

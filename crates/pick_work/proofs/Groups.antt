@@ -1,7 +1,7 @@
 -- A group of a plan has a number that groups can have.
 use Rattle.std.proofs.Common.{◌≡◌, ◌<◌, ◌≤◌, ℕ, Bool, None, Some, length, map, refl, ap, arith, ◌&&◌, nat_le, true, false, if◌then◌else◌}
 use Rattle.std.proofs.lemmas.Bool.Decides.{nat_tests}
-use Rattle.tally_base.{specs.declared.fault.Fault.Fault, specs.declared.fault.Fault.TheVariants.NoGroup, specs.Settings.group_view}
+use Rattle.tally_base.{specs.declared.fault.Fault.TheVariants.NoGroup, specs.Settings.group_view}
 use Rattle.plan_text.specs.Plan.{PlanView}
 use Rattle.gate_plan.{specs.declared.gates.Gates.Gates, specs.Groups.sorting_of, specs.Shifting.{Sorting, sorting}, proofs.Parts.few_groups}
 use Rattle.pick_work.specs.PickOutcomes.{no_group}

@@ -1,4 +1,4 @@
-use Rattle.std.proofs.Common.{arith, ap}
+use Rattle.std.proofs.Common.{ap}
 use Rattle.ptu_definitions.specs.Streams.{Reading}
 use Rattle.gate_plan.specs.Groups.{sorting_of}
 use Rattle.photon_pick.specs.Chosen.{is_chosen}
