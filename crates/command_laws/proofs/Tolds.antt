@@ -1,13 +1,13 @@
 -- What a run leaves over all files that may be its, it leaves over those that are told.
-use Rattle.std.proofs.Common.{◌≡◌, ℕ, List, ◌++◌, length, true, Some, sym, ap, ◌∙◌, inl, inr, ◌≤◌}
+use Rattle.std.proofs.Common.{◌≡◌, ℕ, List, ◌++◌, length, true, Some, sym, ap, ◌∙◌, inl, inr, ◌≤◌, append-nil}
 use Rattle.std.specs.declared.option.Option.{Option}
 use Rattle.tally_base.{specs.declared.slot.Slot.Slot, specs.declared.slot.Slot.TheVariants.{Plan, Data}, specs.declared.fault.Fault.Fault}
 use Rattle.bench_io.specs.Inputs.{File, InputState}
 use Rattle.plan_text.specs.Plan.{PlanView}
 use Rattle.command_words.specs.Commands.{Request}
 use Rattle.ptu_cli.{specs.Runs.{Around, Runs}, specs.Behaviours.behaviour}
-use Rattle.command_work.{specs.Behaviours.{Work, Writing, Behaviour, NoCommand, Alone, OnFile, ByPlan}, specs.Endings.{FileOf, AreItsFiles, HasPlan, Reaches, StopsIn, LeavesUnread, RunsOut, TakesData, Asks}}
-use Rattle.command_laws.specs.ToldFiles.{BeginsWith, IsGoodPlan, ReachesBy, StopsBy, LeavesBy, RunsOutBy, TakesBy, AsksBy, RunsOver, OverToldFiles}
+use Rattle.command_work.{specs.Behaviours.{Work, Writing, Behaviour, NoCommand, Alone, OnFile, ByPlan}, specs.Endings.{FileOf, AreItsFiles, HasPlan, Reaches, StopsIn, LeavesUnread, WantsForPlan, RunsOut, TakesData, Asks}}
+use Rattle.command_laws.specs.ToldFiles.{BeginsWith, IsGoodPlan, ReachesBy, StopsBy, LeavesBy, WantsForPlanBy, RunsOutBy, TakesBy, AsksBy, RunsOver, OverToldFiles}
 
 -- the bytes that were given are the first of each file that may be the slot's
 begins : (after : InputState) (slot : Slot) (file : File) → FileOf after slot file → after.opened slot ≡ true → BeginsWith file (after.given slot).bytes
@@ -35,6 +35,13 @@ leaves (OnFile file writing work) after plan_file data_file Data old new may ope
 leaves (ByPlan plan file writing memory lacks work) after plan_file data_file Plan old new may opened at h = (h.0, (begins after Plan plan_file may.0 opened, h.1))
 leaves (ByPlan plan file writing memory lacks work) after plan_file data_file Data old new may opened at h = (h.0, good-plan after lacks h.0 plan_file may.0 h.1, stops _ (work h.0) after data_file old new may.1 opened h.2)
 
+-- a plan whose end was said is the whole of its file
+wants-plan : (after : InputState) (plan_file : File) → FileOf after Plan plan_file → WantsForPlan after → WantsForPlanBy plan_file after
+wants-plan after plan_file may (inl unasked) = inl unasked
+wants-plan after plan_file may (inr whole) =
+    let is = may whole.opened in
+    inr (is.1 ∙ ap (λ (l : List ℕ). Some l) (is.2.parts ∙ ap (λ l. (after.given Plan).bytes ++ l) (is.2.may_follow whole.ended) ∙ append-nil _), whole.few)
+
 runs-out : (does : Behaviour) (after : InputState) (plan_file data_file : File) (old new : Option (List ℕ)) → AreItsFiles does after plan_file data_file → RunsOut does after old new → RunsOutBy does plan_file data_file after old new
 runs-out NoCommand after plan_file data_file old new may h = h
 runs-out (Alone end) after plan_file data_file old new may h = h
@@ -42,8 +49,8 @@ runs-out (OnFile file writing work) after plan_file data_file old new may h = h
 runs-out (ByPlan plan file writing memory lacks work) after plan_file data_file old new may h = (
   h.0,
   elim h.1 [
-    | inl unasked ↦ inl unasked
-    | inr w ↦ inr (w.0, good-plan after lacks w.0 plan_file may.0 w.1, w.2, begins after Data data_file may.1 w.2, w.3)
+    | inl soon ↦ inl (soon.0, wants-plan after plan_file may.0 soon.1)
+    | inr w ↦ inr (record { plan = w.plan; is = good-plan after lacks w.plan plan_file may.0 w.has; opened = w.opened; first = begins after Data data_file may.1 w.opened; wants = w.wants })
   ],
 )
 

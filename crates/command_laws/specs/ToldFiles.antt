@@ -6,7 +6,7 @@ use Rattle.bench_io.specs.Inputs.{File, InputState}
 use Rattle.plan_text.{specs.Plan.PlanView, specs.Reading.text_limit}
 use Rattle.command_words.specs.Commands.{Request}
 use Rattle.ptu_cli.{specs.Runs.{Around, Runs, TellsOn, EndsIn, NothingFailed}, specs.Behaviours.behaviour}
-use Rattle.command_work.{specs.Outcomes.{Outcome, status}, specs.Behaviours.{piece_limit, Work, Writing, so_far, under, Behaviour, NoCommand, Alone, OnFile, ByPlan}, specs.Endings.{outcome, IsPlan, Tells, CutsShort, WantsBehind, LacksMemory, IsGood}}
+use Rattle.command_work.{specs.Outcomes.{Outcome, status}, specs.Behaviours.{piece_limit, Work, Writing, Memory, so_far, under, Behaviour, NoCommand, Alone, OnFile, ByPlan}, specs.Endings.{outcome, IsPlan, Tells, CutsShort, WantsBehind, LacksMemory, IsGood}}
 
 -- The file is there, and begins with these bytes.
 pub record BeginsWith (file : File) (taken : List ℕ) : Type 0 where
@@ -45,13 +45,25 @@ LeavesBy (ByPlan plan file writing memory lacks work) plan_file data_file after 
 LeavesBy (ByPlan plan file writing memory lacks work) plan_file data_file after Data old new =
     (view : PlanView) × IsGoodPlan plan_file lacks view × StopsBy (under view writing) (work view) data_file (after.given Data).bytes old new
 
--- What a run leaves where memory was refused.
+-- Memory may be wanting for a plan: for its text, before it is asked for; or for its document, behind the whole of a file that is no longer than a plan may be.
+abbrev pub WantsForPlanBy : File → InputState → Type 0
+WantsForPlanBy plan_file after = (after.asked Plan ≡ false) ⊎ ((plan_file ≡ Some (after.given Plan).bytes) × (length (after.given Plan).bytes ≤ text_limit))
+
+-- The data were opened, behind a plan that lacks nothing, and memory may be wanting behind the first bytes of their file, which were given.
+pub record StopsBehindBy (memory : Memory) (lacks : PlanView → Option Fault) (plan_file data_file : File) (after : InputState) : Type 0 where
+  pub plan : PlanView
+  pub is : IsGoodPlan plan_file lacks plan
+  pub opened : after.opened Data ≡ true
+  pub first : BeginsWith data_file (after.given Data).bytes
+  pub wants : WantsBehind memory plan (after.given Data).bytes
+
+-- What a run leaves that ends for want of memory.
 abbrev pub RunsOutBy : Behaviour → File → File → InputState → Option (List ℕ) → Option (List ℕ) → Type 0
 RunsOutBy NoCommand plan_file data_file after old new = ⊥
 RunsOutBy (Alone end) plan_file data_file after old new = Keeps old new
 RunsOutBy (OnFile file writing work) plan_file data_file after old new = ⊥
 RunsOutBy (ByPlan plan file writing memory lacks work) plan_file data_file after old new =
-    Keeps old new × ((after.asked Data ≡ false) ⊎ ((view : PlanView) × IsGoodPlan plan_file lacks view × (after.opened Data ≡ true) × BeginsWith data_file (after.given Data).bytes × WantsBehind memory view (after.given Data).bytes))
+    Keeps old new × (((after.asked Data ≡ false) × WantsForPlanBy plan_file after) ⊎ StopsBehindBy memory lacks plan_file data_file after)
 
 -- The bytes that were given are the first of the file: some that call for no end by themselves, and no more after them than one read gives.
 pub record TakesBy (work : Work) (data_file : File) (given : List ℕ) : Type 0 where
@@ -81,7 +93,7 @@ pub record RunsOver (does : Behaviour) (plan_file data_file : File) (run : Aroun
   pub unread : result ≡ 3 → (slot : Slot) × ReachesBy does plan_file slot × (run.after.opened slot ≡ true) × Rose (run.before.read_faults slot) (run.after.read_faults slot) × LeavesBy does plan_file data_file run.after slot run.out_before run.out_after × TellsOn run (Some (ReadFault slot))
   -- A write failed.
   pub unwritten : result ≡ 4 → Rose run.out_faults_before run.out_faults_after × CutsShort does (outcome does plan_file data_file) run.out_before run.out_after × TellsOn run (Some WriteFault)
-  -- Memory was refused.
+  -- It ends for want of memory where it takes memory. That memory was refused is not said.
   pub memory : result ≡ 5 → RunsOutBy does plan_file data_file run.after run.out_before run.out_after × TellsOn run (Some OutOfMemory)
   -- What it asked for and took, whatever its status is.
   pub asks : AsksBy does plan_file data_file run.before run.after

@@ -65,7 +65,7 @@ pub record Runs (request : Option Request) (run : Around) (result : ℕ) : Type 
   pub unread : result ≡ 3 → (slot : Slot) × FailsReading (behaviour request) slot run.before run.after run.out_before run.out_after × TellsOn run (Some (ReadFault slot))
   -- A write failed.
   pub unwritten : result ≡ 4 → Rose run.out_faults_before run.out_faults_after × CutsOutcome (behaviour request) run.after run.out_before run.out_after × TellsOn run (Some WriteFault)
-  -- Memory was refused.
+  -- It ends for want of memory where it takes memory. That memory was refused is not said.
   pub memory : result ≡ 5 → RunsOut (behaviour request) run.after run.out_before run.out_after × TellsOn run (Some OutOfMemory)
   -- What it asked for and took, whatever its status is.
   pub asks : Asks (behaviour request) run.before run.after

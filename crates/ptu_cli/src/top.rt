@@ -74,13 +74,17 @@ pub fn tell<E: Sink>(fault: &Fault, err: &mut E)
 /// | 2 | never | never | FILE is not opened | PLAN is not opened, or FILE behind a plan |
 /// | 3 | never | never | a read of FILE fails | a read of PLAN fails, or one of FILE |
 /// | 4 | never | a write fails | a write fails | a write fails |
-/// | 5 | never | memory is wanting | never | memory is wanting before FILE or at its header |
+/// | 5 | never | nothing is written | never | before FILE is asked for, or at its header |
 /// | 6 to 8 | never | never | never | PLAN is no plan |
 /// | 9 | never | never | never | the plan does not suit FILE |
 /// | 10 to 21 | never | never | FILE is refused | FILE is refused |
 /// | 22 | never | never | never | the plan has no trace |
 /// | 23 | never | never | never | the plan has no such group |
 /// | 24 | never | never | never | a photon is too late to be written |
+///
+/// 5 stands for want of memory. It may come only where the command takes memory: before PLAN is
+/// asked for, behind a whole plan, or behind a header that a plan with a table suits. That memory
+/// was refused is not said.
 ///
 /// After 2 and 5 nothing is written. After 3 nothing is, or, where the text is written while FILE
 /// is read (`header`, `events`, `trace`, `pick`), what the bytes read call for. After 4 the text is cut short; one

@@ -11,7 +11,7 @@ use Rattle.plan_parts.{specs.declared.results.Results.Results, specs.Parts.setti
 use Rattle.gate_plan.{specs.Plans.reading_by, specs.Histories.history}
 use Rattle.table_out.{specs.Report.{Table, report, with_events, EachHolds}, proofs.Tables.each_holds_all}
 use Rattle.command_work.{specs.Outcomes.{Outcome, written}, specs.Tellings.{WritesPiece, WritesEnd, Opens, unless_declined}, proofs.TellingLaws.opens-misfit}
-use Rattle.report_work.{specs.Reports.{report_of, report_outcome}, specs.RunPieces.{reports, reports_by, CountsBy}}
+use Rattle.report_work.{specs.Reports.{report_of, report_outcome}, specs.RunPieces.{reports, reports_by, MayWant, CountsBy}}
 
 -- an engine that was opened with the same is of the same plan
 pub still-for : (old new : Engine) (plan : PlanView) → SameEngine old new → IsFor old plan (header_of old) → IsFor new plan (header_of new)
@@ -41,10 +41,10 @@ takes-fed plan old new piece (Err fault) same refused taken = tt
 
 -- ## An engine that wasn't opened
 
-pub opens-unopened : (plan : PlanView) (header : Header) (a : Option (List ℕ)) (faults : ℕ) (fault : Fault) → OpensAs {A = Engine} (fits (mode_of header.record_type) plan) (Err fault)
-    → Opens {X = Unit {0}} (reports_by plan header) (fits (mode_of header.record_type) plan ≡ Ok tt) a a faults faults (Err fault)
+pub opens-unopened : (plan : PlanView) (header : Header) (a : Option (List ℕ)) (faults : ℕ) (fault : Fault) → OpensAs {A = Engine} (mode_of header.record_type) plan (Err fault)
+    → Opens {X = Unit {0}} (reports_by plan header) (MayWant plan header) a a faults faults (Err fault)
 opens-unopened plan header a faults fault (inl misfit) = opens-misfit (Unit {0}) (reports plan header) _ a a faults faults (fits (mode_of header.record_type) plan) fault misfit
-opens-unopened plan header a faults fault (inr h) = inr (h.1, h.0, Keeps-from_none a a (Appends-nil a), refl)
+opens-unopened plan header a faults fault (inr h) = inr (h.1, (h.2, h.0), Keeps-from_none a a (Appends-nil a), refl)
 
 -- ## The end
 

@@ -9,7 +9,7 @@ use Rattle.record_stream.proofs.Lasts.{streamed-shown}
 use Rattle.tally_engine.{specs.declared.engine.Engine.Engine, specs.Engine.header_of}
 use Rattle.gate_plan.specs.Plans.{reading_by}
 use Rattle.command_work.{specs.Outcomes.{Outcome, MayChange}, specs.Behaviours.{AtEnd, ForTables}, specs.Endings.{Cuts, WantsBehind}, specs.Tellings.{IsText, Suits, headed_end, headed_text, HeadedGoes, unless_declined}, proofs.TellingLaws.{AppendsShort-none, fits-law}, proofs.Streams.{streamed-clear, streamed-inside, streamed-open}}
-use Rattle.report_work.{specs.Reports.{report_of, if_fits, report_behind, file_report, report_outcome, reporting}, specs.RunPieces.{reports, reports_by, CountsBy}}
+use Rattle.report_work.{specs.Reports.{report_of, if_fits, report_behind, file_report, report_outcome, reporting}, specs.RunPieces.{reports, reports_by, MayWant, CountsBy}}
 
 module _ (plan : PlanView) (header : Header) (bytes : List ℕ) where
   ends-fault : (r : Result Summary Fault) → (report_outcome (report_of plan header bytes r)).fault ≡ fault_in r
@@ -61,12 +61,12 @@ module _ (plan : PlanView) where
       by (Ok done) h = report_of-open plan found.0 found.1 (streamed (reading_by plan found.0) found.1) (streamed-open (reading_by plan found.0) found.1 h)
       by (Err fault) h = cc
 
-  pub reporting-suits : Suits (reporting plan) AtEnd (WantsBehind ForTables plan) (reports_by plan) (λ header. fits (mode_of header.record_type) plan ≡ Ok tt)
+  pub reporting-suits : Suits (reporting plan) AtEnd (WantsBehind ForTables plan) (reports_by plan) (MayWant plan)
   reporting-suits = record {
     ends = λ bytes. ends (header_answer bytes);
     text = λ bytes. text (header_answer bytes);
     cuts = λ bytes old new. cuts old new (file_report plan bytes);
     goes = λ bytes. goes (header_answer bytes);
-    wanting = λ bytes behind header answer wants few. record { header = header; behind = behind; answer = answer; suits = wants; few = few };
+    wanting = λ bytes behind header answer wants few. record { tables = wants.0; header = header; behind = behind; answer = answer; suits = wants.1; few = few };
     is = λ header. fits-law (mode_of header.record_type) plan (reports-law plan header);
   }

@@ -81,11 +81,9 @@ pub(crate) struct RunJob<'p> {
 }
 
 impl<'p> Job for RunJob<'p> {
-    ghost use Rattle.std.specs.Prelude.{Ok};
-    ghost use Rattle.tally_base.specs.RecordTypes.{mode_of};
-    ghost use Rattle.plan_text.{specs.Fits.fits, specs.Reading.plan_view};
+    ghost use Rattle.plan_text.specs.Reading.{plan_view};
     ghost use Rattle.command_work.{specs.Behaviours.{AtEnd, ForTables}, specs.Endings.WantsBehind};
-    ghost use Rattle.report_work.{specs.Reports.reporting, specs.RunPieces.reports_by, specs.RunLaws.reporting-suits};
+    ghost use Rattle.report_work.{specs.Reports.reporting, specs.RunPieces.{reports_by, MayWant}, specs.RunLaws.reporting-suits};
 
     type Reader = RunReader<'p>;
 
@@ -97,7 +95,7 @@ impl<'p> Job for RunJob<'p> {
 
     ghost tells = { λ job header. reports_by (plan_view job.plan.now) header };
 
-    ghost wants = { λ job header. fits (mode_of header.record_type) (plan_view job.plan.now) ≡ Ok tt };
+    ghost wants = { λ job header. MayWant (plan_view job.plan.now) header };
 
     fn open<O: Sink>(&self, header: &Header, _out: &mut O) -> Result<RunReader<'p>, Fault> {
         let engine = Engine::open(self.alloc, self.plan, header)?;
