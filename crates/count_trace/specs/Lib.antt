@@ -2,3 +2,4 @@ pub mod TraceCounts
 pub mod Counting
 pub mod Trace
 pub mod Laws
+pub mod Totals

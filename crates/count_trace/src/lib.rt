@@ -4,6 +4,7 @@
 
 mod bin;
 mod counting;
+pub mod laws;
 mod trace;
 
 pub use bin::Bin;

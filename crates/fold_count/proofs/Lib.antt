@@ -8,3 +8,4 @@ pub mod Settled
 pub mod Pushed
 pub mod Totals
 pub mod Rows
+pub mod Cells

@@ -1,5 +1,5 @@
 -- What a fold stands for.
-use Rattle.std.specs.Prelude.{◌≡◌, ℕ, ◌+◌, false, length}
+use Rattle.std.specs.Prelude.{◌≡◌, ℕ, ◌+◌, false, List, length}
 use Rattle.tally_base.{specs.declared.settings.FoldSet.FoldSet, specs.Settings.{PartSettings, fold_view}, specs.Settings.PartSettings.FoldSettings, specs.Tally.{History, greatest_time}}
 use Rattle.fold_count.{specs.declared.fold.Fold.Fold, specs.Folded.Counts}
 
@@ -9,6 +9,10 @@ set_of t = t.set
 
 abbrev pub settings : Fold → PartSettings
 settings t = FoldSettings (fold_view t.set)
+
+-- its counts, by the set of the groups
+abbrev pub cells_in : Fold → List ℕ
+cells_in t = t.cells.items
 
 -- It was given these events. Once it is closed, each cell is the count over them.
 pub record Holds (t : Fold) (h : History) : Type 0 where

@@ -34,9 +34,9 @@ pub struct Fold {
 }
 
 impl Fold {
-    ghost use Rattle.std.specs.Prelude.{◌<◌, ◌^◌, length, true, IfOk, []};
+    ghost use Rattle.std.specs.Prelude.{◌<◌, ◌^◌, length, slice_index, true, IfOk, []};
     ghost use Rattle.tally_base.specs.Settings.PartSettings.{FoldSettings};
-    ghost use Rattle.fold_count.{specs.FoldCounts.in_set, specs.Fold.{Holds, set_of}};
+    ghost use Rattle.fold_count.{specs.FoldCounts.in_set, specs.Fold.{Holds, set_of, cells_in}};
 
     /// A fold of no events, with all the memory that it ever takes, or `AllocError` where it is wanting.
     pub fn open(alloc: Global, set: FoldSet) -> Result<Fold, AllocError>
@@ -81,8 +81,12 @@ impl Fold {
     /// n groups. Before the fold is closed, those are left out whose window a photon may still come into.
     pub fn cell(&self, set: u32) -> u64
         requires { set < 2 ^ length (fold_view (set_of self.now)).groups }
-        ensures { ⟦<Fold as Tally>⟧.closed self.now ≡ true → (h : History) → Holds self.now h
+        ensures photons { ⟦<Fold as Tally>⟧.closed self.now ≡ true
+            → (h : History) → Holds self.now h
             → result ≡ in_set (fold_view (set_of self.now)) set h }
+        ensures at_most { (h : History) → Holds self.now h
+            → result ≤ in_set (fold_view (set_of self.now)) set h }
+        ensures place { slice_index (cells_in self.now) set ≡ result }
     {
         self.cells[set as usize]
     }

@@ -1,3 +1,4 @@
 pub mod HistogramCounts
 pub mod Hist
 pub mod Laws
+pub mod Totals

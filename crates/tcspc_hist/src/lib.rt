@@ -3,5 +3,6 @@
 #![tactic(auto)]
 
 mod hist;
+pub mod laws;
 
 pub use hist::Hist;
