@@ -1,0 +1,38 @@
+-- How commands end over their files, in words that the laws share.
+use Rattle.std.specs.Prelude.{ℕ, ◌≡◌, ◌≤◌, ◌⊎◌, ◌↔◌, List, None, Some, false, length, map}
+use Rattle.tally_base.{specs.declared.event.Event.Event, specs.declared.fault.Fault.Fault, specs.declared.fault.Fault.TheVariants.NoGroup, specs.declared.header.Header.Header, specs.declared.header.Mode.Mode, specs.RecordTypes.mode_of}
+use Rattle.bench_io.specs.Inputs.{File}
+use Rattle.ptu_definitions.specs.Counted.{record_limit}
+use Rattle.plan_text.specs.Plan.{PlanView}
+use Rattle.list_out.specs.EventText.{events_text}
+use Rattle.record_write.specs.Picked.{picked_words, picked_events}
+use Rattle.command_words.specs.Commands.{Request, Events}
+use Rattle.ptu_cli.specs.Behaviours.{behaviour}
+use Rattle.command_work.{specs.Endings.outcome, specs.Outcomes.{Outcome, written}}
+use Rattle.command_laws.{specs.Cases.HasGroup, specs.CommandCases.{CommandCases, Needs, Suits, cases}, specs.Written.photons_written, specs.Causes.{Headed, IsPlanWith, EndsWithFault, StatusIn, TooLate}}
+use Rattle.std.specs.declared.option.Option.{Option}
+
+-- how a command ends over its files, where nothing outside fails
+abbrev pub ends_with : Request → File → File → Outcome
+ends_with request = outcome (behaviour (Some request))
+
+-- A command ends with a fault of these statuses exactly where its files are as said.
+abbrev pub EndsWhere : ℕ → ℕ → (CommandCases → File → File → Fault → Type 0) → Type 0
+EndsWhere low high as_said = (request : Option Request) (plan_file data_file : File) (fault : Fault) → StatusIn low high fault → EndsWithFault request plan_file data_file fault ↔ as_said (cases request) plan_file data_file fault
+
+-- `events` lists the file as these photons, at their places in it, and none of them as late.
+abbrev pub Lists : List ℕ → List ℕ → Mode → List Event → Type 0
+Lists name file mode photons = ends_with (Events name) None (Some file) ≡ written (events_text (map (λ e. (e, false)) (picked_events mode photons)))
+
+-- Where the plan has the group and suits a file with a header, and the words of its written photons are few enough for `events`, this lists just them in the text.
+abbrev pub ListsWritten : ℕ → File → File → List ℕ → List ℕ → Type 0
+ListsWritten group plan_file data_file name text = (view : PlanView) (header : Header) (behind : List ℕ)
+    → IsPlanWith (Needs (HasGroup group) (NoGroup group)) plan_file view → Headed data_file header behind → Suits view header
+    → length (picked_words (mode_of header.record_type) (photons_written group view header behind)) ≤ record_limit
+    → Lists name text (mode_of header.record_type) (photons_written group view header behind)
+
+-- The command ends well, or with the fault that names a photon that is too late to be written.
+abbrev pub EndsWellOrLate : Request → File → File → Type 0
+EndsWellOrLate request plan_file data_file =
+    ((ends_with request plan_file data_file).fault ≡ None)
+    ⊎ ((fault : Fault) × EndsWithFault (Some request) plan_file data_file fault × TooLate (cases (Some request)) plan_file data_file fault)
