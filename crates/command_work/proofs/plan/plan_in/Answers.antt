@@ -1,6 +1,6 @@
 use Rattle.std.proofs.Common.{ℕ, List, subst, ◌≡◌, ◌+◌, rules, None, take, length, arith, refl, sym, ap, ◌∙◌}
 use Rattle.bench_io.specs.Inputs.{IsOpened}
-use Rattle.std.{specs.declared.option.Option.Option, proofs.lemmas.Result.{IfErr-weaker, err_from_is_err_and}, proofs.lemmas.List.length-take-le}
+use Rattle.std.{specs.declared.option.Option.Option, proofs.lemmas.Result.{err_from_is_err_and}, proofs.lemmas.List.length-take-le}
 use Rattle.tally_base.specs.declared.slot.Slot.TheVariants.{Plan as PlanSlot}
 use Rattle.plan_text.specs.Reading.{text_limit}
 use Rattle.command_work.{proofs.Plans.{uses-read, plan_told, plan-reasons, plan-quiet, ended_short}, proofs.Told.{all-taken, none-ended}, proofs.Once.{Rose-kept, quiet-none, once-refl, once-none, once-behind, once-opened, once-unopened}}
