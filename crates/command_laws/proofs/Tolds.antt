@@ -6,7 +6,7 @@ use Rattle.bench_io.specs.Inputs.{File, InputState}
 use Rattle.plan_text.specs.Plan.{PlanView}
 use Rattle.command_words.specs.Commands.{Request}
 use Rattle.ptu_cli.{specs.Runs.{Around, Runs}, specs.Behaviours.behaviour}
-use Rattle.command_work.{specs.Behaviours.{Work, Writing, Behaviour, NoCommand, Alone, OnFile, ByPlan}, specs.Endings.{FileOf, AreItsFiles, HasPlan, Reaches, StopsIn, LeavesUnread, WantsForPlan, RunsOut, TakesData, Asks}}
+use Rattle.command_work.{specs.Behaviours.{Work, Writing, Behaviour, NoCommand, Alone, OnFile, ByPlan}, specs.Endings.{FileOf, AreItsFiles, HasPlan, Reaches, StopsIn, LeavesUnread, WantsForPlan, RunsOut, TakesData, Asks}, proofs.Answers.told-are-its}
 use Rattle.command_laws.specs.ToldFiles.{BeginsWith, IsGoodPlan, ReachesBy, StopsBy, LeavesBy, WantsForPlanBy, RunsOutBy, TakesBy, AsksBy, RunsOver, OverToldFiles}
 
 -- the bytes that were given are the first of each file that may be the slot's
@@ -69,11 +69,11 @@ asks (ByPlan plan file writing memory lacks work) before after plan_file data_fi
 pub over-told : (request : Option Request) (run : Around) (result : ℕ) → Runs request run result → OverToldFiles request run result
 over-told request run result h plan_file data_file tells =
     let does = behaviour request in
-    let may = h.files plan_file data_file tells in
+    let may = told-are-its does run.before run.after plan_file data_file h.asks h.files tells in
     record {
       answered = λ further. h.answered further plan_file data_file may;
       unopened = λ two. let f = h.unopened two in (f.0, reaches does run.after plan_file data_file f.0 may f.1.0, f.1.1, f.1.2, f.2);
-      unread = λ three. let f = h.unread three in (f.0, reaches does run.after plan_file data_file f.0 may f.1.0, f.1.1, f.1.2, leaves does run.after plan_file data_file f.0 _ _ may f.1.1 f.1.0 f.1.3, f.2);
+      unread = λ three. let f = h.unread three in (f.0, reaches does run.after plan_file data_file f.0 may f.1.0, f.1.1, f.1.2, f.1.3, leaves does run.after plan_file data_file f.0 _ _ may f.1.1 f.1.0 f.1.4, f.2);
       unwritten = λ four. let f = h.unwritten four in (f.0, f.1 plan_file data_file may, f.2);
       memory = λ five. let f = h.memory five in (runs-out does run.after plan_file data_file _ _ may f.0, f.1);
       asks = asks does run.before run.after plan_file data_file may h.asks;

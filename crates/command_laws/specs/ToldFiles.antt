@@ -2,7 +2,7 @@
 use Rattle.std.specs.Prelude.{ℕ, ◌≡◌, ◌⊎◌, ◌+◌, ◌≤◌, ◌<◌, List, ◌++◌, length, true, false, None, Some}
 use Rattle.std.{specs.declared.option.Option.Option, specs.Io.KnownBytes.{Keeps, Appends}}
 use Rattle.tally_base.{specs.declared.slot.Slot.Slot, specs.declared.slot.Slot.TheVariants.{Plan, Data}, specs.declared.fault.Fault.Fault, specs.declared.fault.Fault.TheVariants.{OpenFault, ReadFault, WriteFault, OutOfMemory}, specs.FaultCounts.Rose}
-use Rattle.bench_io.specs.Inputs.{File, InputState}
+use Rattle.bench_io.{specs.Inputs.{File, InputState}, specs.Given.IsAtEnd}
 use Rattle.plan_text.{specs.Plan.PlanView, specs.Reading.text_limit}
 use Rattle.command_words.specs.Commands.{Request}
 use Rattle.ptu_cli.{specs.Runs.{Around, Runs, TellsOn, EndsIn, NothingFailed}, specs.Behaviours.behaviour}
@@ -89,8 +89,8 @@ pub record RunsOver (does : Behaviour) (plan_file data_file : File) (run : Aroun
   pub answered : (2 ≤ result → 5 < result) → EndsIn run result (outcome does plan_file data_file)
   -- An opening failed.
   pub unopened : result ≡ 2 → (slot : Slot) × ReachesBy does plan_file slot × Rose (run.before.open_faults slot) (run.after.open_faults slot) × Keeps run.out_before run.out_after × TellsOn run (Some (OpenFault slot))
-  -- A read failed.
-  pub unread : result ≡ 3 → (slot : Slot) × ReachesBy does plan_file slot × (run.after.opened slot ≡ true) × Rose (run.before.read_faults slot) (run.after.read_faults slot) × LeavesBy does plan_file data_file run.after slot run.out_before run.out_after × TellsOn run (Some (ReadFault slot))
+  -- A read failed, of a file whose end no read had said.
+  pub unread : result ≡ 3 → (slot : Slot) × ReachesBy does plan_file slot × (run.after.opened slot ≡ true) × ¬ (IsAtEnd (run.after.given slot)) × Rose (run.before.read_faults slot) (run.after.read_faults slot) × LeavesBy does plan_file data_file run.after slot run.out_before run.out_after × TellsOn run (Some (ReadFault slot))
   -- A write failed.
   pub unwritten : result ≡ 4 → Rose run.out_faults_before run.out_faults_after × CutsShort does (outcome does plan_file data_file) run.out_before run.out_after × TellsOn run (Some WriteFault)
   -- It ends for want of memory where it takes memory. That memory was refused is not said.

@@ -3,7 +3,7 @@ use Rattle.std.proofs.Common.{◌≡◌, ℕ, List, true, inl, inr, ◌⊎◌, R
 use Rattle.std.specs.declared.option.Option.{Option}
 use Rattle.tally_base.{specs.declared.fault.Fault.Fault, specs.Faults.{is_outside, fault_in}}
 use Rattle.bench_io.specs.Inputs.{File, InputState}
-use Rattle.command_work.{specs.Outcomes.Outcome, specs.Behaviours.{Behaviour, Alone}, specs.Endings.{outcome, ForItsFiles, Tells, ToldAreIts, EndsWith, Answers}}
+use Rattle.command_work.{specs.Outcomes.Outcome, specs.Behaviours.{Behaviour, NoCommand, Alone, OnFile, ByPlan}, specs.Endings.{outcome, AreItsFiles, ForItsFiles, Tells, ToldAreIts, Asks, EndsWith, Answers}}
 
 pub alone-answers : (end : Outcome) (after : InputState) (r : Result (Unit {0}) Fault) (old new : Option (List ℕ)) → IsErrAnd r (λ fault. is_outside fault ≡ true) ⊎ EndsWith end (fault_in r) old new → Answers (Alone end) after r old new
 unfolding outcome
@@ -14,6 +14,13 @@ alone-answers end after r old new (inr ends) = inr (λ plan_file data_file may. 
 pub files-map : (does : Behaviour) (after : InputState) (p q : Outcome → Type 0) → ((end : Outcome) → p end → q end) → ForItsFiles does after p → ForItsFiles does after q
 files-map does after p q f all = λ plan_file data_file may. f (outcome does plan_file data_file) (all plan_file data_file may)
 
--- what holds over all that may be the run's holds over those that are told
-pub holds-told : (does : Behaviour) (before after : InputState) (p : Outcome → Type 0) (plan_file data_file : File) → ToldAreIts does before after → ForItsFiles does after p → Tells before does plan_file data_file → p (outcome does plan_file data_file)
-holds-told does before after p plan_file data_file its all tells = all plan_file data_file (its plan_file data_file tells)
+-- files that are told for both words are among those that may be the run's
+pub told-are-its : (does : Behaviour) (before after : InputState) (plan_file data_file : File) → Asks does before after → ToldAreIts does before after → Tells before does plan_file data_file → AreItsFiles does after plan_file data_file
+told-are-its NoCommand before after plan_file data_file asks its tells = tt
+told-are-its (Alone end) before after plan_file data_file asks its tells = tt
+told-are-its (OnFile file writing work) before after plan_file data_file asks its tells = its data_file tells.1
+told-are-its (ByPlan plan file writing memory lacks work) before after plan_file data_file asks its tells =
+    let is_plan = its.0 plan_file tells.0 in (
+      is_plan,
+      λ opened. let has = asks.1 (asks.2 opened) in its.1 data_file (tells.1 has.0 (has.1.is_plan plan_file is_plan) has.1.whole) opened,
+    )

@@ -1,9 +1,9 @@
 -- No more is taken than one read behind bytes that call for no end by themselves.
-use Rattle.std.proofs.Common.{◌≡◌, ◌≤◌, ℕ, List, [], ◌++◌, Bool, true, false, Ok, Err, length, take, sym, subst, arith, append-nil, append_assoc, Result, IfErr}
+use Rattle.std.proofs.Common.{◌≡◌, ◌≤◌, ℕ, List, [], ◌++◌, Bool, true, false, Ok, Err, length, take, sym, subst, arith, append-nil, append_assoc, Result, IfOk, IfErr}
 use Rattle.std.proofs.lemmas.List.{length-take}
 use Rattle.tally_base.{specs.declared.fault.Fault.Fault, specs.Faults.is_outside}
 use Rattle.bench_io.{specs.Given.{Given, Consumes}, proofs.Givens.Consumes-trans}
-use Rattle.command_work.{specs.Behaviours.piece_limit, specs.Works.TakesFew, specs.Pieces.StopsSoon}
+use Rattle.command_work.{specs.Told.SaysNoEnd, specs.Behaviours.piece_limit, specs.Works.TakesFew, specs.Pieces.StopsSoon}
 
 pub few-none : (goes_on : List ℕ → Type 0) (front : List ℕ) (before after : Given) → Consumes before after front → goes_on front → TakesFew goes_on before after
 few-none goes_on front before after took goes = record {
@@ -44,10 +44,10 @@ none-unread P (Err fault) inside = λ outside. absurd (not_both (is_outside faul
     not_both b p q = cc
 
 -- a read failed
-pub stops-unread : {A : Type 0} (goes_on : List ℕ → Type 0) (front : List ℕ) (before after : Given) (fault : Fault) → Consumes before after front → goes_on front → StopsSoon {A = A} goes_on before after (Err fault)
-stops-unread goes_on front before after fault took goes = record { unread = λ outside. (front, took, goes); few = few-none goes_on front before after took goes }
+pub stops-unread : {A : Type 0} (goes_on : List ℕ → Type 0) (front : List ℕ) (before after : Given) (fault : Fault) → Consumes before after front → goes_on front → SaysNoEnd before after → StopsSoon {A = A} goes_on before after (Err fault)
+stops-unread goes_on front before after fault took goes on = record { unread = λ outside. (front, took, goes, on); done = tt; few = few-none goes_on front before after took goes }
 
 -- a piece was read behind bytes that go on so, and it ended the work
 pub stops-piece : {A : Type 0} (goes_on : List ℕ → Type 0) (front : List ℕ) (len : ℕ) (into : List ℕ) (before after : Given) (r : Result A Fault) → Consumes before after (front ++ take len into) → goes_on front → length into ≤ piece_limit
-    → IfErr r (λ fault. is_outside fault ≡ false) → StopsSoon goes_on before after r
-stops-piece goes_on front len into before after r took goes size inside = record { unread = none-unread _ r inside; few = few-piece goes_on front len into before after took goes size }
+    → IfErr r (λ fault. is_outside fault ≡ false) → IfOk r (λ value. SaysNoEnd before after) → StopsSoon goes_on before after r
+stops-piece goes_on front len into before after r took goes size inside on = record { unread = none-unread _ r inside; done = on; few = few-piece goes_on front len into before after took goes size }

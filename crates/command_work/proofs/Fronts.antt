@@ -84,7 +84,7 @@ rest-follows t wants first at a before r wrote rest = record {
     }
 
     read : ReadsText t (t.text first) first ⊥ at → ReadsText t [] first wants (record at { old = a; faults_before = before })
-    read h = record { taken = h.taken; consumes = h.consumes; more = wrote.more ++ h.more; adds = joined _ h.more h.adds; written = Appends-trans _ _ _ _ _ wrote.written h.written; unrefused = h.unrefused }
+    read h = record { taken = h.taken; consumes = h.consumes; more = wrote.more ++ h.more; adds = joined _ h.more h.adds; written = Appends-trans _ _ _ _ _ wrote.written h.written; unrefused = h.unrefused; unended = h.unended }
 
     cut : CutsText t (t.text first) first ⊥ at → CutsText t [] first wants (record at { old = a; faults_before = before })
     cut h = record {

@@ -4,7 +4,7 @@ use Rattle.std.{specs.declared.option.Option.Option, proofs.lemmas.Result.IfErr-
 use Rattle.tally_base.{specs.declared.fault.Fault.Fault, specs.declared.slot.Slot.TheVariants.Data, specs.declared.header.Header.Header, specs.Faults.{is_outside, fault_in}, proofs.Reasons.{HasReason-follows, HasReason-with}}
 use Rattle.bench_io.{specs.Given.{Given, Consumes}, specs.Inputs.InputState, proofs.Givens.Consumes-trans, proofs.Bytes.{Appends-nil, Appends-same, AppendsShort-same}}
 use Rattle.ptu_definitions.specs.Headers.{header_answer}
-use Rattle.command_work.{specs.Told.Says, specs.Once.InputsOnce, specs.Outcomes.{Outcome, IsCut}, specs.Behaviours.{piece_limit, Work, Writing}, specs.Endings.Span, specs.Works.{AnswersWork, ReadsWork, CutsWork, WantsWork, TakesFew, LeavesWork}}
+use Rattle.command_work.{specs.Told.{Says, SaysNoEnd}, specs.Once.InputsOnce, specs.Outcomes.{Outcome, IsCut}, specs.Behaviours.{piece_limit, Work, Writing}, specs.Endings.Span, specs.Works.{AnswersWork, ReadsWork, CutsWork, WantsWork, TakesFew, LeavesWork}}
 use Rattle.command_work.{specs.Pieces.{ReadReason, StopsSoon}, specs.Tellings.{Telling, headed_end, headed_text, HeadedGoes, Suits}, specs.Rests.{EndsText, ReadsText, CutsText, WantsMemory, ReadsRest}, proofs.Once.{Rose-kept, out-unwritten, once-behind}, proofs.Few.{few-map, few-behind}, proofs.Pieces.ShowsHeader, proofs.Fronts.still}
 
 module _ (work : Work) (writing : Writing (List ℕ → List ℕ)) (wanting : List ℕ → Type 0) (tells : Header → Telling) (wants : Header → Type 0) (suits : Suits work writing wanting tells wants) where
@@ -38,12 +38,13 @@ module _ (work : Work) (writing : Writing (List ℕ → List ℕ)) (wanting : Li
     goes : (more : List ℕ) → t.refuses (behind ++ more) ≡ None → work.goes_on (front ++ more)
     goes more none = suits.goes (front ++ more) (subst (HeadedGoes tells) (sym (shows more)) none)
 
-    reads : ReadsText t [] behind (wants header) at → ReadsWork writing work (start.given Data) (at.after.given Data) at.old at.new
-    reads h = record {
+    reads : SaysNoEnd (start.given Data) (at.before.given Data) → ReadsText t [] behind (wants header) at → ReadsWork writing work (start.given Data) (at.after.given Data) at.old at.new
+    reads on h = record {
       taken = front ++ h.taken;
       consumes = taken h.taken h.consumes;
       written = Appends-same _ _ _ _ (sym (suits.text (front ++ h.taken) ∙ ap (headed_text tells) (shows h.taken) ∙ h.adds)) h.written;
       goes_on = goes h.taken h.unrefused;
+      unended = record { said_before = λ ended. on.said_before (h.unended.said_before ended) };
     }
 
     cuts : CutsText t [] behind (wants header) at → CutsWork writing work (start.given Data) (at.after.given Data) at.old at.new
@@ -64,12 +65,12 @@ module _ (work : Work) (writing : Writing (List ℕ → List ℕ)) (wanting : Li
     }
 
     -- the rest was read
-    pub leaves-rest : (r : Result (Unit {0}) Fault) → length behind < piece_limit → InputsOnce start at.before None → TakesFew IsCut (start.given Data) (at.before.given Data) → ReadsRest t [] behind (wants header) at r → LeavesWork writing wanting work all r
-    leaves-rest r small once few rest = record {
+    pub leaves-rest : (r : Result (Unit {0}) Fault) → length behind < piece_limit → InputsOnce start at.before None → TakesFew IsCut (start.given Data) (at.before.given Data) → SaysNoEnd (start.given Data) (at.before.given Data) → ReadsRest t [] behind (wants header) at r → LeavesWork writing wanting work all r
+    leaves-rest r small once few on rest = record {
       answer = answers r rest.answer;
       reason = IfErr-weaker r _ _
           (λ fault h.
-          HasReason-follows _ _ _ _ _ _ _ _ fault (λ slot no. no) (λ slot h. (h.0, Rose-kept _ _ _ (once.reads slot) h.1, reads h.2)) (λ h. (h.0, cuts h.1)) (wanted small) h)
+          HasReason-follows _ _ _ _ _ _ _ _ fault (λ slot no. no) (λ slot h. (h.0, Rose-kept _ _ _ (once.reads slot) h.1, reads on h.2)) (λ h. (h.0, cuts h.1)) (wanted small) h)
           rest.reason;
       once = record { inputs = once-behind _ _ _ _ once rest.once.inputs; out = rest.once.out };
       few = ⊎_elim
@@ -92,12 +93,13 @@ module _ (work : Work) (writing : Writing (List ℕ → List ℕ)) (wanting : Li
       says = record { means = λ more follows. suits.ends (front ++ more) ∙ ap (headed_end tells) (says.means more follows) };
     })
 
-    cut-reads : (front : List ℕ) → Consumes (before.given Data) (after.given Data) front → IsCut front → ReadsWork writing work (before.given Data) (after.given Data) a a
-    cut-reads front took cut = record {
+    cut-reads : (front : List ℕ) → Consumes (before.given Data) (after.given Data) front → IsCut front → SaysNoEnd (before.given Data) (after.given Data) → ReadsWork writing work (before.given Data) (after.given Data) a a
+    cut-reads front took cut on = record {
       taken = front;
       consumes = took;
       written = Appends-same a a [] _ (sym (suits.text front ∙ ap (headed_text tells) cut)) (Appends-nil a);
       goes_on = cut-goes front cut;
+      unended = on;
     }
 
     -- there is no header
@@ -105,7 +107,7 @@ module _ (work : Work) (writing : Writing (List ℕ → List ℕ)) (wanting : Li
         → LeavesWork writing wanting work unwritten (Err fault)
     leaves-unheaded front fault took answer reason once stops = record {
       answer = unheaded front fault took answer;
-      reason = HasReason-follows _ _ _ _ _ _ _ _ fault (λ slot no. no) (λ slot h. (h.0.0, h.0.1, cut-reads h.1.0 h.1.1 h.1.2)) (λ no. absurd no) (λ no. absurd no)
+      reason = HasReason-follows _ _ _ _ _ _ _ _ fault (λ slot no. no) (λ slot h. (h.0.0, h.0.1, cut-reads h.1.0 h.1.1 h.1.2 h.1.3)) (λ no. absurd no) (λ no. absurd no)
           (HasReason-with _ _ _ _ _ fault stops.unread reason);
       once = record { inputs = once; out = out-unwritten _ _ _ fault _ reason };
       few = few-map IsCut work.goes_on _ _ cut-goes stops.few;

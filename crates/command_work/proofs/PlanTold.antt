@@ -4,7 +4,7 @@ use Rattle.std.specs.declared.option.Option.{Option}
 use Rattle.tally_base.{specs.declared.fault.Fault.Fault, specs.declared.slot.Slot.Slot, specs.declared.slot.Slot.TheVariants.Plan as PlanSlot, specs.declared.slot.Slot.TheVariants.Data, specs.Faults.{is_outside, fault_in}, proofs.Reasons.{HasReason-follows, HasReason-inside}}
 use Rattle.bench_io.{specs.Given.{Given, no_bytes, IsOf}, specs.Inputs.{File, InputState, IsOpened, KeepsOther}, proofs.Bytes.{Appends-nil, Keeps-from_none}}
 use Rattle.plan_text.{specs.declared.plan.Plan.Plan, specs.Plan.PlanView, specs.Reading.{plan_view}}
-use Rattle.command_work.{specs.Outcomes.{Outcome, refused}, specs.PlanPieces.{IsRead, AnswersPlan, PlanReason}, specs.Behaviours.{Work, Writing, AtEnd, AsItReads, under, Memory, Behaviour, ByPlan}, specs.Works.{AnswersWork, WorkReason}, specs.Endings.{IsPlan, HasPlan, OpensAs, ToldAreIts, TakesPlan, EndsWith, Answers, Cuts, WantsBehind, Span, HasCauses, on_file, outcome}, specs.Once.InputsOnce, proofs.Once.Rose-kept, proofs.Told.{all-taken, FileOf-kept}, proofs.WorkTold.{told-is-its, ends-told, stops-told, cuts-told}}
+use Rattle.command_work.{specs.Outcomes.{Outcome, refused}, specs.PlanPieces.{IsRead, AnswersPlan, PlanReason}, specs.Behaviours.{Work, Writing, AtEnd, AsItReads, under, Memory, Behaviour, ByPlan}, specs.Works.{AnswersWork, WorkReason}, specs.Endings.{IsPlan, HasPlan, OpensAs, ToldAreIts, TakesPlan, EndsWith, Answers, Cuts, WantsBehind, Span, HasCauses, on_file, outcome}, specs.Once.InputsOnce, proofs.Once.Rose-kept, proofs.Told.{all-taken, none-ended, FileOf-kept}, proofs.WorkTold.{told-is-its, ends-told, stops-told, cuts-told}}
 
 -- a plan that was read is that of each file that may be the one read
 pub has-plan : (after : InputState) (lacks : PlanView → Option Fault) (plan : Plan) → AnswersPlan after (Ok plan) → lacks (plan_view plan) ≡ None → HasPlan after lacks (plan_view plan)
@@ -52,7 +52,7 @@ module _ (plan_name name : List ℕ) (writing : Writing (PlanView → List ℕ �
       let kept = Keeps-from_none old old (Appends-nil old) in
       HasReason-follows _ _ _ _ _ _ _ _ fault
       (λ slot h. (rw h.0 tt, h.1, kept))
-      (λ slot h. (rw h.0 tt, h.1, h.2, rw h.0 (kept, h.3)))
+      (λ slot h. (rw h.0 tt, h.1, h.2, h.3, rw h.0 (kept, h.4)))
       (λ h. absurd h)
       (λ h. (kept, inl (other.asked ∙ first, h)))
       reason
@@ -100,7 +100,7 @@ unfolding HasCauses
 plan-causes plan_name name writing memory lacks work view before span fault has none opened once reason =
     HasReason-follows _ _ _ _ _ _ _ _ fault
     (λ slot no. absurd no)
-    (λ slot r. (rw r.0 (view, has), rw r.0 opened, Rose-kept _ _ _ (once.reads slot) r.1, rw r.0 (view, has, stops-told (under view writing) (work view) span.after (span.before.given Data) span.old span.new none r.2)))
+    (λ slot r. (rw r.0 (view, has), rw r.0 opened, rw r.0 (none-ended _ _ none r.2.unended), Rose-kept _ _ _ (once.reads slot) r.1, rw r.0 (view, has, stops-told (under view writing) (work view) span.after (span.before.given Data) span.old span.new none r.2)))
     (λ w. (
       w.0,
       λ plan_file data_file may.
@@ -116,14 +116,11 @@ pub lacking-causes : (plan_name name : List ℕ) (writing : Writing (PlanView �
 unfolding HasCauses
 lacking-causes plan_name name writing memory lacks work span fault inside = HasReason-inside _ _ _ _ fault inside
 
--- the files that are told are among those that may be the run's
+-- a file that is told for a word may be its slot's
 pub plan-files : (plan_name name : List ℕ) (writing : Writing (PlanView → List ℕ → List ℕ)) (memory : Memory) (lacks : PlanView → Option Fault) (work : PlanView → Work) (before after : InputState)
-    → OpensAs PlanSlot before after plan_name → (after.opened Data ≡ true → IsOpened (before.contents name) (after.told Data) × ((view : PlanView) × HasPlan after lacks view))
+    → OpensAs PlanSlot before after plan_name → OpensAs Data before after name
     → ((slot : Slot) (bytes : List ℕ) → after.told slot ≡ Some bytes → IsOf (after.given slot) bytes) → ToldAreIts (ByPlan plan_name name writing memory lacks work) before after
-plan-files plan_name name writing memory lacks work before after is_plan is_data agrees plan_file data_file tells =
-    let plan = told-is-its (before.contents plan_name) after PlanSlot plan_file is_plan (agrees PlanSlot) tells.0 in (
-      plan,
-      λ opened.
-          let was = is_data opened in
-          told-is-its (before.contents name) after Data data_file (λ o. was.0) (agrees Data) (tells.1 was.1.0 (was.1.1.is_plan plan_file plan) was.1.1.whole) opened,
-    )
+plan-files plan_name name writing memory lacks work before after is_plan is_data agrees = (
+  λ file. told-is-its (before.contents plan_name) after PlanSlot file is_plan (agrees PlanSlot),
+  λ file. told-is-its (before.contents name) after Data file is_data (agrees Data),
+)

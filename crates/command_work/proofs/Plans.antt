@@ -1,8 +1,8 @@
 -- What was read of a plan is what its file answers.
-use Rattle.std.proofs.Common.{◌≡◌, ◌<◌, ◌≤◌, ◌+◌, ℕ, List, [], ◌++◌, length, take, true, false, Some, Ok, Err, refl, sym, ap, ◌∙◌, arith, inl, inr, append-nil, ◌≢◌, ◌⊎◌, Result, IfErr, IsErrAnd}
+use Rattle.std.proofs.Common.{◌≡◌, ◌<◌, ◌≤◌, ◌+◌, ℕ, List, [], ◌++◌, length, take, true, false, Some, Ok, Err, refl, sym, ap, ◌∙◌, arith, inl, inr, append-nil, ◌≢◌, Result, IfErr}
 use Rattle.std.{proofs.lemmas.Bool.{cases_Bool, cases_lt}, proofs.lemmas.List.{length-append, length-take-le}}
 use Rattle.tally_base.{specs.declared.fault.Fault.Fault, specs.declared.fault.Fault.TheVariants.{OpenFault, ReadFault, WriteFault, OutOfMemory}, specs.declared.slot.Slot.Slot, specs.declared.slot.Slot.TheVariants.Plan as PlanSlot, specs.declared.header.Mode.Mode, specs.Faults.{is_outside, fault_in, HasReason}}
-use Rattle.bench_io.{specs.Given.{Given, no_bytes, Consumes, IsAtEnd}, specs.Inputs.{File, InputState, Keeps, KeepsOther, OnlyReads}, proofs.States.Keeps-trans}
+use Rattle.bench_io.{specs.Given.{Given, no_bytes, Consumes, IsAtEnd}, specs.Inputs.{InputState, Keeps, KeepsOther, OnlyReads}, proofs.States.Keeps-trans}
 use Rattle.plan_text.{specs.declared.plan.Plan.Plan, specs.Plan.PlanView, specs.Reading.{text_limit, plan_answer, plan_seen, IsCalledFor}, specs.Fits.IsMisfit, proofs.Documents.plan_answer_long, proofs.Misfits.names_part}
 use Rattle.command_work.{specs.Endings.{HasWholePlan, WantsForPlan}, specs.PlanPieces.{AnswersPlan, OnlyUses}, proofs.Told.{all-taken, file-splits}, proofs.Once.{IsQuiet, quiet-none, quiet-memory, quiet-inside}}
 

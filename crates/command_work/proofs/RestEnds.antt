@@ -4,7 +4,7 @@ use Rattle.std.{specs.declared.option.Option.Option, proofs.lemmas.List.length-t
 use Rattle.tally_base.{specs.declared.fault.Fault.Fault, specs.declared.fault.Fault.TheVariants.{ReadFault, WriteFault}, specs.declared.slot.Slot.Slot, specs.declared.slot.Slot.TheVariants.Data, specs.Faults.{is_outside, fault_in, HasReason}, proofs.Reasons.HasReason-inside, specs.FaultCounts.Rose}
 use Rattle.bench_io.{specs.Given.{Consumes, IsAtEnd}, specs.Inputs.{InputState, KeepsOther, OpensNone}, proofs.Givens.{Consumes-nil, Consumes-kept, Consumes-trans}}
 use Rattle.told_text.{specs.Texts.{WroteText, CutText, WritesText}, proofs.Texts.{WroteText-none, WroteText-trans, CutText-behind, CutText-more}}
-use Rattle.command_work.{specs.Once.{InputsOnce, OutOnce}, specs.Behaviours.piece_limit, specs.Endings.{Span}, specs.Works.TakesFew, specs.Tellings.{Telling, IsText, WritesPiece, WritesEnd}, specs.Rests.{EndsText, ReadsRest}, proofs.Once.{out-inside, counts-behind, IsQuiet, quiet-none, quiet-write, quiet-inside, once-refl, once-read, once-unread, Rose-kept}, proofs.TellingLaws.{end_with, same-end}}
+use Rattle.command_work.{specs.Told.SaysNoEnd, specs.Once.{InputsOnce, OutOnce}, specs.Behaviours.piece_limit, specs.Endings.{Span}, specs.Works.TakesFew, specs.Tellings.{Telling, IsText, WritesPiece, WritesEnd}, specs.Rests.{EndsText, ReadsRest}, proofs.Once.{out-inside, counts-behind, IsQuiet, quiet-none, quiet-write, quiet-inside, once-refl, once-read, once-unread, Rose-kept}, proofs.Told.fails-on, proofs.TellingLaws.{end_with, same-end}}
 
 abbrev pub later : Span → InputState → Option (List ℕ) → ℕ → Span
 later at after new faults = record at { after = after; new = new; faults_after = faults }
@@ -16,6 +16,7 @@ pub record SoFar (t : Telling) (shown bytes so_far : List ℕ) (at : Span) : Typ
   pub took : Consumes (at.before.given Data) (at.after.given Data) so_far
   pub wrote : WroteText shown (t.text (bytes ++ so_far)) at.old at.new at.faults_before at.faults_after
   pub clear : t.refuses (bytes ++ so_far) ≡ None
+  pub unended : SaysNoEnd (at.before.given Data) (at.after.given Data)
 
 -- A read behind them.
 pub record Read (before after : InputState) : Type 0 where
@@ -30,6 +31,7 @@ so-none t bytes state old faults is clear = record {
   took = Consumes-nil _;
   wrote = rw append-nil (WroteText-none _ _ _);
   clear = rw append-nil clear;
+  unended = record { said_before = λ ended. ended };
 }
 
 -- Why a call ended that wrote some of a text, and how often a write failed.
@@ -59,7 +61,7 @@ module _ {t : Telling} {shown bytes so_far : List ℕ} {at : Span} {s2 : InputSt
         reason = (
           refl,
           Rose-kept _ _ _ (so.once.reads Data) rose,
-          record { taken = so_far; consumes = took; more = so.wrote.more; adds = so.wrote.adds; written = so.wrote.written; unrefused = so.clear },
+          record { taken = so_far; consumes = took; more = so.wrote.more; adds = so.wrote.adds; written = so.wrote.written; unrefused = so.clear; unended = fails-on _ _ _ so.unended keeps },
         );
         once = record { inputs = once-unread Data _ _ _ so.once read.other read.none rose; out = so.wrote.kept };
         few = inr (record { front = so_far; last = []; consumes = rw append-nil took; goes = so.clear; few = omega arith });
@@ -79,13 +81,14 @@ module _ {t : Telling} {shown bytes so_far : List ℕ} {at : Span} {s2 : InputSt
     few = record { front = so_far; last = piece; consumes = took; goes = so.clear; few = let e = length-take len into in omega (arith, e, small) }
 
     -- a piece was taken
-    pub so-piece : WritesPiece t (bytes ++ so_far) piece at.new c at.faults_after now (Ok tt) → SoFar t shown bytes (so_far ++ piece) (later at s2 c now)
-    so-piece writes = record {
+    pub so-piece : SaysNoEnd (at.before.given Data) (s2.given Data) → WritesPiece t (bytes ++ so_far) piece at.new c at.faults_after now (Ok tt) → SoFar t shown bytes (so_far ++ piece) (later at s2 c now)
+    so-piece on writes = record {
       is = so.is;
       once = once-read Data _ _ _ _ quiet-none so.once read.other read.none kept;
       took = took;
       wrote = rw (← append_assoc bytes so_far piece) (WroteText-trans _ _ _ _ _ _ _ _ _ so.wrote writes.1);
       clear = rw (← append_assoc bytes so_far piece) writes.0;
+      unended = on;
     }
 
     -- a piece was refused, or was cut short

@@ -1,9 +1,9 @@
 -- What the bytes taken say of the whole.
-use Rattle.std.proofs.Common.{◌≡◌, ℕ, List, [], ◌++◌, true, Some, refl, sym, ap, ◌∙◌, subst, append-nil}
+use Rattle.std.proofs.Common.{◌≡◌, ◌≢◌, ℕ, List, [], ◌++◌, true, false, Some, refl, sym, ap, ◌∙◌, subst, ⊎_elim, append-nil}
 use Rattle.tally_base.specs.declared.slot.Slot.{Slot}
-use Rattle.bench_io.{specs.Inputs.{File, InputState}, specs.Given.{Given, no_bytes, Consumes, IsAtEnd, MayFollow, IsOf}}
+use Rattle.bench_io.{specs.Inputs.{File, InputState}, specs.Given.{Given, no_bytes, Consumes, GivesCount, IsAtEnd, MayFollow, IsOf}}
 use Rattle.ptu_definitions.specs.Shown.{Shows}
-use Rattle.command_work.{specs.Told.Says, specs.Endings.FileOf}
+use Rattle.command_work.{specs.Told.{Says, SaysNoEnd}, specs.Endings.FileOf}
 
 -- at the end nothing stands behind
 pub Says-at_end : {A : Type 0} (meaning : List ℕ → A) (taken : List ℕ) (given : Given) (answer : A) → IsAtEnd given → meaning taken ≡ answer → Says meaning taken given answer
@@ -12,6 +12,18 @@ Says-at_end meaning taken given answer end h = record { means = λ more follows.
 -- what bytes show they say, whatever stands behind
 pub Says-shown : {A : Type 0} (meaning : List ℕ → A) (taken : List ℕ) (given : Given) (answer : A) → Shows meaning taken answer → Says meaning taken given answer
 Says-shown meaning taken given answer shown = record { means = λ more follows. shown more }
+
+-- a read that gives bytes does not say the end
+pub reads-on : (start mid now : Given) (count : ℕ) (into : List ℕ) → SaysNoEnd start mid → GivesCount mid now count into → count ≢ 0 → SaysNoEnd start now
+reads-on start mid now count into on gives some = record { said_before = λ ended. ⊎_elim on.said_before (λ says. absurd (some says.0)) (gives.1.0 ended) }
+
+-- nor does one that fails
+pub fails-on : (start mid now : Given) → SaysNoEnd start mid → now ≡ mid → SaysNoEnd start now
+fails-on start mid now on same = record { said_before = λ ended. on.said_before (subst IsAtEnd same ended) }
+
+-- no read said the end since the file was opened
+pub none-ended : (start now : Given) → start ≡ no_bytes → SaysNoEnd start now → ¬ (IsAtEnd now)
+none-ended start now none on = λ ended. let bad : false ≡ true = sym (ap (λ (g : Given). g.ended) none) ∙ on.said_before ended in cc
 
 -- all bytes that were given were taken since the file was opened
 pub all-taken : (start given : Given) (taken : List ℕ) → start ≡ no_bytes → Consumes start given taken → given.bytes ≡ taken

@@ -3,7 +3,7 @@ use Rattle.std.proofs.Common.{◌≡◌, ℕ, List, ◌++◌, true, None, Some, 
 use Rattle.std.{specs.declared.option.Option.Option, specs.Io.KnownBytes.Appends}
 use Rattle.tally_base.{specs.declared.fault.Fault.Fault, specs.declared.slot.Slot.Slot, specs.declared.slot.Slot.TheVariants.Data, specs.Faults.{fault_in}, proofs.Reasons.HasReason-follows}
 use Rattle.bench_io.{specs.Inputs.{File, InputState, IsOpened}, specs.Given.{Given, no_bytes, IsOf}}
-use Rattle.command_work.{specs.Outcomes.{Outcome}, specs.Behaviours.{Work, Writing, so_far, OnFile}, specs.Works.{AnswersWork, EndsWork, ReadsWork, CutsWork, WantsNone, WorkReason, TakesFew}, specs.Endings.{FileOf, outcome, on_file, Answers, EndsWith, StopsIn, Cuts, Span, TakesData, HasCauses}, specs.Once.InputsOnce, proofs.Once.Rose-kept, proofs.Told.{all-taken, file-splits}}
+use Rattle.command_work.{specs.Outcomes.{Outcome}, specs.Behaviours.{Work, Writing, so_far, OnFile}, specs.Works.{AnswersWork, EndsWork, ReadsWork, CutsWork, WantsNone, WorkReason, TakesFew}, specs.Endings.{FileOf, outcome, on_file, Answers, EndsWith, StopsIn, Cuts, Span, TakesData, HasCauses}, specs.Once.InputsOnce, proofs.Once.Rose-kept, proofs.Told.{all-taken, none-ended, file-splits}}
 
 -- a file that is told may be the slot's
 pub told-is-its : (contents : Option File) (after : InputState) (slot : Slot) (file : File) → (after.opened slot ≡ true → IsOpened contents (after.told slot)) → ((bytes : List ℕ) → after.told slot ≡ Some bytes → IsOf (after.given slot) bytes) → contents ≡ Some file → FileOf after slot file
@@ -50,7 +50,7 @@ unfolding HasCauses outcome
 file-causes file writing work before span fault none opened once reason =
     HasReason-follows _ _ _ _ _ _ _ _ fault
     (λ slot none. absurd none)
-    (λ slot r. (rw r.0 tt, rw r.0 opened, Rose-kept _ _ _ (once.reads slot) r.1, stops-told writing work span.after (span.before.given Data) span.old span.new none r.2))
+    (λ slot r. (rw r.0 tt, rw r.0 opened, rw r.0 (none-ended _ _ none r.2.unended), Rose-kept _ _ _ (once.reads slot) r.1, stops-told writing work span.after (span.before.given Data) span.old span.new none r.2))
     (λ w. (w.0, λ plan_file data_file may. cuts-told writing writing work span.after (span.before.given Data) span.old span.new data_file (λ end h. h) none opened w.1 may))
     (λ want. absurd want.wants)
     reason

@@ -89,9 +89,16 @@ Tells state does plan_file data_file = TellsPlan state does plan_file × TellsDa
 abbrev pub OpensAs : Slot → InputState → InputState → List ℕ → Type 0
 OpensAs slot before after name = after.opened slot ≡ true → IsOpened (before.contents name) (after.told slot)
 
--- files that are told are among those that may be the run's
+-- the file that the inputs tell for this name may be the slot's
+abbrev pub ToldIsIts : Slot → InputState → InputState → List ℕ → Type 0
+ToldIsIts slot before after name = (file : File) → before.contents name ≡ Some file → FileOf after slot file
+
+-- The file that they tell for a word may be its slot's, each for itself.
 abbrev pub ToldAreIts : Behaviour → InputState → InputState → Type 0
-ToldAreIts does before after = (plan_file data_file : File) → Tells before does plan_file data_file → AreItsFiles does after plan_file data_file
+ToldAreIts NoCommand before after = Unit {0}
+ToldAreIts (Alone end) before after = Unit {0}
+ToldAreIts (OnFile file writing work) before after = ToldIsIts Data before after file
+ToldAreIts (ByPlan plan file writing memory lacks work) before after = ToldIsIts Plan before after plan × ToldIsIts Data before after file
 
 -- ## What a run leaves
 
@@ -191,13 +198,13 @@ pub record TakesData (work : Work) (after : InputState) : Type 0 where
   pub few : length last ≤ piece_limit
 
 -- What a command asks for and takes, however it ends. Without a word PLAN it never asks for a plan, and without a word FILE it leaves the inputs as they were.
--- The data are asked for only behind a plan that lacks nothing.
+-- The data are asked for only behind a plan that lacks nothing, and opened only where they are asked for.
 abbrev pub Asks : Behaviour → InputState → InputState → Type 0
 Asks NoCommand before after = after ≡ before
 Asks (Alone end) before after = after ≡ before
 Asks (OnFile file writing work) before after = (after.asked Plan ≡ false) × (after.opened Data ≡ true → TakesData work after)
 Asks (ByPlan plan file writing memory lacks work) before after =
-    TakesPlan after × (after.asked Data ≡ true → (view : PlanView) × HasPlan after lacks view × (after.opened Data ≡ true → TakesData (work view) after))
+    TakesPlan after × (after.asked Data ≡ true → (view : PlanView) × HasPlan after lacks view × (after.opened Data ≡ true → TakesData (work view) after)) × (after.opened Data ≡ true → after.asked Data ≡ true)
 
 -- A fault has its line on standard error, and no write there failed; or a prefix of it where one did.
 abbrev pub TellsFault : Option (List ℕ) → Option (List ℕ) → ℕ → ℕ → Option Fault → Type 0
@@ -248,9 +255,9 @@ pub record Once (span : Span) (fault : Option Fault) : Type 0 where
 abbrev pub FailsOpening : Behaviour → Slot → InputState → InputState → Option (List ℕ) → Option (List ℕ) → Type 0
 FailsOpening does slot before after old new = Reaches does after slot × Rose (before.open_faults slot) (after.open_faults slot) × Keeps old new
 
--- A read failed: the command came to the slot, which was opened, the count of its reads that failed rose, and standard output holds what was called for so far.
+-- A read failed: the command came to the slot, which was opened and of which no read had said the end, the count of its reads that failed rose, and standard output holds what was called for so far.
 abbrev pub FailsReading : Behaviour → Slot → InputState → InputState → Option (List ℕ) → Option (List ℕ) → Type 0
-FailsReading does slot before after old new = Reaches does after slot × (after.opened slot ≡ true) × Rose (before.read_faults slot) (after.read_faults slot) × LeavesUnread does slot after old new
+FailsReading does slot before after old new = Reaches does after slot × (after.opened slot ≡ true) × ¬ (IsAtEnd (after.given slot)) × Rose (before.read_faults slot) (after.read_faults slot) × LeavesUnread does slot after old new
 
 -- The text that its files call for was cut short.
 abbrev pub CutsOutcome : Behaviour → InputState → Option (List ℕ) → Option (List ℕ) → Type 0

@@ -31,10 +31,10 @@ pub record IsRead (plan_file : File) (result : Result Plan Fault) : Type 0 where
 abbrev pub AnswersPlan : InputState → Result Plan Fault → Type 0
 AnswersPlan after result = IsErrAnd result (λ fault. is_outside fault ≡ true) ⊎ ((plan_file : File) → FileOf after PlanSlot plan_file → IsRead plan_file result)
 
--- The plan could not be opened, or a read failed where no more bytes were taken than a plan may have, or memory was wanting for the plan.
+-- The plan could not be opened, or a read failed where none had said the end and no more bytes were taken than a plan may have, or memory was wanting for the plan.
 abbrev pub PlanReason : InputState → InputState → Fault → Type 0
 PlanReason before after = HasReason
     (λ slot. (slot ≡ PlanSlot) × Rose (before.open_faults slot) (after.open_faults slot))
-    (λ slot. (slot ≡ PlanSlot) × (after.opened slot ≡ true) × Rose (before.read_faults slot) (after.read_faults slot) × (length (after.given PlanSlot).bytes ≤ text_limit))
+    (λ slot. (slot ≡ PlanSlot) × (after.opened slot ≡ true) × ¬ (IsAtEnd (after.given slot)) × Rose (before.read_faults slot) (after.read_faults slot) × (length (after.given PlanSlot).bytes ≤ text_limit))
     ⊥
     (WantsForPlan after)

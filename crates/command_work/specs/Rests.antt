@@ -3,7 +3,7 @@ use Rattle.std.specs.Prelude.{ℕ, ◌≡◌, ◌⊎◌, List, ◌++◌, true, N
 use Rattle.std.{specs.declared.option.Option.Option, specs.Io.KnownBytes.{Keeps, Appends}}
 use Rattle.tally_base.{specs.declared.fault.Fault.Fault, specs.declared.slot.Slot.TheVariants.Data, specs.FaultCounts.Rose, specs.Faults.{is_outside, fault_in, HasReason}}
 use Rattle.bench_io.{specs.Sinks.AppendsShort, specs.Given.{Consumes, MayFollow}}
-use Rattle.command_work.{specs.Endings.{Span, Once}, specs.Tellings.Telling, specs.Works.TakesFew}
+use Rattle.command_work.{specs.Endings.{Span, Once}, specs.Told.SaysNoEnd, specs.Tellings.Telling, specs.Works.TakesFew}
 
 -- Bytes were given before, of which this text is shown; `memory` says why memory may be refused.
 module _ (t : Telling) (shown bytes : List ℕ) (memory : Type 0) (at : Span) where
@@ -15,7 +15,7 @@ module _ (t : Telling) (shown bytes : List ℕ) (memory : Type 0) (at : Span) wh
     pub written : Appends at.old at.new more
     pub is : (left : List ℕ) → MayFollow (at.after.given Data) left → t.ends ((bytes ++ taken) ++ left) ≡ record { text = shown ++ more; fault = fault }
 
-  -- The text of the bytes taken was written, and these are not refused.
+  -- The text of the bytes taken was written, these are not refused, and no read said the end.
   pub record ReadsText : Type 0 where
     pub taken : List ℕ
     pub consumes : Consumes (at.before.given Data) (at.after.given Data) taken
@@ -23,6 +23,7 @@ module _ (t : Telling) (shown bytes : List ℕ) (memory : Type 0) (at : Span) wh
     pub adds : t.text (bytes ++ taken) ≡ shown ++ more
     pub written : Appends at.old at.new more
     pub unrefused : t.refuses (bytes ++ taken) ≡ None
+    pub unended : SaysNoEnd (at.before.given Data) (at.after.given Data)
 
   -- After what is shown, this text was cut short.
   pub record CutsMore (text : List ℕ) : Type 0 where

@@ -4,7 +4,7 @@ use Rattle.std.{specs.declared.option.Option.Option, specs.Io.KnownBytes.{Keeps,
 use Rattle.tally_base.{specs.declared.slot.Slot.TheVariants.Data, specs.declared.fault.Fault.Fault, specs.FaultCounts.Rose, specs.Faults.{is_outside, fault_in, HasReason}}
 use Rattle.bench_io.specs.Given.{Given, Consumes, MayFollow}
 use Rattle.plan_text.specs.Plan.{PlanView}
-use Rattle.command_work.{specs.Told.Says, specs.Behaviours.{piece_limit, Work, Writing, Memory, so_far, under}, specs.Endings.{Cuts, Span, Once, WantsBehind}}
+use Rattle.command_work.{specs.Told.{Says, SaysNoEnd}, specs.Behaviours.{piece_limit, Work, Writing, Memory, so_far, under}, specs.Endings.{Cuts, Span, Once, WantsBehind}}
 
 -- The bytes taken end so, whatever may stand behind them, and this text was written.
 pub record EndsWork (work : Work) (start now : Given) (old new : Option (List ℕ)) (fault : Option Fault) : Type 0 where
@@ -18,12 +18,13 @@ pub record EndsWork (work : Work) (start now : Given) (old new : Option (List �
 abbrev pub AnswersWork : Work → Given → Given → Option (List ℕ) → Option (List ℕ) → Result (Unit {0}) Fault → Type 0
 AnswersWork work start now old new result = IsErrAnd result (λ fault. is_outside fault ≡ true) ⊎ EndsWork work start now old new (fault_in result)
 
--- What is written of the bytes taken was written, and more of them may change the end.
+-- What is written of the bytes taken was written, more of them may change the end, and no read said that there are none.
 pub record ReadsWork (writing : Writing (List ℕ → List ℕ)) (work : Work) (start now : Given) (old new : Option (List ℕ)) : Type 0 where
   pub taken : List ℕ
   pub consumes : Consumes start now taken
   pub written : Appends old new (so_far writing taken)
   pub goes_on : work.goes_on taken
+  pub unended : SaysNoEnd start now
 
 -- The text of the bytes taken was cut short, whatever may stand behind them.
 pub record CutsWork (writing : Writing (List ℕ → List ℕ)) (work : Work) (start now : Given) (old new : Option (List ℕ)) : Type 0 where

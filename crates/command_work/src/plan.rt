@@ -3,7 +3,7 @@ ghost use Rattle.std.specs.Prelude.{◌≡◌, ◌≤◌, ◌<◌, List, ℕ, le
 ghost use Rattle.tally_base.{specs.declared.slot.Slot.TheVariants.Plan as PlanSlot, specs.declared.fault.Fault.TheVariants.ReadFault, specs.FaultCounts.Rose, specs.Faults.fault_in};
 ghost use Rattle.bench_io.{specs.Given.Consumes, specs.Inputs.OnlyReads};
 ghost use Rattle.ptu_definitions.specs.Counted.{record_limit};
-ghost use Rattle.command_work.{specs.Once.InputsOnce, specs.Endings.{OpensAs, TakesPlan}, specs.PlanPieces.{MayOpen, OnlyUses, IsFilled, AnswersPlan, PlanReason}};
+ghost use Rattle.command_work.{specs.Told.SaysNoEnd, specs.Once.InputsOnce, specs.Endings.{OpensAs, TakesPlan}, specs.PlanPieces.{MayOpen, OnlyUses, IsFilled, AnswersPlan, PlanReason}};
 
 use bench_io::Inputs;
 use plan_text::{Plan, TEXT_LIMIT, read_plan};
@@ -30,6 +30,8 @@ fn read_text<I: Inputs>(inputs: &mut I, text: &mut [u8]) -> Result<usize, Fault>
         × Consumes ((I.state inputs.old).given PlanSlot)
         ((I.state inputs.new).given PlanSlot) taken
         × (length taken < length text.old)) }
+    ensures unended { IfErr result (λ fault. SaysNoEnd ((I.state inputs.old).given PlanSlot)
+        ((I.state inputs.new).given PlanSlot)) }
 {
     let mut len = 0;
     'pieces: while len < text.len() {

@@ -128,7 +128,7 @@ unfolding HasCauses
 ends-or-wants does span fault none quiet causes (inr some) =
     inr (files-map does span.after (λ (end : Outcome). EndsWith end (Some fault) span.old span.new) (λ (end : Outcome). status_of fault ≡ status end.fault) (λ end ends. ap status ends.same) some)
 ends-or-wants does span fault none quiet causes (inl outside) =
-    let want = only_memory _ _ _ _ fault outside (λ slot h. (none slot).0 h.1) (λ slot h. (none slot).1 h.2) (λ h. quiet h.0) causes in
+    let want = only_memory _ _ _ _ fault outside (λ slot h. (none slot).0 h.1) (λ slot h. (none slot).1 h.3) (λ h. quiet h.0) causes in
     inl (may_want does span fault want.0 want.1)
 
 -- a fault without a cause is that of the outcome, or want of memory

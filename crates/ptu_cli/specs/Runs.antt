@@ -61,7 +61,7 @@ pub record Runs (request : Option Request) (run : Around) (result : ℕ) : Type 
   pub usage : (result ≡ 1) ↔ (request ≡ None)
   -- An opening failed.
   pub unopened : result ≡ 2 → (slot : Slot) × FailsOpening (behaviour request) slot run.before run.after run.out_before run.out_after × TellsOn run (Some (OpenFault slot))
-  -- A read failed.
+  -- A read failed, of a file whose end no read had said.
   pub unread : result ≡ 3 → (slot : Slot) × FailsReading (behaviour request) slot run.before run.after run.out_before run.out_after × TellsOn run (Some (ReadFault slot))
   -- A write failed.
   pub unwritten : result ≡ 4 → Rose run.out_faults_before run.out_faults_after × CutsOutcome (behaviour request) run.after run.out_before run.out_after × TellsOn run (Some WriteFault)
@@ -74,5 +74,5 @@ pub record Runs (request : Option Request) (run : Around) (result : ℕ) : Type 
   -- Where no count of the inputs and of standard output rose, it ends as its files call for or for want of memory, and well where they are good.
   pub complete : NothingFailed run → LacksMemory (behaviour request) result ⊎ ForItsFiles (behaviour request) run.after (λ end. result ≡ status end.fault)
   pub good : (plan_file data_file : File) → AreItsFiles (behaviour request) run.after plan_file data_file → IsGood (behaviour request) plan_file data_file → NothingFailed run → LacksMemory (behaviour request) result ⊎ (result ≡ 0)
-  -- Files that the inputs tell are among those that may be its.
+  -- The file that the inputs tell for the word PLAN may be that of the plan, and that for FILE that of the data, each for itself.
   pub files : ToldAreIts (behaviour request) run.before run.after

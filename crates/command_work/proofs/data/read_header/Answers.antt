@@ -2,7 +2,7 @@ use Rattle.std.proofs.Common.{◌≡◌, arith, [], ◌++◌, Ok, Err, take, ref
 use Rattle.std.{proofs.lemmas.List.length-take, proofs.lemmas.Slice.between_is}
 use Rattle.tally_base.{specs.declared.slot.Slot.TheVariants.Data, proofs.Reasons.HasReason-inside}
 use Rattle.bench_io.{proofs.Givens.{Consumes-nil, Consumes-kept, Consumes-trans}, proofs.States.OnlyReads-refl}
-use Rattle.command_work.{proofs.Pieces.{IsCut-nil, some_used}, specs.Outcomes.IsCut, proofs.Told.{Says-at_end, Says-shown}, proofs.Few.{stops-unread, stops-piece}, proofs.Once.{Rose-kept, quiet-none, quiet-inside, once-refl, once-read, once-unread}}
+use Rattle.command_work.{proofs.Pieces.{IsCut-nil, some_used}, specs.Outcomes.IsCut, proofs.Told.{Says-at_end, Says-shown, reads-on, fails-on}, proofs.Few.{stops-unread, stops-piece}, proofs.Once.{Rose-kept, quiet-none, quiet-inside, once-refl, once-read, once-unread}}
 use Rattle.ptu_definitions.specs.Headers.{header_answer}
 use Rattle.command_work.proofs.data.read_header.Goals as goal
 
@@ -54,30 +54,30 @@ returns-then-len-eq0-clause-answer g c =
     )
 
 pub pieces-init : goal.pieces-init
-pieces-init g c = record { reads = OnlyReads-refl _ _; taken = ([], Consumes-nil _, c.new-reader.ensures.start, IsCut-nil); is_open = c.new-reader.ensures.is_open; once = once-refl _ _ quiet-none }
+pieces-init g c = record { reads = OnlyReads-refl _ _; taken = ([], Consumes-nil _, c.new-reader.ensures.start, IsCut-nil); is_open = c.new-reader.ensures.is_open; unended = record { said_before = λ ended. ended }; once = once-refl _ _ quiet-none }
 
 pub returns-in_default-clause-stops : goal.returns-in_default-clause-stops
 returns-in_default-clause-stops g c =
     let so_far = c.pieces.invariant.taken in
-    stops-unread IsCut so_far.0 _ _ _ (Consumes-kept _ _ _ so_far.0 so_far.1 c.in_default.ensures.gives) so_far.3
+    stops-unread IsCut so_far.0 _ _ _ (Consumes-kept _ _ _ so_far.0 so_far.1 c.in_default.ensures.gives) so_far.3 (fails-on _ _ _ c.pieces.invariant.unended c.in_default.ensures.gives)
 
 pub returns-then-len-eq0-clause-stops : goal.returns-then-len-eq0-clause-stops
 returns-then-len-eq0-clause-stops g c =
     let so_far = c.pieces.invariant.taken in
     stops-piece IsCut so_far.0 c.in-Ok.len c.read.new.into _ _ _ (Consumes-trans _ _ _ so_far.0 (take c.in-Ok.len c.read.new.into) so_far.1 c.in-Ok.ensures.gives.0) so_far.3
-    (omega (arith, c.requires.small, c.pieces.auto.buffer, c.read.auto.into)) c.finish.ensures.inside
+    (omega (arith, c.requires.small, c.pieces.auto.buffer, c.read.auto.into)) c.finish.ensures.inside tt
 
 pub returns-in-Done-clause-stops : goal.returns-in-Done-clause-stops
 returns-in-Done-clause-stops g c =
     let so_far = c.pieces.invariant.taken in
     stops-piece IsCut so_far.0 c.in-Ok.len c.read.new.into _ _ _ (Consumes-trans _ _ _ so_far.0 (take c.in-Ok.len c.read.new.into) so_far.1 c.in-Ok.ensures.gives.0) so_far.3
-    (omega (arith, c.requires.small, c.pieces.auto.buffer, c.read.auto.into)) tt
+    (omega (arith, c.requires.small, c.pieces.auto.buffer, c.read.auto.into)) tt (reads-on _ _ _ _ _ c.pieces.invariant.unended c.in-Ok.ensures.gives c.if-len-eq0.false)
 
 pub returns-in-Refused-clause-stops : goal.returns-in-Refused-clause-stops
 returns-in-Refused-clause-stops g c =
     let so_far = c.pieces.invariant.taken in
     stops-piece IsCut so_far.0 c.in-Ok.len c.read.new.into _ _ _ (Consumes-trans _ _ _ so_far.0 (take c.in-Ok.len c.read.new.into) so_far.1 c.in-Ok.ensures.gives.0) so_far.3
-    (omega (arith, c.requires.small, c.pieces.auto.buffer, c.read.auto.into)) c.in-Refused.ensures.inside
+    (omega (arith, c.requires.small, c.pieces.auto.buffer, c.read.auto.into)) c.in-Refused.ensures.inside tt
 
 pub returns-in_default-clause-once : goal.returns-in_default-clause-once
 returns-in_default-clause-once g c = once-unread Data _ _ _ c.pieces.invariant.once c.read.ensures.keeps_other c.read.ensures.opens_none c.in_default.ensures.cause.once

@@ -2,7 +2,7 @@ use Rattle.std.proofs.Common.{◌≡◌, List, ℕ, ◌-◌, ◌^◌, true, None
 use Rattle.tally_base.specs.declared.slot.Slot.TheVariants.{Data}
 use Rattle.bench_io.{specs.Given.Consumes, specs.Inputs.OnlyReads}
 use Rattle.ptu_header.specs.Reading.{HasRead, bytes_taken, is_open}
-use Rattle.command_work.{specs.Outcomes.IsCut, specs.Once.InputsOnce}
+use Rattle.command_work.{specs.Told.SaysNoEnd, specs.Outcomes.IsCut, specs.Once.InputsOnce}
 use Rattle.command_work.proofs.data.read_header.Given as goal
 
 -- the reader was given the bytes that were taken
@@ -13,6 +13,7 @@ invariant-pieces g l =
       reads : OnlyReads Data (state l.initial.inputs) (state l.inputs);
       once : InputsOnce (state l.initial.inputs) (state l.inputs) None;
       taken : (taken : List ℕ) × Consumes ((state l.initial.inputs).given Data) ((state l.inputs).given Data) taken × HasRead l.reader taken × IsCut taken;
+      unended : SaysNoEnd ((state l.initial.inputs).given Data) ((state l.inputs).given Data);
       is_open : is_open l.reader ≡ true;
     }
 

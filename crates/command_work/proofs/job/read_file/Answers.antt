@@ -15,4 +15,4 @@ returns-clause-leaves g c =
     let found = c.in_ok-found.found in
     let part = c.in_ok-found.ensures.part in
     leaves-rest _ _ _ _ _ (g.met.J.Job.law c.args.job.now) _ (span g.I.Inputs g.O.Sink c.read_header.new.inputs c.read_after.new.inputs c.args.out.now c.read_after.new.out) front.0 _ found.header front.2 front.1 c.read_after.result
-    (few_behind c.read_header.new.buffer found.used found.len 8192 (omega arith) part.ended part.order part.within) c.in_ok-found.ensures.once c.in_ok-found.ensures.stops.few c.read_after.ensures.rest
+    (few_behind c.read_header.new.buffer found.used found.len 8192 (omega arith) part.ended part.order part.within) c.in_ok-found.ensures.once c.in_ok-found.ensures.stops.few c.in_ok-found.ensures.stops.done c.read_after.ensures.rest

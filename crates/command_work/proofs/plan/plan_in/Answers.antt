@@ -1,9 +1,9 @@
 use Rattle.std.proofs.Common.{ℕ, List, subst, ◌≡◌, ◌+◌, rules, None, take, length, arith, refl, sym, ap, ◌∙◌}
 use Rattle.bench_io.specs.Inputs.{IsOpened}
-use Rattle.std.{specs.declared.option.Option.Option, proofs.lemmas.Result.{IfErr-weaker, err_from_is_err_and}, proofs.lemmas.List.length-take-le}
+use Rattle.std.{specs.declared.option.Option.Option, proofs.lemmas.Result.{err_from_is_err_and}, proofs.lemmas.List.length-take-le}
 use Rattle.tally_base.specs.declared.slot.Slot.TheVariants.{Plan as PlanSlot}
 use Rattle.plan_text.specs.Reading.{text_limit}
-use Rattle.command_work.{proofs.Plans.{uses-read, plan_told, plan-reasons, plan-quiet, ended_short}, proofs.Told.all-taken, proofs.Once.{Rose-kept, quiet-none, once-refl, once-none, once-behind, once-opened, once-unopened}}
+use Rattle.command_work.{proofs.Plans.{uses-read, plan_told, plan-reasons, plan-quiet, ended_short}, proofs.Told.{all-taken, none-ended}, proofs.Once.{Rose-kept, quiet-none, once-refl, once-none, once-behind, once-opened, once-unopened}}
 use Rattle.command_work.proofs.plan.plan_in.Goals as goal
 
 pub returns-in-Err-clause-uses : goal.returns-in-Err-clause-uses
@@ -85,4 +85,4 @@ returns-in_err-len-clause-reason g c =
     let why = c.in_err-len.ensures.reason in
     let all = all-taken _ _ h.0 c.in-Ok.ensures.given h.1 in
     let is_open = ap (λ f. f PlanSlot) c.read_text.ensures.reads.opens_none.opened ∙ c.in-Ok.ensures.opened in
-    rw (p.1, p.2, why.0) (refl, is_open, Rose-kept _ _ _ c.open.ensures.reads why.1, rw all (omega (arith, h.2, size)))
+    rw (p.1, p.2, why.0) (refl, is_open, none-ended _ _ c.in-Ok.ensures.given c.in_err-len.ensures.unended, Rose-kept _ _ _ c.open.ensures.reads why.1, rw all (omega (arith, h.2, size)))

@@ -1,7 +1,7 @@
 use Rattle.std.proofs.Common.{rules, refl, sym, subst, List, ℕ, length, take, ◌-◌}
 use Rattle.tally_base.specs.declared.slot.Slot.TheVariants.{Plan as PlanSlot}
 use Rattle.bench_io.{specs.Given.Consumes, proofs.Givens.Consumes-trans, proofs.States.OnlyReads-trans}
-use Rattle.command_work.{proofs.Texts.read_behind, proofs.Once.{Rose-kept, quiet-none, once-read, once-unread}}
+use Rattle.command_work.{proofs.Texts.read_behind, proofs.Told.{reads-on, fails-on}, proofs.Once.{Rose-kept, quiet-none, once-read, once-unread}}
 use Rattle.command_work.proofs.plan.read_text.Goals as goal
 
 pub pieces-preserved : goal.pieces-preserved
@@ -12,6 +12,7 @@ pieces-preserved g c =
       once = once-read PlanSlot _ _ _ _ quiet-none c.pieces.invariant.once c.read.ensures.keeps_other c.read.ensures.opens_none c.in-Ok.ensures.cause.kept;
       fits = Prim.search rules;
       size = Prim.search rules;
+      unended = reads-on _ _ _ _ _ c.pieces.invariant.unended c.in-Ok.ensures.gives c.if-more-eq0.false;
       taken = subst (λ (l : List ℕ). Consumes ((g.I.Inputs.state c.args.inputs.now).given PlanSlot) ((g.I.Inputs.state c.read.new.self).given PlanSlot) l) (sym (read_behind c.pieces.len (length c.pieces.text - c.pieces.len) c.in-Ok.more c.pieces.text c.read.new.into c.pieces.invariant.fits (Prim.search rules))) read;
     }
 
@@ -23,3 +24,6 @@ returns-then-more-eq0-clause-once g c = once-read PlanSlot _ _ _ _ quiet-none c.
 
 pub returns-in_default-clause-reason : goal.returns-in_default-clause-reason
 returns-in_default-clause-reason g c = (refl, Rose-kept _ _ _ (c.pieces.invariant.once.reads PlanSlot) c.in_default.ensures.cause.once)
+
+pub returns-in_default-clause-unended : goal.returns-in_default-clause-unended
+returns-in_default-clause-unended g c = fails-on _ _ _ c.pieces.invariant.unended c.in_default.ensures.gives

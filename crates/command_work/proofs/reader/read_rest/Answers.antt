@@ -1,7 +1,7 @@
 use Rattle.std.proofs.Common.{[], ◌++◌, inr, refl, ◌∙◌, arith, take, append-nil, append_assoc}
 use Rattle.std.proofs.lemmas.Result.{err_from_is_err_and}
 use Rattle.bench_io.proofs.States.{OnlyReads-refl, OnlyReads-trans}
-use Rattle.command_work.proofs.RestEnds.{so-none, so-piece, rest-unread, rest-piece, rest-end}
+use Rattle.command_work.{proofs.Told.reads-on, proofs.RestEnds.{so-none, so-piece, rest-unread, rest-piece, rest-end}}
 use Rattle.command_work.proofs.reader.read_rest.Goals as goal
 
 pub pieces-init : goal.pieces-init
@@ -25,7 +25,7 @@ pieces-preserved g c =
               rw (← append_assoc bytes taken (take c.in-Ok.len c.read.new.into)) (c.in_ok-piece.ensures.takes (bytes ++ taken) at.0),
               so-piece ⊥ at.1 (record { other = c.read.ensures.keeps_other; none = c.read.ensures.opens_none }) c.in-Ok.len c.read.new.into
                   (omega (arith, c.requires.ready.small, c.pieces.auto.buffer, c.read.auto.into)) c.in-Ok.ensures.gives.0 c.in-Ok.ensures.cause.kept _ _
-                  (rw inv.same at (c.in_ok-piece.ensures.writes (bytes ++ taken) at.0)),
+                  (reads-on _ _ _ _ _ at.1.unended c.in-Ok.ensures.gives c.if-len-eq0.false) (rw inv.same at (c.in_ok-piece.ensures.writes (bytes ++ taken) at.0)),
             ),
       );
     }

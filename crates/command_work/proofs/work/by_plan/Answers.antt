@@ -18,7 +18,7 @@ returns-in_err-plan g c =
     rw (p.1, p.2) (record {
       answer = answers-unplanned c.args.plan_name.now c.args.data_name.now (does.writing it) does.memory (does.lacking it) (does.work it) after fault _ c.in_err-plan.ensures.answer;
       causes = unplanned-causes c.args.plan_name.now c.args.data_name.now (does.writing it) does.memory (does.lacking it) (does.work it) before after _ _ fault c.plan_of.ensures.uses.keeps_other (c.requires.first Data) c.in_err-plan.ensures.reason;
-      asks = (c.plan_of.ensures.takes, λ asked. let same = c.plan_of.ensures.uses.keeps_other.asked in let first = c.requires.first Data in cc);
+      asks = (c.plan_of.ensures.takes, λ asked. let same = c.plan_of.ensures.uses.keeps_other.asked in let first = c.requires.first Data in cc, g.met.I.Inputs.asked_first c.plan_of.new.inputs Data);
       once = record { inputs = c.in_err-plan.ensures.once; out = out-unwritten _ _ _ fault _ c.in_err-plan.ensures.reason };
       files = plan-files c.args.plan_name.now c.args.data_name.now (does.writing it) does.memory (does.lacking it) (does.work it) before after c.plan_of.ensures.names
           (λ opened.
@@ -38,7 +38,7 @@ returns-in-Some g c =
     record {
       answer = answers-lacking c.args.plan_name.now c.args.data_name.now (does.writing it) does.memory (does.lacking it) (does.work it) after c.in_ok-plan.plan c.in-Some.fault _ c.in_ok-plan.ensures.answer (sym c.in-Some.ensures.answer);
       causes = lacking-causes c.args.plan_name.now c.args.data_name.now (does.writing it) does.memory (does.lacking it) (does.work it) _ c.in-Some.fault c.in-Some.ensures.inside;
-      asks = (c.plan_of.ensures.takes, λ asked. let same = c.plan_of.ensures.uses.keeps_other.asked in let first = c.requires.first Data in cc);
+      asks = (c.plan_of.ensures.takes, λ asked. let same = c.plan_of.ensures.uses.keeps_other.asked in let first = c.requires.first Data in cc, g.met.I.Inputs.asked_first c.plan_of.new.inputs Data);
       once = record { inputs = once-none _ _ _ (quiet-inside c.in-Some.fault c.in-Some.ensures.inside) c.in_ok-plan.ensures.once; out = out-inside c.in-Some.fault _ _ c.in-Some.ensures.inside refl };
       files = plan-files c.args.plan_name.now c.args.data_name.now (does.writing it) does.memory (does.lacking it) (does.work it) before after c.plan_of.ensures.names
           (λ opened.
@@ -73,6 +73,7 @@ returns-in-Err g c =
               let first = c.requires.first Data in
               cc,
         ),
+        g.met.I.Inputs.asked_first c.open.new.self Data,
       );
       once = record { inputs = once-unopened Data _ _ _ c.in_ok-plan.ensures.once c.open.ensures.keeps_other c.open.ensures.reads c.in-Err.ensures.cause.once; out = refl };
       files = plan-files c.args.plan_name.now c.args.data_name.now (does.writing it) does.memory (does.lacking it) (does.work it) before after (names-later before planned after c.args.plan_name.now c.plan_of.ensures.names c.open.ensures.keeps_other)
@@ -113,6 +114,7 @@ returns-in-Ok g c =
       asks = (
         takes-later opened after (takes-later planned opened c.plan_of.ensures.takes c.open.ensures.keeps_other) c.read.ensures.reads.keeps_other,
         λ asked. (view, has, λ was. few-told (does.work it view) after _ c.in-Ok.ensures.given c.read.ensures.leaves.few),
+        g.met.I.Inputs.asked_first c.read.new.inputs Data,
       );
       once = record {
         inputs = once-behind before opened _ _ (once-opened Data before planned opened c.in_ok-plan.ensures.once c.open.ensures.keeps_other c.open.ensures.reads c.in-Ok.ensures.cause.kept) c.read.ensures.leaves.once.inputs;
@@ -120,11 +122,8 @@ returns-in-Ok g c =
       };
       files = plan-files c.args.plan_name.now c.args.data_name.now (does.writing it) does.memory (does.lacking it) (does.work it) before after
           (names-later before opened after c.args.plan_name.now (names-later before planned opened c.args.plan_name.now c.plan_of.ensures.names c.open.ensures.keeps_other) c.read.ensures.reads.keeps_other)
-          (λ was. (
-            subst (λ (told : Option (List ℕ)). IsOpened (before.contents c.args.data_name.now) told) (sym (ap (λ f. f Data) c.read.ensures.reads.opens_none.told))
-                (subst (λ (contents : Option File). IsOpened contents (opened.told Data)) (ap (λ f. f c.args.data_name.now) c.plan_of.ensures.uses.keeps.contents) c.in-Ok.ensures.file),
-            (view, has),
-          ))
+          (λ was. subst (λ (told : Option (List ℕ)). IsOpened (before.contents c.args.data_name.now) told) (sym (ap (λ f. f Data) c.read.ensures.reads.opens_none.told))
+          (subst (λ (contents : Option File). IsOpened contents (opened.told Data)) (ap (λ f. f c.args.data_name.now) c.plan_of.ensures.uses.keeps.contents) c.in-Ok.ensures.file))
           (g.met.I.Inputs.agrees c.read.new.inputs);
     }
 

@@ -18,7 +18,7 @@ returns-in-Err g c = record {
         cc,
   );
   once = record { inputs = once-unopened Data _ _ _ (once-refl _ None quiet-none) c.open.ensures.keeps_other c.open.ensures.reads c.in-Err.ensures.cause.once; out = refl };
-  files = λ plan_file data_file tells opened.
+  files = λ file told opened.
       let asked = g.met.I.Inputs.asked_first c.args.inputs.now Data (sym c.in-Err.ensures.unopened ∙ opened) in
       let first = c.requires.first Data in
       cc;
@@ -52,7 +52,7 @@ returns-in-Ok g c =
         inputs = once-behind before opened after _ (once-opened Data before before opened (once-refl before None quiet-none) c.open.ensures.keeps_other c.open.ensures.reads c.in-Ok.ensures.cause.kept) c.read.ensures.leaves.once.inputs;
         out = c.read.ensures.leaves.once.out;
       };
-      files = λ plan_file data_file tells. told-is-its (before.contents c.args.file.now) after Data data_file
+      files = λ file. told-is-its (before.contents c.args.file.now) after Data file
           (λ o. subst (λ (told : Option (List ℕ)). IsOpened (before.contents c.args.file.now) told) (sym (ap (λ f. f Data) c.read.ensures.reads.opens_none.told)) c.in-Ok.ensures.file)
-          (g.met.I.Inputs.agrees c.read.new.inputs Data) tells.1;
+          (g.met.I.Inputs.agrees c.read.new.inputs Data);
     }

@@ -1,7 +1,7 @@
 use Rattle.std.proofs.Common.{◌≡◌, length, rules, ◌++◌, [], take, refl, sym, ap, ◌∙◌, append-nil, arith, inr}
 use Rattle.bench_io.{proofs.Bytes.{Appends-nil, Appends-same}, proofs.Givens.{Consumes-nil, Consumes-kept, Consumes-trans}, proofs.States.{OnlyReads-refl, OnlyReads-trans}}
 use Rattle.list_out.{specs.HeaderText.header_text, proofs.StepTexts.header_text-nil}
-use Rattle.command_work.{proofs.Pieces.IsCut-nil, specs.Outcomes.IsCut, proofs.Told.{Says-at_end, Says-shown}, proofs.Few.{few-none, few-piece}, proofs.Once.{quiet-none, quiet-write, quiet-inside, out-inside, once-refl, once-read, once-unread, Rose-kept}}
+use Rattle.command_work.{proofs.Pieces.IsCut-nil, specs.Outcomes.IsCut, proofs.Told.{Says-at_end, Says-shown, reads-on, fails-on}, proofs.Few.{few-none, few-piece}, proofs.Once.{quiet-none, quiet-write, quiet-inside, out-inside, once-refl, once-read, once-unread, Rose-kept}}
 use Rattle.file_work.{proofs.HeaderEnds.{text-appended, text-cut, outcome-done, outcome-refused, outcome-ended}, specs.FileOutcomes.header_outcome}
 use Rattle.tally_base.specs.declared.slot.Slot.TheVariants.{Data}
 use Rattle.file_work.proofs.data.print_data.Goals as goal
@@ -11,9 +11,24 @@ pieces-init g c = record {
   reads = OnlyReads-refl _ _;
   once = once-refl _ _ quiet-none;
   taken = ([], Consumes-nil _, c.new-printer.ensures.start, Appends-same _ _ _ _ (sym header_text-nil) (Appends-nil _), IsCut-nil);
+  unended = record { said_before = λ ended. ended };
   is_open = c.new-printer.ensures.is_open;
   kept = refl;
 }
+
+pub returns-in_default-clause-reason : goal.returns-in_default-clause-reason
+returns-in_default-clause-reason g c =
+    let so_far = c.pieces.invariant.taken in (
+      refl,
+      Rose-kept _ _ _ (c.pieces.invariant.once.reads Data) c.in_default.ensures.cause.once,
+      record {
+        taken = so_far.0;
+        consumes = Consumes-kept _ _ _ so_far.0 so_far.1 c.in_default.ensures.gives;
+        written = so_far.3;
+        goes_on = so_far.4;
+        unended = fails-on _ _ _ c.pieces.invariant.unended c.in_default.ensures.gives;
+      },
+    )
 
 pub returns-in-Err-clause-reason : goal.returns-in-Err-clause-reason
 returns-in-Err-clause-reason g c =
@@ -42,6 +57,7 @@ pieces-preserved g c =
         text-appended so_far.0 piece _ _ _ so_far.3 (c.in-Ok-More.ensures.text so_far.0 so_far.2),
         leaves.2,
       );
+      unended = reads-on _ _ _ _ _ c.pieces.invariant.unended c.in-Ok.ensures.gives c.if-len-eq0.false;
       is_open = leaves.1;
       kept = c.in-Ok-More.ensures.cause.kept ∙ c.pieces.invariant.kept;
     }

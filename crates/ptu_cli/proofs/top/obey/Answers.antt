@@ -25,4 +25,4 @@ returns-in-Pick-clause-does g c = does_as _ _ _ _ (rw c.in-Pick.is at c.in-Some.
 pub returns-in-Demo-clause-does : goal.returns-in-Demo-clause-does
 returns-in-Demo-clause-does g c =
     let state = g.I.Inputs.state c.args.inputs.now in
-    does_as _ _ _ _ (rw c.in-Demo.is at c.in-Some.ensures.request) (record { answer = c.demo.ensures.answer state; causes = c.demo.ensures.causes state; asks = refl; once = record { inputs = once-refl state _ (alone-quiet _ _ c.demo.result (c.demo.ensures.causes state)); out = c.demo.ensures.once }; files = λ plan_file data_file tells. tt })
+    does_as _ _ _ _ (rw c.in-Demo.is at c.in-Some.ensures.request) (record { answer = c.demo.ensures.answer state; causes = c.demo.ensures.causes state; asks = refl; once = record { inputs = once-refl state _ (alone-quiet _ _ c.demo.result (c.demo.ensures.causes state)); out = c.demo.ensures.once }; files = tt })
