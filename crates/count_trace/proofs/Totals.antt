@@ -25,8 +25,8 @@ total set h =
     let bin : Event × ℕ → ℕ = λ x. (x.0.time - set.origin) / set.width in
     let same : (test : ℕ → Bool) → count_times set (λ time. nat_le set.origin time && test ((time - set.origin) / set.width)) h ≡ count_by (λ x. chosen x && test (bin x)) h =
     λ test. count_same (λ x. is_photon x.0 && (is_in x.1 set.group && (nat_le set.origin x.0.time && test (bin x)))) (λ x. chosen x && test (bin x))
-        (λ x. regroup (is_photon x.0) (is_in x.1 set.group) (nat_le set.origin x.0.time) (test (bin x))) h in
+    (λ x. regroup (is_photon x.0) (is_in x.1 set.group) (nat_le set.origin x.0.time) (test (bin x))) h in
     let bins = sum_same (λ b. in_trace_bin set b h) (λ b. count_by (λ x. chosen x && (bin x == b)) h) (λ b. same (λ n. n == b)) (range_with_len 0 set.bins) in
     let sides = count_parts (λ x. is_photon x.0 && (is_in x.1 set.group && nat_lt x.0.time set.origin)) chosen (λ x. is_photon x.0 && is_in x.1 set.group)
-        (λ x. one_side (is_photon x.0) (is_in x.1 set.group) set.origin x.0.time) h in
+    (λ x. one_side (is_photon x.0) (is_in x.1 set.group) set.origin x.0.time) h in
     omega (arith, bins, same (λ n. nat_le set.bins n), parts chosen bin set.bins h, sides)
