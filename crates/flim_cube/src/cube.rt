@@ -34,18 +34,21 @@ pub struct FlimCube {
 }
 
 impl FlimCube {
-    ghost use Rattle.std.specs.Prelude.{IfOk, [], false};
+    ghost use Rattle.std.{specs.Prelude.{IfOk, [], false}, specs.Int.div_ceil};
     ghost use Rattle.tally_base.{specs.Settings.PartSettings.CubeSettings};
     ghost use Rattle.scan_image.specs.ImageCounts.{count_outside};
     ghost use Rattle.flim_cube.{specs.CubeCounts.{in_cell, count_over}, specs.Cube.{Holds, set_of}};
 
-    /// A cube of no events, with all the memory that it ever takes, or `AllocError` where it is wanting.
+    /// A cube of no events, with all the memory that it ever takes, or `AllocError` where it is wanting. Of
+    /// this an eighth is in use at first: one byte for each count.
     pub fn open(alloc: Global, set: CubeSet) -> Result<FlimCube, AllocError>
         ensures set { IfOk result (λ t. set_of t ≡ set) }
         ensures settings { IfOk result (λ t.
             ⟦<FlimCube as Tally>⟧.settings t ≡ CubeSettings (cube_view set)) }
         ensures empty { IfOk result (λ t. Holds t []) }
         ensures opened { IfOk result (λ t. ⟦<FlimCube as Tally>⟧.closed t ≡ false) }
+        ensures narrow { IfOk result (λ t. ⟦<FlimCube as Tally>⟧.held t
+            ≡ div_ceil (set.image.width * set.image.height * set.dbins) 8 + 5) }
     {
         let size = set.image.width * set.image.height * set.dbins;
         Ok(FlimCube {

@@ -78,12 +78,13 @@ fn width_of(parts: [u8; 8]) -> usize
 
 impl Cells {
     ghost use Rattle.std.specs.Prelude.{IfOk, replicate, slice_set};
-    ghost use Rattle.flim_cube.specs.Cells.{counts_of, part_of, width_of_each};
+    ghost use Rattle.flim_cube.specs.Cells.{counts_of, entries_of, part_of, width_of_each};
 
     /// So many cells, each 0, or `AllocError` where memory for them is wanting. It takes all the memory that
     /// they ever need.
     pub(crate) fn open(alloc: Global, size: u32) -> Result<Cells, AllocError>
         ensures zeros { IfOk result (λ cells. counts_of cells ≡ replicate size 0) }
+        ensures narrow { IfOk result (λ cells. entries_of cells ≡ div_ceil size 8) }
     {
         let size = size as usize;
         let mut bytes = Vec::with_capacity(alloc, size)?;

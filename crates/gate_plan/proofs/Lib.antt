@@ -6,3 +6,4 @@ pub mod Inputs
 pub mod Histories
 pub mod Sorts
 pub mod Shifted
+pub mod AllGates

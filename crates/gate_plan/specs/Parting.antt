@@ -1,6 +1,6 @@
 -- The groups without a gate and those with gates, apart.
 use Rattle.std.specs.Prelude.{ℕ, ◌≡◌, ◌<◌, ◌+◌, ◌*◌, ◌^◌, Bool, true, false, ◌&&◌, List, [], ◌∷◌, map, sum_by, slice_index, slice_index_or}
-use Rattle.std.specs.List.{list_any}
+use Rattle.std.specs.List.{list_any, flat_map}
 use Rattle.tally_base.specs.Settings.{GroupView}
 use Rattle.gate_plan.{specs.Taking.{is_among, is_in_gate, one_if, bits_of}, specs.declared.gated.Gated.Gated, specs.declared.only_gate.OnlyGate.OnlyGate}
 
@@ -19,6 +19,10 @@ takes_plainly input group = is_among group.inputs input && is_open group.gates
 abbrev pub takes_gated : ℕ → ℕ → GroupView → Bool
 takes_gated input dtime group = is_among group.inputs input && passes group.gates dtime
 
+-- the gates of all groups
+abbrev pub all_gates : List GroupView → List (ℕ × ℕ)
+all_gates groups = flat_map (λ group. group.gates) groups
+
 abbrev pub plain_bits : List GroupView → ℕ → ℕ
 plain_bits groups input = bits_of (map (takes_plainly input) groups)
 
@@ -28,6 +32,10 @@ gated_bits groups input dtime = bits_of (map (takes_gated input dtime) groups)
 -- all gates of a group that has some
 abbrev pub gates_of : Gated → List (ℕ × ℕ)
 gates_of group = group.gate ∷ group.others.items
+
+-- the gates of all of them
+abbrev pub gates_in : List Gated → List (ℕ × ℕ)
+gates_in gated = flat_map gates_of gated
 
 abbrev pub gated_bit : ℕ → ℕ → Gated → ℕ
 gated_bit input dtime group = one_if (slice_index_or group.has input false && passes (gates_of group) dtime) * 2 ^ group.place

@@ -1,8 +1,8 @@
 // The shifted dtimes of events, and the groups that they are in.
-ghost use Rattle.std.specs.Prelude.{◌≡◌, ◌<◌, ◌≤◌, ℕ, map, length, None, slice_index, slice_index_or};
+ghost use Rattle.std.specs.Prelude.{◌≡◌, ◌<◌, ◌≤◌, ◌==◌, ℕ, map, length, None, is_some, slice_index, slice_index_or};
 ghost use Rattle.std.specs.Option.{ForSome};
 ghost use Rattle.tally_base.specs.Settings.{group_view, shift_view};
-ghost use Rattle.gate_plan.{specs.Shifting.shift_of, specs.Parting.{plain_bits, gated_bits, gated_sum, TellsGroups}};
+ghost use Rattle.gate_plan.{specs.Shifting.shift_of, specs.Parting.{plain_bits, gated_bits, gated_sum, all_gates, gates_in, TellsGroups}};
 
 use crate::copies::groups_again;
 use crate::gated::Gated;
@@ -35,11 +35,13 @@ pub struct Gates {
         → slice_index plain input ≡ plain_bits (map group_view groups.items) input },
     ghost gated_is: { (input dtime : ℕ) → gated_sum gated.items input dtime
         ≡ gated_bits (map group_view groups.items) input dtime },
+    ghost gates_are: { gates_in gated.items ≡ all_gates (map group_view groups.items) },
+    ghost only_one: { is_some only ≡ (length (all_gates (map group_view groups.items)) == 1) },
     ghost only_is: { ForSome only (λ gate. TellsGroups gate (map group_view groups.items)) },
 }
 
 impl Gates {
-    ghost use Rattle.std.specs.Prelude.{◌+◌, ◌-◌, [], get_or, false};
+    ghost use Rattle.std.specs.Prelude.{◌+◌, ◌-◌, ◌↔◌, [], get_or, nat_lt, false};
     ghost use Rattle.tally_base.specs.Events.{is_in};
     ghost use Rattle.plan_text.specs.Reading.{plan_view};
     ghost use Rattle.gate_plan.{specs.Shifting.{sorting, shifted, shifted_dtime}, specs.Taking.{takes, groups_in}, specs.Groups.sorting_of};
@@ -68,7 +70,7 @@ impl Gates {
 
     /// Whether an input has a shift.
     pub fn has_shifts(&self) -> bool
-        ensures { result ≡ false → (sorting_of self.now).shifts ≡ [] }
+        ensures { (result ≡ false) ↔ ((sorting_of self.now).shifts ≡ []) }
     {
         !self.shifts.is_empty()
     }
@@ -114,15 +116,17 @@ impl Gates {
 
     /// The only gate of the plan, if there is one, with the groups of each input behind it.
     pub fn only_gate(&self) -> Option<&OnlyGate>
-        ensures { ForSome result (λ gate. TellsGroups gate.now (sorting_of self.now).groups) }
+        ensures tells { ForSome result (λ gate. TellsGroups gate.now (sorting_of self.now).groups) }
+        ensures one { is_some result ≡ (length (all_gates (sorting_of self.now).groups) == 1) }
     {
         self.only.as_ref()
     }
 
     /// Whether a group has a gate.
     pub fn has_gates(&self) -> bool
-        ensures { result ≡ false → (input dtime : ℕ)
+        ensures none { result ≡ false → (input dtime : ℕ)
             → gated_bits (sorting_of self.now).groups input dtime ≡ 0 }
+        ensures some { result ≡ nat_lt 0 (length (all_gates (sorting_of self.now).groups)) }
     {
         !self.gated.is_empty()
     }

@@ -1,8 +1,8 @@
 // The groups without a gate by input, and those with gates.
-ghost use Rattle.std.specs.Prelude.{◌≡◌, ◌<◌, ◌≤◌, ◌+◌, ◌-◌, ◌*◌, ◌^◌, ℕ, min, map, length, slice_index, slice_index_or, false};
+ghost use Rattle.std.specs.Prelude.{◌≡◌, ◌<◌, ◌≤◌, ◌+◌, ◌-◌, ◌*◌, ◌^◌, ℕ, min, map, length, slice_index, slice_index_or, is_some, ◌==◌, false};
 ghost use Rattle.std.{specs.Int.bit_at, specs.Option.ForSome};
 ghost use Rattle.tally_base.specs.Settings.{group_view};
-ghost use Rattle.gate_plan.{specs.Taking.{is_among, is_in_gate, one_if}, specs.Parting.{takes_plainly, takes_gated, passes, gates_of, plain_bits, gated_bits, gated_bit, gated_sum, groups_by, groups_behind}};
+ghost use Rattle.gate_plan.{specs.Taking.{is_among, is_in_gate, one_if}, specs.Parting.{takes_plainly, takes_gated, passes, gates_of, all_gates, gates_in, plain_bits, gated_bits, gated_bit, gated_sum, groups_by, groups_behind}};
 
 use crate::copies::gates_again;
 use crate::gated::Gated;
@@ -48,8 +48,9 @@ fn is_plain(group: &Group, input: u8) -> bool
 /// The groups that have gates.
 pub(crate) fn gated_of(groups: &[Group]) -> ArrayVec<Gated, 64>
     requires few { length groups.now ≤ 64 }
-    ensures { (input dtime : ℕ) → gated_sum result.items input dtime
+    ensures bits { (input dtime : ℕ) → gated_sum result.items input dtime
         ≡ gated_bits (map group_view groups.now) input dtime }
+    ensures gates { gates_in result.items ≡ all_gates (map group_view groups.now) }
 {
     let mut gated: ArrayVec<Gated, 64> = ArrayVec::new();
     let mut place: u64 = 0;
@@ -66,8 +67,9 @@ pub(crate) fn gated_of(groups: &[Group]) -> ArrayVec<Gated, 64>
 fn gated_at(group: &Group, place: u64) -> Gated
     requires place { place < 64 }
     requires some { 0 < length group.now.gates.items }
-    ensures { (input dtime : ℕ) → gated_bit input dtime result
+    ensures bit { (input dtime : ℕ) → gated_bit input dtime result
         ≡ one_if (takes_gated input dtime (group_view group.now)) * 2 ^ place }
+    ensures gates { gates_of result ≡ group.now.gates.items }
 {
     let gates = group.gates.as_slice();
     Gated {
@@ -81,9 +83,10 @@ fn gated_at(group: &Group, place: u64) -> Gated
 /// The only gate of these groups, if they are one group that has one gate, with the groups of each input
 /// behind it, where these are the groups that have none.
 pub(crate) fn only_gate(gated: &[Gated], plain: &[u64; 256]) -> Option<OnlyGate>
-    ensures { ForSome result (λ gate. (input dtime : ℕ) → input < 256
+    ensures groups { ForSome result (λ gate. (input dtime : ℕ) → input < 256
         → groups_by plain.now gated.now input dtime < 2 ^ 64
         → groups_behind input dtime gate ≡ groups_by plain.now gated.now input dtime) }
+    ensures one { is_some result ≡ (length (gates_in gated.now) == 1) }
 {
     match gated {
         [group] if group.others.is_empty() => {

@@ -6,3 +6,4 @@ pub mod Ends
 pub mod Given
 pub mod Rising
 pub mod Rows
+pub mod Totals

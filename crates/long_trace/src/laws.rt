@@ -1,7 +1,7 @@
-// A law of the definitions, as the contract of a function that does nothing.
-ghost use Rattle.std.specs.Prelude.{◌≡◌, ◌-◌, ◌<◌, ◌≤◌, ℕ};
+// Laws of the definitions, each as the contract of a function that does nothing.
+ghost use Rattle.std.specs.Prelude.{◌≡◌, ◌+◌, ◌-◌, ◌<◌, ◌≤◌, ℕ};
 ghost use Rattle.count_trace.specs.TraceCounts.{in_trace_bin};
-ghost use Rattle.long_trace.specs.Texts.{span};
+ghost use Rattle.long_trace.{specs.Texts.{span, counts, above}, specs.Totals.in_all_frequencies};
 ghost use Rattle.tally_base.{specs.Settings.TraceView, specs.Tally.History};
 
 /// The last bin of the span of a trace isn't empty, and each behind it is.
@@ -10,4 +10,11 @@ pub fn the_span_ends_with_its_last_bin()
         → 0 < in_trace_bin set (span set h - 1) h }
     ensures behind { (set : TraceView) (h : History) (bin : ℕ) → span set h ≤ bin
         → in_trace_bin set bin h ≡ 0 }
+{}
+
+/// Each bin up to the last that isn't empty has a count with a number of its own, or a greater one.
+pub fn each_bin_has_one_count()
+    ensures { (set : TraceView) (h : History)
+        → in_all_frequencies (counts set (span set h) h) + above (counts set (span set h) h)
+        ≡ span set h }
 {}

@@ -1,6 +1,6 @@
-use Rattle.std.proofs.Common.{◌≡◌, ◌+◌, ◌*◌, ◌^◌, ◌≤◌, ℕ, map, drop, length}
+use Rattle.std.proofs.Common.{◌≡◌, ◌+◌, ◌*◌, ◌^◌, ◌≤◌, ◌++◌, ℕ, map, drop, length}
 use Rattle.tally_base.specs.Settings.{group_view}
-use Rattle.gate_plan.{specs.Taking.bits_of, specs.Parting.{takes_gated, gated_bits, gated_sum}}
+use Rattle.gate_plan.{specs.Taking.bits_of, specs.Parting.{takes_gated, gated_bits, gated_sum, all_gates, gates_in}}
 use Rattle.gate_plan.proofs.table.gated_of.Given as goal
 
 abbrev pub invariant-groups : goal.invariant-groups
@@ -8,5 +8,6 @@ invariant-groups l = record {
   place : l.place ≡ l.group-index;
   few : length l.groups ≤ 64;
   room : length l.gated.items ≤ l.place;
+  gates : gates_in l.gated.items ++ all_gates (map group_view (drop l.group-index l.groups)) ≡ all_gates (map group_view l.groups);
   rest : (input dtime : ℕ) → gated_sum l.gated.items input dtime + 2 ^ l.place * bits_of (map (takes_gated input dtime) (map group_view (drop l.group-index l.groups))) ≡ gated_bits (map group_view l.groups) input dtime;
 }

@@ -14,4 +14,5 @@ invariant_of-result c = record {
 pub returns : goal.returns
 returns c = record {
   zeros = count_none c.resize.new.self.items c.args.size (λ place. rw (c.in_ok-resize.ensures.items, c.in_ok-bytes.ensures.items) (more_zeros [] c.div_ceil.result _ place (omega arith) ∙ nothing_there place));
+  narrow = search (rules, arith);
 }

@@ -1,4 +1,4 @@
-use Rattle.std.proofs.Common.{◌≡◌, ◌+◌, map, get_or, refl, ◌∙◌}
+use Rattle.std.proofs.Common.{◌≡◌, ◌+◌, ◌==◌, map, get_or, length, ap, refl, ◌∙◌}
 use Rattle.tally_base.specs.Settings.{group_view}
 use Rattle.gate_plan.{specs.Parting.{plain_bits, gated_bits, gated_sum}, proofs.Parts.{parted_fits, few_groups}}
 use Rattle.gate_plan.proofs.gates.Gates.of.Goals as goal
@@ -10,13 +10,21 @@ pub invariant_of-result-clause-plain_is : goal.invariant_of-result-clause-plain_
 invariant_of-result-clause-plain_is c = rw c.as_slice-4.ensures.value at c.plain_table-plain.ensures
 
 pub invariant_of-result-clause-gated_is : goal.invariant_of-result-clause-gated_is
-invariant_of-result-clause-gated_is c = rw c.as_slice-5.ensures.value at c.gated_of-gated.ensures
+invariant_of-result-clause-gated_is c = rw c.as_slice-5.ensures.value at c.gated_of-gated.ensures.bits
 
 pub invariant_of-result-clause-only_is : goal.invariant_of-result-clause-only_is
 invariant_of-result-clause-only_is c = λ gate is input dtime below.
     let groups = map group_view c.groups_again-groups.result.items in
     let plain = (rw c.as_slice-4.ensures.value at c.plain_table-plain.ensures) input below in
-    let gated = (rw c.as_slice-5.ensures.value at c.gated_of-gated.ensures) input dtime in
+    let gated = (rw c.as_slice-5.ensures.value at c.gated_of-gated.ensures.bits) input dtime in
     let same : get_or c.plain_table-plain.result input 0 + gated_sum c.as_slice-6.result.now input dtime ≡ plain_bits groups input + gated_bits groups input dtime = rw (c.as_slice-6.ensures.value, plain, gated) refl in
     let fits = parted_fits groups input dtime (few_groups c.groups_again-groups.result.items c.groups_again-groups.ensures.few) in
-    c.only_gate-only.ensures gate is input dtime below (rw same fits) ∙ same
+    c.only_gate-only.ensures.groups gate is input dtime below (rw same fits) ∙ same
+
+pub invariant_of-result-clause-gates_are : goal.invariant_of-result-clause-gates_are
+invariant_of-result-clause-gates_are c = rw c.as_slice-5.ensures.value at c.gated_of-gated.ensures.gates
+
+pub invariant_of-result-clause-only_one : goal.invariant_of-result-clause-only_one
+invariant_of-result-clause-only_one c =
+    let gates = rw c.as_slice-5.ensures.value at c.gated_of-gated.ensures.gates in
+    (rw c.as_slice-6.ensures.value at c.only_gate-only.ensures.one) ∙ ap (λ all. length all == 1) gates
