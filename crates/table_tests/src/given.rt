@@ -129,7 +129,15 @@ pub(crate) fn plan_of(alloc: Global, text: &str) -> Result<Plan, Fail> {
     for _ in 0..64 {
         bytes.extend_from_slice(b"\n[[group]]\ninputs = [0]")?;
     }
-    Ok(read_plan(alloc, &bytes)?)
+    read(alloc, &bytes)
+}
+
+/// The plan of these bytes, which must be one.
+pub(crate) fn read(alloc: Global, bytes: &[u8]) -> Result<Plan, Fail> {
+    match read_plan(alloc, bytes) {
+        Ok(plan) => Ok(plan),
+        Err(fault) => Err(Fail::new(format_args!("a plan has status {}", fault.status()))),
+    }
 }
 
 /// Refuses a row of which another text was found than the one that is wanted.

@@ -1,7 +1,7 @@
 // What plans say: the test of `plan_text`.
-use crate::given::{halves, same};
+use crate::given::{halves, read, same};
 use crate::rows::PLANS;
-use plan_text::{Plan, read_plan};
+use plan_text::Plan;
 use std::alloc::Global;
 use std::fmt::Debug;
 use std::test::Fail;
@@ -9,7 +9,7 @@ use std::test::Fail;
 /// The plan of a text, in which `; ` is the end of a line.
 pub(crate) fn plan_in(alloc: Global, text: &str) -> Result<Plan, Fail> {
     let text = text.replace(alloc, "; ", "\n")?;
-    Ok(read_plan(alloc, text.as_bytes())?)
+    read(alloc, text.as_bytes())
 }
 
 /// Appends the settings of tables of a kind.
