@@ -143,7 +143,8 @@ def rows(crate: str) -> Iterator[Row]:
     if not (source / "lib.rt").exists():
         return
     lib = (source / "lib.rt").read_text("utf-8")
-    lent = set(re.findall(r"\w+", " ".join(re.findall(r"^pub use [^;]*::(\{[^;]*\}|\w+);", lib, flags=re.M))))
+    used = re.findall(r"^pub use [^;]*::(\{[^;]*\}|\w+);", lib, flags=re.M)
+    lent = {*re.findall(r"\w+", " ".join(used)), *re.findall(r"^pub (?:struct|enum) (\w+)", lib, flags=re.M)}
     open_files = {f"{module}.rt" for module in re.findall(r"^pub mod (\w+);", lib, flags=re.M)} | {"lib.rt"}
     for path in sorted(source.rglob("*.rt"), key=lambda path: (path.name in open_files, path)):
         lines = path.read_text("utf-8").split("\n")

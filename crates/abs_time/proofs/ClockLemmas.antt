@@ -1,6 +1,5 @@
 -- One record more.
-use Rattle.std.proofs.Common.{◌≡◌, ◌+◌, ◌-◌, ◌<◌, ◌≤◌, ℕ, List, [], ◌∷◌, ◌++◌, true, false, Ok, Err, max, refl, sym, ap, append-nil, arith, length-append, nat_lt}
-use Rattle.std.{proofs.lemmas.List.Sums.sum_by-append, proofs.lemmas.Bool.Decides.nat_tests}
+use Rattle.std.{proofs.Common.{◌≡◌, ◌+◌, ◌-◌, ◌<◌, ◌≤◌, ℕ, List, [], ◌∷◌, ◌++◌, true, false, Ok, Err, max, refl, sym, ap, append-nil, arith, length-append, nat_lt}, proofs.lemmas.List.Sums.sum_by-append, proofs.lemmas.Bool.Decides.nat_tests}
 use Rattle.tally_base.{specs.declared.event.Event.Event, specs.declared.event.EventKind.TheVariants.Photon as PhotonEvent, specs.declared.event.EventKind.TheVariants.Marker as MarkerEvent, specs.declared.fault.Fault.TheVariants.TimeLimit, specs.declared.header.Mode.Mode, specs.Limits.wrap_limit}
 use Rattle.ptu_definitions.{specs.declared.records.Raw.Raw, specs.declared.records.Raw.TheVariants.{Photon, Marker, Wrap, Reserved}, specs.Times.{amount, base, events}, specs.Kept.{greatest, ordered_time}, proofs.StreamLemmas.{events-push, later, greatest-push}}
 use Rattle.abs_time.{specs.declared.clock.Placed.TheVariants.Wrap as WrapPlaced, specs.declared.clock.Placed.TheVariants.Reserved as ReservedPlaced, specs.Placing.{IsClock, against, placed_event, place_answer}}

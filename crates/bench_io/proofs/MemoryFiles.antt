@@ -1,6 +1,5 @@
 -- A file is found by its name.
-use Rattle.std.proofs.Common.{◌≡◌, ◌<◌, ◌+◌, min, ℕ, zero, suc, List, [], ◌∷◌, ◌++◌, ◌⊎◌, ◌↔◌, inl, inr, Bool, true, None, Some, length, take, drop, get_or, refl, sym, ap, ◌∙◌, arith, take-append-drop, slice_get}
-use Rattle.std.{proofs.Math.Seq.take-add, proofs.lemmas.Grind.common_steps, proofs.lemmas.List.{drop-drop, nil_from_length}, specs.declared.option.Option.Option, specs.Str.bytes_eq}
+use Rattle.std.{proofs.Common.{◌≡◌, ◌<◌, ◌+◌, min, ℕ, zero, suc, List, [], ◌∷◌, ◌++◌, ◌⊎◌, ◌↔◌, inl, inr, Bool, true, None, Some, length, take, drop, get_or, refl, sym, ap, ◌∙◌, arith, take-append-drop, slice_get}, proofs.Math.Seq.take-add, proofs.lemmas.Grind.common_steps, proofs.lemmas.List.{drop-drop, nil_from_length}, specs.declared.option.Option.Option, specs.Str.bytes_eq}
 use Rattle.bench_io.{specs.NamedBytes.NamedBytes, specs.Turns.limited, specs.Memory.{file_named, rest_of_file}, specs.Given.{gave, is_over, GivesCount}, proofs.Givens.{over-both, over-from}}
 
 pub file_named-found : (files : List NamedBytes) (i : ℕ) (name : List ℕ) (file : NamedBytes) → i < length files → file ≡ get_or files i file → bytes_eq file.name name ≡ true

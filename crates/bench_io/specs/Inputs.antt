@@ -1,6 +1,5 @@
 -- What calls say of two inputs, each in a slot of its own.
-use Rattle.std.specs.Prelude.{ℕ, List, ◌≡◌, ◌≤◌, Bool, None, Some, IsSome}
-use Rattle.std.specs.declared.option.Option.{Option}
+use Rattle.std.{specs.Prelude.{ℕ, List, ◌≡◌, ◌≤◌, Bool, None, Some, IsSome}, specs.declared.option.Option.Option}
 use Rattle.tally_base.{specs.declared.slot.Slot.Slot, specs.declared.slot.Slot.TheVariants.{Plan, Data}}
 use Rattle.bench_io.specs.Given.{Given}
 

@@ -1,9 +1,7 @@
 -- Files and inputs in memory.
-use Rattle.std.specs.Prelude.{ℕ, ◌≡◌, List, [], ◌∷◌, true, false, None, Some, drop, length, slice_get, unwrap_or, if◌then◌else◌}
-use Rattle.std.{specs.Str.bytes_eq, specs.declared.option.Option.Option, specs.declared.result.Result.Result}
+use Rattle.std.{specs.Prelude.{ℕ, ◌≡◌, List, [], ◌∷◌, true, false, None, Some, drop, length, slice_get, unwrap_or, if◌then◌else◌}, specs.Str.bytes_eq, specs.declared.option.Option.Option, specs.declared.result.Result.Result}
 use Rattle.bench_io.{specs.NamedBytes.NamedBytes, specs.CallCounts.FailsNext, specs.Inputs.{File, InputState}, specs.Turns.{next_turn, limited}}
-use Rattle.tally_base.specs.FaultCounts.{FailsOnce, one_more}
-use Rattle.tally_base.specs.declared.slot.Slot.{Slot}
+use Rattle.tally_base.{specs.FaultCounts.{FailsOnce, one_more}, specs.declared.slot.Slot.Slot}
 
 -- of two files of one name the first counts
 abbrev pub file_named : List NamedBytes → List ℕ → File

@@ -1,6 +1,5 @@
 // Two inputs that count their faults.
-ghost use Rattle.std.specs.Prelude.{◌≡◌, ℕ, List, Some, true, false, OnOk, OnErr};
-ghost use Rattle.std.specs.Io.{ReadsAtMost};
+ghost use Rattle.std.{specs.Prelude.{◌≡◌, ℕ, List, Some, true, false, OnOk, OnErr}, specs.Io.{ReadsAtMost}};
 ghost use Rattle.tally_base.{specs.declared.slot.Slot.{Slot}, specs.FaultCounts.FailsOnce};
 ghost use Rattle.bench_io.{specs.Given.{no_bytes, ReadGives, IsOf}, specs.Inputs.{InputState, IsOpened, Keeps, KeepsOther, OpensNone}};
 

@@ -1,5 +1,5 @@
 -- One event more for the intervals.
-use Rattle.std.proofs.Common.{◌≡◌, ◌∙◌, ℕ, ◌+◌, ◌-◌, ◌/◌, ◌<◌, ◌≤◌, Bool, true, false, ◌&&◌, List, [], ◌∷◌, ◌++◌, sym, refl, arith, None, Some, nat_le, ◌==◌, slice_index, if◌then◌else◌}
+use Rattle.std.proofs.Common.{◌≡◌, ◌∙◌, ℕ, ◌+◌, ◌-◌, ◌/◌, ◌<◌, ◌≤◌, Bool, true, false, ◌&&◌, List, [], ◌∷◌, ◌++◌, sym, refl, arith, None, Some, nat_le, ◌==◌, slice_index, if◌then◌else◌, rules}
 use Rattle.tally_base.{specs.declared.event.Event.Event, specs.Events.{is_photon, is_in}, specs.Settings.StartStopView, specs.Tally.History}
 use Rattle.coincidence.{specs.declared.start.Start.Start, specs.Counted.Counted, specs.Ends.ended, specs.Intervals.count_intervals, specs.Starts.{start_in, since_in}, proofs.Ends.ends_as, proofs.Intervals.{count-photon, start-photon, count-marker, start-marker}}
 
@@ -22,22 +22,14 @@ photon_step set cells cells' over over' bin more start start' h x starts stops p
     }
 
 pub marker_step : (set : StartStopView) (cells : List ℕ) (over : ℕ) (start : Start) (h : History) (x : Event × ℕ) → is_photon x.0 ≡ false → Counted set set.bins cells over start h → Counted set set.bins cells over start (h ++ x ∷ [])
-marker_step set cells over start h x marker is = record {
-  each = λ b lt. is.each b lt ∙ sym (count-marker set (λ time. time / set.width == b) h x marker);
-  rest = is.rest ∙ sym (count-marker set (λ time. nat_le set.bins (time / set.width)) h x marker);
-  open' = is.open' ∙ sym (start-marker set h x marker);
-}
+marker_step set cells over start h x marker is = search (rules, arith, count-marker, start-marker)
 
 -- a photon that is found in a group is in it
 pub in_group : (group photon found : Bool) → photon ≡ true → found ≡ (group && photon) → group ≡ found
-in_group true photon found is was = sym (was ∙ is)
-in_group false photon found is was = sym was
+in_group group photon found is was = search (rules, arith)
 
 pub later : (moves : Bool) → moves ≡ true → (since before time floor : ℕ) (starts : Bool) → since ≡ (if starts then time else before) → before ≤ time → since ≤ (if moves then time else floor)
-later true is since before time floor true was below = omega (arith, was)
-later true is since before time floor false was below = omega (arith, was, below)
-later false is since before time floor starts was below = cc
+later moves is since before time floor starts was below = search (rules, arith)
 
 pub kept_floor : (moves : Bool) → moves ≡ false → (time floor since : ℕ) → since ≤ floor → since ≤ (if moves then time else floor)
-kept_floor true is time floor since below = cc
-kept_floor false is time floor since below = below
+kept_floor moves is time floor since below = search (rules, arith)

@@ -1,6 +1,5 @@
 -- The events of a block for a table of coincidences.
-use Rattle.std.proofs.Common.{◌≡◌, ◌∙◌, ℕ, zero, suc, ◌+◌, ◌<◌, ◌≤◌, Bool, true, false, ◌&&◌, ◌||◌, List, [], ◌∷◌, ◌++◌, length, refl, sym, ap, arith, length-append, append-nil, append_assoc, ◌⊎◌, ⊎_elim, nat_lt}
-use Rattle.std.{proofs.lemmas.Bool.false≢true, proofs.lemmas.List.Elements.filter-append}
+use Rattle.std.{proofs.Common.{◌≡◌, ◌∙◌, ℕ, zero, suc, ◌+◌, ◌<◌, ◌≤◌, Bool, true, false, ◌&&◌, ◌||◌, List, [], ◌∷◌, ◌++◌, length, refl, sym, ap, arith, length-append, append-nil, append_assoc, ◌⊎◌, ⊎_elim, nat_lt, rules}, proofs.lemmas.Bool.false≢true, proofs.lemmas.List.Elements.filter-append}
 use Rattle.tally_base.{specs.declared.event.Event.Event, specs.Events.{is_photon, is_in}, specs.Settings.CoincidenceView, specs.Tally.{History, greatest_time}, specs.Limits.record_limit, specs.declared.block.Block.Block, specs.Columns.{rows, item, event_at, code_at, groups_at, time_at, gathered, events_in}, specs.Floors.{floor_after, InOrder}, proofs.Back.moves_row, proofs.Greatest.greatest-rows, proofs.Floors.{order-front, order-at}, proofs.BlockRows.{length-rows, more_rows}}
 use Rattle.coincidence.{specs.declared.pairing.Pairing.Pairing, specs.Pairs.photons_of_groups, specs.declared.pairing.Bin.Bin, specs.Pairing.{bin_of, CanPut, Came}, specs.StandsFor.{StandsFor, CanGive, CanTake}, proofs.Gives.{mine, may_put, photons-push}, proofs.Blocks.in_group}
 
@@ -30,13 +29,11 @@ may_take set p p' b h at inside can came =
 
 -- a group that is found is that of a photon
 pub found_photon : (a b c found other : Bool) → found ≡ (a && c) → other ≡ (b && c) → (found || other) ≡ true → c ≡ true
-found_photon a b true found other is also either = refl
-found_photon a b false found other is also either = grind (arith, is, also, either)
+found_photon a b c found other is also either = search (rules, arith)
 
 -- where none is found, the photons stay the same
 none_found : (a b c found other : Bool) → found ≡ (a && c) → other ≡ (b && c) → (found || other) ≡ false → ((c && a) || (c && b)) ≡ false
-none_found a b true found other is also neither = grind (arith, is, also, neither)
-none_found a b false found other is also neither = refl
+none_found a b c found other is also neither = search (rules, arith)
 
 pub photons-same : (set : CoincidenceView) (b : Block) (h : History) (at : ℕ) (found other : Bool) → found ≡ (is_in (groups_at b at) set.first && nat_lt (code_at b at) 256) → other ≡ (is_in (groups_at b at) set.second && nat_lt (code_at b at) 256) → (found || other) ≡ false → photons_of_groups set (h ++ item b at ∷ []) ≡ photons_of_groups set h
 photons-same set b h at found other is also neither =
@@ -82,8 +79,7 @@ module _ (set : CoincidenceView) (p p' : Pairing) (b : Block) (h : History) (at 
 
 -- what a table that isn't closed may take
 pub may_events : (closed : Bool) → closed ≡ false → (set : CoincidenceView) (p : Pairing) (count time : ℕ) (h : History) (es : List Event) → StandsFor closed set p count time h → count + length es ≤ record_limit → InOrder false time es → CanTake set p es h
-may_events true open' set p count time h es is few after = absurd (false≢true (sym open'))
-may_events false open' set p count time h es is few after = record { few = omega (arith, few, is.taken); was = is.photons; after = (rw is.floor at after) }
+may_events closed open' set p count time h es is few after = search (rules, arith, false≢true)
 
 -- what it stands for then
 pub events_count : (closed : Bool) → closed ≡ false → (set : CoincidenceView) (p p' : Pairing) (count time count' time' : ℕ) (h : History) (b : Block) → StandsFor closed set p count time h → InOrder false time (gathered b)

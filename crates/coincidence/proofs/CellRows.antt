@@ -1,31 +1,30 @@
 -- The sums of a strip, row by row.
-use Rattle.std.proofs.Common.{◌≡◌, ◌≢◌, ◌∙◌, ℕ, ◌+◌, ◌-◌, ◌*◌, ◌/◌, ◌<◌, ◌≤◌, true, false, ◌&&◌, leb, ltb, eqb, cond, List, length, get_or, take, drop, refl, sym, ap, arith, length-drop}
-use Rattle.std.{specs.List.{sum_by, range_with_len}, proofs.lemmas.Grind.common_steps, proofs.lemmas.Bool.Decides.nat_tests, proofs.lemmas.List.{get_or-drop, get_or_past, take_all}}
+use Rattle.std.{proofs.Common.{◌≡◌, ◌≢◌, ◌∙◌, ℕ, ◌+◌, ◌-◌, ◌*◌, ◌/◌, ◌<◌, ◌≤◌, true, false, ◌&&◌, leb, ltb, eqb, cond, List, length, get_or, take, drop, refl, sym, ap, arith, length-drop}, specs.List.{sum_by, range_with_len}, proofs.lemmas.Grind.common_steps, proofs.lemmas.Bool.Decides.nat_tests, proofs.lemmas.List.{get_or-drop, get_or_past, take_all}}
 use Rattle.tally_base.specs.Settings.{CoincidenceView}
 use Rattle.lag_ring.{specs.Cells.{upwards_at, downwards_at}, proofs.Sums.{sum_by-agree, sum_by-same}}
 use Rattle.coincidence.{specs.declared.pairing.Direction.TheVariants.{Forward, Backward}, specs.Closing.strip_pairs, proofs.LagPairs.{at_one, range-within}}
 
 -- a place of the last sums
-last-at : (sums : List ℕ) (count j : ℕ) → get_or (drop (64 - count) sums) j 0 ≡ get_or sums (64 - count + j) 0
-last-at sums count j = get_or-drop (64 - count) sums j 0
+last-at : (sums : List ℕ) (count j : ℕ) → get_or (drop (256 - count) sums) j 0 ≡ get_or sums (256 - count + j) 0
+last-at sums count j = get_or-drop (256 - count) sums j 0
 
-module _ (sums : List ℕ) (full : length sums ≡ 64) (reach c least count : ℕ) (few : count ≤ 64) (upto : least + count ≤ reach) where
-  past : (i : ℕ) → 64 ≤ i → get_or sums i 0 ≡ 0
+module _ (sums : List ℕ) (full : length sums ≡ 256) (reach c least count : ℕ) (few : count ≤ 256) (upto : least + count ≤ reach) where
+  past : (i : ℕ) → 256 ≤ i → get_or sums i 0 ≡ 0
   past i over = get_or_past sums i 0 (omega arith)
 
   abbrev forward_term : ℕ → ℕ
-  forward_term lag = cond (eqb (reach + lag) c) (get_or sums (least + 64 - lag) 0) 0
+  forward_term lag = cond (eqb (reach + lag) c) (get_or sums (least + 256 - lag) 0) 0
 
   abbrev backward_term : ℕ → ℕ
-  backward_term lag = cond (eqb (lag + c) reach) (get_or sums (least + 64 - lag) 0) 0
+  backward_term lag = cond (eqb (lag + c) reach) (get_or sums (least + 256 - lag) 0) 0
 
-  above : (k : ℕ) → least + count < k → cond (leb (least + 1) k && ltb k (least + 1 + count)) (get_or sums (least + 64 - k) 0) 0 ≡ 0
+  above : (k : ℕ) → least + count < k → cond (leb (least + 1) k && ltb k (least + 1 + count)) (get_or sums (least + 256 - k) 0) 0 ≡ 0
   above k over = let last : ltb k (least + 1 + count) ≡ false = grind (arith, nat_tests) in rw last (grind (arith, common_steps))
 
-  below : (k : ℕ) → k ≤ least → cond (leb (least + 1) k && ltb k (least + 1 + count)) (get_or sums (least + 64 - k) 0) 0 ≡ 0
+  below : (k : ℕ) → k ≤ least → cond (leb (least + 1) k && ltb k (least + 1 + count)) (get_or sums (least + 256 - k) 0) 0 ≡ 0
   below k under = let first : leb (least + 1) k ≡ false = grind (arith, nat_tests) in rw first refl
 
-  between : (k : ℕ) → least < k → k ≤ least + count → cond (leb (least + 1) k && ltb k (least + 1 + count)) (get_or sums (least + 64 - k) 0) 0 ≡ get_or sums (least + 64 - k) 0
+  between : (k : ℕ) → least < k → k ≤ least + count → cond (leb (least + 1) k && ltb k (least + 1 + count)) (get_or sums (least + 256 - k) 0) 0 ≡ get_or sums (least + 256 - k) 0
   between k over under =
       let first : leb (least + 1) k ≡ true = grind (arith, nat_tests) in
       let last : ltb k (least + 1 + count) ≡ true = grind (arith, nat_tests) in
@@ -33,28 +32,28 @@ module _ (sums : List ℕ) (full : length sums ≡ 64) (reach c least count : �
 
   -- the term that counts, among so many
   abbrev counted : ℕ → ℕ
-  counted k = cond (leb (least + 1) k && ltb k (least + 1 + count)) (get_or sums (least + 64 - k) 0) 0
+  counted k = cond (leb (least + 1) k && ltb k (least + 1 + count)) (get_or sums (least + 256 - k) 0) 0
 
   -- it stands in the row, or the row has nothing there
-  row-counted : (k j : ℕ) → j + k ≡ least + count → get_or (drop (64 - count) sums) j 0 ≡ counted k
-  row-counted k j is = last-at sums count j ∙ (elim (leb k least) as (λ b. leb k least ≡ b → get_or sums (64 - count + j) 0 ≡ counted k) [
+  row-counted : (k j : ℕ) → j + k ≡ least + count → get_or (drop (256 - count) sums) j 0 ≡ counted k
+  row-counted k j is = last-at sums count j ∙ (elim (leb k least) as (λ b. leb k least ≡ b → get_or sums (256 - count + j) 0 ≡ counted k) [
     | true ↦ λ low.
         let under : k ≤ least = grind (arith, nat_tests, low) in
-        rw (below k under) (past (64 - count + j) (omega arith))
+        rw (below k under) (past (256 - count + j) (omega arith))
     | false ↦ λ high.
         let over : least < k = grind (arith, nat_tests, high) in
-        let place : 64 - count + j ≡ least + 64 - k = omega arith in
+        let place : 256 - count + j ≡ least + 256 - k = omega arith in
         rw (between k over (omega arith), place) refl
   ]) refl
 
-  forward-row : counted (c - reach) ≡ downwards_at (reach + (least + count)) (drop (64 - count) sums) c
-  forward-row = (elim (leb c (reach + (least + count))) as (λ b. leb c (reach + (least + count)) ≡ b → counted (c - reach) ≡ cond b (get_or (drop (64 - count) sums) (reach + (least + count) - c) 0) 0) [
+  forward-row : counted (c - reach) ≡ downwards_at (reach + (least + count)) (drop (256 - count) sums) c
+  forward-row = (elim (leb c (reach + (least + count))) as (λ b. leb c (reach + (least + count)) ≡ b → counted (c - reach) ≡ cond b (get_or (drop (256 - count) sums) (reach + (least + count) - c) 0) 0) [
     | true ↦ λ low.
         let upto_most : c ≤ reach + (least + count) = grind (arith, nat_tests, low) in
-        (elim (leb c reach) as (λ b. leb c reach ≡ b → counted (c - reach) ≡ get_or (drop (64 - count) sums) (reach + (least + count) - c) 0) [
+        (elim (leb c reach) as (λ b. leb c reach ≡ b → counted (c - reach) ≡ get_or (drop (256 - count) sums) (reach + (least + count) - c) 0) [
           | true ↦ λ at.
               let no : c ≤ reach = grind (arith, nat_tests, at) in
-              rw (below (c - reach) (omega arith), last-at sums count (reach + (least + count) - c), past (64 - count + (reach + (least + count) - c)) (omega arith)) refl
+              rw (below (c - reach) (omega arith), last-at sums count (reach + (least + count) - c), past (256 - count + (reach + (least + count) - c)) (omega arith)) refl
           | false ↦ λ at.
               let over : reach < c = grind (arith, nat_tests, at) in
               sym (row-counted (c - reach) (reach + (least + count) - c) (omega arith))
@@ -64,14 +63,14 @@ module _ (sums : List ℕ) (full : length sums ≡ 64) (reach c least count : �
         above (c - reach) (omega arith)
   ]) refl
 
-  backward-row : counted (reach - c) ≡ upwards_at (reach - (least + count)) (drop (64 - count) sums) c
-  backward-row = (elim (leb (reach - (least + count)) c) as (λ b. leb (reach - (least + count)) c ≡ b → counted (reach - c) ≡ cond b (get_or (drop (64 - count) sums) (c - (reach - (least + count))) 0) 0) [
+  backward-row : counted (reach - c) ≡ upwards_at (reach - (least + count)) (drop (256 - count) sums) c
+  backward-row = (elim (leb (reach - (least + count)) c) as (λ b. leb (reach - (least + count)) c ≡ b → counted (reach - c) ≡ cond b (get_or (drop (256 - count) sums) (c - (reach - (least + count))) 0) 0) [
     | true ↦ λ low.
         let from_most : reach - (least + count) ≤ c = grind (arith, nat_tests, low) in
-        (elim (leb reach c) as (λ b. leb reach c ≡ b → counted (reach - c) ≡ get_or (drop (64 - count) sums) (c - (reach - (least + count))) 0) [
+        (elim (leb reach c) as (λ b. leb reach c ≡ b → counted (reach - c) ≡ get_or (drop (256 - count) sums) (c - (reach - (least + count))) 0) [
           | true ↦ λ at.
               let no : reach ≤ c = grind (arith, nat_tests, at) in
-              rw (below (reach - c) (omega arith), last-at sums count (c - (reach - (least + count))), past (64 - count + (c - (reach - (least + count)))) (omega arith)) refl
+              rw (below (reach - c) (omega arith), last-at sums count (c - (reach - (least + count))), past (256 - count + (c - (reach - (least + count)))) (omega arith)) refl
           | false ↦ λ at.
               let under : c < reach = grind (arith, nat_tests, at) in
               sym (row-counted (reach - c) (c - (reach - (least + count))) (omega arith))
@@ -113,17 +112,17 @@ module _ (sums : List ℕ) (full : length sums ≡ 64) (reach c least count : �
   ]) refl
 
 -- the row of the last sums
-pub last-all : (sums : List ℕ) (count : ℕ) → length sums ≡ 64 → count ≤ 64 → take (64 - (64 - count)) (drop (64 - count) sums) ≡ drop (64 - count) sums
-last-all sums count full few = take_all (64 - (64 - count)) (drop (64 - count) sums) (omega (arith, length-drop (64 - count) sums))
+pub last-all : (sums : List ℕ) (count : ℕ) → length sums ≡ 256 → count ≤ 256 → take (256 - (256 - count)) (drop (256 - count) sums) ≡ drop (256 - count) sums
+last-all sums count full few = take_all (256 - (256 - count)) (drop (256 - count) sums) (omega (arith, length-drop (256 - count) sums))
 
 single-cell : (width n c : ℕ) → width ≡ 1 → eqb (n / width) c ≡ eqb n c
 single-cell width n c single = rw single (let same : n / 1 ≡ n = omega arith in rw same refl)
 
-pub strip-forward : (set : CoincidenceView) (c least count : ℕ) (sums : List ℕ) → set.width ≡ 1 → length sums ≡ 64 → count ≤ 64 → least + count ≤ set.reach
-    → sum_by (strip_pairs Forward set c least sums) (range_with_len (least + 1) count) ≡ downwards_at (set.reach + (least + count)) (take (64 - (64 - count)) (drop (64 - count) sums)) c
+pub strip-forward : (set : CoincidenceView) (c least count : ℕ) (sums : List ℕ) → set.width ≡ 1 → length sums ≡ 256 → count ≤ 256 → least + count ≤ set.reach
+    → sum_by (strip_pairs Forward set c least sums) (range_with_len (least + 1) count) ≡ downwards_at (set.reach + (least + count)) (take (256 - (256 - count)) (drop (256 - count) sums)) c
 strip-forward set c least count sums single full few upto =
     rw (last-all sums count full few)
-    (sum_by-same (strip_pairs Forward set c least sums) (forward_term sums full set.reach c least count few upto) (range_with_len (least + 1) count) (λ lag. ap (λ b. cond b (get_or sums (least + 64 - lag) 0) 0) (single-cell set.width (set.reach + lag) c single))
+    (sum_by-same (strip_pairs Forward set c least sums) (forward_term sums full set.reach c least count few upto) (range_with_len (least + 1) count) (λ lag. ap (λ b. cond b (get_or sums (least + 256 - lag) 0) 0) (single-cell set.width (set.reach + lag) c single))
     ∙ at_one (forward_term sums full set.reach c least count few upto) (c - set.reach) (least + 1) count (forward-none sums full set.reach c least count few upto)
     ∙ forward-one sums full set.reach c least count few upto
     ∙ forward-row sums full set.reach c least count few upto)
@@ -131,12 +130,12 @@ strip-forward set c least count sums single full few upto =
 back-test : (reach lag c : ℕ) → lag ≤ reach → eqb (reach - lag) c ≡ eqb (lag + c) reach
 back-test reach lag c near = grind (arith, nat_tests)
 
-pub strip-backward : (set : CoincidenceView) (c least count : ℕ) (sums : List ℕ) → set.width ≡ 1 → length sums ≡ 64 → count ≤ 64 → least + count ≤ set.reach
-    → sum_by (strip_pairs Backward set c least sums) (range_with_len (least + 1) count) ≡ upwards_at (set.reach - (least + count)) (take (64 - (64 - count)) (drop (64 - count) sums)) c
+pub strip-backward : (set : CoincidenceView) (c least count : ℕ) (sums : List ℕ) → set.width ≡ 1 → length sums ≡ 256 → count ≤ 256 → least + count ≤ set.reach
+    → sum_by (strip_pairs Backward set c least sums) (range_with_len (least + 1) count) ≡ upwards_at (set.reach - (least + count)) (take (256 - (256 - count)) (drop (256 - count) sums)) c
 strip-backward set c least count sums single full few upto =
     rw (last-all sums count full few)
     (sum_by-agree (λ lag. (least + 1 ≤ lag) × (lag < least + 1 + count)) (strip_pairs Backward set c least sums) (backward_term sums full set.reach c least count few upto) (range_with_len (least + 1) count) (range-within (least + 1) count)
-    (λ lag within. ap (λ b. cond b (get_or sums (least + 64 - lag) 0) 0) (single-cell set.width (set.reach - lag) c single ∙ back-test set.reach lag c (omega arith)))
+    (λ lag within. ap (λ b. cond b (get_or sums (least + 256 - lag) 0) 0) (single-cell set.width (set.reach - lag) c single ∙ back-test set.reach lag c (omega arith)))
     ∙ at_one (backward_term sums full set.reach c least count few upto) (set.reach - c) (least + 1) count (backward-none sums full set.reach c least count few upto)
     ∙ backward-one sums full set.reach c least count few upto
     ∙ backward-row sums full set.reach c least count few upto)

@@ -1,6 +1,5 @@
 -- What a bin brings to the pairs of different places.
-use Rattle.std.proofs.Common.{◌≡◌, ℕ, ◌+◌, ◌*◌, ◌≤◌, Bool, true, false, ◌&&◌, cond, List, [], ◌∷◌, ◌++◌, length, refl, ◌∙◌, arith}
-use Rattle.std.{specs.List.{sum_by, count_by, AllByRecursion}, proofs.Math.Nat.mul_comm, proofs.lemmas.List.Sums.{sum_by-cons, sum_by-append, count_by-le-length}}
+use Rattle.std.{proofs.Common.{◌≡◌, ℕ, ◌+◌, ◌*◌, ◌≤◌, Bool, true, false, ◌&&◌, cond, List, [], ◌∷◌, ◌++◌, length, refl, ◌∙◌, arith, rules}, specs.List.{sum_by, count_by, AllByRecursion}, proofs.Math.Nat.mul_comm, proofs.lemmas.List.Sums.{sum_by-cons, sum_by-append, count_by-le-length}, proofs.lemmas.Grind.common_steps}
 use Rattle.lag_ring.proofs.Sums.{cross, sum_by-agree, sum_by-same, sum_by-times, sum_by-plus}
 
 -- how many ordered pairs of an element and another one pass the test
@@ -21,20 +20,11 @@ square : (f s a b n m : ℕ) → n + m ≡ a * b → ((b * f + a * s) + n) + (f 
 square f s a b n m is = grind arith
 
 cross-cons_right : {X : Type 0} (r : X → X → Bool) (x : X) (xs ys : List X) → cross r ys (x ∷ xs) ≡ count_by (λ y. r y x) ys + cross r ys xs
-cross-cons_right r x xs ys =
-    sum_by-same (λ y. count_by (r y) (x ∷ xs)) (λ y. cond (r y x) 1 0 + count_by (r y) xs) ys (λ y. sum_by-cons (λ z. cond (r y z) 1 0) x xs)
-    ∙ sum_by-plus (λ y. cond (r y x) 1 0) (λ y. count_by (r y) xs) ys
+cross-cons_right r x xs ys = search (rules, arith, sum_by-same, sum_by-cons, sum_by-plus)
 
 pub pairs_in-append : {X : Type 0} (r : X → X → Bool) (xs ys : List X) → pairs_in r (xs ++ ys) ≡ pairs_in r xs + cross r xs ys + cross r ys xs + pairs_in r ys
 pairs_in-append r [] ys = let none : cross r ys [] ≡ 0 = sum_by-same (λ y. count_by (r y) []) (λ y. 0) ys (λ y. refl) ∙ zeros ys in omega arith
-pairs_in-append r (x ∷ xs) ys = omega (
-  arith,
-  pairs_in-append r xs ys,
-  sum_by-append (λ y. cond (r x y) 1 0) xs ys,
-  sum_by-append (λ y. cond (r y x) 1 0) xs ys,
-  sum_by-cons (λ z. count_by (r z) ys) x xs,
-  cross-cons_right r x xs ys,
-)
+pairs_in-append r (x ∷ xs) ys = grind (arith, common_steps, sum_by-append, sum_by-cons, cross-cons_right, pairs_in-append r xs ys)
 
 -- in one bin each first element pairs with each second one but itself
 pub pairs_in-one : {X : Type 0} (first second : X → Bool) (xs : List X) → pairs_in (λ x y. first x && second y) xs + count_by (λ x. first x && second x) xs ≡ count_by first xs * count_by second xs
@@ -48,25 +38,16 @@ pairs_in-one first second (x ∷ xs) =
 -- tests that agree where P holds of both count the same pairs
 pub pairs_in-agree : {X : Type 0} (P : X → Type 0) (r s : X → X → Bool) (xs : List X) → AllByRecursion P xs → ((x y : X) → P x → P y → r x y ≡ s x y) → pairs_in r xs ≡ pairs_in s xs
 pairs_in-agree P r s [] all same = refl
-pairs_in-agree P r s (x ∷ xs) all same =
-    let right : count_by (r x) xs ≡ count_by (s x) xs = sum_by-agree P (λ y. cond (r x y) 1 0) (λ y. cond (s x y) 1 0) xs all.1 (λ y is. rw (same x y all.0 is) refl) in
-    let left : count_by (λ y. r y x) xs ≡ count_by (λ y. s y x) xs = sum_by-agree P (λ y. cond (r y x) 1 0) (λ y. cond (s y x) 1 0) xs all.1 (λ y is. rw (same y x is all.0) refl) in
-    omega (arith, right, left, pairs_in-agree P r s xs all.1 same)
+pairs_in-agree P r s (x ∷ xs) all same = search (rules, arith, sum_by-agree, pairs_in-agree P r s xs all.1 same)
 
 pub pairs_in-zero : {X : Type 0} (r : X → X → Bool) (xs : List X) → ((x y : X) → r x y ≡ false) → pairs_in r xs ≡ 0
 pairs_in-zero r [] none = refl
-pairs_in-zero r (x ∷ xs) none =
-    let right : count_by (r x) xs ≡ 0 = sum_by-same (λ y. cond (r x y) 1 0) (λ y. 0) xs (λ y. rw (none x y) refl) ∙ zeros xs in
-    let left : count_by (λ y. r y x) xs ≡ 0 = sum_by-same (λ y. cond (r y x) 1 0) (λ y. 0) xs (λ y. rw (none y x) refl) ∙ zeros xs in
-    omega (arith, right, left, pairs_in-zero r xs none)
+pairs_in-zero r (x ∷ xs) none = grind (arith, common_steps, zeros xs, pairs_in-zero r xs none)
 
 -- there are no more pairs than the square of the number of places
 pub pairs_in-le : {X : Type 0} (r : X → X → Bool) (xs : List X) → pairs_in r xs ≤ length xs * length xs
 pairs_in-le r [] = omega arith
-pairs_in-le r (x ∷ xs) =
-    let right = count_by-le-length (r x) xs in
-    let left = count_by-le-length (λ y. r y x) xs in
-    grind (arith, right, left, pairs_in-le r xs)
+pairs_in-le r (x ∷ xs) = search (rules, arith, count_by-le-length, pairs_in-le r xs)
 
 -- Pairs of a first and a second element whose places, by the function at, pass a test.
 module _ {X : Type 0} (first second : X → Bool) (at : X → ℕ) (hits : ℕ → ℕ → Bool) where

@@ -1,6 +1,5 @@
 -- Pairs summed lag by lag.
-use Rattle.std.proofs.Common.{◌≡◌, ◌≢◌, ◌∙◌, ℕ, zero, suc, ◌+◌, ◌-◌, ◌*◌, ◌/◌, ◌<◌, ◌≤◌, Bool, true, false, ◌&&◌, leb, ltb, eqb, cond, List, [], ◌∷◌, ◌++◌, refl, sym, ap, arith, append_assoc}
-use Rattle.std.{specs.List.{sum_by, range_with_len, AllByRecursion}, proofs.lemmas.Grind.common_steps, proofs.lemmas.Bool.Decides.nat_tests, proofs.lemmas.List.Sums.{sum_by-cons, sum_by-append}}
+use Rattle.std.{proofs.Common.{◌≡◌, ◌≢◌, ◌∙◌, ℕ, zero, suc, ◌+◌, ◌-◌, ◌*◌, ◌/◌, ◌<◌, ◌≤◌, Bool, true, false, ◌&&◌, leb, ltb, eqb, cond, List, [], ◌∷◌, ◌++◌, refl, sym, ap, arith, append_assoc, rules}, specs.List.{sum_by, range_with_len, AllByRecursion}, proofs.lemmas.Grind.common_steps, proofs.lemmas.Bool.Decides.nat_tests, proofs.lemmas.List.Sums.{sum_by-cons, sum_by-append}}
 use Rattle.tally_base.specs.Settings.{CoincidenceView}
 use Rattle.lag_ring.{specs.declared.ring.Entry.Entry, specs.declared.window.Side.Side, specs.Window.{weight_of, weight_before}, specs.Ring.IsRising, proofs.Lists.all_both, proofs.Rising.{all_weaker, all_push}, proofs.Sums.{sum_by-same, sum_by-agree, sum_by-plus, sum_by-times, sum_by-zero}}
 use Rattle.coincidence.{specs.declared.pairing.Direction.Direction, specs.declared.pairing.Direction.TheVariants.{Forward, Backward}, specs.Pairing.{shifted_by, earlier_weight, pairs_of, pairs_of_all}, specs.Closing.{earlier_side, later_side, lag_pairs}, proofs.Hits.zeros, proofs.Visits.{pairs_near, pairs_far}}
@@ -17,14 +16,7 @@ swapped f (x ∷ xs) ys =
 -- a sum over a range of what is 0 but at one place
 pub at_one : (f : ℕ → ℕ) (k a n : ℕ) → ((i : ℕ) → i ≢ k → f i ≡ 0) → sum_by f (range_with_len a n) ≡ cond (leb a k && ltb k (a + n)) (f k) 0
 at_one f k a zero none = grind (arith, nat_tests)
-at_one f k a (suc n) none =
-    let rest = at_one f k (a + 1) n none in
-    let here : (a ≢ k → f a ≡ 0) = none a in
-    rw (sum_by-cons f a (range_with_len (a + 1) n)) (grind (arith, nat_tests, common_steps, rest, here))
-
-cell-times : (b : Bool) (n w : ℕ) → cond b n 0 * w ≡ cond b (n * w) 0
-cell-times true n w = refl
-cell-times false n w = omega arith
+at_one f k a (suc n) none = search (rules, arith, sum_by-cons, at_one f k (a + 1) n none)
 
 -- the pairs with one earlier entry at one lag
 abbrev at_lag : Direction → CoincidenceView → ℕ → ℕ → ℕ → Entry → ℕ → ℕ
@@ -36,38 +28,22 @@ module _ (d : Direction) (set : CoincidenceView) (c index later : ℕ) (e : Entr
   side-weight = elim d as (λ d. earlier_weight d e ≡ weight_of (earlier_side d) e) [ Forward ↦ refl | Backward ↦ refl ]
 
   elsewhere : (lag : ℕ) → lag ≢ index - e.index → at_lag d set c index later e lag ≡ 0
-  elsewhere lag other =
-      let away : eqb (e.index + lag) index ≡ false = grind (arith, nat_tests) in
-      rw away (elim (eqb (shifted_by d set.reach lag / set.width) c) as (λ b. ◌≡◌ {A = ℕ} (cond b (0 * later) 0) 0) [ true ↦ omega arith | false ↦ refl ])
+  elsewhere lag other = search (rules, arith)
 
   here : at_lag d set c index later e (index - e.index) ≡ cond (eqb (shifted_by d set.reach (index - e.index) / set.width) c) (weight_of (earlier_side d) e * later) 0
-  here =
-      let at : eqb (e.index + (index - e.index)) index ≡ true = grind (arith, nat_tests) in
-      rw at refl
+  here = search (rules, arith)
 
   by_lags : sum_by (at_lag d set c index later e) (range_with_len 1 set.reach) ≡ pairs_of d set c index later e
   by_lags =
       let one = at_one (at_lag d set c index later e) (index - e.index) 1 set.reach elsewhere in
-      (elim (leb (index - e.index) set.reach) as (λ b. leb (index - e.index) set.reach ≡ b → sum_by (at_lag d set c index later e) (range_with_len 1 set.reach) ≡ pairs_of d set c index later e) [
-        | true ↦ λ is.
-            let near : index - e.index ≤ set.reach = grind (arith, nat_tests, is) in
-            let first : leb 1 (index - e.index) ≡ true = grind (arith, nat_tests) in
-            let last : ltb (index - e.index) (1 + set.reach) ≡ true = grind (arith, nat_tests, near) in
-            (rw (first, last) at one) ∙ here ∙ rw (pairs_near set index e before near d later c, side-weight) refl
-        | false ↦ λ is.
-            let far : set.reach < index - e.index = grind (arith, nat_tests, is) in
-            let last : ltb (index - e.index) (1 + set.reach) ≡ false = grind (arith, nat_tests, far) in
-            let first : leb 1 (index - e.index) ≡ true = grind (arith, nat_tests) in
-            (rw (first, last) at one) ∙ sym (pairs_far set index e far d later c)
-      ]) refl
+      grind (arith, common_steps, here, pairs_near, side-weight, pairs_far)
 
 cell-sum : {X : Type 0} (b : Bool) (f : X → ℕ) (later : ℕ) (xs : List X) → cond b (sum_by f xs * later) 0 ≡ sum_by (λ x. cond b (f x * later) 0) xs
 cell-sum true f later xs = sym (sum_by-times f later xs)
 cell-sum false f later xs = sym (zeros xs)
 
 cell-sum' : {X : Type 0} (b : Bool) (f : X → ℕ) (x : X) (xs : List X) → cond b (sum_by f (x ∷ xs)) 0 ≡ cond b (f x) 0 + cond b (sum_by f xs) 0
-cell-sum' true f x xs = sum_by-cons f x xs
-cell-sum' false f x xs = refl
+cell-sum' b f x xs = search (rules, arith, sum_by-cons)
 
 -- the pairs of all earlier entries, lag by lag
 all_lags : (d : Direction) (set : CoincidenceView) (c index later : ℕ) (es : List Entry) → AllByRecursion (λ e. e.index < index) es
@@ -80,16 +56,14 @@ all_lags d set c index later es before =
 
 -- entries that aren't before count nowhere
 before_only : (side : Side) (lag index : ℕ) (es fs : List Entry) → 0 < lag → AllByRecursion (λ e. index ≤ e.index) fs → weight_before side lag index (es ++ fs) ≡ weight_before side lag index es
-before_only side lag index es fs some after =
-    let none : weight_before side lag index fs ≡ 0 = sum_by-zero (λ e. index ≤ e.index) (λ (e : Entry). cond (eqb (e.index + lag) index) (weight_of side e) 0) fs after (λ e upto. let away : eqb (e.index + lag) index ≡ false = grind (arith, nat_tests) in rw away refl) in
-    omega (arith, sum_by-append (λ (e : Entry). cond (eqb (e.index + lag) index) (weight_of side e) 0) es fs, none)
+before_only side lag index es fs some after = search (rules, arith, sum_by-zero, sum_by-append)
 
 pub range-within : (a n : ℕ) → AllByRecursion (λ i. (a ≤ i) × (i < a + n)) (range_with_len a n)
 range-within a zero = tt
-range-within a (suc n) = ((omega arith, omega arith), all_weaker (λ i. (a + 1 ≤ i) × (i < a + 1 + n)) (λ i. (a ≤ i) × (i < a + suc n)) (λ i in_range. (omega arith, omega arith)) (range_with_len (a + 1) n) (range-within (a + 1) n))
+range-within a (suc n) = search (rules, arith, all_weaker, range-within (a + 1) n)
 
 below_next : (es : List Entry) (l : Entry) (ls : List Entry) → AllByRecursion (λ e. l.index < e.index) ls → AllByRecursion (λ m. AllByRecursion (λ e. e.index < m.index) es) ls → AllByRecursion (λ m. AllByRecursion (λ e. e.index < m.index) (es ++ l ∷ [])) ls
-below_next es l ls above below = all_both (λ m. l.index < m.index) (λ m. AllByRecursion (λ e. e.index < m.index) es) (λ m. AllByRecursion (λ e. e.index < m.index) (es ++ l ∷ [])) (λ m up under. all_push (λ e. e.index < m.index) es l under up) ls above below
+below_next es l ls above below = search (rules, arith, all_both, all_push)
 
 -- the pairs of each of some entries with those before it, in one direction
 abbrev pub in_turn : Direction → CoincidenceView → ℕ → List Entry → List Entry → ℕ
@@ -97,7 +71,7 @@ in_turn d set c es [] = 0
 in_turn d set c es (l ∷ ls) = pairs_of_all d set c l.index (weight_of (later_side d) l) es + in_turn d set c (es ++ l ∷ []) ls
 
 pub lags_in_turn : (d : Direction) (set : CoincidenceView) (c : ℕ) (es ls : List Entry) → IsRising ls → AllByRecursion (λ l. AllByRecursion (λ e. e.index < l.index) es) ls → sum_by (lag_pairs d set c (es ++ ls) ls) (range_with_len 1 set.reach) ≡ in_turn d set c es ls
-lags_in_turn d set c es [] rising below = sum_by-same (lag_pairs d set c (es ++ []) []) (λ lag. 0) (range_with_len 1 set.reach) (λ lag. elim (eqb (shifted_by d set.reach lag / set.width) c) as (λ b. ◌≡◌ {A = ℕ} (cond b 0 0) 0) [ true ↦ refl | false ↦ refl ]) ∙ zeros (range_with_len 1 set.reach)
+lags_in_turn d set c es [] rising below = grind (arith, common_steps, zeros (range_with_len 1 set.reach))
 lags_in_turn d set c es (l ∷ ls) rising below =
     let w = weight_of (later_side d) l in
     let cell : ℕ → Bool = λ lag. eqb (shifted_by d set.reach lag / set.width) c in

@@ -1,4 +1,3 @@
-pub mod Neighbours
 pub mod Intervals
 pub mod Places
 pub mod Rows
@@ -9,14 +8,12 @@ pub mod Visits
 pub mod Shut
 pub mod Puts
 pub mod Gives
-pub mod Photons
 pub mod Ends
 pub mod Blocks
 pub mod Blockwise
 pub mod LagPairs
 pub mod Chain
 pub mod WindowPairs
-pub mod Gathers
 pub mod Together
 pub mod GatherRows
 pub mod CellRows

@@ -1,6 +1,5 @@
 -- Exchanged groups turn the differences.
-use Rattle.std.proofs.Common.{◌≡◌, ◌∙◌, ℕ, ◌+◌, ◌-◌, ◌*◌, ◌≤◌, Bool, ◌&&◌, leb, eqb, cond, List, [], ◌∷◌, refl, sym, arith}
-use Rattle.std.{specs.List.count_by, proofs.Math.Nat.div-one, proofs.lemmas.Grind.common_steps}
+use Rattle.std.{proofs.Common.{◌≡◌, ◌∙◌, ℕ, ◌+◌, ◌-◌, ◌*◌, ◌≤◌, Bool, ◌&&◌, leb, eqb, List, [], ◌∷◌, refl, sym, arith, rules}, proofs.Math.Nat.div-one, proofs.lemmas.Grind.common_steps}
 use Rattle.lag_ring.proofs.Sums.{sum_by-same}
 use Rattle.tally_base.{specs.Settings.CoincidenceView, specs.Tally.History}
 use Rattle.coincidence.{specs.Pairs.{in_first, in_second, is_in_cell, is_coincidence, coincidences, exchanged}, proofs.Hits.pairs_in, proofs.Apart.pairs_apart-in}
@@ -8,10 +7,7 @@ use Rattle.coincidence.{specs.Pairs.{in_first, in_second, is_in_cell, is_coincid
 -- the same pairs, from their second elements
 turned : {X : Type 0} (r s : X → X → Bool) → ((x y : X) → r x y ≡ s y x) → (xs : List X) → pairs_in r xs ≡ pairs_in s xs
 turned r s same [] = refl
-turned r s same (x ∷ xs) =
-    let out : count_by (r x) xs ≡ count_by (λ y. s y x) xs = sum_by-same (λ y. cond (r x y) 1 0) (λ y. cond (s y x) 1 0) xs (λ y. rw (same x y) refl) in
-    let into : count_by (λ y. r y x) xs ≡ count_by (s x) xs = sum_by-same (λ y. cond (r y x) 1 0) (λ y. cond (s x y) 1 0) xs (λ y. rw (same y x) refl) in
-    omega (arith, out, into, turned r s same xs)
+turned r s same (x ∷ xs) = search (rules, arith, sum_by-same, turned r s same xs)
 
 turned_cell : (reach c t u : ℕ) → c ≤ 2 * reach → ((leb t (u + reach) && leb u (t + reach)) && eqb (u + reach - t) c) ≡ ((leb u (t + reach) && leb t (u + reach)) && eqb (t + reach - u) (2 * reach - c))
 turned_cell reach c t u inside = grind (arith, common_steps, inside)

@@ -1,6 +1,5 @@
 -- Cells of known photons.
-use Rattle.std.proofs.Common.{◌≡◌, ℕ, List, [], ◌∷◌, map, refl}
-use Rattle.std.specs.List.{range_with_len}
+use Rattle.std.{proofs.Common.{◌≡◌, ℕ, List, [], ◌∷◌, map, refl}, specs.List.{range_with_len}}
 use Rattle.tally_base.{specs.declared.event.Event.Event, specs.declared.event.EventKind.TheVariants.{Photon, Marker}, specs.Settings.CoincidenceView, specs.Tally.History}
 use Rattle.coincidence.specs.Pairs.{coincidences}
 

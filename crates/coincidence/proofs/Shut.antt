@@ -1,13 +1,11 @@
 -- What a bin brings when it is closed.
-use Rattle.std.proofs.Common.{◌≡◌, ℕ, ◌+◌, ◌-◌, ◌*◌, ◌/◌, ◌^◌, ◌<◌, ◌≤◌, Bool, true, false, ◌&&◌, leb, eqb, cond, List, [], ◌∷◌, ◌++◌, length, get_or, refl, sym, ◌∙◌, arith, length-append}
-use Rattle.std.{specs.List.{sum_by, filter, AllByRecursion}, proofs.Math.Nat.{mul-le-mul, mul-le-mul_right}, proofs.lemmas.Grind.common_steps}
+use Rattle.std.{proofs.Common.{◌≡◌, ℕ, ◌+◌, ◌-◌, ◌*◌, ◌/◌, ◌^◌, ◌<◌, ◌≤◌, Bool, true, false, ◌&&◌, leb, eqb, cond, List, [], ◌∷◌, ◌++◌, length, get_or, refl, sym, ◌∙◌, arith, length-append, rules}, specs.List.{sum_by, filter, AllByRecursion}, proofs.Math.Nat.{mul-le-mul, mul-le-mul_right}, proofs.lemmas.Grind.common_steps}
 use Rattle.tally_base.{specs.Settings.{CoincidenceView, coincidence_cells}, specs.Tally.History, specs.Limits.record_limit}
 use Rattle.lag_ring.{specs.declared.ring.Entry.Entry, specs.Cells.Cells, specs.Ring.{Ring, ring, IsRising}, specs.Kept.{weight_where, IsInReach}, proofs.Kept.{room_after, kept_after}, proofs.Rising.all_weaker, proofs.Sums.{sum_by-same, sum_by-times, sum_by-zero}}
-use Rattle.coincidence.{specs.declared.pairing.Bin.Bin, specs.declared.pairing.Direction.Direction, specs.declared.pairing.Direction.TheVariants.{Forward, Backward}, specs.Pairs.{in_first, in_second, is_in_cell, is_coincidence, coincidences}, specs.Pairing.{pairs_of, pairs_of_all, pairs_with, bin_pairs, RingIs, CellsAre, CanKeep, CanShut}, proofs.Hits.{pairs_in, hits-append, pairs_in-one, pairs_in-le}, proofs.Apart.pairs_apart-in, proofs.Visits.pairs_far}
+use Rattle.coincidence.{specs.declared.pairing.Bin.Bin, specs.declared.pairing.Direction.Direction, specs.declared.pairing.Direction.TheVariants.{Forward, Backward}, specs.Pairs.{in_first, in_second, is_in_cell, is_coincidence, coincidences}, specs.Pairing.{pairs_of_all, pairs_with, bin_pairs, RingIs, CellsAre, CanKeep, CanShut}, proofs.Hits.{pairs_in, hits-append, pairs_in-one, pairs_in-le}, proofs.Apart.pairs_apart-in, proofs.Visits.pairs_far}
 
 scaled : (b : Bool) (n w : ℕ) → cond b (n * w) 0 ≡ cond b n 0 * w
-scaled true n w = refl
-scaled false n w = grind arith
+scaled b n w = search (rules, arith)
 
 -- the pairs with the entries of a list, by their weights
 by_weights : (set : CoincidenceView) (c : ℕ) (later : Entry) (es : List Entry) → pairs_with set c later es ≡ weight_where (λ e. e.a) (λ i. is_in_cell set c i later.index) es * later.b + weight_where (λ e. e.b) (λ i. is_in_cell set c later.index i) es * later.a
@@ -27,35 +25,24 @@ backward_near : (set : CoincidenceView) (c i n : ℕ) → is_in_cell set c n i �
 backward_near set c i n is = grind (arith, common_steps, is)
 
 same_tick : (set : CoincidenceView) (c n : ℕ) → is_in_cell set c n n ≡ eqb (set.reach / set.width) c
-same_tick set c n =
-    let near : leb n (n + set.reach) ≡ true = grind arith in
-    let back : n + set.reach - n ≡ set.reach = omega arith in
-    rw (near, back) refl
+same_tick set c n = search (rules, arith)
 
 filter_none : {X : Type 0} (p : X → Bool) (xs : List X) → AllByRecursion (λ x. p x ≡ false) xs → filter p xs ≡ []
 filter_none p [] all = refl
 filter_none p (x ∷ xs) all = rw all.0 (filter_none p xs all.1)
 
 more_work : (r few more n : ℕ) → 0 < more → n ≤ (2 * r + 1) * few + (2 * r + 1) → n ≤ (2 * r + 1) * (few + more)
-more_work r few more n some is =
-    let one : 1 * (2 * r + 1) ≤ more * (2 * r + 1) = mul-le-mul_right (2 * r + 1) some in
-    grind (arith, is, one)
+more_work r few more n some is = omega (arith, mul-le-mul_right (2 * r + 1) some)
 
 module _ (set : CoincidenceView) (r : Ring) (bin : Bin) (closed xs : History) (can : CanKeep set r bin closed xs) where
   window : (test : ℕ → Bool) → ((i : ℕ) → test i ≡ true → bin.weights.index ≤ i + set.reach) → IsInReach (λ x. x.0.time) r.reach test closed
-  window test near = λ i passes.
-      let from : bin.weights.index ≤ i + set.reach = near i passes in
-      all_weaker (λ x. x.0.time < bin.weights.index) (λ x. x.0.time < i + r.reach) (λ x before. omega (arith, can.were.reach)) closed can.after
+  window test near = search (rules, arith, all_weaker)
 
   inside : pairs_in (λ x y. in_first set x && in_second set y) xs ≡ bin.weights.a * bin.weights.b - bin.both
-  inside =
-      let whole = pairs_in-one (in_first set) (in_second set) xs in
-      rw (can.is.weighs.a, can.is.weighs.b, can.is.both) (omega (arith, whole))
+  inside = grind (arith, common_steps, pairs_in-one (in_first set) (in_second set) xs)
 
   pub both_fit : bin.both ≤ bin.weights.a * bin.weights.b
-  both_fit =
-      let whole = pairs_in-one (in_first set) (in_second set) xs in
-      rw (can.is.weighs.a, can.is.weighs.b, can.is.both) (omega (arith, whole))
+  both_fit = grind (arith, common_steps, pairs_in-one (in_first set) (in_second set) xs)
 
   -- what each cell counts more
   pub grown : (c : ℕ) → coincidences set c (closed ++ xs) ≡ coincidences set c closed + bin_pairs set c bin r.entries
@@ -87,14 +74,11 @@ module _ (set : CoincidenceView) (r : Ring) (bin : Bin) (closed xs : History) (c
     room_shut = omega (arith, room, can.were.reach)
 
     pub ring_shut : RingIs set (ring (es ++ bin.weights ∷ []) r.reach) (closed ++ xs)
-    ring_shut = record {
-      reach = can.were.reach;
-      keeps = kept_after (in_first set) (in_second set) (λ x. x.0.time) r bin.weights closed some_reach can.were.keeps can.after xs can.is.weighs es kept_by_ring room;
-    }
+    ring_shut = search (rules, arith, kept_after, some_reach, kept_by_ring, room)
 
   module _ (far : AllByRecursion (λ e. e.index + set.reach < bin.weights.index) r.entries) where
     none_far : (d : Direction) (later c : ℕ) → pairs_of_all d set c bin.weights.index later r.entries ≡ 0
-    none_far d later c = sum_by-zero (λ e. e.index + set.reach < bin.weights.index) (pairs_of d set c bin.weights.index later) r.entries far (λ e under. pairs_far set bin.weights.index e (omega arith) d later c)
+    none_far d later c = search (rules, arith, sum_by-zero, pairs_far)
 
     -- entries out of reach bring nothing
     pub alone : (c : ℕ) → bin_pairs set c bin r.entries ≡ bin_pairs set c bin []

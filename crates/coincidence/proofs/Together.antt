@@ -1,6 +1,5 @@
 -- Bins that are closed one after another, or together.
-use Rattle.std.proofs.Common.{◌≡◌, ◌∙◌, ℕ, ◌+◌, ◌<◌, List, [], ◌∷◌, ◌++◌, length, get_or, drop, sym, ap, arith, add-one, drop-cons, append_assoc, length-append}
-use Rattle.std.specs.List.{sum_by, range_with_len}
+use Rattle.std.{proofs.Common.{◌≡◌, ◌∙◌, ℕ, ◌+◌, ◌<◌, List, [], ◌∷◌, ◌++◌, length, get_or, drop, sym, ap, arith, add-one, drop-cons, append_assoc, length-append}, specs.List.{sum_by, range_with_len}}
 use Rattle.tally_base.{specs.Settings.CoincidenceView, specs.Tally.History}
 use Rattle.lag_ring.{specs.declared.ring.Entry.Entry, specs.Cells.Cells, specs.Ring.Ring}
 use Rattle.coincidence.{specs.declared.pairing.Bin.Bin, specs.declared.pairing.Direction.TheVariants.{Forward, Backward}, specs.Pairing.{bin_pairs, RingIs, CellsAre, CanKeep, CanShut}, specs.Closing.{weights_in, all_pairs, lag_pairs, BinsAre, CanKeepAll, CanShutAll}, proofs.Chain.{bins_rising, bins_above, all_parts}, proofs.LagPairs.lags_in_turn}

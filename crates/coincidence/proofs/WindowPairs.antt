@@ -1,8 +1,7 @@
 -- Pairs in windows.
-use Rattle.std.proofs.Common.{◌≡◌, ◌∙◌, ℕ, zero, suc, ◌+◌, ◌-◌, ◌*◌, ◌/◌, ◌^◌, ◌<◌, ◌≤◌, true, ltb, eqb, cond, List, ◌∷◌, ◌++◌, length, get_or, refl, sym, ap, arith}
-use Rattle.std.{specs.List.{sum_by, filter, range_with_len, AllByRecursion}, proofs.lemmas.Bool.Decides.nat_tests, proofs.lemmas.List.Sums.{sum_by-append, sum_by_push, sum_by-le-sum_by}}
+use Rattle.std.{proofs.Common.{◌≡◌, ◌∙◌, ℕ, zero, suc, ◌+◌, ◌-◌, ◌*◌, ◌/◌, ◌<◌, ◌≤◌, eqb, cond, List, [], ◌∷◌, ◌++◌, length, get_or, refl, sym, ap, arith}, specs.List.{sum_by, range_with_len, AllByRecursion}, proofs.lemmas.List.Sums.{sum_by-append, sum_by_push}}
 use Rattle.tally_base.specs.Settings.{CoincidenceView}
-use Rattle.lag_ring.{specs.declared.ring.Entry.Entry, specs.declared.window.Side.Side, specs.Window.{weight_of, weight_before, weight_at, product_at}, proofs.Sums.{sum_by-same, sum_by-agree, sum_by-filter}, proofs.Windows.{window-before, part-le}}
+use Rattle.lag_ring.{specs.declared.ring.Entry.Entry, specs.Window.{weight_of, weight_before, weight_at}, specs.Ring.IsRising, specs.Bytes.behind, proofs.Lists.all_join, proofs.Rising.all_weaker, proofs.Sums.sum_by-agree, proofs.Windows.window-before}
 use Rattle.coincidence.{specs.declared.pairing.Direction.Direction, specs.declared.pairing.Direction.TheVariants.{Forward, Backward}, specs.Pairing.shifted_by, specs.Closing.{earlier_side, later_side, strip_pairs, window_pairs, lag_pairs, FitsWindow}, proofs.LagPairs.range-within}
 
 -- a range and the one behind it
@@ -32,63 +31,58 @@ range-strip f least count =
     ap (sum_by f) (range-append 1 least count) ∙ sum_by-append f (range_with_len 1 least) (range_with_len (1 + least) count) ∙ rw e refl
 
 -- the sum of one lag
-pub strip-term : (d : Direction) (set : CoincidenceView) (c least i shifted pairs : ℕ) (sums : List ℕ) → shifted ≡ shifted_by d set.reach (least + 1 + i) → pairs ≡ get_or sums (64 - 1 - i) 0
+pub strip-term : (d : Direction) (set : CoincidenceView) (c least i shifted pairs : ℕ) (sums : List ℕ) → shifted ≡ shifted_by d set.reach (least + 1 + i) → pairs ≡ get_or sums (256 - 1 - i) 0
     → strip_pairs d set c least sums (least + 1 + i) ≡ cond (eqb (shifted / set.width) c) (pairs * 1) 0
 strip-term d set c least i shifted pairs sums is_shifted is_pairs =
-    let place : least + 64 - (least + 1 + i) ≡ 64 - 1 - i = omega arith in
+    let place : least + 256 - (least + 1 + i) ≡ 256 - 1 - i = omega arith in
     let once : pairs * 1 ≡ pairs = omega arith in
     rw (place, once, is_shifted, is_pairs) refl
 
 -- the sums of a strip are those of the window
-pub strip-window : (d : Direction) (set : CoincidenceView) (c least count top low : ℕ) (sums window : List ℕ) (later : List Entry) → count ≤ 64 → least + 64 ≤ top
-    → ((q : ℕ) → q < 64 → get_or sums q 0 ≡ sum_by (product_at (later_side d) window low (top - 64 - least + q)) later)
-    → sum_by (strip_pairs d set c least sums) (range_with_len (least + 1) count) ≡ sum_by (window_pairs d set c window low top later) (range_with_len (least + 1) count)
-strip-window d set c least count top low sums window later few below is =
-    sum_by-agree (λ lag. (least + 1 ≤ lag) × (lag < least + 1 + count)) (strip_pairs d set c least sums) (window_pairs d set c window low top later) (range_with_len (least + 1) count) (range-within (least + 1) count)
+pub strip-window : (d : Direction) (set : CoincidenceView) (c least count top : ℕ) (sums window spots : List ℕ) → count ≤ 256 → least + 256 ≤ top
+    → ((q : ℕ) → q < 256 → get_or sums q 0 ≡ sum_by (behind window (top - 256 - least + q)) spots)
+    → sum_by (strip_pairs d set c least sums) (range_with_len (least + 1) count) ≡ sum_by (window_pairs d set c window top spots) (range_with_len (least + 1) count)
+strip-window d set c least count top sums window spots few below is =
+    sum_by-agree (λ lag. (least + 1 ≤ lag) × (lag < least + 1 + count)) (strip_pairs d set c least sums) (window_pairs d set c window top spots) (range_with_len (least + 1) count) (range-within (least + 1) count)
     (λ lag within.
-    let q : ℕ = least + 64 - lag in
-    let place : top - 64 - least + q ≡ top - lag = omega arith in
-    let same : get_or sums q 0 ≡ sum_by (product_at (later_side d) window low (top - lag)) later = (rw place at (is q (omega arith))) in
+    let q : ℕ = least + 256 - lag in
+    let place : top - 256 - least + q ≡ top - lag = omega arith in
+    let same : get_or sums q 0 ≡ sum_by (behind window (top - lag)) spots = (rw place at (is q (omega arith))) in
     ap (λ n. cond (eqb (shifted_by d set.reach lag / set.width) c) n 0) same)
 
--- entries without the weight count nowhere
-weighted : (side : Side) (f : Entry → ℕ) (es : List Entry) → sum_by (λ e. f e * weight_of side e) (filter (λ e. ltb 0 (weight_of side e)) es) ≡ sum_by (λ e. f e * weight_of side e) es
-weighted side f es =
-    sum_by-filter (λ e. ltb 0 (weight_of side e)) (λ e. f e * weight_of side e) es
-    ∙ sum_by-same (λ e. cond (ltb 0 (weight_of side e)) (f e * weight_of side e) 0) (λ e. f e * weight_of side e) es (λ e. some-or-none (f e) (weight_of side e))
-  where
-    some-or-none : (n w : ℕ) → cond (ltb 0 w) (n * w) 0 ≡ n * w
-    some-or-none n zero = omega arith
-    some-or-none n (suc w) = let some : ltb 0 (suc w) ≡ true = grind (arith, nat_tests) in rw some refl
-
 -- the pairs of a window are those with the entries in it
-pub window-lags : (d : Direction) (set : CoincidenceView) (c top low : ℕ) (window : List ℕ) (es later : List Entry) → set.reach ≤ top
+pub window-lags : (d : Direction) (set : CoincidenceView) (c top low : ℕ) (window spots : List ℕ) (es later : List Entry) → set.reach ≤ top
     → ((p : ℕ) → p < length window → get_or window p 0 ≡ weight_at (earlier_side d) top low p es)
     → AllByRecursion (λ e. (low ≤ e.index) × (e.index - low + top ≤ length window)) later
-    → sum_by (window_pairs d set c window low top (filter (λ e. ltb 0 (weight_of (later_side d) e)) later)) (range_with_len 1 set.reach) ≡ sum_by (lag_pairs d set c es later) (range_with_len 1 set.reach)
-window-lags d set c top low window es later small has near =
-    sum_by-agree (λ lag. (1 ≤ lag) × (lag < 1 + set.reach)) (window_pairs d set c window low top (filter (λ e. ltb 0 (weight_of (later_side d) e)) later)) (lag_pairs d set c es later) (range_with_len 1 set.reach) (range-within 1 set.reach)
+    → ((f : ℕ → ℕ) → sum_by f spots ≡ sum_by (λ e. f (e.index - low) * weight_of (later_side d) e) later)
+    → sum_by (window_pairs d set c window top spots) (range_with_len 1 set.reach) ≡ sum_by (lag_pairs d set c es later) (range_with_len 1 set.reach)
+window-lags d set c top low window spots es later small has near photons =
+    sum_by-agree (λ lag. (1 ≤ lag) × (lag < 1 + set.reach)) (window_pairs d set c window top spots) (lag_pairs d set c es later) (range_with_len 1 set.reach) (range-within 1 set.reach)
     (λ lag within.
-    let counted : sum_by (product_at (later_side d) window low (top - lag)) (filter (λ e. ltb 0 (weight_of (later_side d) e)) later) ≡ sum_by (product_at (later_side d) window low (top - lag)) later = weighted (later_side d) (λ e. get_or window (e.index - low + (top - lag)) 0) later in
-    let same : sum_by (product_at (later_side d) window low (top - lag)) later ≡ sum_by (λ e. weight_before (earlier_side d) lag e.index es * weight_of (later_side d) e) later =
-    sum_by-agree (λ e. (low ≤ e.index) × (e.index - low + top ≤ length window)) (product_at (later_side d) window low (top - lag)) (λ e. weight_before (earlier_side d) lag e.index es * weight_of (later_side d) e) later near
+    let same : sum_by (λ (e : Entry). get_or window (e.index - low + (top - lag)) 0 * weight_of (later_side d) e) later ≡ sum_by (λ e. weight_before (earlier_side d) lag e.index es * weight_of (later_side d) e) later =
+    sum_by-agree (λ e. (low ≤ e.index) × (e.index - low + top ≤ length window)) (λ e. get_or window (e.index - low + (top - lag)) 0 * weight_of (later_side d) e) (λ e. weight_before (earlier_side d) lag e.index es * weight_of (later_side d) e) later near
     (λ e at. ap (λ n. n * weight_of (later_side d) e) (window-before (earlier_side d) window low top es has lag e.index (omega arith) at.0 (omega arith))) in
-    ap (λ n. cond (eqb (shifted_by d set.reach lag / set.width) c) n 0) (counted ∙ same))
+    ap (λ n. cond (eqb (shifted_by d set.reach lag / set.width) c) n 0) (photons (behind window (top - lag)) ∙ same))
 
 -- a sum over three lists
 pub three-sums : (f : Entry → ℕ) (front back ring later : List Entry) → front ++ back ≡ ring → sum_by f (ring ++ later) ≡ sum_by f front + sum_by f back + sum_by f later
 three-sums f front back ring later is = sum_by-append f ring later ∙ ap (λ es. sum_by f es + sum_by f later) (sym is) ∙ ap (λ n. n + sum_by f later) (sum_by-append f front back)
 
--- the entries that fit have few photons
-pub few_earlier : (d : Direction) (set : CoincidenceView) (low : ℕ) (es later : List Entry) → FitsWindow set low es later → sum_by (weight_of (earlier_side d)) (es ++ later) < 2 ^ 16
-few_earlier Forward set low es later fits = fits.firsts
-few_earlier Backward set low es later fits = fits.seconds
+-- the entries that fit have few photons on each side
+pub few_later : (d : Direction) (set : CoincidenceView) (most low : ℕ) (es later : List Entry) → FitsWindow set most low es later → sum_by (weight_of (later_side d)) later ≤ 256
+few_later Forward set most low es later fits = fits.seconds
+few_later Backward set most low es later fits = fits.firsts
 
-few_both : (d : Direction) (set : CoincidenceView) (low : ℕ) (es later : List Entry) → FitsWindow set low es later → sum_by (weight_of (later_side d)) (es ++ later) < 2 ^ 16
-few_both Forward set low es later fits = fits.seconds
-few_both Backward set low es later fits = fits.firsts
+-- what holds of each entry holds of the one at a place
+pub each_at : (P : Entry → Type 0) (es : List Entry) (i : ℕ) (none : Entry) → i < length es → AllByRecursion P es → P (get_or es i none)
+each_at P [] i none inside all = absurd (omega (arith, inside))
+each_at P (e ∷ es) zero none inside all = all.0
+each_at P (e ∷ es) (suc i) none inside all = each_at P es i none (omega (arith, inside)) all.1
 
-pub few_later : (d : Direction) (set : CoincidenceView) (low : ℕ) (es later : List Entry) → FitsWindow set low es later → sum_by (weight_of (later_side d)) (filter (λ e. ltb 0 (weight_of (later_side d) e)) later) < 2 ^ 16
-few_later d set low es later fits =
-    let some : sum_by (weight_of (later_side d)) (filter (λ e. ltb 0 (weight_of (later_side d) e)) later) ≤ sum_by (weight_of (later_side d)) later = rw (sum_by-filter (λ e. ltb 0 (weight_of (later_side d) e)) (weight_of (later_side d)) later) (sum_by-le-sum_by (λ e. cond (ltb 0 (weight_of (later_side d) e)) (weight_of (later_side d) e) 0) (weight_of (later_side d)) later (λ e. part-le (ltb 0 (weight_of (later_side d) e)) (weight_of (later_side d) e))) in
-    omega (arith, some, few_both d set low es later fits, sum_by-append (weight_of (later_side d)) es later)
+-- entries behind others rise with them
+pub rising_join : (es later : List Entry) → IsRising es → IsRising later → AllByRecursion (λ l. AllByRecursion (λ e. e.index < l.index) es) later → IsRising (es ++ later)
+rising_join [] later rising rising' above = rising'
+rising_join (e ∷ es) later rising rising' above = (
+  all_join (λ f. e.index < f.index) es later rising.0 (all_weaker (λ l. AllByRecursion (λ f. f.index < l.index) (e ∷ es)) (λ l. e.index < l.index) (λ l all. all.0) later above),
+  rising_join es later rising.1 rising' (all_weaker (λ l. AllByRecursion (λ f. f.index < l.index) (e ∷ es)) (λ l. AllByRecursion (λ f. f.index < l.index) es) (λ l all. all.1) later above),
+)

@@ -1,8 +1,7 @@
 -- Bins that are closed together.
-use Rattle.std.specs.Prelude.{◌≡◌, ℕ, ◌+◌, ◌-◌, ◌^◌, ◌<◌, ◌≤◌, ◌==◌, ◌/◌, ◌*◌, ◌%◌, slice_index, Option, List, [], ◌∷◌, ◌++◌, length, map, sum_by, if◌then◌else◌}
-use Rattle.std.specs.List.{AllByRecursion, range_with_len}
+use Rattle.std.{specs.Prelude.{◌≡◌, ℕ, ◌+◌, ◌-◌, ◌^◌, ◌<◌, ◌≤◌, ◌==◌, ◌/◌, ◌*◌, ◌%◌, slice_index, Option, List, [], ◌∷◌, ◌++◌, length, map, sum_by, if◌then◌else◌}, specs.List.{AllByRecursion, range_with_len}}
 use Rattle.tally_base.{specs.Settings.CoincidenceView, specs.Tally.History, specs.Limits.record_limit}
-use Rattle.lag_ring.{specs.declared.ring.Entry.Entry, specs.declared.window.Side.Side, specs.declared.window.Side.TheVariants.{First, Second}, specs.Cells.Cells, specs.Ring.Ring, specs.Window.{weight_of, weight_before, product_at}}
+use Rattle.lag_ring.{specs.declared.ring.Entry.Entry, specs.declared.window.Side.Side, specs.declared.window.Side.TheVariants.{First, Second}, specs.Cells.Cells, specs.Ring.Ring, specs.Window.{weight_of, weight_at, weight_before}, specs.Bytes.{IsLight, behind}}
 use Rattle.coincidence.{specs.declared.pairing.Bin.Bin, specs.declared.pairing.Direction.Direction, specs.declared.pairing.Direction.TheVariants.{Forward, Backward}, specs.Pairing.{BinIs, OpenIs, RingIs, CellsAre, bin_pairs, shifted_by}}
 
 -- the entries of bins
@@ -36,40 +35,63 @@ lag_pairs direction set c es later lag =
 
 -- the sum of a lag, where it stands in the order of falling lags from the one so many above the least, and the cell is that of its difference
 abbrev pub strip_pairs : Direction → CoincidenceView → ℕ → ℕ → List ℕ → ℕ → ℕ
-strip_pairs direction set c least sums lag = if shifted_by direction set.reach lag / set.width == c then slice_index sums (least + 64 - lag) else 0
+strip_pairs direction set c least sums lag = if shifted_by direction set.reach lag / set.width == c then slice_index sums (least + 256 - lag) else 0
 
--- the pairs of the photons of later entries with what stands so many ticks before in a window, where the cell is that of the difference
-abbrev pub window_pairs : Direction → CoincidenceView → ℕ → List ℕ → ℕ → ℕ → List Entry → ℕ → ℕ
-window_pairs direction set c window low top later lag =
+-- the pairs of photons at some spots with what stands so many ticks before in a window, where the cell is that of the difference
+abbrev pub window_pairs : Direction → CoincidenceView → ℕ → List ℕ → ℕ → List ℕ → ℕ → ℕ
+window_pairs direction set c window top spots lag =
     if shifted_by direction set.reach lag / set.width == c
-    then sum_by (product_at (later_side direction) window low (top - lag)) later else 0
+    then sum_by (behind window (top - lag)) spots else 0
 
 -- the sums of so many lags from the one above the least on
 abbrev pub strip_sum : Direction → CoincidenceView → ℕ → ℕ → ℕ → List ℕ → ℕ
 strip_sum direction set c least count sums = sum_by (strip_pairs direction set c least sums) (range_with_len (least + 1) count)
 
-abbrev pub window_sum : Direction → CoincidenceView → ℕ → ℕ → ℕ → ℕ → List ℕ → ℕ → List Entry → ℕ
-window_sum direction set c least count top window low later = sum_by (window_pairs direction set c window low top later) (range_with_len (least + 1) count)
+abbrev pub window_sum : Direction → CoincidenceView → ℕ → ℕ → ℕ → ℕ → List ℕ → List ℕ → ℕ
+window_sum direction set c least count top window spots = sum_by (window_pairs direction set c window top spots) (range_with_len (least + 1) count)
 
 -- the pairs of the photons of later entries with all that are in reach before them
 abbrev pub lag_sum : Direction → CoincidenceView → ℕ → List Entry → List Entry → ℕ
 lag_sum direction set c es later = sum_by (lag_pairs direction set c es later) (range_with_len 1 set.reach)
 
--- the later entries, and all that they reach, have a place in a window, and few photons
-pub record FitsWindow (set : CoincidenceView) (low : ℕ) (es later : List Entry) : Type 0 where
+-- the same in both directions
+abbrev pub both_lag_sums : CoincidenceView → ℕ → List Entry → List Entry → ℕ
+both_lag_sums set c es later = lag_sum Forward set c es later + lag_sum Backward set c es later
+
+-- the later entries, and all that they reach, have a place in a window, few photons, and no more in one entry than so many
+pub record FitsWindow (set : CoincidenceView) (most low : ℕ) (es later : List Entry) : Type 0 where
   pub reach : set.reach ≤ 4096
   pub early : AllByRecursion (λ e. e.index + 4096 < 2 ^ 64) es
   pub early' : AllByRecursion (λ e. e.index + 4096 < 2 ^ 64) later
   pub near : AllByRecursion (λ e. (low ≤ e.index) × (e.index - low < 4096)) later
-  pub firsts : sum_by (weight_of First) (es ++ later) < 2 ^ 16
-  pub seconds : sum_by (weight_of Second) (es ++ later) < 2 ^ 16
+  pub weighed : (0 < most) × (most ≤ 255)
+  pub light : IsLight most (es ++ later)
+  pub firsts : sum_by (weight_of First) later ≤ 256
+  pub seconds : sum_by (weight_of Second) later ≤ 256
 
--- An empty window for so many lags behind few bins, each of which is at a place of it with room for these.
+-- no place of a window has more of these weights than so many
+abbrev pub IsLow : ℕ → ℕ → List Entry → Type 0
+IsLow most low es = (side : Side) (top p : ℕ) → weight_at side top low p es ≤ most
+
+abbrev pub IsEmpty : List ℕ → Type 0
+IsEmpty window = (p : ℕ) → p < length window → slice_index window p ≡ 0
+
+-- each place of a window has the weight of the entries there
+abbrev pub Weighs : Side → ℕ → ℕ → List ℕ → List Entry → Type 0
+Weighs side top low window es = (p : ℕ) → p < length window → slice_index window p ≡ weight_at side top low p es
+
+-- A window for so many lags, where each later entry has a place.
 pub record IsOpenFor (reach top low : ℕ) (window : List ℕ) (later : List Entry) : Type 0 where
-  pub few : length later ≤ 64
-  pub empty : (p : ℕ) → p < length window → slice_index window p ≡ 0
-  pub lags : (reach ≤ top) × (top ≤ 4096) × (top % 64 ≡ 0)
+  pub lags : (reach ≤ top) × (top ≤ 4096) × (top % 256 ≡ 0)
+  pub wide : top ≤ length window
   pub near : AllByRecursion (λ e. (low ≤ e.index) × (e.index - low + top ≤ length window)) later
+
+-- A window serves photons at some spots up to the greatest lag: its places have few photons each, and so many lags have a place behind each spot.
+pub record ServesSpots (most top : ℕ) (window spots : List ℕ) : Type 0 where
+  pub weighed : (0 < most) × (most ≤ 255)
+  pub light : (p : ℕ) → p < length window → slice_index window p ≤ most
+  pub few : length spots ≤ 256
+  pub near : AllByRecursion (λ s. s + top ≤ length window) spots
 
 module _ (set : CoincidenceView) where
   -- photons came: those of closed bins, and behind them those of the gathered ones and of the open one

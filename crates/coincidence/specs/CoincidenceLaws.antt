@@ -1,7 +1,5 @@
 -- What holds of every table of coincidences.
-use Rattle.std.specs.Prelude.{◌≡◌, ℕ, ◌+◌, ◌≤◌, Bool, true, false, ◌&&◌, ◌||◌, [], ◌∷◌, ◌++◌, is_some, length}
-use Rattle.std.proofs.Common.{cond, arith, ◌∙◌, ap, subst}
-use Rattle.std.{proofs.Math.Logic.∥∥₁_elim, proofs.Props.props}
+use Rattle.std.{specs.Prelude.{◌≡◌, ℕ, ◌+◌, ◌≤◌, Bool, true, false, ◌&&◌, ◌||◌, [], ◌∷◌, ◌++◌, is_some, length}, proofs.Common.{cond, arith, ◌∙◌, ap, subst}, proofs.Math.Logic.∥∥₁_elim, proofs.Props.props}
 use Rattle.tally_base.{specs.declared.event.Event.Event, specs.Events.{is_photon, is_in}, specs.Settings.{CoincidenceView, coincidence_view, coincidence_cells, entries}, specs.Tally.{History, greatest_time}, proofs.Markers.{same_length, same_greatest, same_filter}}
 use Rattle.coincidence.{specs.declared.coincidence.Coincidence.Coincidence, specs.declared.pairing.Pairing.Pairing, specs.Coincidence.{Holds, set_of, settings, held, bins_kept}, specs.StandsFor.HasPhotons, specs.Pairs.{in_first, in_second}, specs.Pairing.{RingIs, CellsAre}}
 

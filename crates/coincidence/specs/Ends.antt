@@ -1,6 +1,5 @@
 -- What a photon ends.
-use Rattle.std.specs.Prelude.{ℕ, Bool, Option, if◌then◌else◌}
-use Rattle.std.specs.Option.{option_map_or}
+use Rattle.std.{specs.Prelude.{ℕ, Bool, Option, if◌then◌else◌}, specs.Option.{option_map_or}}
 
 -- one where it stops and an interval is open
 abbrev pub ended : Bool → Option ℕ → ℕ

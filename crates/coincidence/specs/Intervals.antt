@@ -1,6 +1,5 @@
 -- The intervals from a photon of one group to the next of another.
-use Rattle.std.specs.Prelude.{ℕ, ◌-◌, ◌/◌, Bool, ◌&&◌, ◌||◌, ◌==◌, nat_le, List, Option, None, Some, drop, count_by, if◌then◌else◌}
-use Rattle.std.{specs.List.{filter, zip, last_or}, specs.Option.option_and_then}
+use Rattle.std.{specs.Prelude.{ℕ, ◌-◌, ◌/◌, Bool, ◌&&◌, ◌||◌, ◌==◌, nat_le, List, Option, None, Some, drop, count_by, if◌then◌else◌}, specs.List.{filter, zip, last_or}, specs.Option.option_and_then}
 use Rattle.tally_base.{specs.declared.event.Event.Event, specs.Events.{is_photon, is_in}, specs.Settings.StartStopView, specs.Tally.History}
 
 -- each item with the next

@@ -1,7 +1,5 @@
 -- What holds of every start-stop table.
-use Rattle.std.specs.Prelude.{◌≡◌, ℕ, ◌≤◌, ◌+◌, ◌/◌, false, ◌&&◌, ◌||◌, ◌==◌, nat_le, [], ◌∷◌, ◌++◌, None, length, count_by}
-use Rattle.std.specs.{List.last_or, Option.option_and_then}
-use Rattle.std.proofs.Common.{rules, ◌∙◌, ap}
+use Rattle.std.{specs.Prelude.{◌≡◌, ℕ, ◌≤◌, ◌+◌, ◌/◌, false, ◌&&◌, ◌||◌, ◌==◌, nat_le, [], ◌∷◌, ◌++◌, None, length, count_by}, specs.{List.last_or, Option.option_and_then}, proofs.Common.{rules, ◌∙◌, ap}}
 use Rattle.tally_base.{specs.declared.event.Event.Event, specs.Events.{is_photon, is_in}, specs.Settings.{entries, startstop_view}, specs.Tally.{History, greatest_time}, proofs.Markers.{same_length, same_greatest, same_filter}}
 use Rattle.coincidence.{specs.declared.start_stop.StartStop.StartStop, specs.Intervals.{neighbours, is_of_either, photons_of_either, is_interval, start_of}, specs.StartStop.{Holds, settings}}
 

@@ -1,6 +1,5 @@
 -- What the bins and cells of a table of coincidences stand for: photons that came in order, and how far they are paired.
-use Rattle.std.specs.Prelude.{◌≡◌, ℕ, ◌+◌, ◌-◌, ◌*◌, ◌/◌, ◌^◌, ◌<◌, ◌≤◌, Bool, ◌&&◌, ◌==◌, Option, None, Some, List, [], ◌++◌, length, slice_index, sum_by, count_by, if◌then◌else◌}
-use Rattle.std.specs.List.{AllByRecursion}
+use Rattle.std.{specs.Prelude.{◌≡◌, ℕ, ◌+◌, ◌-◌, ◌*◌, ◌/◌, ◌^◌, ◌<◌, ◌≤◌, Bool, ◌&&◌, ◌==◌, Option, None, Some, List, [], ◌++◌, length, slice_index, sum_by, count_by, if◌then◌else◌}, specs.List.{AllByRecursion}}
 use Rattle.tally_base.{specs.Settings.{CoincidenceView, coincidence_cells}, specs.Tally.History, specs.Limits.record_limit}
 use Rattle.lag_ring.{specs.declared.ring.Entry.Entry, specs.Cells.Cells, specs.Ring.Ring, specs.Kept.{Weighs, Keeps}}
 use Rattle.coincidence.{specs.declared.pairing.Bin.Bin, specs.declared.pairing.Direction.Direction, specs.declared.pairing.Direction.TheVariants.{Forward, Backward}, specs.declared.pairing.Pairing.Pairing, specs.Pairs.{in_first, in_second, is_in_cell, coincidences}}

@@ -1,6 +1,5 @@
 -- The pairs of photons of two groups by the difference of their times.
-use Rattle.std.specs.Prelude.{ℕ, ◌+◌, ◌-◌, ◌*◌, ◌/◌, Bool, false, not, ◌&&◌, ◌||◌, ◌==◌, nat_le, List, Option, None, Some, length, filter, count_by, sum_by}
-use Rattle.std.specs.List.{range_with_len, slice_get}
+use Rattle.std.{specs.Prelude.{ℕ, ◌+◌, ◌-◌, ◌*◌, ◌/◌, Bool, false, not, ◌&&◌, ◌||◌, ◌==◌, nat_le, List, Option, None, Some, length, filter, count_by, sum_by}, specs.List.{range_with_len, slice_get}}
 use Rattle.tally_base.{specs.declared.event.Event.Event, specs.Events.{is_photon, is_in}, specs.Settings.CoincidenceView, specs.Tally.History}
 
 abbrev pub in_first : CoincidenceView → Event × ℕ → Bool

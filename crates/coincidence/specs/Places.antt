@@ -1,6 +1,5 @@
 -- The intervals once more, as pairs of places in the list of events, where the first place is 0.
-use Rattle.std.specs.Prelude.{ℕ, suc, Bool, false, ◌&&◌, not, nat_lt, List, Option, None, Some, length, take, drop, count_by, sum_by}
-use Rattle.std.specs.List.{list_any, range_with_len, slice_get}
+use Rattle.std.{specs.Prelude.{ℕ, suc, Bool, false, ◌&&◌, not, nat_lt, List, Option, None, Some, length, take, drop, count_by, sum_by}, specs.List.{list_any, range_with_len, slice_get}}
 use Rattle.tally_base.{specs.declared.event.Event.Event, specs.Events.is_photon, specs.Settings.StartStopView, specs.Tally.History}
 use Rattle.coincidence.specs.Intervals.{is_of_either, is_interval}
 

@@ -1,14 +1,13 @@
 // Bins that are closed together.
-ghost use Rattle.std.specs.Prelude.{◌≡◌, ℕ, ◌+◌, ◌-◌, ◌^◌, ◌<◌, ◌≤◌, ◌++◌, [], IsTrue, length, slice_index, sum_by};
-ghost use Rattle.std.specs.List.{AllByRecursion};
+ghost use Rattle.std.{specs.Prelude.{◌≡◌, ℕ, ◌+◌, ◌-◌, ◌^◌, ◌<◌, ◌≤◌, ◌++◌, [], IsTrue, length, slice_index, sum_by}, specs.List.{AllByRecursion}};
 ghost use Rattle.tally_base.{specs.Settings.{coincidence_view, coincidence_cells}, specs.Tally.History};
-ghost use Rattle.lag_ring.{specs.Ring.IsRising, specs.Window.weight_of, specs.Cells.Spends};
+ghost use Rattle.lag_ring.{specs.Ring.IsRising, specs.Window.weight_of, specs.Bytes.IsLight, specs.Cells.Spends};
 ghost use Rattle.coincidence.{specs.Pairing.{RingIs, CellsAre, bin_pairs, HasRoom, CountsMore}, specs.Closing.{weights_in, BinsAre, CanKeepAll, CanShutAll, FitsWindow}};
 
-use crate::lags::{TOP, are_near, pair_lags};
-use crate::pairing::{Bin, Direction, keep, pair_inside, shut};
+use crate::lags::{MOST_SPOTS, TOP, are_near, pair_lags};
+use crate::pairing::{Bin, keep, pair_inside, shut};
 use arrayvec::ArrayVec;
-use lag_ring::{Entry, LagRing, PairCells, Side, total_weight};
+use lag_ring::{Entry, LagRing, RowCells, Side, total_weight, weight_bound};
 use std::sync::ledger::Ledger;
 use tally_base::{CoincidenceSet, Steps};
 
@@ -33,32 +32,42 @@ fn weights_of(bins: &[Bin]) -> ArrayVec<Entry, 64>
     entries
 }
 
-/// Whether the photons of one group are so few that no sum passes its lane.
-fn are_few(side: Side, ring: &LagRing, later: &[Entry]) -> bool
-    ensures { IsTrue result → sum_by (weight_of side) (ring.now.entries ++ later.now) < 2 ^ 16 }
+/// A number that no weight of the entries in a ring and of later ones is above. It is not 0.
+fn weight_bound_of(ring: &LagRing, later: &[Entry]) -> u64
+    ensures some { 0 < result }
+    ensures light { IsLight result (ring.now.entries ++ later.now) }
+    ensures rising { IsRising ring.now.entries }
 {
     let (front, back) = ring.slices();
-    let kept = total_weight(side, front).saturating_add(total_weight(side, back));
-    kept.saturating_add(total_weight(side, later)) < 1 << 16
+    weight_bound(front) | weight_bound(back) | weight_bound(later)
 }
 
-/// Whether later entries and a ring have their places in one window, and few photons.
-fn fits_window(set: &CoincidenceSet, ring: &LagRing, low: u64, later: &[Entry]) -> bool
-    ensures { IsTrue result
-        → FitsWindow (coincidence_view set.now) low ring.now.entries later.now }
+/// Whether entries have few photons of one group.
+fn are_few(side: Side, entries: &[Entry]) -> bool
+    ensures { IsTrue result → sum_by (weight_of side) entries.now ≤ MOST_SPOTS }
 {
-    set.reach <= TOP
+    total_weight(side, entries) <= MOST_SPOTS as u64
+}
+
+/// Whether later entries and a ring have their places in one window, and few photons: no entry more than so many.
+fn fits_window(set: &CoincidenceSet, ring: &LagRing, low: u64, later: &[Entry], most: u64) -> bool
+    requires most { (0 < most) × IsLight most (ring.now.entries ++ later.now) }
+    ensures { IsTrue result
+        → FitsWindow (coincidence_view set.now) most low ring.now.entries later.now }
+{
+    most < 256
+        && set.reach <= TOP
         && low < END
         && ring.newest() < END
         && are_near(low, TOP, later)
-        && are_few(Side::First, ring, later)
-        && are_few(Side::Second, ring, later)
+        && are_few(Side::First, later)
+        && are_few(Side::Second, later)
 }
 
 /// Pairs the photons of each bin with one another, and puts the bins into the ring.
 fn keep_all<L: Ledger>(
     ring: &mut LagRing,
-    cells: &mut PairCells,
+    cells: &mut RowCells,
     set: &CoincidenceSet,
     bins: &[Bin],
     steps: &mut Steps<L>,
@@ -84,18 +93,19 @@ fn keep_all<L: Ledger>(
 /// Pairs bins over a window, and puts them among the closed ones.
 fn shut_together<L: Ledger>(
     ring: &mut LagRing,
-    cells: &mut PairCells,
+    cells: &mut RowCells,
     set: &CoincidenceSet,
     low: u64,
     bins: &[Bin],
     later: &[Entry],
+    most: usize,
     steps: &mut Steps<L>,
 )
     requires stands { ∥ ((closed : History) × (xs : History)
         × CanShutAll (coincidence_view set.now) ring.old cells.old bins.now closed xs) ∥₁ }
     requires entries { later.now ≡ weights_in bins.now }
     requires window { IsRising ring.old.entries
-        × FitsWindow (coincidence_view set.now) low ring.old.entries later.now }
+        × FitsWindow (coincidence_view set.now) most low ring.old.entries later.now }
     requires some { (0 < length bins.now) × (length bins.now ≤ 64) }
     ensures ring { (closed xs : History)
         → CanShutAll (coincidence_view set.now) ring.old cells.old bins.now closed xs
@@ -105,15 +115,14 @@ fn shut_together<L: Ledger>(
         → CellsAre (coincidence_view set.now) cells.new (closed ++ xs) }
     ensures steps { steps.new + cells.old.added ≡ steps.old + cells.new.added }
 {
-    pair_lags(cells, ring, *set, Direction::Forward, low, later, steps);
-    pair_lags(cells, ring, *set, Direction::Backward, low, later, steps);
+    pair_lags(cells, ring, *set, low, later, most, steps);
     keep_all(ring, cells, set, bins, steps);
 }
 
 /// Pairs bins one by one, and puts them among the closed ones.
 fn shut_each<L: Ledger>(
     ring: &mut LagRing,
-    cells: &mut PairCells,
+    cells: &mut RowCells,
     set: &CoincidenceSet,
     bins: &[Bin],
     steps: &mut Steps<L>,
@@ -133,10 +142,39 @@ fn shut_each<L: Ledger>(
     }
 }
 
+/// Pairs many bins, over a window where they fit it, and puts them among the closed ones.
+fn shut_many<L: Ledger>(
+    ring: &mut LagRing,
+    cells: &mut RowCells,
+    set: &CoincidenceSet,
+    low: u64,
+    bins: &[Bin],
+    steps: &mut Steps<L>,
+)
+    requires some { (0 < length bins.now) × (length bins.now ≤ 64) }
+    requires stands { ∥ ((closed : History) × (xs : History)
+        × CanShutAll (coincidence_view set.now) ring.old cells.old bins.now closed xs) ∥₁ }
+    ensures ring { (closed xs : History)
+        → CanShutAll (coincidence_view set.now) ring.old cells.old bins.now closed xs
+        → RingIs (coincidence_view set.now) ring.new (closed ++ xs) }
+    ensures cells { (closed xs : History)
+        → CanShutAll (coincidence_view set.now) ring.old cells.old bins.now closed xs
+        → CellsAre (coincidence_view set.now) cells.new (closed ++ xs) }
+    ensures steps { steps.new + cells.old.added ≡ steps.old + cells.new.added }
+{
+    let later = weights_of(bins);
+    let most = weight_bound_of(ring, &later);
+    if fits_window(set, ring, low, &later, most) {
+        shut_together(ring, cells, set, low, bins, &later, most as usize, steps);
+    } else {
+        shut_each(ring, cells, set, bins, steps);
+    }
+}
+
 /// Pairs bins, and puts them among the closed ones.
 pub(crate) fn shut_all<L: Ledger>(
     ring: &mut LagRing,
-    cells: &mut PairCells,
+    cells: &mut RowCells,
     set: &CoincidenceSet,
     bins: &[Bin],
     steps: &mut Steps<L>,
@@ -152,14 +190,12 @@ pub(crate) fn shut_all<L: Ledger>(
         → CellsAre (coincidence_view set.now) cells.new (closed ++ xs) }
     ensures steps { steps.new + cells.old.added ≡ steps.old + cells.new.added }
 {
-    let later = weights_of(bins);
     let low = match bins.first() {
         Some(bin) => bin.weights.index,
         None => 0,
     };
-    let kept = ring.len();
-    if kept >= MANY && bins.len() >= SOME && fits_window(set, ring, low, &later) {
-        shut_together(ring, cells, set, low, bins, &later, steps);
+    if ring.len() >= MANY && bins.len() >= SOME {
+        shut_many(ring, cells, set, low, bins, steps);
     } else {
         shut_each(ring, cells, set, bins, steps);
     }

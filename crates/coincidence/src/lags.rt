@@ -1,13 +1,13 @@
 // Pairs of many bins at once, lag by lag.
-ghost use Rattle.std.specs.Prelude.{◌≡◌, ℕ, ◌+◌, ◌-◌, ◌%◌, ◌^◌, ◌<◌, ◌≤◌, ◌++◌, IsTrue, filter, length, nat_lt, slice_index, sum_by};
-ghost use Rattle.std.specs.List.{AllByRecursion};
+ghost use Rattle.std.{specs.Prelude.{◌≡◌, ℕ, ◌+◌, ◌-◌, ◌*◌, ◌%◌, ◌^◌, ◌<◌, ◌≤◌, ◌++◌, IsTrue, length, slice_index, sum_by}, specs.List.{AllByRecursion}};
 ghost use Rattle.tally_base.specs.Settings.{coincidence_view, coincidence_cells};
-ghost use Rattle.lag_ring.{specs.Window.{weight_of, weight_at, ServesLater}, specs.Cells.Spends};
-ghost use Rattle.coincidence.{specs.Pairing.{HasRoom, CountsMore}, specs.Closing.{earlier_side, later_side, strip_sum, window_sum, lag_sum, FitsWindow, IsOpenFor}};
+ghost use Rattle.arrayvec.specs.ArrayVec.{array_vec_len};
+ghost use Rattle.lag_ring.{specs.Window.weight_of, specs.Cells.Spends, specs.Bytes.{BothFit, BothHave}};
+ghost use Rattle.coincidence.{specs.declared.pairing.Direction.TheVariants.{Forward, Backward}, specs.Pairing.{HasRoom, CountsMore}, specs.Closing.{earlier_side, later_side, strip_sum, window_sum, lag_sum, both_lag_sums, FitsWindow, IsOpenFor, IsLow, IsEmpty, Weighs, ServesSpots}};
 
 use crate::pairing::{Direction, add_pairs};
 use arrayvec::ArrayVec;
-use lag_ring::{Entry, LAGS, LagRing, PairCells, Side, lag_sums, put_weights};
+use lag_ring::{BYTE_LAGS, Entry, LagRing, RowCells, Side, byte_lag_sums, put_bytes};
 use std::sync::ledger::Ledger;
 use tally_base::{CoincidenceSet, Steps};
 
@@ -20,41 +20,24 @@ const SHORT: u32 = 512;
 /// How many ticks later bins may span where a window has few places for them.
 const CLOSE: u32 = 1024;
 
-/// Which weight of an earlier entry counts.
-fn earlier_side(direction: Direction) -> Side
-    ensures { result ≡ earlier_side direction }
-{
-    match direction {
-        Direction::Forward => Side::First,
-        Direction::Backward => Side::Second,
-    }
-}
-
-/// Which weight of a later entry counts.
-fn later_side(direction: Direction) -> Side
-    ensures { result ≡ later_side direction }
-{
-    match direction {
-        Direction::Forward => Side::Second,
-        Direction::Backward => Side::First,
-    }
-}
+/// How many photons later entries have at most on a side.
+pub(crate) const MOST_SPOTS: usize = 256;
 
 /// Adds the sums of the lags from `least + 1` to `least + count` to the cells of their differences,
-/// where a cell is one tick. That of a lag stands at `least + LAGS - lag`.
+/// where a cell is one tick. That of a lag stands at `least + BYTE_LAGS - lag`.
 #[inline(always)]
 fn add_single_ticks<L: Ledger>(
-    cells: &mut PairCells,
+    cells: &mut RowCells,
     set: CoincidenceSet,
     direction: Direction,
     least: u32,
     count: u32,
-    sums: &[u32; LAGS],
+    sums: &[u32; BYTE_LAGS],
     steps: &mut Steps<L>,
 )
     requires single { set.width ≡ 1 }
     requires sized { length cells.old.cells ≡ coincidence_cells (coincidence_view set) }
-    requires inside { (count ≤ LAGS) × (least + count ≤ set.reach) }
+    requires inside { (count ≤ BYTE_LAGS) × (least + count ≤ set.reach) }
     requires fits { HasRoom (coincidence_view set) cells.old
         (λ c. strip_sum direction (coincidence_view set) c least count sums.now) }
     ensures cells { CountsMore (coincidence_view set) cells.old cells.new
@@ -62,7 +45,7 @@ fn add_single_ticks<L: Ledger>(
     ensures spends { Spends cells.old cells.new steps.old steps.new count }
 {
     let most = least + count;
-    let falling = &sums[LAGS - count as usize..];
+    let falling = &sums[BYTE_LAGS - count as usize..];
     match direction {
         Direction::Forward => cells.add_downwards(set.reach + most, falling, steps),
         Direction::Backward => cells.add_upwards(set.reach - most, falling, steps),
@@ -72,16 +55,16 @@ fn add_single_ticks<L: Ledger>(
 /// The same, where a cell is any number of ticks.
 #[inline(always)]
 fn add_groups<L: Ledger>(
-    cells: &mut PairCells,
+    cells: &mut RowCells,
     set: CoincidenceSet,
     direction: Direction,
     least: u32,
     count: u32,
-    sums: &[u32; LAGS],
+    sums: &[u32; BYTE_LAGS],
     steps: &mut Steps<L>,
 )
     requires sized { length cells.old.cells ≡ coincidence_cells (coincidence_view set) }
-    requires inside { (count ≤ LAGS) × (least + count ≤ set.reach) }
+    requires inside { (count ≤ BYTE_LAGS) × (least + count ≤ set.reach) }
     requires fits { HasRoom (coincidence_view set) cells.old
         (λ c. strip_sum direction (coincidence_view set) c least count sums.now) }
     ensures cells { CountsMore (coincidence_view set) cells.old cells.new
@@ -90,25 +73,25 @@ fn add_groups<L: Ledger>(
 {
     for i in 0..count {
         let shifted = direction.shifted(set, u64::from(least + 1 + i));
-        let pairs = u64::from(sums[LAGS - 1 - i as usize]);
+        let pairs = u64::from(sums[BYTE_LAGS - 1 - i as usize]);
         add_pairs(cells, set, shifted, pairs, 1, steps);
     }
 }
 
 /// Adds the sums of the lags from `least + 1` to `least + count` to the cells of their differences. That
-/// of a lag stands at `least + LAGS - lag`.
+/// of a lag stands at `least + BYTE_LAGS - lag`.
 #[inline(always)]
 fn add_sums<L: Ledger>(
-    cells: &mut PairCells,
+    cells: &mut RowCells,
     set: CoincidenceSet,
     direction: Direction,
     least: u32,
     count: u32,
-    sums: &[u32; LAGS],
+    sums: &[u32; BYTE_LAGS],
     steps: &mut Steps<L>,
 )
     requires sized { length cells.old.cells ≡ coincidence_cells (coincidence_view set) }
-    requires inside { (count ≤ LAGS) × (least + count ≤ set.reach) }
+    requires inside { (count ≤ BYTE_LAGS) × (least + count ≤ set.reach) }
     requires fits { HasRoom (coincidence_view set) cells.old
         (λ c. strip_sum direction (coincidence_view set) c least count sums.now) }
     ensures cells { CountsMore (coincidence_view set) cells.old cells.new
@@ -122,94 +105,111 @@ fn add_sums<L: Ledger>(
     }
 }
 
-/// Pairs later entries with those in the window at the lags from `least + 1` to `least + count`.
+/// Pairs photons at some spots with what stands in the window at the lags from `least + 1` to `least + count`
+/// before them.
 #[inline(always)]
 fn pair_strip<L: Ledger>(
-    cells: &mut PairCells,
+    cells: &mut RowCells,
     set: CoincidenceSet,
     direction: Direction,
     least: u32,
     count: u32,
     top: u32,
-    window: &[u32],
-    low: u64,
-    later: &[Entry],
+    most: usize,
+    window: &[u8],
+    spots: &[u16],
     steps: &mut Steps<L>,
 )
     requires sized { length cells.old.cells ≡ coincidence_cells (coincidence_view set) }
-    requires inside { (count ≤ LAGS) × (least + count ≤ set.reach) × (least + LAGS ≤ top) }
-    requires window { ServesLater (later_side direction) (length window.now) top low window.now
-        later.now }
+    requires inside { (count ≤ BYTE_LAGS) × (least + count ≤ set.reach)
+        × (least + BYTE_LAGS ≤ top) }
+    requires window { ServesSpots most top window.now spots.now }
     requires fits { HasRoom (coincidence_view set) cells.old
-        (λ c. window_sum direction (coincidence_view set) c least count top window.now low later.now) }
+        (λ c. window_sum direction (coincidence_view set) c least count top window.now spots.now) }
     ensures cells { CountsMore (coincidence_view set) cells.old cells.new
-        (λ c. window_sum direction (coincidence_view set) c least count top window.now low later.now) }
+        (λ c. window_sum direction (coincidence_view set) c least count top window.now spots.now) }
     ensures spends { Spends cells.old cells.new steps.old steps.new count }
 {
-    let from = top as usize - LAGS - least as usize;
-    let sums = lag_sums(window, later_side(direction), low, from, later);
+    let from = top as usize - BYTE_LAGS - least as usize;
+    let sums = byte_lag_sums(window, most, from, spots);
     add_sums(cells, set, direction, least, count, &sums, steps);
 }
 
-/// Pairs later entries with those in the window, at all lags in reach.
+/// Pairs photons at some spots with what stands in the window before them, at all lags in reach.
 fn pair_window<L: Ledger>(
-    cells: &mut PairCells,
+    cells: &mut RowCells,
     set: CoincidenceSet,
     direction: Direction,
     top: u32,
-    window: &[u32],
-    low: u64,
-    later: &[Entry],
+    most: usize,
+    window: &[u8],
+    spots: &[u16],
     steps: &mut Steps<L>,
 )
     requires sized { length cells.old.cells ≡ coincidence_cells (coincidence_view set) }
-    requires lags { (set.reach ≤ top) × (top % LAGS ≡ 0) }
-    requires window { ServesLater (later_side direction) (length window.now) top low window.now
-        later.now }
+    requires lags { (set.reach ≤ top) × (top % BYTE_LAGS ≡ 0) }
+    requires window { ServesSpots most top window.now spots.now }
     requires fits { HasRoom (coincidence_view set) cells.old
-        (λ c. window_sum direction (coincidence_view set) c 0 set.reach top window.now low later.now) }
+        (λ c. window_sum direction (coincidence_view set) c 0 set.reach top window.now spots.now) }
     ensures cells { CountsMore (coincidence_view set) cells.old cells.new
-        (λ c. window_sum direction (coincidence_view set) c 0 set.reach top window.now low later.now) }
+        (λ c. window_sum direction (coincidence_view set) c 0 set.reach top window.now spots.now) }
     ensures spends { Spends cells.old cells.new steps.old steps.new set.reach }
 {
-    for strip in 0..set.reach.div_ceil(LAGS as u32) {
-        let least = strip * LAGS as u32;
-        let count = (set.reach - least).min(LAGS as u32);
+    for strip in 0..set.reach.div_ceil(BYTE_LAGS as u32) {
+        let least = strip * BYTE_LAGS as u32;
+        let count = (set.reach - least).min(BYTE_LAGS as u32);
         pair_strip(
-            cells, set, direction, least, count, top, window, low, later, steps,
+            cells, set, direction, least, count, top, most, window, spots, steps,
         );
     }
 }
 
-/// The entries that have this weight.
-fn with_weight(side: Side, entries: &[Entry]) -> ArrayVec<Entry, 64>
-    requires few { length entries.now ≤ 64 }
-    ensures { result.items ≡ filter (λ e. nat_lt 0 (weight_of side e)) entries.now }
+/// Puts a spot behind others so many times.
+#[inline(always)]
+fn put_spot(spots: &mut ArrayVec<u16, MOST_SPOTS>, spot: u16, times: u64)
+    requires room { array_vec_len spots.old + times ≤ MOST_SPOTS }
+    ensures sums { (f : ℕ → ℕ) → sum_by f spots.new.items ≡ sum_by f spots.old.items + f spot * times }
+    ensures len { array_vec_len spots.new ≡ array_vec_len spots.old + times }
+    ensures within { (n : ℕ) → spot ≤ n → AllByRecursion (λ s. s ≤ n) spots.old.items
+        → AllByRecursion (λ s. s ≤ n) spots.new.items }
 {
-    let mut counted = ArrayVec::new();
-    for entry in entries {
-        if side.weight(entry) > 0 {
-            counted.push(*entry);
-        }
+    for _time in 0..times {
+        spots.push(spot);
     }
-    counted
 }
 
-/// Gives an empty window the weights of the entries in a ring and of later ones.
-fn fill(window: &mut [u32], side: Side, top: u32, ring: &LagRing, low: u64, later: &[Entry])
-    requires empty { (p : ℕ) → p < length window.old → slice_index window.old p ≡ 0 }
+/// The spot of each photon that entries have on one side, in a window that begins at `low`.
+fn spots_of(side: Side, low: u64, entries: &[Entry]) -> ArrayVec<u16, MOST_SPOTS>
+    requires near { AllByRecursion (λ e. (low ≤ e.index) × (e.index - low < TOP)) entries.now }
+    requires few { sum_by (weight_of side) entries.now ≤ MOST_SPOTS }
+    ensures sums { (f : ℕ → ℕ) → sum_by f result.items
+        ≡ sum_by (λ e. f (e.index - low) * weight_of side e) entries.now }
+    ensures few { array_vec_len result ≤ MOST_SPOTS }
+    ensures within { (n : ℕ) → AllByRecursion (λ e. e.index - low ≤ n) entries.now
+        → AllByRecursion (λ s. s ≤ n) result.items }
+{
+    let mut spots = ArrayVec::new();
+    for entry in entries {
+        put_spot(&mut spots, (entry.index - low) as u16, side.weight(entry));
+    }
+    spots
+}
+
+/// Adds the weights of the entries in a ring and of later ones to two windows.
+fn fill(firsts: &mut [u8], seconds: &mut [u8], top: u32, ring: &LagRing, low: u64, later: &[Entry])
     requires early { AllByRecursion (λ e. e.index + top < 2 ^ 64) ring.now.entries }
     requires early_later { AllByRecursion (λ e. e.index + top < 2 ^ 64) later.now }
-    requires few { sum_by (weight_of side) (ring.now.entries ++ later.now) < 2 ^ 16 }
-    ensures weights { (p : ℕ) → p < length window.old → slice_index window.new p
-        ≡ weight_at side top low p (ring.now.entries ++ later.now) }
-    ensures same { length window.new ≡ length window.old }
+    requires sized { length seconds.old ≡ length firsts.old }
+    requires fit { BothFit top low firsts.old seconds.old (ring.now.entries ++ later.now) }
+    ensures have { BothHave top low firsts.old seconds.old firsts.new seconds.new
+        (ring.now.entries ++ later.now) }
+    ensures same { (length firsts.new ≡ length firsts.old)
+        × (length seconds.new ≡ length firsts.old) }
 {
-    let top = u64::from(top);
     let (front, back) = ring.slices();
-    put_weights(window, side, top, low, front);
-    put_weights(window, side, top, low, back);
-    put_weights(window, side, top, low, later);
+    put_bytes(firsts, seconds, top as u64, low, front);
+    put_bytes(firsts, seconds, top as u64, low, back);
+    put_bytes(firsts, seconds, top as u64, low, later);
 }
 
 /// Whether all entries have an index from `low` on, by fewer than so many ticks.
@@ -225,88 +225,151 @@ pub(crate) fn are_near(low: u64, ticks: u32, later: &[Entry]) -> bool
     true
 }
 
-/// Pairs later entries with those before them, in one direction, over an empty window.
-fn pair_over<L: Ledger>(
-    cells: &mut PairCells,
+/// Pairs later entries with those before them over a window of one group, in one direction.
+#[inline(always)]
+fn pair_side<L: Ledger>(
+    cells: &mut RowCells,
     ring: &LagRing,
     set: CoincidenceSet,
     direction: Direction,
+    side: Side,
     low: u64,
     later: &[Entry],
     top: u32,
-    window: &mut [u32],
+    most: usize,
+    window: &[u8],
     steps: &mut Steps<L>,
 )
     requires sized { length cells.old.cells ≡ coincidence_cells (coincidence_view set) }
-    requires photons { FitsWindow (coincidence_view set) low ring.now.entries later.now }
-    requires opens { IsOpenFor set.reach top low window.old later.now }
+    requires photons { FitsWindow (coincidence_view set) most low ring.now.entries later.now
+        × IsLow most low (ring.now.entries ++ later.now) × (side ≡ later_side direction) }
+    requires opens { IsOpenFor set.reach top low window.now later.now }
+    requires has { Weighs (earlier_side direction) top low window.now
+        (ring.now.entries ++ later.now) }
     requires fits { HasRoom (coincidence_view set) cells.old
         (λ c. lag_sum direction (coincidence_view set) c (ring.now.entries ++ later.now) later.now) }
     ensures cells { CountsMore (coincidence_view set) cells.old cells.new
         (λ c. lag_sum direction (coincidence_view set) c (ring.now.entries ++ later.now) later.now) }
     ensures spends { Spends cells.old cells.new steps.old steps.new set.reach }
 {
-    fill(window, earlier_side(direction), top, ring, low, later);
-    let counted = with_weight(later_side(direction), later);
-    pair_window(cells, set, direction, top, window, low, &counted, steps);
+    let spots = spots_of(side, low, later);
+    pair_window(cells, set, direction, top, most, window, &spots, steps);
 }
 
-/// Pairs later entries with those before them, in one direction.
-pub(crate) fn pair_lags<L: Ledger>(
-    cells: &mut PairCells,
+/// Pairs later entries with those before them, over two empty windows.
+fn pair_over<L: Ledger>(
+    cells: &mut RowCells,
     ring: &LagRing,
     set: CoincidenceSet,
-    direction: Direction,
     low: u64,
     later: &[Entry],
+    top: u32,
+    most: usize,
+    firsts: &mut [u8],
+    seconds: &mut [u8],
     steps: &mut Steps<L>,
 )
     requires sized { length cells.old.cells ≡ coincidence_cells (coincidence_view set) }
-    requires window { FitsWindow (coincidence_view set) low ring.now.entries later.now }
-    requires few { length later.now ≤ 64 }
+    requires photons { FitsWindow (coincidence_view set) most low ring.now.entries later.now
+        × IsLow most low (ring.now.entries ++ later.now) }
+    requires opens { IsOpenFor set.reach top low firsts.old later.now
+        × IsOpenFor set.reach top low seconds.old later.now }
+    requires empty { IsEmpty firsts.old × IsEmpty seconds.old
+        × (length seconds.old ≡ length firsts.old) }
     requires fits { HasRoom (coincidence_view set) cells.old
-        (λ c. lag_sum direction (coincidence_view set) c (ring.now.entries ++ later.now) later.now) }
+        (λ c. both_lag_sums (coincidence_view set) c (ring.now.entries ++ later.now) later.now) }
     ensures cells { CountsMore (coincidence_view set) cells.old cells.new
-        (λ c. lag_sum direction (coincidence_view set) c (ring.now.entries ++ later.now) later.now) }
-    ensures spends { Spends cells.old cells.new steps.old steps.new set.reach }
+        (λ c. both_lag_sums (coincidence_view set) c (ring.now.entries ++ later.now) later.now) }
+    ensures spends { Spends cells.old cells.new steps.old steps.new (2 * set.reach) }
+{
+    fill(firsts, seconds, top, ring, low, later);
+    pair_side(
+        cells,
+        ring,
+        set,
+        Direction::Forward,
+        Side::Second,
+        low,
+        later,
+        top,
+        most,
+        firsts,
+        steps,
+    );
+    pair_side(
+        cells,
+        ring,
+        set,
+        Direction::Backward,
+        Side::First,
+        low,
+        later,
+        top,
+        most,
+        seconds,
+        steps,
+    );
+}
+
+/// Pairs later entries with those before them.
+pub(crate) fn pair_lags<L: Ledger>(
+    cells: &mut RowCells,
+    ring: &LagRing,
+    set: CoincidenceSet,
+    low: u64,
+    later: &[Entry],
+    most: usize,
+    steps: &mut Steps<L>,
+)
+    requires sized { length cells.old.cells ≡ coincidence_cells (coincidence_view set) }
+    requires photons { FitsWindow (coincidence_view set) most low ring.now.entries later.now
+        × IsLow most low (ring.now.entries ++ later.now) }
+    requires fits { HasRoom (coincidence_view set) cells.old
+        (λ c. both_lag_sums (coincidence_view set) c (ring.now.entries ++ later.now) later.now) }
+    ensures cells { CountsMore (coincidence_view set) cells.old cells.new
+        (λ c. both_lag_sums (coincidence_view set) c (ring.now.entries ++ later.now) later.now) }
+    ensures spends { Spends cells.old cells.new steps.old steps.new (2 * set.reach) }
 {
     if set.reach <= SHORT && are_near(low, SHORT, later) {
-        let mut window = [0; 1024];
+        let (mut firsts, mut seconds) = ([0; 1024], [0; 1024]);
         pair_over(
             cells,
             ring,
             set,
-            direction,
             low,
             later,
             SHORT,
-            &mut window,
+            most,
+            &mut firsts,
+            &mut seconds,
             steps,
         );
     } else if are_near(low, CLOSE, later) {
-        let mut window = [0; 5120];
+        let (mut firsts, mut seconds) = ([0; 5120], [0; 5120]);
         pair_over(
             cells,
             ring,
             set,
-            direction,
             low,
             later,
             TOP,
-            &mut window,
+            most,
+            &mut firsts,
+            &mut seconds,
             steps,
         );
     } else {
-        let mut window = [0; 8192];
+        let (mut firsts, mut seconds) = ([0; 8192], [0; 8192]);
         pair_over(
             cells,
             ring,
             set,
-            direction,
             low,
             later,
             TOP,
-            &mut window,
+            most,
+            &mut firsts,
+            &mut seconds,
             steps,
         );
     }

@@ -1,11 +1,10 @@
 // The bins of a table of coincidences, the ring of the last closed ones, and the cells.
-ghost use Rattle.std.specs.Prelude.{◌≡◌, ℕ, ◌+◌, ◌-◌, ◌*◌, ◌/◌, ◌^◌, ◌<◌, ◌≤◌, [], ◌++◌, length, slice_index, if◌then◌else◌, ◌==◌, nat_le};
-ghost use Rattle.std.specs.List.{AllByRecursion};
+ghost use Rattle.std.{specs.Prelude.{◌≡◌, ℕ, ◌+◌, ◌-◌, ◌*◌, ◌/◌, ◌^◌, ◌<◌, ◌≤◌, [], ◌++◌, length, slice_index, if◌then◌else◌, ◌==◌, nat_le}, specs.List.{AllByRecursion}};
 ghost use Rattle.tally_base.{specs.Settings.{coincidence_view, coincidence_cells}, specs.Tally.History};
 ghost use Rattle.lag_ring.specs.Cells.{Spends};
 ghost use Rattle.coincidence.specs.Pairing.{pairs_of, pairs_of_all, pairs_with, bin_pairs, pairing_of, RingIs, CellsAre, CanKeep, CanShut, CanPut, Puts, HasRoom, CountsMore};
 
-use lag_ring::{Entry, LagRing, PairCells};
+use lag_ring::{Entry, LagRing, RowCells};
 use std::alloc::{AllocError, Global};
 use std::sync::ledger::Ledger;
 use tally_base::{CoincidenceSet, Steps};
@@ -97,7 +96,7 @@ impl Direction {
 pub struct Pairing {
     pub open: Option<Bin>,
     pub ring: LagRing,
-    pub cells: PairCells,
+    pub cells: RowCells,
 }
 
 /// How many cells the differences take.
@@ -138,7 +137,7 @@ fn least_kept(set: &CoincidenceSet, index: u64) -> u64
 /// difference.
 #[inline(always)]
 pub(crate) fn add_pairs<L: Ledger>(
-    cells: &mut PairCells,
+    cells: &mut RowCells,
     set: CoincidenceSet,
     shifted: u32,
     earlier: u64,
@@ -160,7 +159,7 @@ pub(crate) fn add_pairs<L: Ledger>(
 /// one another.
 #[inline(always)]
 fn pair_earlier<L: Ledger>(
-    cells: &mut PairCells,
+    cells: &mut RowCells,
     set: CoincidenceSet,
     direction: Direction,
     index: u64,
@@ -192,7 +191,7 @@ fn pair_earlier<L: Ledger>(
 /// Pairs the photons of earlier entries with so many at a later tick.
 #[inline(always)]
 fn pair_direction<L: Ledger>(
-    cells: &mut PairCells,
+    cells: &mut RowCells,
     set: CoincidenceSet,
     direction: Direction,
     index: u64,
@@ -218,7 +217,7 @@ fn pair_direction<L: Ledger>(
 /// Pairs the photons of an entry with those of earlier ones, group by group.
 #[inline(always)]
 fn pair_groups<L: Ledger>(
-    cells: &mut PairCells,
+    cells: &mut RowCells,
     set: CoincidenceSet,
     later: &Entry,
     entries: &[Entry],
@@ -241,7 +240,7 @@ fn pair_groups<L: Ledger>(
 /// inlined, so that its loops test no width.
 #[inline(always)]
 fn pair_single_ticks<L: Ledger>(
-    cells: &mut PairCells,
+    cells: &mut RowCells,
     set: CoincidenceSet,
     later: &Entry,
     entries: &[Entry],
@@ -261,7 +260,7 @@ fn pair_single_ticks<L: Ledger>(
 
 /// Pairs the photons of an entry with those of earlier ones.
 fn pair_entries<L: Ledger>(
-    cells: &mut PairCells,
+    cells: &mut RowCells,
     set: &CoincidenceSet,
     later: &Entry,
     entries: &[Entry],
@@ -285,7 +284,7 @@ fn pair_entries<L: Ledger>(
 
 /// Pairs the photons of a bin with one another, and none with itself.
 pub(crate) fn pair_inside<L: Ledger>(
-    cells: &mut PairCells,
+    cells: &mut RowCells,
     set: &CoincidenceSet,
     bin: &Bin,
     steps: &mut Steps<L>,
@@ -306,7 +305,7 @@ pub(crate) fn pair_inside<L: Ledger>(
 
 /// Pairs the photons of a bin with one another, and with those of the closed bins.
 fn pair<L: Ledger>(
-    cells: &mut PairCells,
+    cells: &mut RowCells,
     ring: &LagRing,
     set: &CoincidenceSet,
     bin: &Bin,
@@ -347,7 +346,7 @@ pub(crate) fn keep(ring: &mut LagRing, set: &CoincidenceSet, bin: &Bin)
 #[inline(always)]
 fn begin<L: Ledger>(
     ring: &mut LagRing,
-    cells: &mut PairCells,
+    cells: &mut RowCells,
     set: &CoincidenceSet,
     bin: &Bin,
     steps: &mut Steps<L>,
@@ -371,7 +370,7 @@ fn begin<L: Ledger>(
 /// these.
 fn append<L: Ledger>(
     ring: &mut LagRing,
-    cells: &mut PairCells,
+    cells: &mut RowCells,
     set: &CoincidenceSet,
     bin: &Bin,
     steps: &mut Steps<L>,
@@ -395,7 +394,7 @@ fn append<L: Ledger>(
 #[inline(always)]
 pub(crate) fn shut<L: Ledger>(
     ring: &mut LagRing,
-    cells: &mut PairCells,
+    cells: &mut RowCells,
     set: &CoincidenceSet,
     bin: &Bin,
     steps: &mut Steps<L>,
@@ -425,7 +424,7 @@ pub(crate) fn shut<L: Ledger>(
 pub(crate) fn put<L: Ledger>(
     waiting: Option<Bin>,
     ring: &mut LagRing,
-    cells: &mut PairCells,
+    cells: &mut RowCells,
     set: &CoincidenceSet,
     bin: Bin,
     steps: &mut Steps<L>,
@@ -462,7 +461,7 @@ impl Pairing {
         Ok(Pairing {
             open: None,
             ring: LagRing::open(alloc, set.reach)?,
-            cells: PairCells::open(alloc, cells_of(set))?,
+            cells: RowCells::open(alloc, cells_of(set))?,
         })
     }
 

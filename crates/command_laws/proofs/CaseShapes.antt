@@ -1,6 +1,5 @@
 -- What is shown of a command for the cases of its shape, and that its outcome then is what they call for.
-use Rattle.std.proofs.Common.{◌≡◌, ℕ, List, None, Some, Ok, Err, refl, sym, ap, ◌∙◌, ◌⊎◌, subst, inl, inr, Result}
-use Rattle.std.specs.declared.option.Option.{Option}
+use Rattle.std.{proofs.Common.{◌≡◌, ℕ, List, None, Some, Ok, Err, refl, sym, ap, ◌∙◌, ◌⊎◌, subst, inl, inr, Result, arith, rules}, specs.declared.option.Option.{Option}}
 use Rattle.toml.specs.Data.{table}
 use Rattle.tally_base.{specs.declared.fault.Fault.Fault, specs.declared.header.Header.Header, specs.Faults.status_of, specs.RecordTypes.mode_of}
 use Rattle.bench_io.specs.Inputs.{File}
@@ -58,13 +57,7 @@ pub record NeedMeets (further : ℕ → Type 0) (need : Need) (lacks : PlanView 
 -- A plan has what is needed, or its lack is its fault.
 pub needs-by : (further : ℕ → Type 0) (has : PlanView → Type 0) (lack : Fault) (lacks : PlanView → Option Fault)
     → ((view : PlanView) → (has view × (lacks view ≡ None)) ⊎ ((has view → ⊥) × (lacks view ≡ Some lack))) → StatusIn 22 23 lack × further (status_of lack) → NeedMeets further (Needs has lack) lacks
-needs-by further has lack lacks decides status = record {
-  has = λ view none. elim (decides view) [ inl both ↦ both.0 | inr lacking ↦ (let some = lacking.1 in cc) ];
-  none = λ view it. elim (decides view) [ inl both ↦ both.1 | inr lacking ↦ absurd (lacking.0 it) ];
-  lack = λ view fault some. elim (decides view) [ inl both ↦ (let none = both.1 in cc) | inr lacking ↦ (lacking.0, some-same fault lack (sym some ∙ lacking.1)) ];
-  some = λ view fault h. elim (decides view) [ inl both ↦ absurd (h.0 both.0) | inr lacking ↦ lacking.1 ∙ ap Some (sym h.1) ];
-  status = λ view fault h. subst (λ (f : Fault). StatusIn 22 23 f × further (status_of f)) (sym h.1) status;
-}
+needs-by further has lack lacks decides status = search (rules, arith, some-same)
 
 pub record PlanMeets (further : ℕ → Type 0) (need : Need) (records : PlanView → RecordCases) (lacks : PlanView → Option Fault) (work : PlanView → Work) : Type 0 where
   pub needs : NeedMeets further need lacks
@@ -133,9 +126,7 @@ module _ (further : ℕ → Type 0) (need : Need) (records : PlanView → Record
       by (Some fault) e = inl (fault, told.needs.lack view fault e, refl)
 
   need-only : (view : PlanView) (data_file : File) (end : Outcome) → NeedCase need (records view) view data_file end → unless (lacks view) (on_file (work view) data_file) ≡ end
-  need-only view data_file end (inl h) = ap (λ lack. unless lack (on_file (work view) data_file)) (told.needs.some view h.0 h.1) ∙ sym h.2
-  need-only view data_file end (inr h) =
-      ap (λ lack. unless lack (on_file (work view) data_file)) (told.needs.none view h.0) ∙ planned-only further (records view) view (work view) (told.works view h.0) data_file end h.1
+  need-only view data_file end h1 = search (rules, arith, planned-only)
 
   abbrev plan_end : File → Result PlanView Fault → Outcome
   plan_end data_file answer = by_plan lacks work answer data_file
@@ -151,8 +142,7 @@ module _ (further : ℕ → Type 0) (need : Need) (records : PlanView → Record
           inr (good.1, good, good.2, subst (λ answer. NeedCase need (records found) found data_file (plan_end data_file answer)) (sym (plans text good.1 good good.2)) (need-holds found data_file))
 
   plan-only : (text : List ℕ) (data_file : File) (end : Outcome) → PlanCase need records (Some text) data_file end → plan_end data_file (plan_answer text) ≡ end
-  plan-only text data_file end (inl h) = ap (plan_end data_file) (answers text h.0 (h.1, h.2)) ∙ sym h.3
-  plan-only text data_file end (inr h) = ap (plan_end data_file) (plans text h.0 h.1 h.2) ∙ need-only (plan (table h.0)) data_file end h.3
+  plan-only text data_file end h1 = search (rules, arith, plan_end, answers, plans, need-only)
 
 -- ## All shapes
 

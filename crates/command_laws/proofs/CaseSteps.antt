@@ -1,6 +1,5 @@
 -- Steps that the tables of cases of all commands share.
-use Rattle.std.proofs.Common.{◌≡◌, ℕ, List, [], ◌∷◌, length, Bool, true, false, None, Some, Ok, Err, refl, sym, ap, ◌∙◌, inl, inr, ◌≢◌, ◌<◌, ◌≤◌, arith, ◌==◌, Result, nat_lt, if◌then◌else◌}
-use Rattle.std.{specs.declared.option.Option.Option, proofs.lemmas.Bool.Decides.nat_tests}
+use Rattle.std.{proofs.Common.{◌≡◌, ℕ, List, [], ◌∷◌, length, Bool, true, false, None, Ok, Err, refl, sym, ap, ◌∙◌, inl, inr, ◌≢◌, ◌<◌, ◌≤◌, arith, ◌==◌, Result, nat_lt, if◌then◌else◌, rules}, specs.declared.option.Option.Option, proofs.lemmas.Bool.Decides.nat_tests}
 use Rattle.tally_base.{specs.declared.fault.Fault.Fault, specs.declared.fault.Fault.TheVariants.TruncatedRecord, specs.declared.header.Header.Header}
 use Rattle.bench_io.specs.Inputs.{File}
 use Rattle.ptu_definitions.{specs.declared.records.Summary.Summary, specs.Headers.header_answer, specs.Words.{words_of, rest_of}, specs.Streams.{Reading, record_refusal, summary, streamed, or_refusal}, proofs.Sound.one_answer}
@@ -26,8 +25,7 @@ empty-true [] h = refl
 empty-true (x ∷ xs) h = let some : (length (x ∷ xs) == 0) ≡ false = grind (arith, nat_tests) in cc
 
 pub empty-false : (xs : List ℕ) → (length xs == 0) ≡ false → xs ≢ []
-empty-false [] h = cc
-empty-false (x ∷ xs) h = λ e. cc
+empty-false xs h = search (rules, arith)
 
 pub true-empty : (xs : List ℕ) → xs ≡ [] → (length xs == 0) ≡ true
 true-empty xs e = rw e refl
@@ -39,12 +37,10 @@ false-empty (x ∷ xs) h = grind (arith, nat_tests)
 -- ## Files and headers
 
 pub file-holds : (work : Work) (case : List ℕ → Outcome → Type 0) → ((bytes : List ℕ) → case bytes (work.outcome bytes)) → (data_file : File) → FileCase case data_file (on_file work data_file)
-file-holds work case holds None = refl
-file-holds work case holds (Some bytes) = holds bytes
+file-holds work case holds data_file = search (rules, arith)
 
 pub file-only : (work : Work) (case : List ℕ → Outcome → Type 0) → ((bytes : List ℕ) (end : Outcome) → case bytes end → work.outcome bytes ≡ end) → (data_file : File) (end : Outcome) → FileCase case data_file end → on_file work data_file ≡ end
-file-only work case only None end h = sym h
-file-only work case only (Some bytes) end h = only bytes end h
+file-only work case only data_file end h = search (rules, arith)
 
 abbrev pub Answer : Type 0
 Answer = Result (Header × List ℕ) Fault

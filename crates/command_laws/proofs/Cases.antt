@@ -1,19 +1,18 @@
 -- What `count`, `events`, `run`, `trace` and `demo` end with is what the table of cases calls for.
-use Rattle.std.proofs.Common.{◌≡◌, ℕ, zero, suc, List, [], ◌∷◌, ◌++◌, length, Bool, true, false, None, Some, Ok, Err, refl, sym, ap, ◌∙◌, ◌⊎◌, subst, inl, inr, arith, ◌==◌, ◌/◌, Result, nat_lt, nat_le, codes, decimal, map, if◌then◌else◌}
-use Rattle.std.specs.declared.option.Option.{Option}
-use Rattle.tally_base.{specs.declared.fault.Fault.Fault, specs.declared.fault.Fault.TheVariants.{RecordLimit, TruncatedRecord, NoTrace}, specs.declared.header.Header.Header, specs.Faults.{fault_in, status_of}, specs.Settings.{PartSettings, StartStopView, TraceView}, specs.Settings.PartSettings.StartStopSettings, specs.Tally.History}
+use Rattle.std.{proofs.Common.{◌≡◌, ℕ, zero, suc, List, [], ◌∷◌, ◌++◌, length, Bool, true, false, None, Some, Ok, Err, refl, sym, ap, ◌∙◌, ◌⊎◌, subst, inl, inr, arith, ◌==◌, Result, nat_lt, map, if◌then◌else◌, rules}, specs.declared.option.Option.{Option}}
+use Rattle.tally_base.{specs.declared.fault.Fault.Fault, specs.declared.fault.Fault.TheVariants.{RecordLimit, TruncatedRecord, NoTrace}, specs.declared.header.Header.Header, specs.Faults.{fault_in, status_of}, specs.Settings.{PartSettings, StartStopView, TraceView}, specs.Tally.History}
 use Rattle.ptu_definitions.{specs.declared.records.Summary.Summary, specs.Words.{words_of, rest_of}, specs.Layouts.meaning_of, specs.Kinds.counts_of, specs.Counted.{record_limit, records_of, counted}, specs.Prefixes.each_after, specs.Firsts.IsFirst, specs.Times.events, specs.Streams.{Reading, record_refusal, summary, summary_of, streamed}, proofs.Firsts.{first-refusal, refused-first, none-refused, given-before, given-all}}
 use Rattle.record_stream.proofs.Lasts.{streamed-refused}
 use Rattle.plan_text.specs.Plan.{PlanView, parts_of}
 use Rattle.coincidence.proofs.Places.{intervals-are-pairs}
 use Rattle.gate_plan.{specs.Shifting.sorting, specs.Histories.{history}, specs.Plans.reading_by}
-use Rattle.list_out.{specs.EventText.{events_text, lines_of}, specs.Lines.line}
-use Rattle.table_out.{specs.Printed.{texts, cell_line, cell_lines, first_line, table_lines}, specs.StartStop.startstop_printed, specs.Report.{head_text, printed, Table, table_text, report, with_events}}
+use Rattle.list_out.{specs.EventText.{events_text, lines_of}}
+use Rattle.table_out.{specs.Printed.{texts, table_lines}, specs.StartStop.startstop_printed, specs.Report.{head_text, printed, Table, table_text, report, with_events}}
 use Rattle.ptu_made.{specs.Generator.made_words, specs.Records.made_header}
 use Rattle.long_trace.specs.Texts.{open_text, whole_text}
 use Rattle.report_work.{specs.Reports.{report_of, if_fits, report_behind, report_outcome, any_plan, reporting}, specs.Demo.{demo_plan, demo_report}}
 use Rattle.file_work.{specs.CountText.counts_text, specs.FileOutcomes.{with_counts, counts_behind, count_outcome, listing, events_behind, counting, listing_all}}
-use Rattle.trace_work.{specs.TraceOutcomes.{trace_of, unless_traced, no_trace, traced, records_traced, traced_if_fits, traced_behind, tracing}, specs.TraceTexts.{settled-whole, settled-first}}
+use Rattle.trace_work.{specs.TraceOutcomes.{trace_of, no_trace, traced, records_traced, traced_if_fits, traced_behind, tracing}, specs.TraceTexts.{settled-whole, settled-first}}
 use Rattle.command_work.specs.Outcomes.{Outcome, refused, written}
 use Rattle.command_laws.{specs.Cases.{WholeCase, CountCase, StreamCase, list_text, startstop_by_places, by_places, placed_text, report_by_places, words_report, trace_text, TraceCase, HasTrace, TracedCase}, specs.CommandCases.{IsIn, RefusedIn, count_cases, stream_cases, events_cases, run_cases, trace_cases, NeedsNothing, Needs}, proofs.FaultStatuses.{of-refused, of-written, of-end, whole-cause, range-as, wider, least-status, listed-status}, proofs.CaseSteps.{end_with, same-end, lt-true, lt-false, true-lt, false-lt, empty-true, empty-false, true-empty, false-empty, whole_answer, streamed-clear}, proofs.CaseShapes.{Call, IsCut, IsRefused, IsLate, CallsBy, RecordsMeet, FileMeets, PlanMeets, needs-by}}
 
@@ -25,17 +24,10 @@ texts-same f g (suc n) same = rw (texts-same f g n same, same n) refl
 
 startstop-same : (set : StartStopView) (number : ℕ) (h : History) → table_lines (startstop_by_places set) number h ≡ table_lines (startstop_printed set) number h
 unfolding startstop_printed
-startstop-same set number h =
-    let one = startstop_by_places set in
-    let other = startstop_printed set in
-    let cells : cell_lines one h ≡ cell_lines other h =
-    texts-same _ _ 1 (λ row. texts-same _ _ set.bins (λ b. ap (cell_line b) (sym (intervals-are-pairs set (λ time. time / set.width == b) h)))) in
-    let over : one.rest h ≡ other.rest h = ap (λ n. line (codes "over") (decimal n)) (sym (intervals-are-pairs set (λ time. nat_le set.bins (time / set.width)) h)) in
-    ap (λ l. first_line one number ++ l ++ one.rest h) cells ∙ ap (λ l. first_line one number ++ cell_lines other h ++ l) over
+startstop-same set number h = search (rules, arith, texts-same, intervals-are-pairs)
 
 part-same : (settings : PartSettings) (number : ℕ) (h : History) → table_lines (by_places settings) number h ≡ table_lines (printed settings) number h
-part-same (StartStopSettings set) number h = startstop-same set number h
-part-same _ number h = refl
+part-same settings number h = search (rules, arith, startstop-same)
 
 each-same : {A B : Type 0} (f g : List A → A → List B) (before xs : List A) → ((before : List A) (x : A) → f before x ≡ g before x) → each_after f before xs ≡ each_after g before xs
 each-same f g before [] same = refl
@@ -50,9 +42,7 @@ unfolding summary
 summary-same how words = refl
 
 words-same : (view : PlanView) (header : Header) (words : List ℕ) → report header (summary (reading_by view header) words) (with_events (parts_of view) (history (sorting view) (reading_by view header) words)) ≡ words_report view header words
-words-same view header words =
-    let tables = with_events (parts_of view) (history (sorting view) (reading_by view header) words) in
-    ap (λ sum. report header sum tables) (summary-same (reading_by view header) words) ∙ sym (report-same header _ tables)
+words-same view header words = search (rules, arith, summary-same, report-same)
 
 -- ## Whole records
 
@@ -60,12 +50,10 @@ abbrev whole_end : List ℕ → List ℕ → Bool → Outcome
 whole_end behind text whole = if whole then written text else refused (TruncatedRecord (length (rest_of behind)))
 
 whole-holds : (behind text : List ℕ) (whole : Bool) → (length (rest_of behind) == 0) ≡ whole → WholeCase behind text (whole_end behind text whole)
-whole-holds behind text true h = inr (empty-true (rest_of behind) h, refl)
-whole-holds behind text false h = inl (empty-false (rest_of behind) h, refl)
+whole-holds behind text whole h = search (rules, arith, empty-true, empty-false)
 
 whole-only : (behind text : List ℕ) (end : Outcome) → WholeCase behind text end → whole_end behind text (length (rest_of behind) == 0) ≡ end
-whole-only behind text end (inl h) = ap (whole_end behind text) (false-empty (rest_of behind) h.0) ∙ sym h.1
-whole-only behind text end (inr h) = ap (whole_end behind text) (true-empty (rest_of behind) h.0) ∙ sym h.1
+whole-only behind text end h1 = search (rules, arith, whole_end, false-empty, true-empty)
 
 -- ## count
 
@@ -77,14 +65,7 @@ count_end header behind many = if many then refused (RecordLimit record_limit) e
 
 count-steps : (header : Header) (behind : List ℕ) → count_outcome (with_counts header (counted header.record_type behind)) ≡ count_end header behind (nat_lt record_limit (length (words_of behind)))
 unfolding counted records_of
-count-steps header behind = by (nat_lt record_limit (length (words_of behind))) (length (rest_of behind) == 0)
-  where
-    by : (many whole : Bool)
-        → count_outcome (with_counts header (if many then Err (RecordLimit record_limit) else if whole then Ok (counts_of (map (meaning_of header.record_type) (words_of behind))) else Err (TruncatedRecord (length (rest_of behind)))))
-        ≡ if many then refused (RecordLimit record_limit) else whole_end behind (count_text header behind) whole
-    by true whole = refl
-    by false true = refl
-    by false false = refl
+count-steps header behind = search (rules, arith)
 
 count-by : (header : Header) (behind : List ℕ) (many : Bool) → nat_lt record_limit (length (words_of behind)) ≡ many → CountCase header behind (count_end header behind many)
 count-by header behind true h = inl (lt-true _ _ h, refl)
@@ -95,7 +76,7 @@ count-holds header behind = subst (CountCase header behind) (sym (count-steps he
 
 count-only : (header : Header) (behind : List ℕ) (end : Outcome) → CountCase header behind end → count_outcome (with_counts header (counted header.record_type behind)) ≡ end
 count-only header behind end (inl h) = count-steps header behind ∙ ap (count_end header behind) (true-lt _ _ h.0) ∙ sym h.1
-count-only header behind end (inr h) = count-steps header behind ∙ ap (count_end header behind) (false-lt _ _ h.0) ∙ whole-only behind (count_text header behind) end h.1
+count-only header behind end (inr h) = search (rules, arith, count-steps, count_end, false-lt, whole-only, count_text)
 
 count-cause : (header : Header) (behind : List ℕ) (end : Outcome) (fault : Fault) → CountCase header behind end → end.fault ≡ Some fault → (call : Call) × CallsBy call count_cases header behind fault
 count-cause header behind end fault (inl h) e = (IsRefused, (h.0, of-refused end _ fault h.1 e))
@@ -248,11 +229,7 @@ module _ (set : TraceView) (view : PlanView) (header : Header) (behind : List �
   traced-ends call fault is h = let end = stream-ends (reading_by view) (TracedCase view) header (trace_text set view header) trace_whole behind call fault h in (end.0, (set, is, end.1), end.2)
 
 trace-decides : (view : PlanView) → (HasTrace view × (no_trace view ≡ None)) ⊎ ((HasTrace view → ⊥) × (no_trace view ≡ Some NoTrace))
-trace-decides view = by (trace_of view) refl
-  where
-    by : (o : Option TraceView) → trace_of view ≡ o → (HasTrace view × (no_trace view ≡ None)) ⊎ ((HasTrace view → ⊥) × (no_trace view ≡ Some NoTrace))
-    by (Some set) is = inl ((set, is), ap unless_traced is)
-    by None is = inr (λ has. (let other = has.1 in cc), ap unless_traced is)
+trace-decides view = search (rules, arith)
 
 pub trace-told : PlanMeets (IsIn 18 22) (Needs HasTrace NoTrace) trace_cases no_trace tracing
 trace-told = record {

@@ -1,22 +1,19 @@
 -- Each fault that the words and files of a command call for has its cause, by the phase of the run that it falls in.
-use Rattle.std.proofs.Common.{◌≡◌, ℕ, List, [], None, Some, Ok, Err, refl, sym, ap, ◌∙◌, subst, inl, inr, append-nil, arith, length, false, ◌≤◌, ◌⊎◌, ◌↔◌, Result, map}
-use Rattle.std.specs.declared.option.Option.{Option}
-use Rattle.toml.specs.Data.{table}
+use Rattle.std.{proofs.Common.{◌≡◌, ℕ, List, [], None, Some, Err, refl, sym, ap, ◌∙◌, subst, inl, inr, append-nil, arith, ◌⊎◌, ◌↔◌, Result, rules}, specs.declared.option.Option.{Option}}
 use Rattle.tally_base.{specs.declared.fault.Fault.Fault, specs.declared.header.Header.Header, specs.Faults.{fault_in, status_of}, specs.RecordTypes.mode_of, specs.declared.slot.Slot.Slot, specs.declared.slot.Slot.TheVariants.{Plan, Data}, specs.declared.fault.Fault.TheVariants.{Usage, OpenFault, NoGroup, PickTime}}
 use Rattle.bench_io.specs.Inputs.{File}
-use Rattle.ptu_definitions.{specs.Words.words_of, proofs.Sound.one_answer, specs.Headers.HasAnswer, specs.Counted.record_limit}
-use Rattle.plan_text.{specs.Plan.{PlanView, plan}, proofs.Called.valid, specs.Reading.IsCalledFor, specs.Fits.IsMisfit}
+use Rattle.ptu_definitions.{specs.Words.words_of, proofs.Sound.one_answer, specs.Headers.HasAnswer}
+use Rattle.plan_text.{specs.Plan.{PlanView}, proofs.Called.valid, specs.Reading.IsCalledFor, specs.Fits.IsMisfit}
 use Rattle.photon_pick.{specs.Late.too_late, proofs.CanBeWritten.written-can}
-use Rattle.command_work.{specs.Endings.outcome, specs.Outcomes.{Outcome, refused, written}, specs.Behaviours.{Behaviour, NoCommand, Alone, OnFile, ByPlan}}
+use Rattle.command_work.{specs.Endings.outcome, specs.Outcomes.{Outcome, refused}, specs.Behaviours.{Behaviour}}
 use Rattle.file_work.specs.FileOutcomes.{header_outcome}
 use Rattle.ptu_cli.specs.Behaviours.{behaviour}
 use Rattle.command_words.specs.Commands.{Request, Pick, Events}
 use Rattle.pick_work.specs.PickOutcomes.{records_picked}
 use Rattle.command_laws.{specs.Ends.{ends_with, ListsWritten, EndsWellOrLate}, specs.Causes.{OfRecords, IsValidPlan, Headed, Unheaded, IsPlanWith, Absent, NoPlan, Misfits, NoHeader, Lacking, TooLate, IsPickable, EndsWithFault, StatusIn, MayCallFor}, specs.Cases.{FileCase, HeaderCase, PrintCase, HasGroup, settled_photons, kept_photons, FirstLate, LateAtEnd, AllPicked, PickedCase}, specs.CommandCases.{RecordCases, Need, CommandCases, NamesLate, pick_cases, cases, Lacks, Has, Suits, SuitCase, NeedCase, PlanCase, ShapeCase, Needs, BadWords, Writes, ReadsHeader, ReadsRecords, ReadsByPlan}, proofs.FaultStatuses.{some-same, of-refused, of-written, range-as, wider, called-status, misfit-status, unheaded-status, cut_behind-status}, proofs.CaseShapes.{Call, IsCut, IsRefused, IsLate, CallsBy, RecordsMeet, MeetsCases}, proofs.Prints.print-holds, proofs.PickPhotons.none-or-late, proofs.PickCases.{first-settled, picked-holds}, proofs.Proved.{told, one-outcome}, proofs.PickedFiles.listed-picked, specs.Written.photons_written}
 use Rattle.gate_plan.specs.Shifting.{sorting}
-use Rattle.list_out.specs.EventText.{events_text}
 use Rattle.short_file.specs.ShortFiles.{short_file}
-use Rattle.record_write.specs.Picked.{picked_words, picked_file, picked_events}
+use Rattle.record_write.specs.Picked.{picked_file}
 
 -- ## The phases of a run
 
@@ -44,18 +41,7 @@ InPhase (AtRecords IsLate) = StatusIn 24 24
 
 -- no status falls into two phases
 one-phase : (p q : Phase) (fault : Fault) → InPhase p fault → InPhase q fault → p ≡ q
-one-phase AtWords AtWords fault s t = refl
-one-phase AtFile AtFile fault s t = refl
-one-phase AtPlan AtPlan fault s t = refl
-one-phase AtNeed AtNeed fault s t = refl
-one-phase AtMode AtMode fault s t = refl
-one-phase AtHeader AtHeader fault s t = refl
-one-phase (AtRecords IsCut) (AtRecords IsCut) fault s t = refl
-one-phase (AtRecords IsRefused) (AtRecords IsRefused) fault s t = refl
-one-phase (AtRecords IsLate) (AtRecords IsLate) fault s t = refl
-one-phase (AtRecords IsCut) _ fault s t = absurd (omega (arith, s.0, s.1, t.0, t.1))
-one-phase _ (AtRecords IsCut) fault s t = absurd (omega (arith, s.0, s.1, t.0, t.1))
-one-phase _ _ fault s t = absurd (omega (arith, s.0, s.1, t.0, t.1))
+one-phase p q fault s t = search (rules, arith)
 
 abbrev pub IsNoCommand : CommandCases → Type 0
 IsNoCommand BadWords = Unit {0}
@@ -80,12 +66,7 @@ Meets (ReadsByPlan further need records) =
 Meets other = Unit {0}
 
 by-shape : (does : Behaviour) (shape : CommandCases) → MeetsCases does shape → Meets shape
-by-shape NoCommand BadWords told = tt
-by-shape (Alone end) (Writes text) told = tt
-by-shape (OnFile file writing work) ReadsHeader told = tt
-by-shape (OnFile file writing work) (ReadsRecords further records) told = (_, told.told)
-by-shape (ByPlan plan_name file writing memory lacks work) (ReadsByPlan further need records) told = (told.needs.status, λ view has. (_, (told.works view has).told))
-by-shape does other told = absurd told
+by-shape does shape told = search (rules, arith, told)
 
 meets : (request : Option Request) → Meets (cases request)
 meets request = by-shape (behaviour request) (cases request) (told request)
@@ -103,12 +84,11 @@ own calls end fault ends h = subst calls (sym (of-refused end h.0 fault h.2 ends
 file-why : {R : Type 0} (case : Header → List ℕ → Outcome → Type 0) (data_file : File) (end : Outcome) (fault : Fault) → end.fault ≡ Some fault → FileCase (HeaderCase case) data_file end
     → ((data_file ≡ None) × (fault ≡ OpenFault Data) → R) → (Unheaded data_file fault → R) → ((header : Header) (behind : List ℕ) → Headed data_file header behind → case header behind end → R) → R
 file-why case None end fault ends h absent unheaded headed = absent (refl, of-refused end _ fault h ends)
-file-why case (Some bytes) end fault ends (inl h) absent unheaded headed = unheaded (record { bytes = bytes; present = refl; is_refused = own (λ (f : Fault). HasAnswer bytes (Err f)) end fault ends h })
+file-why case (Some bytes) end fault ends (inl h) absent unheaded headed = search (rules, arith)
 file-why case (Some bytes) end fault ends (inr h) absent unheaded headed = headed h.0 h.1 (record { bytes = bytes; present = refl; is_header = h.2 }) h.3
 
 refused-answer : (answer : Result (Header × List ℕ) Fault) (fault : Fault) → fault_in answer ≡ Some fault → answer ≡ Err fault
-refused-answer (Ok found) fault e = cc
-refused-answer (Err other) fault e = ap (λ (f : Fault). Err f) (some-same other fault e)
+refused-answer answer fault e = search (rules, arith, some-same)
 
 planned-why : (further : ℕ → Type 0) (need : Need) (records : PlanView → RecordCases) → Meets (ReadsByPlan further need records) → (plan_file data_file : File) (end : Outcome) (fault : Fault) → end.fault ≡ Some fault
     → (view : PlanView) → IsValidPlan plan_file view → NeedCase need (records view) view data_file end → SomeCause (ReadsByPlan further need records) plan_file data_file fault
@@ -135,8 +115,7 @@ why (ReadsByPlan further need records) told None data_file end fault ends h = (A
 why (ReadsByPlan further need records) told (Some text) data_file end fault ends (inl h) =
     let same = of-refused end h.0 fault h.3 ends in
     (AtPlan, (text, refl, subst (IsCalledFor text) (sym same) h.1, λ e. h.2 (sym same ∙ e)))
-why (ReadsByPlan further need records) told (Some text) data_file end fault ends (inr h) =
-    planned-why further need records told (Some text) data_file end fault ends (plan (table h.0)) (record { text = text; ms = h.0; present = refl; is_valid = h.1; document_is = h.2; view_is = refl }) h.3
+why (ReadsByPlan further need records) told (Some text) data_file end fault ends (inr h) = search (rules, arith, planned-why, told)
 
 cause-of : (request : Option Request) (plan_file data_file : File) (fault : Fault) → EndsWithFault request plan_file data_file fault → SomeCause (cases request) plan_file data_file fault
 cause-of request plan_file data_file fault ends =
@@ -159,9 +138,7 @@ unheaded-there : (case : Header → List ℕ → Outcome → Type 0) (data_file 
 unheaded-there case data_file fault h = at-file (HeaderCase case) data_file (Some h.bytes) (refused fault) h.present (inl (fault, h.is_refused, refl))
 
 planned-there : (need : Need) (records : PlanView → RecordCases) (plan_file data_file : File) (view : PlanView) (end : Outcome) → IsValidPlan plan_file view → NeedCase need (records view) view data_file end → PlanCase need records plan_file data_file end
-planned-there need records plan_file data_file view end valid h =
-    subst (λ (f : File). PlanCase need records f data_file end) (sym valid.present)
-    (inr (valid.ms, valid.is_valid, valid.document_is, subst (λ (v : PlanView). NeedCase need (records v) v data_file end) valid.view_is h))
+planned-there need records plan_file data_file view end valid h = search (rules, arith)
 
 file-there : (need : Need) (records : PlanView → RecordCases) (plan_file data_file : File) (view : PlanView) (end : Outcome) → IsPlanWith need plan_file view
     → FileCase (HeaderCase (SuitCase view (records view).ends)) data_file end → PlanCase need records plan_file data_file end
@@ -169,8 +146,7 @@ file-there need records plan_file data_file view end is h = planned-there need r
 
 suited-there : (need : Need) (records : PlanView → RecordCases) (plan_file data_file : File) (view : PlanView) (header : Header) (behind : List ℕ) (end : Outcome)
     → IsPlanWith need plan_file view → Headed data_file header behind → SuitCase view (records view).ends header behind end → PlanCase need records plan_file data_file end
-suited-there need records plan_file data_file view header behind end is headed h =
-    file-there need records plan_file data_file view end is (headed-there (SuitCase view (records view).ends) data_file header behind end headed h)
+suited-there need records plan_file data_file view header behind end is headed h = search (rules, arith, file-there, headed-there)
 
 ends-there : (p : Phase) (shape : CommandCases) → Meets shape → (plan_file data_file : File) (fault : Fault) → Cause p shape plan_file data_file fault → HasEnd shape plan_file data_file fault
 ends-there AtWords BadWords told plan_file data_file fault h = (refused Usage, refl, ap Some (sym h.1))
@@ -188,9 +164,7 @@ ends-there AtHeader ReadsHeader told plan_file data_file fault h =
 ends-there AtHeader (ReadsRecords further records) told plan_file data_file fault h = (refused fault, unheaded-there records.ends data_file fault h, refl)
 ends-there AtHeader (ReadsByPlan further need records) told plan_file data_file fault h =
     (refused fault, file-there need records plan_file data_file h.0 (refused fault) h.1 (unheaded-there (SuitCase h.0 (records h.0).ends) data_file fault h.2), refl)
-ends-there (AtRecords call) (ReadsRecords further records) told plan_file data_file fault h =
-    let end = told.1.ends call h.0 h.1 fault h.3 in
-    (end.0, headed-there records.ends data_file h.0 h.1 end.0 h.2 end.1, end.2)
+ends-there (AtRecords call) (ReadsRecords further records) told plan_file data_file fault h = search (rules, arith, headed-there)
 ends-there (AtRecords call) (ReadsByPlan further need records) told plan_file data_file fault h =
     let end = (told.1 h.0 h.3.1).1.ends call h.1 h.2 fault h.5.1 in
     (end.0, suited-there need records plan_file data_file h.0 h.1 h.2 end.0 h.3 h.4 (inr (h.5.0, end.1)), end.2)
@@ -198,9 +172,7 @@ ends-there AtWords _ told plan_file data_file fault h = absurd h.0
 ends-there _ _ told plan_file data_file fault h = absurd h
 
 fault-of : (p : Phase) (request : Option Request) (plan_file data_file : File) (fault : Fault) → Cause p (cases request) plan_file data_file fault → EndsWithFault request plan_file data_file fault
-fault-of p request plan_file data_file fault h =
-    let end = ends-there p (cases request) (meets request) plan_file data_file fault h in
-    ap (λ (o : Outcome). o.fault) ((one-outcome request plan_file data_file end.0).0 end.1) ∙ end.2
+fault-of p request plan_file data_file fault h = search (rules, arith, ends-there, meets, one-outcome)
 
 -- ## The status of each cause
 
@@ -214,20 +186,18 @@ called AtFile ReadsHeader told plan_file data_file fault h = let s = open-status
 called AtFile (ReadsRecords further records) told plan_file data_file fault h = let s = open-status fault Data h.1 in (s, inl s)
 called AtFile (ReadsByPlan further need records) told plan_file data_file fault (inl h) = let s = open-status fault Plan h.1 in (s, inl s)
 called AtFile (ReadsByPlan further need records) told plan_file data_file fault (inr h) = let s = open-status fault Data h.3 in (s, inl s)
-called AtPlan (ReadsByPlan further need records) told plan_file data_file fault h = let s = called-status h.0 fault h.2 h.3 in (s, inr (inl (wider 6 8 6 17 fault s (omega arith) (omega arith))))
+called AtPlan (ReadsByPlan further need records) told plan_file data_file fault h = search (rules, arith, called-status, wider)
 called AtNeed (ReadsByPlan further need records) told plan_file data_file fault h = let s = told.0 h.0 fault h.2 in (s.0, inr (inr s.1))
-called AtMode (ReadsByPlan further need records) told plan_file data_file fault h =
-    let s = misfit-status (mode_of h.1.record_type) h.0 fault h.5 in
-    (s, inr (inl (wider 9 9 6 17 fault s (omega arith) (omega arith))))
+called AtMode (ReadsByPlan further need records) told plan_file data_file fault h = search (rules, arith, misfit-status, wider)
 called AtHeader ReadsHeader told plan_file data_file fault h = let s = unheaded-status data_file fault h in (s, inr s)
 called AtHeader (ReadsRecords further records) told plan_file data_file fault h = let s = unheaded-status data_file fault h in (s, inr (inl (wider 10 16 10 17 fault s (omega arith) (omega arith))))
 called AtHeader (ReadsByPlan further need records) told plan_file data_file fault h = let s = unheaded-status data_file fault h.2 in (s, inr (inl (wider 10 16 6 17 fault s (omega arith) (omega arith))))
-called (AtRecords IsCut) (ReadsRecords further records) told plan_file data_file fault h = let s = cut_behind-status h.1 fault h.3.2 in (s, inr (inl (wider 17 17 10 17 fault s (omega arith) (omega arith))))
-called (AtRecords IsCut) (ReadsByPlan further need records) told plan_file data_file fault h = let s = cut_behind-status h.2 fault h.5.1.2 in (s, inr (inl (wider 17 17 6 17 fault s (omega arith) (omega arith))))
-called (AtRecords IsRefused) (ReadsRecords further records) told plan_file data_file fault h = let s = told.1.refuses_status h.0 h.1 fault h.3 in (s.0, inr (inr s.1))
-called (AtRecords IsRefused) (ReadsByPlan further need records) told plan_file data_file fault h = let s = (told.1 h.0 h.3.1).1.refuses_status h.1 h.2 fault h.5.1 in (s.0, inr (inr s.1))
+called (AtRecords IsCut) (ReadsRecords further records) told plan_file data_file fault h = search (rules, arith, cut_behind-status, wider)
+called (AtRecords IsCut) (ReadsByPlan further need records) told plan_file data_file fault h = search (rules, arith, cut_behind-status, wider)
+called (AtRecords IsRefused) (ReadsRecords further records) told plan_file data_file fault h = search (rules, arith)
+called (AtRecords IsRefused) (ReadsByPlan further need records) told plan_file data_file fault h = search (rules, arith)
 called (AtRecords IsLate) (ReadsRecords further records) told plan_file data_file fault h = let s = told.1.late_status h.0 h.1 fault h.3 in (s.0, inr (inr s.1))
-called (AtRecords IsLate) (ReadsByPlan further need records) told plan_file data_file fault h = let s = (told.1 h.0 h.3.1).1.late_status h.1 h.2 fault h.5.1 in (s.0, inr (inr s.1))
+called (AtRecords IsLate) (ReadsByPlan further need records) told plan_file data_file fault h = search (rules, arith)
 called AtWords _ told plan_file data_file fault h = absurd h.0
 called _ _ told plan_file data_file fault h = absurd h
 
@@ -246,9 +216,7 @@ exactly p request plan_file data_file fault s = (
 )
 
 pub no-command : (request : Option Request) → IsNoCommand (cases request) → request ≡ None
-no-command None h = refl
-no-command (Some (Events file)) h = absurd h
-no-command (Some _) h = absurd h
+no-command request h = search (rules, arith)
 
 pub exactly-words : (request : Option Request) (plan_file data_file : File) → EndsWithFault request plan_file data_file Usage ↔ (request ≡ None)
 exactly-words request plan_file data_file =

@@ -1,9 +1,8 @@
 -- What the faults of refusals are, and their statuses.
-use Rattle.std.proofs.Common.{◌≡◌, ℕ, List, [], ◌∷◌, length, Bool, true, false, None, Some, Ok, Err, refl, sym, ap, ◌∙◌, subst, inl, inr, ◌≢◌, ◌+◌, ◌≤◌, arith, ◌==◌, Result, nat_le, map, if◌then◌else◌, ◌&&◌}
-use Rattle.std.specs.declared.option.Option.{Option}
-use Rattle.tally_base.{specs.declared.fault.Fault.Fault, specs.declared.fault.Fault.TheVariants.{RecordLimit, TruncatedRecord, OutOfMemory, PlanTooLong, PlanSyntax, PlanRule, HeaderLimit, TruncatedHeader, ReservedRecord, TimeLimit, BackwardTime}, specs.declared.header.Header.Header, specs.declared.event.Event.Event, specs.declared.header.Mode.Mode, specs.declared.header.RecordType.RecordType, specs.Events.{stops_late, stops_reserved}}
+use Rattle.std.{proofs.Common.{◌≡◌, ℕ, List, [], ◌∷◌, length, Bool, true, None, Some, Ok, Err, sym, ap, ◌∙◌, subst, inl, inr, ◌≢◌, ◌≤◌, arith, ◌==◌, Result, if◌then◌else◌, rules}, specs.declared.option.Option.{Option}}
+use Rattle.tally_base.{specs.declared.fault.Fault.Fault, specs.declared.fault.Fault.TheVariants.{RecordLimit, TruncatedRecord, OutOfMemory, HeaderLimit, TruncatedHeader, ReservedRecord, TimeLimit}, specs.declared.header.Header.Header, specs.declared.event.Event.Event, specs.declared.header.Mode.Mode, specs.declared.header.RecordType.RecordType, specs.Events.{stops_late, stops_reserved}}
 use Rattle.bench_io.specs.Inputs.{File}
-use Rattle.ptu_definitions.{specs.Headers.{head_of, answer_as, with_rest, header_limit}, specs.Words.rest_of, specs.Times.{events, event_after, passes}, specs.Streams.{Reading, late_refusal, refusal}, specs.declared.found.Found.Found, specs.Endings.{Ending, OtherFile, BadType, BadLength, Whole, Open}, specs.Fields.{found_in, header_of, version_in, with_type, with_value}, specs.Kinds.is_reserved, specs.Kept.greatest, specs.Settled.is_late_by}
+use Rattle.ptu_definitions.{specs.Headers.{head_of, answer_as, with_rest, header_limit}, specs.Words.rest_of, specs.Streams.{Reading, late_refusal, refusal}, specs.declared.found.Found.Found, specs.Endings.{Ending, OtherFile, BadType, BadLength, Whole, Open}, specs.Fields.{found_in, header_of, version_in, with_type, with_value}}
 use Rattle.plan_text.{specs.Plan.PlanView, specs.Reading.IsCalledFor, specs.Fits.IsMisfit, proofs.Misfits.names_part}
 use Rattle.command_laws.{specs.Causes.{Unheaded, StatusIn}, specs.Cases.WholeCase, specs.CommandCases.RefusedIn}
 use Rattle.command_work.specs.Outcomes.{Outcome, refused, written}
@@ -36,11 +35,7 @@ pub wider : (a b c d : ℕ) (fault : Fault) → StatusIn a b fault → c ≤ a �
 wider a b c d fault s low high = (omega (arith, s.0, low), omega (arith, s.1, high))
 
 pub called-status : (text : List ℕ) (fault : Fault) → IsCalledFor text fault → fault ≢ OutOfMemory → StatusIn 6 8 fault
-called-status text OutOfMemory h other = absurd (other refl)
-called-status text PlanTooLong h other = (omega arith, omega arith)
-called-status text PlanSyntax h other = (omega arith, omega arith)
-called-status text (PlanRule n index) h other = (omega arith, omega arith)
-called-status text _ h other = absurd h
+called-status text fault h other = search (rules, arith)
 
 pub misfit-status : (mode : Mode) (view : PlanView) (fault : Fault) → IsMisfit mode view fault → StatusIn 9 9 fault
 misfit-status mode view fault misfit = range-as 9 9 fault _ (names_part mode view fault misfit).2 (omega arith, omega arith)
@@ -51,24 +46,20 @@ InHeader (Ok value) = Unit {0}
 InHeader (Err fault) = StatusIn 10 16 fault
 
 with_rest-in : (rest : List ℕ) (r : Result Header Fault) → InHeader r → InHeader (with_rest rest r)
-with_rest-in rest (Ok header) h = tt
-with_rest-in rest (Err fault) h = h
+with_rest-in rest r h = search (rules, arith)
 
 with_type-in : (version : List ℕ) (found : Found) (value : ℕ) (record_type : Option RecordType) → InHeader (with_type version found value record_type)
-with_type-in version found value None = (omega arith, omega arith)
-with_type-in version found value (Some record_type) = tt
+with_type-in version found value record_type = search (rules, arith)
 
 with_value-in : (version : List ℕ) (found : Found) (value : Option ℕ) → InHeader (with_value version found value)
-with_value-in version found None = (omega arith, omega arith)
-with_value-in version found (Some value) = with_type-in version found value _
+with_value-in version found value = search (rules, arith, with_type-in)
 
 header_of-in : (version : List ℕ) (found : Found) → InHeader (header_of version found)
 unfolding header_of
 header_of-in version found = with_value-in version found found.record_type
 
 unfinished-in : (whole : Bool) (size : ℕ) → StatusIn 10 16 (if whole then HeaderLimit else TruncatedHeader size)
-unfinished-in true size = (omega arith, omega arith)
-unfinished-in false size = (omega arith, omega arith)
+unfinished-in whole size = search (rules, arith)
 
 answer_as-in : (file : List ℕ) (end : Ending) → InHeader (answer_as file end)
 answer_as-in file OtherFile = (omega arith, omega arith)
@@ -90,40 +81,19 @@ OfSome holds (Some fault) = holds fault
 
 late_refusal-in : (k : ℕ) (mode : Mode) (before es : List Event) → OfSome (StatusIn 18 21) (late_refusal k mode before es)
 late_refusal-in k mode before [] = tt
-late_refusal-in k mode before (e ∷ es) = by (is_late_by k mode before e)
-  where
-    by : (b : Bool) → OfSome (StatusIn 18 21) (if b then Some (BackwardTime e.place e.time (greatest mode before)) else None)
-    by true = (omega arith, omega arith)
-    by false = tt
+late_refusal-in k mode before (e ∷ es) = search (rules, arith)
 
 causes-in : (least : ℕ) → least ≤ 20 → (full reserved passing stops : Bool) (limit place word : ℕ) (late : Option Fault) → (reserved ≡ true → least ≤ 18) → (stops ≡ true → OfSome (StatusIn least 21) late)
     → OfSome (StatusIn least 21) (if full then Some (RecordLimit limit) else if reserved then Some (ReservedRecord place word) else if passing then Some (TimeLimit place) else if stops then late else None)
-causes-in least few true reserved passing stops limit place word late own h = (omega (arith, few), omega arith)
-causes-in least few false true passing stops limit place word late own h = (omega (arith, own refl), omega arith)
-causes-in least few false false true stops limit place word late own h = (omega (arith, few), omega arith)
-causes-in least few false false false true limit place word late own h = h refl
-causes-in least few false false false false limit place word late own h = tt
+causes-in least few full reserved passing stops limit place word late own h = search (rules, arith)
 
 refusal-in : (how : Reading) (before : List ℕ) (word least : ℕ) → least ≤ 20 → (stops_reserved how.policy.reserved ≡ true → least ≤ 18) → (stops_late how.policy.order ≡ true → least ≤ 18) → OfSome (StatusIn least 21) (refusal how before word)
 unfolding refusal
-refusal-in how before word least few reserved late =
-    let records = map how.meaning before in
-    let raw = how.meaning word in
-    causes-in least few (nat_le how.policy.records (length records)) (is_reserved raw && stops_reserved how.policy.reserved) (passes records raw) (stops_late how.policy.order) how.policy.records (length records + 1) word
-    (late_refusal how.policy.settle how.mode (events records) (event_after records raw)) (both (is_reserved raw) (stops_reserved how.policy.reserved) reserved)
-    (λ stops. wide (late_refusal how.policy.settle how.mode (events records) (event_after records raw)) (late stops) (late_refusal-in how.policy.settle how.mode (events records) (event_after records raw)))
-  where
-    both : (a b : Bool) → (b ≡ true → least ≤ 18) → (a && b) ≡ true → least ≤ 18
-    both true b stops e = stops e
-    both false b stops e = cc
-
-    wide : (o : Option Fault) → least ≤ 18 → OfSome (StatusIn 18 21) o → OfSome (StatusIn least 21) o
-    wide None few h = tt
-    wide (Some fault) few h = (omega (arith, few, h.0), h.1)
+refusal-in how before word least few reserved late = search (rules, arith, causes-in, late_refusal-in)
 
 pub least-status : (how : Reading) (behind : List ℕ) (fault : Fault) → RefusedIn how behind fault → StatusIn 18 21 fault
 least-status how behind fault h = subst (OfSome (StatusIn 18 21)) h.refused (refusal-in how _ h.word 18 (omega arith) (λ stops. omega arith) (λ stops. omega arith))
 
 -- late events and reserved records are refused by no listing
 pub listed-status : (header : Header) (behind : List ℕ) (fault : Fault) → RefusedIn (listing header) behind fault → StatusIn 20 21 fault
-listed-status header behind fault h = subst (OfSome (StatusIn 20 21)) h.refused (refusal-in (listing header) _ h.word 20 (omega arith) (λ stops. cc) (λ stops. cc))
+listed-status header behind fault h = search (rules, arith, OfSome, refusal-in)

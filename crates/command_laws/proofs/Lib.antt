@@ -3,7 +3,6 @@ pub mod PickedFiles
 pub mod CaseSteps
 pub mod PickPhotons
 pub mod PickCases
-pub mod PickShown
 pub mod Prints
 pub mod CaseShapes
 pub mod FaultStatuses
@@ -11,6 +10,3 @@ pub mod Cases
 pub mod Proved
 pub mod Causes
 pub mod Shown
-pub mod Statuses
-pub mod DemoRuns
-pub mod Tolds

@@ -1,6 +1,5 @@
 -- What `pick` ends with is what the table of cases calls for.
-use Rattle.std.proofs.Common.{◌≡◌, ℕ, List, [], ◌∷◌, ◌++◌, length, Bool, true, false, None, Some, Err, refl, sym, ap, ◌∙◌, subst, inl, inr, ◌≢◌, ◌≤◌, append-nil, arith, append_assoc, ◌⊎◌, ◌==◌, nat_le, if◌then◌else◌, ◌&&◌}
-use Rattle.std.{specs.declared.option.Option.Option, proofs.lemmas.Bool.Decides.nat_tests}
+use Rattle.std.{proofs.Common.{◌≡◌, ℕ, List, [], ◌∷◌, ◌++◌, length, Bool, true, false, None, Some, Err, refl, sym, ap, ◌∙◌, subst, inl, inr, ◌≢◌, append-nil, arith, append_assoc, ◌⊎◌, ◌==◌, nat_le, if◌then◌else◌, ◌&&◌, rules}, specs.declared.option.Option.Option}
 use Rattle.tally_base.{specs.declared.fault.Fault.Fault, specs.declared.fault.Fault.TheVariants.{TruncatedRecord, NoGroup, PickTime}, specs.declared.header.Header.Header, specs.Faults.fault_in, specs.declared.event.Event.Event}
 use Rattle.ptu_definitions.{specs.Words.{words_of, rest_of}, specs.Firsts.IsFirst, specs.Streams.{Reading, record_refusal, refusal}, proofs.Firsts.{first-refusal, refused-first, none-refused}}
 use Rattle.record_stream.proofs.Lasts.{streamed-refused}
@@ -109,24 +108,11 @@ module _ (view : PlanView) (group : ℕ) (header : Header) (behind : List ℕ) w
 
 -- ## The group
 
-abbrev unless_has : ℕ → Bool → Option Fault
-unless_has group has = if has then None else Some (NoGroup group)
-
 abbrev has_group : ℕ → PlanView → Bool
 has_group group view = nat_le 1 group && nat_le group (length view.groups)
 
-has-true : (group count : ℕ) → (nat_le 1 group && nat_le group count) ≡ true → (1 ≤ group) × (group ≤ count)
-has-true group count h = (grind (arith, nat_tests), grind (arith, nat_tests))
-
-true-has : (group count : ℕ) → (1 ≤ group) × (group ≤ count) → (nat_le 1 group && nat_le group count) ≡ true
-true-has group count h = let low = h.0 in let high = h.1 in grind (arith, nat_tests)
-
 group-decides : (group : ℕ) (view : PlanView) → (HasGroup group view × (no_group group view ≡ None)) ⊎ ((HasGroup group view → ⊥) × (no_group group view ≡ Some (NoGroup group)))
-group-decides group view = by (has_group group view) refl
-  where
-    by : (b : Bool) → has_group group view ≡ b → (HasGroup group view × (no_group group view ≡ None)) ⊎ ((HasGroup group view → ⊥) × (no_group group view ≡ Some (NoGroup group)))
-    by true e = inl (has-true group (length view.groups) e, ap (unless_has group) e)
-    by false e = inr (λ has. (let is = true-has group (length view.groups) has in cc), ap (unless_has group) e)
+group-decides group view = search (rules, arith, has_group)
 
 -- ## What is told
 
@@ -151,8 +137,7 @@ picked-ends group view IsLate header behind fault (inl late) = (with_photons hea
 picked-ends group view IsLate header behind fault (inr late) = (with_photons header late.0.first.before fault, inr (inr (inr (inl (late.0, ap (with_photons header late.0.first.before) late.1)))), refl)
 
 names-status : (group : ℕ) (view : PlanView) (header : Header) (behind : List ℕ) (fault : Fault) → NamesLate group view header behind fault → StatusIn 24 24 fault
-names-status group view header behind fault (inl late) = range-as 24 24 fault (PickTime late.0.first.photon.place) late.1 (omega arith, omega arith)
-names-status group view header behind fault (inr late) = range-as 24 24 fault (PickTime late.0.first.photon.place) late.1 (omega arith, omega arith)
+names-status group view header behind fault h1 = search (rules, arith, range-as)
 
 pub pick-told : (group : ℕ) → PlanMeets pick_statuses (Needs (HasGroup group) (NoGroup group)) (pick_cases group) (no_group group) (picking group)
 pick-told group = record {

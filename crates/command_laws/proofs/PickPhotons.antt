@@ -1,6 +1,5 @@
 -- The photons that `pick` writes, and the first of them that is too late.
-use Rattle.std.proofs.Common.{◌≡◌, ◌∙◌, ℕ, List, [], ◌∷◌, ◌++◌, Bool, true, false, cond, None, Some, Ok, Err, map, refl, sym, ap, inl, inr, append_assoc, append-nil, ◌⊎◌, Result}
-use Rattle.std.{specs.List.filter, specs.declared.option.Option.Option, proofs.lemmas.List.Elements.filter-append}
+use Rattle.std.{proofs.Common.{◌≡◌, ◌∙◌, ℕ, List, [], ◌∷◌, ◌++◌, Bool, true, false, cond, None, Some, Ok, Err, map, refl, sym, ap, inl, inr, append_assoc, append-nil, ◌⊎◌, Result, arith, rules}, specs.List.filter, specs.declared.option.Option.Option, proofs.lemmas.List.Elements.filter-append}
 use Rattle.tally_base.{specs.declared.event.Event.Event, specs.declared.fault.Fault.Fault, specs.declared.fault.Fault.TheVariants.PickTime, specs.declared.header.Mode.Mode, specs.Faults.fault_in}
 use Rattle.ptu_definitions.{specs.declared.records.Summary.Summary, specs.Firsts.IsFirst, specs.Prefixes.first, specs.Settled.{not_marked, settled_by}, specs.Streams.{Reading, record_refusal, given, last_in, streamed}, specs.Times.events, specs.Words.words_of, proofs.DeliveredLaws.{delivered-settled, delivered-none}, proofs.Firsts.{given-all, given-before}, proofs.StreamLemmas.{given-front, given-stays, refused-more}}
 use Rattle.short_file.specs.ShortFiles.{short_header, short_file, bytes_in}
@@ -21,9 +20,7 @@ module _ (mode : Mode) where
 
   writable-clear : (ps qs : List Event) → too_late mode ps ≡ [] → writable mode (ps ++ qs) ≡ ps ++ writable mode qs
   writable-clear [] qs none = refl
-  writable-clear (p ∷ ps) qs none =
-      let parts = split-late (is_too_late mode p.time) p (too_late mode ps) none in
-      rw (parts.0, writable-clear ps qs parts.1) refl
+  writable-clear (p ∷ ps) qs none = search (rules, arith, writable-clear ps qs (split-late (is_too_late mode p.time) p (too_late mode ps) none).1)
 
   all-writable : (ps : List Event) → too_late mode ps ≡ [] → writable mode ps ≡ ps
   all-writable ps none = ap (writable mode) (sym (append-nil ps)) ∙ writable-clear ps [] none ∙ append-nil ps
@@ -77,7 +74,7 @@ module _ (chooses : Event → Bool) (how : Reading) where
 
   -- of words of which none is refused, and of words of which this is the first
   pub in-settled : (words : List ℕ) → record_refusal how words ≡ None → photons_in chooses how words ≡ settled_chosen words
-  in-settled words none = ap (λ l. filter chooses (not_marked l)) (given-all how words none) ∙ ap (filter chooses) (delivered-settled how.policy.settle how.mode (events (map how.meaning words)))
+  in-settled words none = search (rules, arith, given-all, delivered-settled)
 
   pub in-before : (words : List ℕ) (fault : Fault) (least : IsFirst how fault [] words) → photons_in chooses how words ≡ settled_chosen least.front
   in-before words fault least = ap (λ l. filter chooses (not_marked l)) (given-before how words fault least) ∙ ap (filter chooses) (delivered-settled how.policy.settle how.mode (events (map how.meaning least.front)))

@@ -1,6 +1,5 @@
 -- What `header` ends with is what the table of cases calls for.
-use Rattle.std.proofs.Common.{◌≡◌, ℕ, List, [], ◌∷◌, ◌++◌, None, Some, refl, sym, ap, ◌∙◌, subst, inl, inr, ◌⊎◌, flat_map}
-use Rattle.std.specs.declared.option.Option.{Option}
+use Rattle.std.{proofs.Common.{◌≡◌, ℕ, List, [], ◌∷◌, ◌++◌, None, Some, refl, sym, ap, ◌∙◌, subst, inl, inr, ◌⊎◌, flat_map, arith, rules}, specs.declared.option.Option.{Option}}
 use Rattle.tally_base.specs.Faults.{fault_in}
 use Rattle.ptu_definitions.{specs.TagList.Item, specs.Endings.HasHeader, specs.Headers.{header_answer, head_of}, specs.Seen.{seen, seen_preamble, HasNoFront, HasLongestFront}, proofs.Sound.one_answer, proofs.SeenLemmas.{seen-header, seen_preamble-header}, proofs.SeenLaws.{seen-longest, seen-none}, proofs.Longest.some-longest}
 use Rattle.list_out.specs.HeaderText.{preamble_part, item_text, shown_text, header_text}
@@ -17,9 +16,7 @@ unfolding header_text
 head-text bytes = refl
 
 shown-header : (bytes : List ℕ) (items : List Item) (h : HasHeader bytes items) → shown_text bytes ≡ preamble_part (Some h.start) ++ flat_map item_text (h.inner ++ h.last ∷ [])
-shown-header bytes items h =
-    shown-at bytes (Some h.start) (h.inner ++ h.last ∷ []) (ap seen_preamble h.bytes_are ∙ seen_preamble-header h.start h.inner h.last h.header h.rest h.is_header)
-    (ap seen h.bytes_are ∙ seen-header h.start h.inner h.last h.header h.rest h.is_header)
+shown-header bytes items h = search (rules, arith, shown-at, seen_preamble-header, seen-header)
 
 prints-holds : (bytes : List ℕ) → Prints bytes (shown_text bytes)
 prints-holds bytes = by (some-longest bytes)
@@ -35,7 +32,7 @@ prints-holds bytes = by (some-longest bytes)
 
 prints-only : (bytes text : List ℕ) → Prints bytes text → shown_text bytes ≡ text
 prints-only bytes text (inl h) = let shown = seen-none bytes h.0 in shown-at bytes None [] shown.0 shown.1 ∙ sym h.1
-prints-only bytes text (inr (inl h)) = let shown = seen-longest bytes h.start h.items h.front h.rest h.longest in shown-at bytes (Some h.start) _ shown.0 shown.1 ∙ sym h.text_is
+prints-only bytes text (inr (inl h)) = search (rules, arith, seen-longest, shown-at)
 prints-only bytes text (inr (inr h)) =
     shown-header bytes (h.inner ++ h.last ∷ []) (record { start = h.start; inner = h.inner; last = h.last; header = h.header; rest = h.rest; is_header = h.is_header; items_are = refl; bytes_are = h.bytes_are })
     ∙ sym h.text_is

@@ -1,22 +1,66 @@
 -- What the laws show of each command, told once.
-use Rattle.std.proofs.Common.{None, Some, refl, ap, subst, ◌≡◌, ◌↔◌}
-use Rattle.std.specs.declared.option.Option.{Option}
+use Rattle.std.{proofs.Common.{None, Some, ◌≡◌, ◌↔◌, arith, rules, ◌∙◌, ℕ, List, [], ◌++◌, Bool, Ok, Err, refl, sym, ap, inl, inr, append-nil, ◌⊎◌, Result}, specs.declared.option.Option.Option}
 use Rattle.bench_io.specs.Inputs.{File}
-use Rattle.command_work.{specs.Endings.outcome, specs.Outcomes.{Outcome, written}}
+use Rattle.command_work.{specs.Endings.outcome, specs.Outcomes.Outcome}
 use Rattle.ptu_cli.specs.Behaviours.{behaviour}
 use Rattle.command_words.specs.Commands.{Request, Count, Events, Run, Trace, Pick, Demo, Header as HeaderOf}
-use Rattle.command_laws.{specs.Stays.EndsStay, specs.CommandCases.{cases, IsOutcome}, proofs.CaseShapes.{MeetsCases, told-holds, told-only}, proofs.Shown.{count-shows, print-shows, list-shows, report-shows, trace-shows}, proofs.PickShown.pick-shows, proofs.PickCases.pick-told, proofs.Cases.{count-told, events-told, run-told, trace-told, demo-same}}
+use Rattle.tally_base.{specs.declared.event.Event.Event, specs.declared.fault.Fault.Fault, specs.declared.header.Header.Header, specs.RecordTypes.mode_of}
+use Rattle.ptu_definitions.{specs.Prefixes.first, specs.Streams.{Reading, record_refusal}, specs.Words.{words_of, rest_of}, proofs.WordsLemmas.words_of-append}
+use Rattle.record_stream.proofs.Lasts.{streamed-shown}
+use Rattle.plan_text.{specs.Plan.PlanView, specs.Fits.fits}
+use Rattle.gate_plan.specs.Plans.{reading_by}
+use Rattle.photon_pick.{specs.Late.too_late, specs.Texts.{photons_in, late_or, refusal_in}}
+use Rattle.pick_work.specs.PickOutcomes.{chosen_by, records_picked, picked_if_fits, picked_behind, goes_on_behind, picking}
+use Rattle.command_laws.{specs.Stays.{EndsStay, GoesOnOrShows}, specs.CommandCases.{cases, IsOutcome}, proofs.CaseShapes.{MeetsCases, told-holds, told-only}, proofs.Shown.{count-shows, print-shows, list-shows, report-shows, trace-shows, OrStays, headed, suited}, proofs.PickCases.pick-told, proofs.Cases.{count-told, events-told, run-told, trace-told, demo-same}, specs.Cases.FirstLate, proofs.CaseSteps.fit, proofs.PickPhotons.{none-or-late, all_end, late-ends, picked_end, all-end, in-stays}}
+
+-- the ends that bytes of FILE show by themselves to `pick`
+module _ (chooses : Event → Bool) (how : Reading) (bytes : List ℕ) where
+  abbrev photons : List Event
+  photons = photons_in chooses how (words_of bytes)
+
+  -- words that are refused end all bytes that begin with them
+  refusal-stays : (fault : Fault) → refusal_in chooses how (words_of bytes) ≡ Some fault → (end : Outcome) × ((more : List ℕ) → all_end chooses how (bytes ++ more) ≡ end)
+  refusal-stays fault e = by (none-or-late how.mode photons)
+    where
+      by : (too_late how.mode photons ≡ []) ⊎ FirstLate how.mode photons → (end : Outcome) × ((more : List ℕ) → all_end chooses how (bytes ++ more) ≡ end)
+      by (inr h) = (_, λ more. late-ends chooses how (words_of bytes) (words_of (rest_of bytes ++ more)) (bytes ++ more) (words_of-append bytes more) h)
+      by (inl none) =
+          let refused : record_refusal how (words_of bytes) ≡ Some fault = sym (ap (λ l. late_or (first l) (record_refusal how (words_of bytes))) none) ∙ e in (
+            picked_end how.mode photons (Some fault),
+            λ more.
+                all-end chooses how (bytes ++ more) (Err fault) (streamed-shown how bytes fault refused more)
+                ∙ ap (λ ps. picked_end how.mode ps (Some fault)) (ap (photons_in chooses how) (words_of-append bytes more) ∙ in-stays chooses how (words_of bytes) (words_of (rest_of bytes ++ more)) fault refused),
+          )
+
+module _ (group : ℕ) (view : PlanView) where
+  abbrev ends : Header → List ℕ → Result (Unit {0}) Fault → Outcome
+  ends = picked_if_fits view group
+
+  -- no photon is too late and no record is refused
+  abbrev Clear : Header → List ℕ → Type 0
+  Clear header behind = refusal_in (chosen_by view group) (reading_by view header) (words_of behind) ≡ None
+
+  clear-or : (header : Header) (behind : List ℕ) → OrStays (Clear header behind) (records_picked view group header) behind
+  clear-or header behind = by (refusal_in (chosen_by view group) (reading_by view header) (words_of behind)) refl
+    where
+      by : (o : Option Fault) → refusal_in (chosen_by view group) (reading_by view header) (words_of behind) ≡ o → OrStays (Clear header behind) (records_picked view group header) behind
+      by None e = inl e
+      by (Some fault) e =
+          let stays = refusal-stays (chosen_by view group) (reading_by view header) behind fault e in
+          inr (λ more. stays.1 more ∙ sym (ap (records_picked view group header) (sym (append-nil behind)) ∙ stays.1 []))
+
+  fitting : (header : Header) (behind : List ℕ) → OrStays (Clear header behind) (records_picked view group header) behind → OrStays ((fit ≡ fit) × Clear header behind) (records_picked view group header) behind
+  fitting header behind h1 = search (rules, arith)
+
+  pick-goes : (header : Header) (behind : List ℕ) → OrStays (goes_on_behind view group (Ok (header, behind))) (λ b. ends header b (fits (mode_of header.record_type) view)) behind
+  pick-goes header behind = suited (λ r. (r ≡ Ok tt) × Clear header behind) (ends header) behind (λ fault more. refl) (fitting header behind (clear-or header behind)) (fits (mode_of header.record_type) view)
+
+  pub pick-shows : (bytes : List ℕ) → GoesOnOrShows (picking group view) bytes
+  pick-shows = headed (goes_on_behind view group) (picked_behind view group) (λ fault early. early) pick-goes
 
 -- It ends as the cases of its shape call for.
 pub told : (request : Option Request) → MeetsCases (behaviour request) (cases request)
-told None = tt
-told (Some (Count file)) = count-told
-told (Some (HeaderOf file)) = λ bytes. refl
-told (Some (Events file)) = events-told
-told (Some (Run plan file)) = run-told
-told (Some (Trace plan file)) = trace-told
-told (Some (Pick plan group file)) = pick-told group
-told (Some (Demo seed count)) = ap written (demo-same seed count)
+told request = search (rules, arith, count-told, events-told, run-told, trace-told, pick-told, demo-same)
 
 -- An end that its bytes show stays.
 pub ends-stay : (request : Option Request) → EndsStay (behaviour request)
@@ -30,7 +74,4 @@ ends-stay (Some (Pick plan group file)) = pick-shows group
 ends-stay (Some (Demo seed count)) = tt
 
 pub one-outcome : (request : Option Request) (plan_file data_file : File) (end : Outcome) → IsOutcome request plan_file data_file end ↔ (outcome (behaviour request) plan_file data_file ≡ end)
-one-outcome request plan_file data_file end = (
-  told-only (behaviour request) (cases request) (told request) plan_file data_file end,
-  λ e. subst (IsOutcome request plan_file data_file) e (told-holds (behaviour request) (cases request) (told request) plan_file data_file),
-)
+one-outcome request plan_file data_file end = search (rules, arith, told-only, told, told-holds)

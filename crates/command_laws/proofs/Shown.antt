@@ -1,8 +1,7 @@
 -- The ends that bytes of FILE show by themselves.
-use Rattle.std.proofs.Common.{◌≡◌, ◌≢◌, ◌^◌, ℕ, List, ◌++◌, length, Bool, true, false, None, Some, Ok, Err, refl, sym, ap, ◌∙◌, subst, inl, inr, arith, ◌⊎◌, ◌==◌, Result, nat_lt, if◌then◌else◌}
-use Rattle.std.{specs.declared.option.Option.Option, proofs.lemmas.Bool.Decides.nat_tests, proofs.lemmas.List.length-take}
-use Rattle.tally_base.{specs.declared.fault.Fault.Fault, specs.declared.fault.Fault.TheVariants.{TruncatedHeader, TruncatedRecord, RecordLimit}, specs.declared.header.Header.Header, specs.declared.header.RecordType.RecordType, specs.Faults.fault_in, specs.RecordTypes.mode_of}
-use Rattle.ptu_definitions.{specs.declared.records.Summary.Summary, specs.Headers.header_answer, specs.Words.{words_of, rest_of}, specs.Kinds.counts_of, specs.Counted.{record_limit, records_of, counted}, specs.Shown.Shows, specs.Streams.{Reading, record_refusal, streamed}, proofs.WordsLemmas.{words_of-append, length-words_of-append}, proofs.StreamLemmas.given-stays, proofs.SeenLaws.cut-size, proofs.Stays.{refused-stays, headed-stays}}
+use Rattle.std.{proofs.Common.{◌≡◌, ◌≢◌, ◌^◌, ℕ, List, ◌++◌, length, Bool, true, false, None, Some, Ok, Err, refl, sym, ap, ◌∙◌, subst, inl, inr, arith, ◌⊎◌, Result, nat_lt, rules}, specs.declared.option.Option.Option, proofs.lemmas.Bool.Decides.nat_tests, proofs.lemmas.List.length-take}
+use Rattle.tally_base.{specs.declared.fault.Fault.Fault, specs.declared.fault.Fault.TheVariants.{TruncatedHeader, RecordLimit}, specs.declared.header.Header.Header, specs.declared.header.RecordType.RecordType, specs.Faults.fault_in, specs.RecordTypes.mode_of}
+use Rattle.ptu_definitions.{specs.declared.records.Summary.Summary, specs.Headers.header_answer, specs.Words.{words_of}, specs.Counted.{record_limit, counted}, specs.Shown.Shows, specs.Streams.{Reading, record_refusal, streamed}, proofs.WordsLemmas.{words_of-append, length-words_of-append}, proofs.StreamLemmas.given-stays, proofs.SeenLaws.cut-size, proofs.Stays.{refused-stays, headed-stays}}
 use Rattle.record_stream.proofs.Lasts.{streamed-refused, streamed-shown}
 use Rattle.plan_text.{specs.Plan.PlanView, specs.Fits.fits}
 use Rattle.gate_plan.{specs.Plans.reading_by, specs.Shifting.sorting}
@@ -44,8 +43,7 @@ headed goes out early further bytes = by (header_answer bytes) refl
 -- an end by whether a plan suits FILE
 pub suited : (goes : Result (Unit {0}) Fault → Type 0) (out : List ℕ → Result (Unit {0}) Fault → Outcome) (bytes : List ℕ) → ((fault : Fault) → Shows (λ b. out b (Err fault)) bytes (out bytes (Err fault)))
     → OrStays (goes (Ok tt)) (λ b. out b (Ok tt)) bytes → (r : Result (Unit {0}) Fault) → OrStays (goes r) (λ b. out b r) bytes
-suited goes out bytes refusal further (Err fault) = inr (refusal fault)
-suited goes out bytes refusal further (Ok done) = further
+suited goes out bytes refusal further r = search (rules, arith)
 
 -- an end by the answer of the records
 read : (how : Reading) (goes : Type 0) (out : List ℕ → Result Summary Fault → Outcome) (bytes : List ℕ) → (record_refusal how (words_of bytes) ≡ None → goes)
@@ -64,11 +62,7 @@ counted-many record_type bytes many = rw many refl
 
 counted-few : (header : Header) (bytes : List ℕ) → nat_lt record_limit (length (words_of bytes)) ≡ false → MayChange (fault_in (with_counts header (counted header.record_type bytes)))
 unfolding counted
-counted-few header bytes few = rw few (by (length (rest_of bytes) == 0))
-  where
-    by : (whole : Bool) → MayChange (fault_in (with_counts header (if whole then Ok (counts_of (records_of header.record_type bytes)) else Err (TruncatedRecord (length (rest_of bytes))))))
-    by true = tt
-    by false = refl
+counted-few header bytes few = search (rules, arith)
 
 many-more : (bytes more : List ℕ) → nat_lt record_limit (length (words_of bytes)) ≡ true → nat_lt record_limit (length (words_of (bytes ++ more))) ≡ true
 many-more bytes more many = let grows = length-words_of-append bytes more in grind (arith, nat_tests)
@@ -119,8 +113,7 @@ list-shows = headed (λ r. MayChange (events_behind r).fault) events_behind (λ 
 -- ## run
 
 report-may : (view : PlanView) (header : Header) (behind : List ℕ) (r : Result Summary Fault) → MayChange (fault_in r) → MayChange (fault_in (report_of view header behind r))
-report-may view header behind (Ok summary) may = tt
-report-may view header behind (Err fault) may = may
+report-may view header behind r may = search (rules, arith)
 
 report-goes : (view : PlanView) (header : Header) (behind : List ℕ)
     → OrStays (MayChange (fault_in (if_fits view header behind (fits (mode_of header.record_type) view)))) (λ b. report_outcome (if_fits view header b (fits (mode_of header.record_type) view))) behind
@@ -136,8 +129,7 @@ report-shows view = headed (λ r. MayChange (fault_in (report_behind view r))) (
 -- ## trace
 
 trace-may : (view : PlanView) (header : Header) (behind : List ℕ) (r : Result Summary Fault) → MayChange (fault_in r) → MayChange (traced (trace_of view) (sorting view) (reading_by view header) behind r).fault
-trace-may view header behind (Ok summary) may = tt
-trace-may view header behind (Err fault) may = may
+trace-may view header behind r may = search (rules, arith)
 
 trace-goes : (view : PlanView) (header : Header) (behind : List ℕ)
     → OrStays (MayChange (traced_if_fits view header behind (fits (mode_of header.record_type) view)).fault) (λ b. traced_if_fits view header b (fits (mode_of header.record_type) view)) behind

@@ -1,6 +1,5 @@
 -- How commands end by the header and the records of FILE, as cases over whole lists: relations, plain counts and the texts of lines. No function is cited that finds an answer for the program (`header_answer`, `plan_answer`, `fits`, `counted`, `record_refusal`, `streamed`, `given`, `seen`).
-use Rattle.std.specs.Prelude.{ℕ, ◌≡◌, ◌≢◌, ◌⊎◌, ◌<◌, ◌≤◌, List, [], ◌∷◌, ◌++◌, length, take, get_or, map, flat_map, codes, decimal, nat_le, count_by, ◌+◌, ◌/◌, ◌==◌, true, None, Some, Result, Ok, Err}
-use Rattle.std.{specs.List.filter, specs.declared.option.Option.Option}
+use Rattle.std.{specs.Prelude.{ℕ, ◌≡◌, ◌≢◌, ◌⊎◌, ◌<◌, ◌≤◌, List, [], ◌∷◌, ◌++◌, length, take, get_or, map, flat_map, codes, decimal, nat_le, count_by, ◌+◌, ◌/◌, ◌==◌, true, None, Some, Result, Ok, Err}, specs.List.filter, specs.declared.option.Option.Option}
 use Rattle.tally_base.{specs.declared.slot.Slot.TheVariants.Data, specs.declared.event.Event.Event, specs.declared.fault.Fault.Fault, specs.declared.fault.Fault.TheVariants.{OpenFault, RecordLimit, TruncatedRecord, PickTime}, specs.declared.header.Header.Header, specs.declared.header.Mode.Mode, specs.Faults.fault_in, specs.RecordTypes.mode_of, specs.Settings.{PartSettings, StartStopView, TraceView}, specs.Settings.PartSettings.StartStopSettings}
 use Rattle.bench_io.specs.Inputs.{File}
 use Rattle.ptu_definitions.{specs.declared.records.Summary.Summary, specs.TagList.{Item, IsHeader}, specs.Headers.{HasAnswer, head_of}, specs.Seen.{begun, IsLongestFront, HasNoFront}, specs.Words.{words_of, rest_of}, specs.Layouts.meaning_of, specs.Kinds.counts_of, specs.Counted.record_limit, specs.Prefixes.each, specs.Settled.{kept_by, settled_by}, specs.Times.events, specs.Streams.{Reading, refusal, events_in, summary_of}, specs.Firsts.IsFirst}

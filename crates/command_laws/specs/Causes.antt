@@ -1,6 +1,5 @@
 -- Where a run of the program ends with each fault that its words and files call for, in the order of their statuses, by the shape of its command.
-use Rattle.std.specs.Prelude.{ℕ, ◌≡◌, ◌≢◌, ◌⊎◌, List, [], length, None, Some, Ok, Err}
-use Rattle.std.specs.declared.option.Option.{Option}
+use Rattle.std.{specs.Prelude.{ℕ, ◌≡◌, ◌≢◌, ◌⊎◌, List, [], length, None, Some, Ok, Err}, specs.declared.option.Option.{Option}}
 use Rattle.toml.specs.Data.{Members, table}
 use Rattle.tally_base.{specs.declared.slot.Slot.TheVariants.{Plan, Data}, specs.declared.fault.Fault.Fault, specs.declared.fault.Fault.TheVariants.{Usage, OpenFault, OutOfMemory, TruncatedRecord}, specs.declared.header.Header.Header, specs.RecordTypes.mode_of, specs.Faults.status_of}
 use Rattle.bench_io.specs.Inputs.{File}

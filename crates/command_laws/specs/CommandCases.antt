@@ -1,6 +1,5 @@
 -- How each command may end and what it is refused for, told once: a line for each command, and the cases that commands of one shape share. As in `Cases`, no function is cited that finds an answer for the program.
-use Rattle.std.specs.Prelude.{ℕ, ◌≡◌, ◌≢◌, ◌⊎◌, ◌<◌, ◌≤◌, List, [], length, None, Some}
-use Rattle.std.specs.declared.option.Option.{Option}
+use Rattle.std.{specs.Prelude.{ℕ, ◌≡◌, ◌≢◌, ◌⊎◌, ◌<◌, ◌≤◌, List, [], length, None, Some}, specs.declared.option.Option.{Option}}
 use Rattle.toml.specs.Data.{Members, table}
 use Rattle.tally_base.{specs.declared.slot.Slot.TheVariants.Plan, specs.declared.fault.Fault.Fault, specs.declared.fault.Fault.TheVariants.{Usage, OpenFault, OutOfMemory, RecordLimit, NoTrace, NoGroup, PickTime}, specs.declared.header.Header.Header, specs.RecordTypes.mode_of}
 use Rattle.bench_io.specs.Inputs.{File}

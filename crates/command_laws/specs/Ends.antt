@@ -1,5 +1,5 @@
 -- How commands end over their files, in words that the laws share.
-use Rattle.std.specs.Prelude.{ℕ, ◌≡◌, ◌≤◌, ◌⊎◌, ◌↔◌, List, None, Some, false, length, map}
+use Rattle.std.{specs.Prelude.{ℕ, ◌≡◌, ◌≤◌, ◌⊎◌, ◌↔◌, List, None, Some, false, length, map}, specs.declared.option.Option.{Option}}
 use Rattle.tally_base.{specs.declared.event.Event.Event, specs.declared.fault.Fault.Fault, specs.declared.fault.Fault.TheVariants.NoGroup, specs.declared.header.Header.Header, specs.declared.header.Mode.Mode, specs.RecordTypes.mode_of}
 use Rattle.bench_io.specs.Inputs.{File}
 use Rattle.ptu_definitions.specs.Counted.{record_limit}
@@ -10,7 +10,6 @@ use Rattle.command_words.specs.Commands.{Request, Events}
 use Rattle.ptu_cli.specs.Behaviours.{behaviour}
 use Rattle.command_work.{specs.Endings.outcome, specs.Outcomes.{Outcome, written}}
 use Rattle.command_laws.{specs.Cases.HasGroup, specs.CommandCases.{CommandCases, Needs, Suits, cases}, specs.Written.photons_written, specs.Causes.{Headed, IsPlanWith, EndsWithFault, StatusIn, TooLate}}
-use Rattle.std.specs.declared.option.Option.{Option}
 
 -- how a command ends over its files, where nothing outside fails
 abbrev pub ends_with : Request → File → File → Outcome

@@ -3,8 +3,7 @@
 //! `specs/CommandCases.antt`.
 #![tactic(auto)]
 
-ghost use Rattle.std.specs.Prelude.{◌≡◌, ◌≤◌, ◌↔◌, ℕ, List, None, Some, length};
-ghost use Rattle.std.specs.declared.option.Option.{Option};
+ghost use Rattle.std.{specs.Prelude.{◌≡◌, ◌≤◌, ◌↔◌, ℕ, List, None, Some, length}, specs.declared.option.Option.{Option}};
 ghost use Rattle.bench_io.specs.Inputs.{File};
 ghost use Rattle.ptu_definitions.specs.Counted.{record_limit};
 ghost use Rattle.record_write.specs.Picked.{CanBePicked, picked_words, picked_file};

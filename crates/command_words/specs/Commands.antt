@@ -1,6 +1,5 @@
 -- The commands of the program.
-use Rattle.std.specs.Prelude.{ℕ, ◌-◌, ◌^◌, ◌&&◌, Bool, nat_le, List, [], ◌∷◌, length, None, Some, codes, if◌then◌else◌}
-use Rattle.std.{specs.Str.{bytes_eq, all_ascii_digits}, specs.Str.Parse.digits_value, specs.declared.option.Option.Option}
+use Rattle.std.{specs.Prelude.{ℕ, ◌-◌, ◌^◌, ◌&&◌, Bool, nat_le, List, [], ◌∷◌, length, None, Some, codes, if◌then◌else◌}, specs.Str.{bytes_eq, all_ascii_digits}, specs.Str.Parse.digits_value, specs.declared.option.Option.Option}
 use Rattle.ptu_made.specs.Generator.{photon_limit}
 
 -- what the words ask for

@@ -1,6 +1,5 @@
 // The words of the command line.
-ghost use Rattle.std.specs.Prelude.{◌≡◌, ◌≤◌, ◌-◌, ◌^◌, [], ◌∷◌, map, string_bytes, IfSome};
-ghost use Rattle.std.specs.Str.{all_ascii_digits};
+ghost use Rattle.std.{specs.Prelude.{◌≡◌, ◌≤◌, ◌-◌, ◌^◌, [], ◌∷◌, map, string_bytes, IfSome}, specs.Str.{all_ascii_digits}};
 ghost use Rattle.ptu_made.specs.Generator.{photon_limit};
 ghost use Rattle.command_words.{specs.Commands.{demo_of, number_in, pick_of, request_of}, specs.Requests.{asked_for, AsksFew}};
 

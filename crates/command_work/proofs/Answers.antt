@@ -1,14 +1,12 @@
 -- What holds over all files that may be a run's holds over files that are told.
-use Rattle.std.proofs.Common.{◌≡◌, ℕ, List, true, inl, inr, ◌⊎◌, Result, IsErrAnd}
-use Rattle.std.specs.declared.option.Option.{Option}
+use Rattle.std.{proofs.Common.{◌≡◌, ℕ, List, true, ◌⊎◌, Result, IsErrAnd, arith, rules}, specs.declared.option.Option.{Option}}
 use Rattle.tally_base.{specs.declared.fault.Fault.Fault, specs.Faults.{is_outside, fault_in}}
 use Rattle.bench_io.specs.Inputs.{File, InputState}
 use Rattle.command_work.{specs.Outcomes.Outcome, specs.Behaviours.{Behaviour, NoCommand, Alone, OnFile, ByPlan}, specs.Endings.{outcome, AreItsFiles, ForItsFiles, Tells, ToldAreIts, Asks, EndsWith, Answers}}
 
 pub alone-answers : (end : Outcome) (after : InputState) (r : Result (Unit {0}) Fault) (old new : Option (List ℕ)) → IsErrAnd r (λ fault. is_outside fault ≡ true) ⊎ EndsWith end (fault_in r) old new → Answers (Alone end) after r old new
 unfolding outcome
-alone-answers end after r old new (inl outside) = inl outside
-alone-answers end after r old new (inr ends) = inr (λ plan_file data_file may. ends)
+alone-answers end after r old new h1 = search (rules, arith)
 
 -- what a fact about the outcome implies holds over the same files
 pub files-map : (does : Behaviour) (after : InputState) (p q : Outcome → Type 0) → ((end : Outcome) → p end → q end) → ForItsFiles does after p → ForItsFiles does after q
@@ -19,8 +17,4 @@ pub told-are-its : (does : Behaviour) (before after : InputState) (plan_file dat
 told-are-its NoCommand before after plan_file data_file asks its tells = tt
 told-are-its (Alone end) before after plan_file data_file asks its tells = tt
 told-are-its (OnFile file writing work) before after plan_file data_file asks its tells = its data_file tells.1
-told-are-its (ByPlan plan file writing memory lacks work) before after plan_file data_file asks its tells =
-    let is_plan = its.0 plan_file tells.0 in (
-      is_plan,
-      λ opened. let has = asks.1 (asks.2 opened) in its.1 data_file (tells.1 has.0 (has.1.is_plan plan_file is_plan) has.1.whole) opened,
-    )
+told-are-its (ByPlan plan file writing memory lacks work) before after plan_file data_file asks its tells = search (rules, arith)

@@ -1,6 +1,5 @@
 -- What stands in front of the rest, and the rest.
-use Rattle.std.proofs.Common.{◌≡◌, ◌∙◌, ℕ, List, [], ◌++◌, Some, Ok, Err, refl, ap, inl, inr, ⊎_elim, append_assoc, append-nil, Result}
-use Rattle.std.{specs.declared.option.Option.Option, proofs.lemmas.Result.IfErr-weaker}
+use Rattle.std.{proofs.Common.{◌≡◌, ◌∙◌, ℕ, List, [], ◌++◌, Some, Ok, Err, refl, ap, inl, inr, ⊎_elim, append_assoc, append-nil, Result, arith, rules}, specs.declared.option.Option.Option, proofs.lemmas.Result.IfErr-weaker}
 use Rattle.tally_base.{specs.declared.fault.Fault.Fault, specs.declared.fault.Fault.TheVariants.WriteFault, specs.Faults.fault_in, proofs.Reasons.HasReason-follows}
 use Rattle.bench_io.{specs.Inputs.InputState, proofs.Givens.Consumes-nil, proofs.Bytes.{Appends-trans, AppendsShort-behind}}
 use Rattle.told_text.{specs.Texts.{WroteText, CutText, WritesText}, proofs.Texts.{WroteText-trans, CutText-behind, CutText-more}}
@@ -52,12 +51,7 @@ module _ (t : Telling) (is : IsText t) (wants : Type 0) (state : InputState) (a 
   -- nothing was opened
   pub open-fails : (first : List ℕ) (fault : Fault) → Opens {X = Unit {0}} t wants a c before after (Err fault) → ReadsRest t [] first wants (still state a c before after) (Err fault)
   open-fails first fault (inl h) = front-fails first [] first fault refl h
-  open-fails first fault (inr h) = rw h.0 (record {
-    answer = inl refl;
-    reason = record { wants = h.1; same = refl; keeps = h.2 };
-    once = record { inputs = once-refl _ _ quiet-memory; out = h.3 };
-    few = inl refl;
-  })
+  open-fails first fault (inr h) = search (rules, arith, once-refl, quiet-memory)
 
 -- the rest was read
 pub rest-follows : (t : Telling) (wants : Type 0) (first : List ℕ) (at : Span) (a : Option (List ℕ)) (before : ℕ) (r : Result (Unit {0}) Fault) → WroteText [] (t.text first) a at.old before at.faults_before → ReadsRest t (t.text first) first ⊥ at r → ReadsRest t [] first wants (record at { old = a; faults_before = before }) r

@@ -6,9 +6,7 @@ pub mod Streams
 pub mod WorkTold
 pub mod PlanTold
 pub mod Plans
-pub mod Texts
 pub mod Answers
 pub mod TellingLaws
 pub mod RestEnds
 pub mod Fronts
-pub mod Headed

@@ -1,6 +1,5 @@
 -- A piece that is fed in two parts, and what the bytes taken call for.
-use Rattle.std.proofs.Common.{slice_range, ◌-◌, ◌≡◌, ◌+◌, ◌≤◌, ℕ, zero, suc, List, [], ◌++◌, Ok, length, arith, take, drop, refl, sym, ap, ◌∙◌, subst, append_assoc, append-nil, take-append-drop, ◌<◌}
-use Rattle.std.{proofs.Math.Seq.take-add, proofs.lemmas.List.{length-drop, length-take-le}}
+use Rattle.std.{proofs.Common.{slice_range, ◌≡◌, ◌+◌, ◌≤◌, ℕ, List, [], ◌++◌, Ok, length, arith, take, drop, refl, sym, ap, ◌∙◌, append_assoc, append-nil, take-append-drop, ◌<◌, rules}, proofs.Math.Seq.take-add, proofs.lemmas.List.{length-drop, length-take-le}}
 use Rattle.tally_base.specs.declared.header.Header.{Header}
 use Rattle.ptu_definitions.{specs.Endings.ending, specs.Headers.header_answer}
 use Rattle.command_work.specs.Outcomes.{IsCut}
@@ -11,7 +10,7 @@ together bytes piece used more = append_assoc bytes (take used piece) (take more
 
 -- a reader that was given a first part of a piece, and then a part of what is left of it
 pub HasRead-further : (reader : HeaderReader) (bytes piece part : List ℕ) (used more : ℕ) → part ≡ drop used piece → HasRead reader ((bytes ++ take used piece) ++ take more part) → HasRead reader (bytes ++ take (used + more) piece)
-HasRead-further reader bytes piece part used more e h = subst (λ (l : List ℕ). HasRead reader l) (ap (λ l. (bytes ++ take used piece) ++ take more l) e ∙ together bytes piece used more) h
+HasRead-further reader bytes piece part used more e h = search (rules, arith, together)
 
 -- a first part and all that is left
 pub whole-piece : (bytes piece part : List ℕ) (used : ℕ) → part ≡ drop used piece → (bytes ++ take used piece) ++ part ≡ bytes ++ piece
@@ -27,17 +26,11 @@ IsCut-nil = refl
 
 -- bytes that are the front of a header are no whole one, so more are needed
 pub some_used : (bytes piece : List ℕ) (used : ℕ) (header : Header) → IsCut bytes → header_answer (bytes ++ take used piece) ≡ Ok (header, []) → 0 < used
-some_used bytes piece (suc used) header cut whole = omega arith
-some_used bytes piece zero header cut whole =
-    let same : header_answer bytes ≡ Ok (header, []) = ap header_answer (sym (append-nil bytes)) ∙ whole in
-    cc
+some_used bytes piece used header cut whole = search (rules, arith, append-nil)
 
 -- fewer bytes than a buffer has stand behind a header that ends in it
 pub few_behind : (buffer : List ℕ) (used len size : ℕ) → length buffer ≡ size → 0 < used → used ≤ len → len ≤ length buffer → length (slice_range buffer used len) < size
-few_behind buffer used len size whole some within fits =
-    let left : length (drop used buffer) ≡ length buffer - used = length-drop used buffer in
-    let count : length (slice_range buffer used len) ≡ len - used = length-take-le (len - used) (drop used buffer) (omega (arith, left)) in
-    omega (arith, count)
+few_behind buffer used len size whole some within fits = search (rules, arith, length-drop, length-take-le)
 
 -- the bytes taken are a header with these bytes behind it, whatever comes next
 abbrev pub ShowsHeader : List ℕ → Header → List ℕ → Type 0

@@ -1,10 +1,9 @@
 -- What a command by a plan leaves, whatever its work is.
-use Rattle.std.proofs.Common.{◌≡◌, ℕ, List, true, false, None, Some, Ok, Err, refl, sym, ◌∙◌, subst, inl, inr, Result}
-use Rattle.std.specs.declared.option.Option.{Option}
+use Rattle.std.{proofs.Common.{◌≡◌, ℕ, List, true, false, None, Some, Ok, Err, refl, sym, ◌∙◌, subst, inl, inr, Result, arith, rules}, specs.declared.option.Option.{Option}}
 use Rattle.tally_base.{specs.declared.fault.Fault.Fault, specs.declared.slot.Slot.Slot, specs.declared.slot.Slot.TheVariants.Plan as PlanSlot, specs.declared.slot.Slot.TheVariants.Data, specs.Faults.{is_outside, fault_in}, proofs.Reasons.{HasReason-follows, HasReason-inside}}
-use Rattle.bench_io.{specs.Given.{Given, no_bytes, IsOf}, specs.Inputs.{File, InputState, IsOpened, KeepsOther}, proofs.Bytes.{Appends-nil, Keeps-from_none}}
+use Rattle.bench_io.{specs.Given.{Given, no_bytes, IsOf}, specs.Inputs.{File, InputState, KeepsOther}, proofs.Bytes.{Appends-nil}}
 use Rattle.plan_text.{specs.declared.plan.Plan.Plan, specs.Plan.PlanView, specs.Reading.{plan_view}}
-use Rattle.command_work.{specs.Outcomes.{Outcome, refused}, specs.PlanPieces.{IsRead, AnswersPlan, PlanReason}, specs.Behaviours.{Work, Writing, AtEnd, AsItReads, under, Memory, Behaviour, ByPlan}, specs.Works.{AnswersWork, WorkReason}, specs.Endings.{IsPlan, HasPlan, OpensAs, ToldAreIts, TakesPlan, EndsWith, Answers, Cuts, WantsBehind, Span, HasCauses, on_file, outcome}, specs.Once.InputsOnce, proofs.Once.Rose-kept, proofs.Told.{all-taken, none-ended, FileOf-kept}, proofs.WorkTold.{told-is-its, ends-told, stops-told, cuts-told}}
+use Rattle.command_work.{specs.Outcomes.{Outcome, refused}, specs.PlanPieces.{IsRead, AnswersPlan, PlanReason}, specs.Behaviours.{Work, Writing, under, Memory, Behaviour, ByPlan}, specs.Works.{AnswersWork, WorkReason}, specs.Endings.{IsPlan, HasPlan, OpensAs, ToldAreIts, TakesPlan, EndsWith, Answers, Cuts, WantsBehind, Span, HasCauses, on_file, outcome}, specs.Once.InputsOnce, proofs.Once.Rose-kept, proofs.Told.{all-taken, none-ended}, proofs.WorkTold.{told-is-its, ends-told, stops-told, cuts-told}}
 
 -- a plan that was read is that of each file that may be the one read
 pub has-plan : (after : InputState) (lacks : PlanView → Option Fault) (plan : Plan) → AnswersPlan after (Ok plan) → lacks (plan_view plan) ≡ None → HasPlan after lacks (plan_view plan)
@@ -13,15 +12,14 @@ has-plan after lacks plan (inr read) whole = record { is_plan = λ plan_file may
 
 -- it stays so while the data are opened and read
 pub has-later : (mid after : InputState) (lacks : PlanView → Option Fault) (view : PlanView) → KeepsOther Data mid after → HasPlan mid lacks view → HasPlan after lacks view
-has-later mid after lacks view kept has = record { is_plan = λ plan_file may. has.is_plan plan_file (FileOf-kept mid after PlanSlot plan_file kept.opened kept.given may); whole = has.whole }
+has-later mid after lacks view kept has = search (rules, arith)
 
 -- an answer that is no fault is none
 pub none-lacking : (lack told : Option Fault) → told ≡ lack → ((fault : Fault) → told ≡ Some fault → ⊥) → lack ≡ None
-none-lacking None told is never = refl
-none-lacking (Some fault) told is never = absurd (never fault is)
+none-lacking lack told is never = search (rules, arith)
 
 pub names-later : (before mid after : InputState) (name : List ℕ) → OpensAs PlanSlot before mid name → KeepsOther Data mid after → OpensAs PlanSlot before after name
-names-later before mid after name names kept opened = subst (λ (told : Option (List ℕ)). IsOpened (before.contents name) told) (sym kept.told) (names (sym kept.opened ∙ opened))
+names-later before mid after name names kept opened = search (rules, arith)
 
 -- what was read of a plan stays so while the data are opened and read
 pub takes-later : (mid after : InputState) → TakesPlan mid → KeepsOther Data mid after → TakesPlan after
@@ -33,10 +31,7 @@ module _ (plan_name name : List ℕ) (writing : Writing (PlanView → List ℕ �
 
   outcome-read : (plan_file data_file : File) (fault : Fault) → IsRead plan_file (Err fault) → outcome does plan_file data_file ≡ refused fault
   unfolding outcome
-  outcome-read None data_file fault read = let none = read.present in cc
-  outcome-read (Some text) data_file fault read =
-      let same : text ≡ read.text = let e = read.present in cc in
-      rw (same, read.answer) refl
+  outcome-read plan_file data_file fault read = search (rules, arith)
 
   -- a plan that is refused ends the run
   pub answers-unplanned : (after : InputState) (fault : Fault) (old : Option (List ℕ)) → AnswersPlan after (Err fault) → Answers does after (Err fault) old old
@@ -48,22 +43,12 @@ module _ (plan_name name : List ℕ) (writing : Writing (PlanView → List ℕ �
   pub unplanned-causes : (before after : InputState) (old : Option (List ℕ)) (faults : ℕ) (fault : Fault) → KeepsOther PlanSlot before after → before.asked Data ≡ false → PlanReason before after fault
       → HasCauses does (record { before = before; after = after; old = old; new = old; faults_before = faults; faults_after = faults }) fault
   unfolding HasCauses
-  unplanned-causes before after old faults fault other first reason =
-      let kept = Keeps-from_none old old (Appends-nil old) in
-      HasReason-follows _ _ _ _ _ _ _ _ fault
-      (λ slot h. (rw h.0 tt, h.1, kept))
-      (λ slot h. (rw h.0 tt, h.1, h.2, h.3, rw h.0 (kept, h.4)))
-      (λ h. absurd h)
-      (λ h. (kept, inl (other.asked ∙ first, h)))
-      reason
+  unplanned-causes before after old faults fault other first reason = search (rules, arith)
 
   -- a plan that lacks something ends the run
   outcome-lacking : (plan_file data_file : File) (view : PlanView) (fault : Fault) → IsPlan plan_file view → lacks view ≡ Some fault → outcome does plan_file data_file ≡ refused fault
   unfolding outcome
-  outcome-lacking None data_file view fault is lacking = let none = is.present in cc
-  outcome-lacking (Some text) data_file view fault is lacking =
-      let same : text ≡ is.text = let e = is.present in cc in
-      rw (same, is.answer, lacking) refl
+  outcome-lacking plan_file data_file view fault is lacking = search (rules, arith)
 
   pub answers-lacking : (after : InputState) (plan : Plan) (fault : Fault) (old : Option (List ℕ)) → AnswersPlan after (Ok plan) → lacks (plan_view plan) ≡ Some fault → Answers does after (Err fault) old old
   answers-lacking after plan fault old (inl outside) lacking = absurd outside
@@ -75,10 +60,7 @@ module _ (plan_name name : List ℕ) (writing : Writing (PlanView → List ℕ �
   -- a plan that lacks nothing leaves the end to the data
   pub outcome-planned : (plan_file data_file : File) (view : PlanView) → IsPlan plan_file view → lacks view ≡ None → outcome does plan_file data_file ≡ on_file (work view) data_file
   unfolding outcome
-  outcome-planned None data_file view is whole = let none = is.present in cc
-  outcome-planned (Some text) data_file view is whole =
-      let same : text ≡ is.text = let e = is.present in cc in
-      rw (same, is.answer, whole) refl
+  outcome-planned plan_file data_file view is whole = search (rules, arith)
 
   -- work that ended is that of each such file
   pub plan-answers : (after : InputState) (view : PlanView) (start : Given) (old new : Option (List ℕ)) (r : Result (Unit {0}) Fault) → HasPlan after lacks view → start ≡ no_bytes → after.opened Data ≡ true → AnswersWork (work view) start (after.given Data) old new r
@@ -89,8 +71,7 @@ module _ (plan_name name : List ℕ) (writing : Writing (PlanView → List ℕ �
 
 -- a text that is cut by a plan is cut
 cuts-under : (writing : Writing (PlanView → List ℕ → List ℕ)) (view : PlanView) (end : Outcome) (old new : Option (List ℕ)) → Cuts (under view writing) end old new → Cuts writing end old new
-cuts-under AtEnd view end old new h = h
-cuts-under (AsItReads text) view end old new h = h
+cuts-under writing view end old new h = search (rules, arith)
 
 -- why a command by a plan ended by a fault from outside
 pub plan-causes : (plan_name name : List ℕ) (writing : Writing (PlanView → List ℕ → List ℕ)) (memory : Memory) (lacks : PlanView → Option Fault) (work : PlanView → Work) (view : PlanView) (before : InputState) (span : Span) (fault : Fault)
@@ -120,7 +101,4 @@ lacking-causes plan_name name writing memory lacks work span fault inside = HasR
 pub plan-files : (plan_name name : List ℕ) (writing : Writing (PlanView → List ℕ → List ℕ)) (memory : Memory) (lacks : PlanView → Option Fault) (work : PlanView → Work) (before after : InputState)
     → OpensAs PlanSlot before after plan_name → OpensAs Data before after name
     → ((slot : Slot) (bytes : List ℕ) → after.told slot ≡ Some bytes → IsOf (after.given slot) bytes) → ToldAreIts (ByPlan plan_name name writing memory lacks work) before after
-plan-files plan_name name writing memory lacks work before after is_plan is_data agrees = (
-  λ file. told-is-its (before.contents plan_name) after PlanSlot file is_plan (agrees PlanSlot),
-  λ file. told-is-its (before.contents name) after Data file is_data (agrees Data),
-)
+plan-files plan_name name writing memory lacks work before after is_plan is_data agrees = search (rules, arith, told-is-its)

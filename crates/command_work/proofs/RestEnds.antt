@@ -1,6 +1,5 @@
 -- The text of bytes that grow, and how a call of the loop's body ends it.
-use Rattle.std.proofs.Common.{◌≡◌, ◌∙◌, ◌≤◌, ℕ, List, [], ◌++◌, None, Some, Ok, Err, refl, ap, inl, inr, ⊎_elim, append_assoc, append-nil, length, take, arith, ◌⊎◌, true, false, Result, IfErr, IsErrAnd}
-use Rattle.std.{specs.declared.option.Option.Option, proofs.lemmas.List.length-take}
+use Rattle.std.{proofs.Common.{◌≡◌, ◌∙◌, ◌≤◌, ℕ, List, [], ◌++◌, None, Some, Ok, Err, refl, ap, inl, inr, ⊎_elim, append_assoc, append-nil, length, take, arith, ◌⊎◌, true, false, Result, IfErr, IsErrAnd, rules}, specs.declared.option.Option.Option, proofs.lemmas.List.length-take}
 use Rattle.tally_base.{specs.declared.fault.Fault.Fault, specs.declared.fault.Fault.TheVariants.{ReadFault, WriteFault}, specs.declared.slot.Slot.Slot, specs.declared.slot.Slot.TheVariants.Data, specs.Faults.{is_outside, fault_in, HasReason}, proofs.Reasons.HasReason-inside, specs.FaultCounts.Rose}
 use Rattle.bench_io.{specs.Given.{Consumes, IsAtEnd}, specs.Inputs.{InputState, KeepsOther, OpensNone}, proofs.Givens.{Consumes-nil, Consumes-kept, Consumes-trans}}
 use Rattle.told_text.{specs.Texts.{WroteText, CutText, WritesText}, proofs.Texts.{WroteText-none, WroteText-trans, CutText-behind, CutText-more}}
@@ -42,14 +41,10 @@ writes-reason memory reading shown grown refused b c faults now (Err fault) insi
 writes-reason memory reading shown grown refused b c faults now (Err fault) inside (inr h) cut = rw h.0 (cut h.1)
 
 pub writes-once : (shown grown : List ℕ) (refused : Option Fault) (b c : Option (List ℕ)) (faults now : ℕ) (r : Result (Unit {0}) Fault) → ((fault : Fault) → refused ≡ Some fault → is_outside fault ≡ false) → WritesText shown grown refused b c faults now r → OutOnce (fault_in r) faults now
-writes-once shown grown refused b c faults now (Ok x) inside h = h.1.kept
-writes-once shown grown refused b c faults now (Err fault) inside (inl h) = out-inside fault _ _ (inside fault h.0) h.1.kept
-writes-once shown grown refused b c faults now (Err fault) inside (inr h) = rw h.0 h.1.rose
+writes-once shown grown refused b c faults now r inside h = search (rules, arith, out-inside)
 
 pub writes-quiet : (shown grown : List ℕ) (refused : Option Fault) (b c : Option (List ℕ)) (faults now : ℕ) (r : Result (Unit {0}) Fault) → ((fault : Fault) → refused ≡ Some fault → is_outside fault ≡ false) → WritesText shown grown refused b c faults now r → IsQuiet (fault_in r)
-writes-quiet shown grown refused b c faults now (Ok x) inside h = quiet-none
-writes-quiet shown grown refused b c faults now (Err fault) inside (inl h) = quiet-inside fault (inside fault h.0)
-writes-quiet shown grown refused b c faults now (Err fault) inside (inr h) = rw h.0 quiet-write
+writes-quiet shown grown refused b c faults now r inside h = search (rules, arith, quiet-none, quiet-inside, quiet-write)
 
 module _ {t : Telling} {shown bytes so_far : List ℕ} {at : Span} {s2 : InputState} (memory : Type 0) (so : SoFar t shown bytes so_far at) (read : Read at.after s2) where
   -- a read failed
@@ -82,14 +77,7 @@ module _ {t : Telling} {shown bytes so_far : List ℕ} {at : Span} {s2 : InputSt
 
     -- a piece was taken
     pub so-piece : SaysNoEnd (at.before.given Data) (s2.given Data) → WritesPiece t (bytes ++ so_far) piece at.new c at.faults_after now (Ok tt) → SoFar t shown bytes (so_far ++ piece) (later at s2 c now)
-    so-piece on writes = record {
-      is = so.is;
-      once = once-read Data _ _ _ _ quiet-none so.once read.other read.none kept;
-      took = took;
-      wrote = rw (← append_assoc bytes so_far piece) (WroteText-trans _ _ _ _ _ _ _ _ _ so.wrote writes.1);
-      clear = rw (← append_assoc bytes so_far piece) writes.0;
-      unended = on;
-    }
+    so-piece on writes = search (rules, arith, once-read, quiet-none, took, append_assoc, piece)
 
     -- a piece was refused, or was cut short
     pub rest-piece : (fault : Fault) → WritesPiece t (bytes ++ so_far) piece at.new c at.faults_after now (Err fault) → ReadsRest t shown bytes memory (later at s2 c now) (Err fault)

@@ -1,6 +1,5 @@
 -- What is made of bytes that are refused or not.
-use Rattle.std.proofs.Common.{◌≡◌, ◌∙◌, ℕ, List, [], false, None, Some, Ok, Err, refl, ap, inl, inr, arith, length, ◌++◌, length-append, Result}
-use Rattle.std.{specs.declared.option.Option.Option, specs.Io.KnownBytes.Appends}
+use Rattle.std.{proofs.Common.{◌≡◌, ◌∙◌, ℕ, List, [], false, None, Some, Ok, Err, refl, ap, inl, inr, arith, length, ◌++◌, length-append, Result, rules}, specs.declared.option.Option.Option, specs.Io.KnownBytes.Appends}
 use Rattle.tally_base.{specs.declared.fault.Fault.Fault, specs.declared.fault.Fault.TheVariants.WriteFault, specs.declared.header.Mode.Mode, specs.FaultCounts.Rose, specs.Faults.{is_outside, fault_in}}
 use Rattle.bench_io.specs.Sinks.{AppendsShort}
 use Rattle.told_text.proofs.Texts.{WroteText-none}
@@ -15,16 +14,10 @@ same-end end text fault p q = ap (λ l. end_with l end.fault) p ∙ ap (λ f. en
 
 pub declined-law : (declined : Option Fault) (t : Telling) → ((fault : Fault) → declined ≡ Some fault → is_outside fault ≡ false) → IsText t → IsText (unless_declined declined t)
 declined-law None t inside is = is
-declined-law (Some why) t inside is = record {
-  refused = λ bytes more fault h. ap (λ (f : Option Fault). end_with [] f) h;
-  front = λ bytes more. ([], refl);
-  inside = λ bytes. inside;
-  end_inside = λ bytes. inside;
-}
+declined-law (Some why) t inside is = search (rules, arith, end_with)
 
 err-from : (r : Result (Unit {0}) Fault) (fault : Fault) → fault_in r ≡ Some fault → r ≡ Err fault
-err-from (Ok done) fault h = cc
-err-from (Err own) fault h = let same : own ≡ fault = cc in ap (λ (f : Fault). Err f) same
+err-from r fault h = search (rules, arith)
 
 -- where a plan's parts suit a file
 pub fits-law : (mode : Mode) (plan : PlanView) {t : Telling} → IsText t → IsText (unless_declined (fault_in (fits mode plan)) t)

@@ -1,13 +1,13 @@
 -- What the bytes taken say of the whole.
-use Rattle.std.proofs.Common.{◌≡◌, ◌≢◌, ℕ, List, [], ◌++◌, true, false, Some, refl, sym, ap, ◌∙◌, subst, ⊎_elim, append-nil}
+use Rattle.std.proofs.Common.{◌≡◌, ◌≢◌, ℕ, List, [], ◌++◌, true, false, Some, refl, sym, ap, ◌∙◌, subst, ⊎_elim, append-nil, arith, rules}
 use Rattle.tally_base.specs.declared.slot.Slot.{Slot}
-use Rattle.bench_io.{specs.Inputs.{File, InputState}, specs.Given.{Given, no_bytes, Consumes, GivesCount, IsAtEnd, MayFollow, IsOf}}
+use Rattle.bench_io.{specs.Inputs.{File, InputState}, specs.Given.{Given, no_bytes, Consumes, GivesCount, IsAtEnd, MayFollow}}
 use Rattle.ptu_definitions.specs.Shown.{Shows}
 use Rattle.command_work.{specs.Told.{Says, SaysNoEnd}, specs.Endings.FileOf}
 
 -- at the end nothing stands behind
 pub Says-at_end : {A : Type 0} (meaning : List ℕ → A) (taken : List ℕ) (given : Given) (answer : A) → IsAtEnd given → meaning taken ≡ answer → Says meaning taken given answer
-Says-at_end meaning taken given answer end h = record { means = λ more follows. ap (λ l. meaning (taken ++ l)) (follows end) ∙ ap meaning (append-nil taken) ∙ h }
+Says-at_end meaning taken given answer end h = search (rules, arith, append-nil)
 
 -- what bytes show they say, whatever stands behind
 pub Says-shown : {A : Type 0} (meaning : List ℕ → A) (taken : List ℕ) (given : Given) (answer : A) → Shows meaning taken answer → Says meaning taken given answer
@@ -36,17 +36,7 @@ pub record Splits (given : Given) (taken : List ℕ) (file : File) : Type 0 wher
   pub parts : file ≡ Some (taken ++ more)
 
 pub file-splits : (after : InputState) (slot : Slot) (file : File) (start : Given) (taken : List ℕ) → FileOf after slot file → after.opened slot ≡ true → start ≡ no_bytes → Consumes start (after.given slot) taken → Splits (after.given slot) taken file
-file-splits after slot file start taken may opened none took =
-    let is = may opened in
-    record {
-      more = is.2.more;
-      follows = is.2.may_follow;
-      parts = is.1 ∙ ap (λ (l : List ℕ). Some l) (is.2.parts ∙ ap (λ l. l ++ is.2.more) (all-taken start (after.given slot) taken none took));
-    }
-
--- a slot that stays as it was has the same files
-pub FileOf-kept : (mid after : InputState) (slot : Slot) (file : File) → after.opened slot ≡ mid.opened slot → after.given slot ≡ mid.given slot → FileOf after slot file → FileOf mid slot file
-FileOf-kept mid after slot file opened given may was = let is = may (opened ∙ was) in (is.0, is.1, subst (λ (g : Given). IsOf g is.0) given is.2)
+file-splits after slot file start taken may opened none took = search (rules, arith, all-taken)
 
 -- The bytes that were given may be the whole file: so some files always may be those of a run.
 pub some-file : (after : InputState) (slot : Slot) → FileOf after slot (Some (after.given slot).bytes)

@@ -1,6 +1,5 @@
 -- What a run of the program leaves, by what its command does.
-use Rattle.std.specs.Prelude.{ℕ, ◌≡◌, ◌⊎◌, ◌+◌, ◌≤◌, ◌<◌, List, ◌++◌, length, true, false, None, Some, Result, Ok, Err, IsErrAnd, IfErr}
-use Rattle.std.{specs.declared.option.Option.Option, specs.Io.KnownBytes.{Keeps, Appends}}
+use Rattle.std.{specs.Prelude.{ℕ, ◌≡◌, ◌⊎◌, ◌+◌, ◌≤◌, ◌<◌, List, ◌++◌, length, true, false, None, Some, Result, Ok, Err, IsErrAnd, IfErr}, specs.declared.option.Option.Option, specs.Io.KnownBytes.{Keeps, Appends}}
 use Rattle.tally_base.{specs.declared.slot.Slot.Slot, specs.declared.slot.Slot.TheVariants.{Plan, Data}, specs.declared.fault.Fault.Fault, specs.declared.fault.Fault.TheVariants.{Usage, OpenFault}, specs.Faults.{line_of, is_outside, fault_in, HasReason}, specs.FaultCounts.Rose, specs.declared.header.Header.Header, specs.RecordTypes.mode_of}
 use Rattle.bench_io.{specs.Sinks.AppendsShort, specs.Given.{IsOf, IsAtEnd}, specs.Inputs.{File, InputState, IsOpened}, specs.declared.inputs.Inputs.Ghosts as InputGhosts, specs.declared.sink.Sink.Ghosts as SinkGhosts}
 use Rattle.ptu_definitions.specs.Headers.{header_answer}
@@ -197,14 +196,17 @@ pub record TakesData (work : Work) (after : InputState) : Type 0 where
   pub goes_on : work.goes_on front
   pub few : length last ≤ piece_limit
 
+-- The data are asked for only behind a plan that lacks nothing, and what is taken of them is what its work takes.
+abbrev pub AsksByPlan : (PlanView → Option Fault) → (PlanView → Work) → InputState → Type 0
+AsksByPlan lacks work after = after.asked Data ≡ true → (view : PlanView) × HasPlan after lacks view × (after.opened Data ≡ true → TakesData (work view) after)
+
 -- What a command asks for and takes, however it ends. Without a word PLAN it never asks for a plan, and without a word FILE it leaves the inputs as they were.
 -- The data are asked for only behind a plan that lacks nothing, and opened only where they are asked for.
 abbrev pub Asks : Behaviour → InputState → InputState → Type 0
 Asks NoCommand before after = after ≡ before
 Asks (Alone end) before after = after ≡ before
 Asks (OnFile file writing work) before after = (after.asked Plan ≡ false) × (after.opened Data ≡ true → TakesData work after)
-Asks (ByPlan plan file writing memory lacks work) before after =
-    TakesPlan after × (after.asked Data ≡ true → (view : PlanView) × HasPlan after lacks view × (after.opened Data ≡ true → TakesData (work view) after)) × (after.opened Data ≡ true → after.asked Data ≡ true)
+Asks (ByPlan plan file writing memory lacks work) before after = TakesPlan after × AsksByPlan lacks work after × (after.opened Data ≡ true → after.asked Data ≡ true)
 
 -- A fault has its line on standard error, and no write there failed; or a prefix of it where one did.
 abbrev pub TellsFault : Option (List ℕ) → Option (List ℕ) → ℕ → ℕ → Option Fault → Type 0
@@ -255,9 +257,13 @@ pub record Once (span : Span) (fault : Option Fault) : Type 0 where
 abbrev pub FailsOpening : Behaviour → Slot → InputState → InputState → Option (List ℕ) → Option (List ℕ) → Type 0
 FailsOpening does slot before after old new = Reaches does after slot × Rose (before.open_faults slot) (after.open_faults slot) × Keeps old new
 
+-- A read of the slot failed: the count of those rose.
+abbrev pub ReadFailed : Slot → InputState → InputState → Type 0
+ReadFailed slot before after = Rose (before.read_faults slot) (after.read_faults slot)
+
 -- A read failed: the command came to the slot, which was opened and of which no read had said the end, the count of its reads that failed rose, and standard output holds what was called for so far.
 abbrev pub FailsReading : Behaviour → Slot → InputState → InputState → Option (List ℕ) → Option (List ℕ) → Type 0
-FailsReading does slot before after old new = Reaches does after slot × (after.opened slot ≡ true) × ¬ (IsAtEnd (after.given slot)) × Rose (before.read_faults slot) (after.read_faults slot) × LeavesUnread does slot after old new
+FailsReading does slot before after old new = Reaches does after slot × (after.opened slot ≡ true) × ¬ (IsAtEnd (after.given slot)) × ReadFailed slot before after × LeavesUnread does slot after old new
 
 -- The text that its files call for was cut short.
 abbrev pub CutsOutcome : Behaviour → InputState → Option (List ℕ) → Option (List ℕ) → Type 0

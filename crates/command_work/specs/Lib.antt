@@ -7,6 +7,5 @@ pub mod Works
 pub mod Pieces
 pub mod HeaderPieces
 pub mod PlanPieces
-pub mod StreamPieces
 pub mod Tellings
 pub mod Rests

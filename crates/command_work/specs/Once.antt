@@ -1,6 +1,5 @@
 -- Which counts of faults a call moved.
-use Rattle.std.specs.Prelude.{ℕ, ◌≡◌, Bool, true, false, None, Some}
-use Rattle.std.specs.declared.option.Option.{Option}
+use Rattle.std.{specs.Prelude.{ℕ, ◌≡◌, Bool, true, false, None, Some}, specs.declared.option.Option.{Option}}
 use Rattle.tally_base.{specs.declared.slot.Slot.Slot, specs.declared.slot.Slot.TheVariants.{Plan, Data}, specs.declared.fault.Fault.Fault, specs.declared.fault.Fault.TheVariants.{OpenFault, ReadFault, WriteFault}, specs.FaultCounts.Rose}
 use Rattle.bench_io.specs.Inputs.{InputState}
 

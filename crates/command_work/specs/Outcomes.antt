@@ -1,6 +1,5 @@
 -- What a command ends with, and which ends more bytes may change.
-use Rattle.std.specs.Prelude.{ℕ, ◌≡◌, List, [], length, None, Some, Bool, true, false, Err}
-use Rattle.std.specs.declared.option.Option.{Option}
+use Rattle.std.{specs.Prelude.{ℕ, ◌≡◌, List, [], length, None, Some, Bool, true, false, Err}, specs.declared.option.Option.{Option}}
 use Rattle.tally_base.{specs.declared.fault.Fault.Fault, specs.declared.fault.Fault.TheVariants.{TruncatedHeader, TruncatedRecord}, specs.Faults.status_of}
 use Rattle.ptu_definitions.specs.Headers.{header_answer}
 

@@ -1,6 +1,5 @@
 -- What reading the rest of the data leaves.
-use Rattle.std.specs.Prelude.{ℕ, ◌≡◌, ◌⊎◌, List, ◌++◌, true, None, Result, IsErrAnd, IfErr}
-use Rattle.std.{specs.declared.option.Option.Option, specs.Io.KnownBytes.{Keeps, Appends}}
+use Rattle.std.{specs.Prelude.{ℕ, ◌≡◌, ◌⊎◌, List, ◌++◌, true, None, Result, IsErrAnd, IfErr}, specs.declared.option.Option.Option, specs.Io.KnownBytes.{Keeps, Appends}}
 use Rattle.tally_base.{specs.declared.fault.Fault.Fault, specs.declared.slot.Slot.TheVariants.Data, specs.FaultCounts.Rose, specs.Faults.{is_outside, fault_in, HasReason}}
 use Rattle.bench_io.{specs.Sinks.AppendsShort, specs.Given.{Consumes, MayFollow}}
 use Rattle.command_work.{specs.Endings.{Span, Once}, specs.Told.SaysNoEnd, specs.Tellings.Telling, specs.Works.TakesFew}

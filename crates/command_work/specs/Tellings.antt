@@ -1,6 +1,5 @@
 -- What a command makes of the bytes after a header.
-use Rattle.std.specs.Prelude.{ℕ, ◌≡◌, ◌⊎◌, ◌<◌, List, [], ◌++◌, length, false, None, Some, Result, Ok, Err}
-use Rattle.std.{specs.declared.option.Option.Option, specs.Io.KnownBytes.Keeps}
+use Rattle.std.{specs.Prelude.{ℕ, ◌≡◌, ◌⊎◌, ◌<◌, List, [], ◌++◌, length, false, None, Some, Result, Ok, Err}, specs.declared.option.Option.Option, specs.Io.KnownBytes.Keeps}
 use Rattle.tally_base.{specs.declared.fault.Fault.Fault, specs.declared.fault.Fault.TheVariants.OutOfMemory, specs.declared.header.Header.Header, specs.Faults.is_outside}
 use Rattle.bench_io.specs.Sinks.{AppendsShort}
 use Rattle.told_text.specs.Texts.{WritesText}

@@ -1,6 +1,5 @@
 -- What a command's work on the bytes of FILE leaves.
-use Rattle.std.specs.Prelude.{ℕ, ◌≡◌, ◌⊎◌, ◌≤◌, List, ◌++◌, length, true, Result, IsErrAnd, IfErr}
-use Rattle.std.{specs.declared.option.Option.Option, specs.Io.KnownBytes.{Keeps, Appends}}
+use Rattle.std.{specs.Prelude.{ℕ, ◌≡◌, ◌⊎◌, ◌≤◌, List, ◌++◌, length, true, Result, IsErrAnd, IfErr}, specs.declared.option.Option.Option, specs.Io.KnownBytes.{Keeps, Appends}}
 use Rattle.tally_base.{specs.declared.slot.Slot.TheVariants.Data, specs.declared.fault.Fault.Fault, specs.FaultCounts.Rose, specs.Faults.{is_outside, fault_in, HasReason}}
 use Rattle.bench_io.specs.Given.{Given, Consumes, MayFollow}
 use Rattle.plan_text.specs.Plan.{PlanView}

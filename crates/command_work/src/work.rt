@@ -1,6 +1,5 @@
 // The work of a command: on FILE alone, or by a plan.
-ghost use Rattle.std.specs.Prelude.{◌≡◌, ◌≤◌, ◌<◌, List, ℕ, true, false, None, IfSome};
-ghost use Rattle.std.specs.declared.option.Option.{Option};
+ghost use Rattle.std.{specs.Prelude.{◌≡◌, ◌≤◌, ◌<◌, List, ℕ, true, false, None, IfSome}, specs.declared.option.Option.{Option}};
 ghost use Rattle.tally_base.{specs.declared.slot.Slot.Slot, specs.declared.slot.Slot.TheVariants.Plan as PlanSlot, specs.declared.slot.Slot.TheVariants.Data, specs.declared.fault.Fault.Fault, specs.Faults.is_outside};
 ghost use Rattle.bench_io.specs.Inputs.{OnlyReads};
 ghost use Rattle.ptu_definitions.specs.Counted.{record_limit};

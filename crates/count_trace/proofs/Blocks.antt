@@ -1,6 +1,5 @@
 -- The counts over the rows of a block.
-use Rattle.std.proofs.Common.{◌≡◌, ◌∙◌, ℕ, ◌+◌, ◌-◌, ◌/◌, ◌<◌, ◌≤◌, Bool, true, false, ◌&&◌, cond, ◌++◌, ap, refl, arith, nat_lt, nat_le, ◌==◌, if◌then◌else◌}
-use Rattle.std.{proofs.lemmas.Bool.Decides.nat_tests, proofs.lemmas.List.Sums.{sum_by-append, sum_by_push}}
+use Rattle.std.{proofs.Common.{◌≡◌, ◌∙◌, ℕ, ◌+◌, ◌-◌, ◌/◌, ◌<◌, ◌≤◌, Bool, true, false, ◌&&◌, cond, ◌++◌, ap, refl, arith, nat_lt, nat_le, ◌==◌, if◌then◌else◌}, proofs.lemmas.Bool.Decides.nat_tests, proofs.lemmas.List.Sums.{sum_by-append, sum_by_push}}
 use Rattle.tally_base.{specs.declared.event.Event.Event, specs.Events.{is_photon, is_in}, specs.Settings.TraceView, specs.Tally.History, specs.Columns.{rows, item, event_at, code_at, time_at, groups_at}, specs.declared.block.Block.Block, proofs.Back.moves_row, proofs.BlockRows.more_rows}
 use Rattle.count_trace.specs.TraceCounts.{count_times, in_trace_bin}
 

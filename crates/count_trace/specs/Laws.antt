@@ -1,6 +1,5 @@
 -- What holds of every trace.
-use Rattle.std.specs.Prelude.{◌≡◌, ℕ, ◌≤◌, ◌+◌, ◌-◌, ◌/◌, Bool, false, ◌&&◌, ◌==◌, nat_le, nat_lt, [], ◌∷◌, ◌++◌, length}
-use Rattle.std.proofs.Common.{rules, ◌∙◌, ap}
+use Rattle.std.{specs.Prelude.{◌≡◌, ℕ, ◌≤◌, ◌+◌, ◌-◌, ◌/◌, Bool, false, ◌&&◌, ◌==◌, nat_le, nat_lt, [], ◌∷◌, ◌++◌, length}, proofs.Common.{rules, ◌∙◌, ap}}
 use Rattle.tally_base.{specs.declared.event.Event.Event, specs.Events.{is_photon, is_in}, specs.Settings.{entries, trace_view}, specs.Tally.{History, greatest_time}, proofs.Markers.{same_length, same_greatest, same_count}}
 use Rattle.count_trace.{specs.declared.trace.Trace.Trace, specs.TraceCounts.count_times, specs.Trace.{Holds, settings}}
 

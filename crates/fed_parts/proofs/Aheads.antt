@@ -15,14 +15,6 @@ late_floor mode old new es e is = by_case (is_ordered mode e) is
     by_case true is = ap (λ n. floor_after (orders_markers mode) n es) is
     by_case false is = ap (λ n. floor_after (orders_markers mode) n es) is
 
--- and behind no events the floor is that of the stream
-pub first_floor : (mode : Mode) (late : Bool) (old new : Reached) (es : List Event) (e : Event) → es ≡ [] → new.floor ≡ (if is_ordered mode e && not late then e.time else old.floor) → floor_with mode new es ≡ (if is_ordered mode e && not late then e.time else floor_with mode old es)
-first_floor mode late old new es e none is = rw none is
-
-pub passed_floor : (mode : Mode) (late : Bool) (old new : Reached) (es : List Event) (e : Event) → (late ≡ false → es ≡ []) → new.floor ≡ (if is_ordered mode e && not late then e.time else old.floor) → floor_with mode new es ≡ (if is_ordered mode e && not late then e.time else floor_with mode old es)
-passed_floor mode true old new es e none is = late_floor mode old new es e is
-passed_floor mode false old new es e none is = first_floor mode false old new es e (none refl) is
-
 -- where no event waits, the tables are as far as with those that do
 pub at_none : (mode : Mode) (reached : Reached) (block : Block) (count time : ℕ) → NoneWaits reached block count time → IsAt mode reached block count time
 at_none mode reached block count time none = record {

@@ -1,6 +1,5 @@
 -- Tables that are given something one by one.
-use Rattle.std.proofs.Common.{◌≡◌, ◌+◌, ◌≤◌, ◌<◌, ℕ, zero, suc, List, [], ◌∷◌, refl, arith, length, get_or, set, ⊎_elim}
-use Rattle.std.{proofs.lemmas.Grind.common_steps, proofs.lemmas.List.get_or-set_same}
+use Rattle.std.{proofs.Common.{◌≡◌, ◌+◌, ◌≤◌, ◌<◌, ℕ, zero, suc, List, [], ◌∷◌, refl, arith, length, get_or, set, ⊎_elim}, proofs.lemmas.Grind.common_steps, proofs.lemmas.List.get_or-set_same}
 use Rattle.gate_plan.proofs.Sorts.{other, last_or}
 
 behind : {X : Type 0} (xs : List X) (n k : ℕ) (v d : X) → n < k → get_or (set xs n v) k d ≡ get_or xs k d

@@ -1,6 +1,5 @@
 -- Tables that are opened one behind the other.
-use Rattle.std.proofs.Common.{◌≡◌, ◌<◌, ◌+◌, ℕ, suc, take, get_or, List, [], ◌∷◌, ◌++◌, map, sym, ◌∙◌, append_assoc, false, length, refl, ap, arith, flat_map}
-use Rattle.std.{proofs.Math.Seq.take-suc, proofs.lemmas.List.map-append, proofs.lemmas.List.Elements.All-push}
+use Rattle.std.{proofs.Common.{◌≡◌, ◌<◌, ◌+◌, ℕ, suc, take, get_or, List, [], ◌∷◌, ◌++◌, map, sym, ◌∙◌, append_assoc, false, length, refl, ap, arith, flat_map}, proofs.Math.Seq.take-suc, proofs.lemmas.List.map-append, proofs.lemmas.List.Elements.All-push}
 use Rattle.tally_base.{specs.declared.header.Mode.Mode, specs.declared.header.Mode.TheVariants.T2, specs.Settings.{is_strict, PartSettings}}
 use Rattle.plan_parts.{specs.declared.part.Part.Part, specs.contracts.part.PartTally.TheImpl.ghosts, specs.Parts.{settings_in, IsOpened, AllOpened}, proofs.Tables.{part_taken, part_floor}}
 use Rattle.fed_parts.specs.Taker.{Standing}

@@ -1,6 +1,5 @@
 -- The tables of a plan that suits T2 are in no strict order of time.
-use Rattle.std.proofs.Common.{◌≡◌, ◌<◌, ℕ, zero, suc, get_or, List, [], ◌∷◌, false, length, refl, None, Result, Ok, Err, arith, rules}
-use Rattle.std.specs.List.{AllByRecursion}
+use Rattle.std.{proofs.Common.{◌≡◌, ◌<◌, ℕ, zero, suc, get_or, List, [], ◌∷◌, false, length, refl, None, Result, Ok, Err, arith, rules}, specs.List.AllByRecursion}
 use Rattle.tally_base.{specs.declared.fault.Fault.Fault, specs.declared.header.Mode.Mode, specs.declared.header.Mode.TheVariants.{T2, T3}, specs.Settings.{is_strict, PartSettings}, specs.Settings.PartSettings.{ImageSettings, CubeSettings}}
 use Rattle.toml_rules.specs.Rules.{or_next}
 use Rattle.plan_text.{specs.Fits.{fits, misfit, refusal, groups_fit, shifts_fit, parts_fit}, specs.Plan.{PlanView, parts_of}, proofs.Misfits.suits_by}

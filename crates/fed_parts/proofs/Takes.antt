@@ -1,6 +1,5 @@
 -- One event more for all tables.
-use Rattle.std.proofs.Common.{◌≡◌, ◌+◌, ◌≤◌, ◌<◌, ℕ, List, [], ◌∷◌, ◌++◌, Bool, true, false, refl, sym, ap, ◌∙◌, append_assoc, append-nil, arith, length, length-append, ◌&&◌, not, IsTrue, if◌then◌else◌, slice_index_or}
-use Rattle.std.{proofs.lemmas.List.map-append, proofs.lemmas.List.Elements.filter-append}
+use Rattle.std.{proofs.Common.{◌≡◌, ◌+◌, ◌≤◌, ◌<◌, ℕ, List, [], ◌∷◌, ◌++◌, Bool, true, false, refl, sym, ap, ◌∙◌, append_assoc, append-nil, arith, length, length-append, ◌&&◌, not, IsTrue, if◌then◌else◌, slice_index_or}, proofs.lemmas.List.map-append, proofs.lemmas.List.Elements.filter-append}
 use Rattle.tally_base.{specs.declared.event.Event.Event, specs.declared.header.Mode.Mode, specs.declared.header.Mode.TheVariants.{T2, T3}, specs.declared.tally.Tally.Ghosts, specs.Events.is_ordered, specs.Settings.is_strict, specs.Tally.{History, moves_floor}, specs.Limits.{record_limit, time_limit}, specs.Floors.{floor_after, InOrder}, proofs.Floors.{floor-push, order-push, order-front, order-last}}
 use Rattle.ptu_definitions.{specs.Kept.Marked, specs.Settled.not_marked}
 use Rattle.gate_plan.{specs.Shifting.Sorting, specs.Histories.with_groups, proofs.Histories.{with_groups-more, with_groups-push}}

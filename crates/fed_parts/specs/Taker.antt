@@ -1,6 +1,5 @@
 -- What the tables of a taker stand for.
-use Rattle.std.specs.Prelude.{◌≡◌, ℕ, ◌+◌, ◌≤◌, max, false, List, [], ◌++◌, length, All, refl}
-use Rattle.std.proofs.Common.{append-nil, arith}
+use Rattle.std.{specs.Prelude.{◌≡◌, ℕ, ◌+◌, ◌≤◌, max, false, List, [], ◌++◌, length, All, refl}, proofs.Common.{append-nil, arith}}
 use Rattle.tally_base.{specs.declared.event.Event.Event, specs.declared.header.Mode.Mode, specs.declared.header.Mode.TheVariants.T2, specs.declared.tally.Tally.Ghosts, specs.Settings.is_strict, specs.Tally.History, specs.Floors.{floor_after, InOrder}}
 use Rattle.ptu_definitions.{specs.Kept.{Marked, floor_of}, specs.Settled.not_marked}
 use Rattle.gate_plan.{specs.Shifting.Sorting, specs.Histories.with_groups}

@@ -103,15 +103,6 @@ fn each_seed_gives_its_file(rt: HostRuntime) -> Result<(), Fail> {
             checksum: 16_289_943_576_718_946_618,
             end: &[0x86, 0x1B, 1, 2, 0xC7, 0x1C, 1, 0],
         },
-        // A wrap comes before the last photon.
-        Row {
-            seed: 7,
-            count: 131_298,
-            pieces: &[7, 8192],
-            size: 525_308,
-            checksum: 3_197_038_691_059_592_462,
-            end: &[0xD5, 0xFF, 0xFF, 3, 1, 0, 0, 0xFE, 0x35, 1, 0, 2],
-        },
         Row {
             seed: u64::MAX,
             count: 5,
@@ -124,6 +115,19 @@ fn each_seed_gives_its_file(rt: HostRuntime) -> Result<(), Fail> {
         agrees(rt.alloc(), &row)?;
     }
     Ok(())
+}
+
+#[test]
+fn a_wrap_comes_before_the_last_photon(rt: HostRuntime) -> Result<(), Fail> {
+    let row = Row {
+        seed: 7,
+        count: 131_298,
+        pieces: &[7, 8192],
+        size: 525_308,
+        checksum: 3_197_038_691_059_592_462,
+        end: &[0xD5, 0xFF, 0xFF, 3, 1, 0, 0, 0xFE, 0x35, 1, 0, 2],
+    };
+    agrees(rt.alloc(), &row)
 }
 
 /// The next bytes of a slot, as many as there is room for.

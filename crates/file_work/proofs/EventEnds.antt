@@ -1,8 +1,6 @@
 -- The end of a stream that keeps nothing back.
-use Rattle.std.proofs.Common.{◌≡◌, ◌<◌, ◌==◌, ℕ, List, [], ◌++◌, Bool, true, false, length, map, Ok, Err, refl, sym, arith, ap, ◌∙◌, inl, inr, length-append, Result, if◌then◌else◌}
-use Rattle.std.specs.declared.option.Option.{Option}
+use Rattle.std.{proofs.Common.{◌≡◌, ◌<◌, ◌==◌, ℕ, List, [], ◌++◌, Bool, length, map, Ok, Err, sym, arith, ap, ◌∙◌, inl, inr, length-append, Result, if◌then◌else◌, rules}, specs.declared.option.Option.{Option}}
 use Rattle.tally_base.{specs.declared.fault.Fault.Fault, specs.declared.header.Mode.Mode, specs.Faults.fault_in}
-use Rattle.told_text.proofs.Texts.{WroteText-none}
 use Rattle.ptu_definitions.{specs.declared.records.Summary.Summary, specs.Words.words_of, specs.Kept.{Marked, marked}, specs.Prefixes.each, specs.Settled.{ordered, settles, delivered}, specs.Times.events, specs.Streams.{Reading, given, last_in, streamed}, proofs.DeliveredLaws.delivered_last-0}
 use Rattle.command_work.specs.Tellings.{WritesEnd}
 use Rattle.list_out.specs.EventText.{events_text, lines_of}
@@ -22,15 +20,13 @@ ended-plain g how old new bytes (Err fault) zero (inr e) = absurd (none-broken e
 
 -- its answer, where no line is left to write
 pub ends-listed : (how : Reading) (bytes : List ℕ) (a : Option (List ℕ)) (faults : ℕ) (r : Result Summary Fault) (done : Result (Unit {0}) Fault) → r ≡ streamed how bytes → fault_in done ≡ fault_in r → WritesEnd (lists how) bytes a a faults faults done
-ends-listed how bytes a faults r (Ok done) is same = (ap fault_in (sym is) ∙ sym same, WroteText-none _ a faults)
-ends-listed how bytes a faults r (Err fault) is same = inl (ap fault_in (sym is) ∙ sym same, WroteText-none _ a faults)
+ends-listed how bytes a faults r done is same = search (rules, arith)
 
 -- ## No bytes
 
 none-delivered : (zero : Bool) (k : ℕ) (mode : Mode) → (if zero then marked mode [] else each (settles k) (ordered mode [])) ≡ []
 unfolding marked
-none-delivered true k mode = refl
-none-delivered false k mode = refl
+none-delivered zero k mode = search (rules, arith)
 
 pub lines_of-none : (how : Reading) → lines_of how [] ≡ []
 unfolding given events delivered

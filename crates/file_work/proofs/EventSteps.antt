@@ -1,6 +1,5 @@
 -- One line more, and the lines of a piece.
-use Rattle.std.proofs.Common.{◌≡◌, ◌+◌, ◌≤◌, ℕ, List, [], ◌∷◌, ◌++◌, Bool, Ok, Err, Some, refl, sym, ap, subst, ◌∙◌, inl, inr, ⊎_elim, append_assoc, append-nil, arith, length-append, ◌&&◌, not, IsTrue, if◌then◌else◌}
-use Rattle.std.{specs.declared.option.Option.Option, specs.declared.result.Result.Result, specs.Io.KnownBytes.Appends}
+use Rattle.std.{proofs.Common.{◌≡◌, ◌+◌, ◌≤◌, ℕ, List, [], ◌∷◌, ◌++◌, Bool, Ok, Err, Some, refl, sym, ap, subst, ◌∙◌, inl, inr, ⊎_elim, append_assoc, append-nil, arith, length-append, ◌&&◌, not, IsTrue, if◌then◌else◌}, specs.declared.option.Option.Option, specs.declared.result.Result.Result, specs.Io.KnownBytes.Appends}
 use Rattle.tally_base.{specs.declared.event.Event.Event, specs.declared.header.Mode.Mode, specs.declared.fault.Fault.Fault, specs.declared.fault.Fault.TheVariants.WriteFault, specs.Events.is_ordered, specs.FaultCounts.Rose}
 use Rattle.bench_io.{specs.Sinks.{AppendsShort, PassesOn}, proofs.Bytes.{PassesOn-trans, Appends-flushed, AppendsShort-passed, AppendsShort-flushed, AppendsShort-more, AppendsShort-kept, Keeps-from_none}}
 use Rattle.ptu_definitions.{specs.Kept.Marked, specs.Streams.{Reading, record_refusal, given}}

@@ -1,6 +1,5 @@
 -- What printing the body of a tag in pieces leaves.
-use Rattle.std.specs.Prelude.{ℕ, List, [], ◌++◌, codes, Bool, if◌then◌else◌}
-use Rattle.std.specs.declared.option.Option.{Option}
+use Rattle.std.{specs.Prelude.{ℕ, List, [], ◌++◌, codes, Bool, if◌then◌else◌}, specs.declared.option.Option.{Option}}
 use Rattle.ptu_tag.specs.declared.kind.TagKind.{TagKind}
 use Rattle.list_out.specs.HeaderText.{body_text}
 use Rattle.file_work.specs.Grown.{PutsMore, CutsMore}

@@ -1,10 +1,10 @@
 -- What holds of the lines of events of bytes that grow.
 use Rattle.std.proofs.Common.{◌≡◌, ◌∙◌, ℕ, List, [], ◌∷◌, ◌++◌, None, Ok, Err, refl, sym, ap, append_assoc, Result}
 use Rattle.tally_base.{specs.declared.fault.Fault.Fault, specs.declared.header.Header.Header, specs.Faults.fault_in}
-use Rattle.ptu_definitions.{specs.Headers.header_answer, specs.Kept.Marked, specs.Words.{words_of, rest_of}, specs.Streams.{Reading, record_refusal, given}, proofs.Firsts.record_refusal-inside, proofs.WordsLemmas.words_of-append, proofs.StreamLemmas.{given-front, given-stays}}
-use Rattle.record_stream.{specs.declared.stream.RecordStream.RecordStream, specs.Standing.how_of, proofs.Lasts.streamed-shown}
+use Rattle.ptu_definitions.{specs.Headers.header_answer, specs.Kept.Marked, specs.Words.{words_of, rest_of}, specs.Streams.{Reading, record_refusal, given}, proofs.Firsts.{record_refusal-inside, streamed-inside}, proofs.WordsLemmas.words_of-append, proofs.StreamLemmas.{given-front, given-stays}}
+use Rattle.record_stream.{specs.declared.stream.RecordStream.RecordStream, specs.Standing.how_of, proofs.Lasts.{streamed-shown, streamed-clear}}
 use Rattle.list_out.specs.EventText.{event_text, events_text, lines_of}
-use Rattle.command_work.{specs.Outcomes.MayChange, specs.Behaviours.AsItReads, specs.Works.WantsNone, specs.Tellings.{IsText, Suits, headed_end, headed_text, HeadedGoes}, proofs.TellingLaws.same-end, proofs.Streams.{streamed-clear, streamed-inside, streamed-open}}
+use Rattle.command_work.{specs.Outcomes.MayChange, specs.Behaviours.AsItReads, specs.Works.WantsNone, specs.Tellings.{IsText, Suits, headed_end, headed_text, HeadedGoes}, proofs.TellingLaws.same-end, proofs.Streams.streamed-open}
 use Rattle.file_work.{specs.FileOutcomes.{listing, listed, events_behind, events_so_far, listing_all}, specs.EventPieces.{lists, HasListed}}
 
 pub events_text-append : (l m : Marked) → events_text (l ++ m) ≡ events_text l ++ events_text m

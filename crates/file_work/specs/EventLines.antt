@@ -1,7 +1,5 @@
 -- The lines of events on their way to a sink.
-use Rattle.std.specs.Prelude.{ℕ, ◌≡◌, ◌+◌, max, List, [], ◌++◌, length, refl}
-use Rattle.std.proofs.Common.{append-nil, arith}
-use Rattle.std.specs.declared.option.Option.{Option}
+use Rattle.std.{specs.Prelude.{ℕ, ◌≡◌, ◌+◌, max, List, [], ◌++◌, length, refl}, proofs.Common.{append-nil, arith}, specs.declared.option.Option.{Option}}
 use Rattle.tally_base.specs.declared.header.Mode.{Mode}
 use Rattle.bench_io.{specs.Sinks.{AppendsShort, PassesOn}, proofs.Bytes.PassesOn-held}
 use Rattle.ptu_definitions.specs.Kept.{Marked, floor_of}

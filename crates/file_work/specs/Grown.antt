@@ -1,6 +1,5 @@
 -- What is written of a text that has grown.
-use Rattle.std.specs.Prelude.{ℕ, ◌≡◌, List, ◌++◌}
-use Rattle.std.{specs.declared.option.Option.Option, specs.Io.KnownBytes.Appends}
+use Rattle.std.{specs.Prelude.{ℕ, ◌≡◌, List, ◌++◌}, specs.declared.option.Option.Option, specs.Io.KnownBytes.Appends}
 use Rattle.bench_io.specs.Sinks.{AppendsShort, PassesOn}
 
 -- What the text has grown by was put behind what a block holds.

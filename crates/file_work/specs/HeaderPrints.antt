@@ -1,6 +1,5 @@
 -- What printing a header in pieces leaves.
-use Rattle.std.specs.Prelude.{ℕ, ◌≡◌, ◌+◌, List, [], ◌∷◌, ◌++◌, length, true, false, Ok, Err}
-use Rattle.std.specs.declared.option.Option.{Option}
+use Rattle.std.{specs.Prelude.{ℕ, ◌≡◌, ◌+◌, List, [], ◌∷◌, ◌++◌, length, true, false, Ok, Err}, specs.declared.option.Option.{Option}}
 use Rattle.tally_base.{specs.declared.header.Header.Header, specs.Faults.is_outside}
 use Rattle.ptu_definitions.{specs.TagFields.code_in, specs.TagList.Item, specs.Headers.header_answer, specs.Seen.seen, specs.Shown.Shows}
 use Rattle.ptu_header.specs.Reading.{HasRead, bytes_taken, is_open}

@@ -1,6 +1,5 @@
 // The lines of `count`.
-ghost use Rattle.std.specs.Prelude.{◌≡◌, IfErr, OnOk, OnErr};
-ghost use Rattle.std.specs.Io.KnownBytes.{Appends};
+ghost use Rattle.std.{specs.Prelude.{◌≡◌, IfErr, OnOk, OnErr}, specs.Io.KnownBytes.{Appends}};
 ghost use Rattle.bench_io.specs.Sinks.{AppendsShort};
 ghost use Rattle.tally_base.specs.FaultCounts.{FailsOnce};
 ghost use Rattle.file_work.specs.CountText.{counts_text};

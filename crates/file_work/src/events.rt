@@ -2,8 +2,7 @@
 ghost use Rattle.std.specs.Prelude.{◌≡◌, List, ℕ, OnOk, false, IfErr};
 ghost use Rattle.tally_base.specs.Faults.{is_outside};
 ghost use Rattle.ptu_definitions.specs.Streams.{streamed};
-ghost use Rattle.record_stream.specs.Standing.{how_of, HasStreamed};
-ghost use Rattle.command_work.specs.StreamPieces.{TakesOn, StaysOpen};
+ghost use Rattle.record_stream.{specs.Standing.{how_of, HasStreamed}, specs.Pieces.{TakesOn, StaysOpen}};
 ghost use Rattle.file_work.{specs.EventLines.ListsNone, specs.EventPieces.{IsOpenIn, ListsPiece}};
 
 use abs_time::{moved_floor, orders_markers};
@@ -36,8 +35,7 @@ struct EventLines<'o, O: Sink> {
 
 impl<'o, O: Sink> EventTaker for EventLines<'o, O> {
     ghost use Rattle.file_work.specs.EventLines.{Listed, ListedShort, listed_none};
-    ghost use Rattle.std.specs.Prelude.{refl};
-    ghost use Rattle.std.proofs.Common.{◌∙◌};
+    ghost use Rattle.std.{specs.Prelude.{refl}, proofs.Common.{◌∙◌}};
 
     ghost got = { λ s t l. Listed s.out.ghost_name t.out.ghost_name s.mode t.mode s.taken t.taken
         s.floor t.floor (O.faults s.out.now) (O.faults t.out.now)

@@ -1,6 +1,5 @@
 -- Bytes that are put, and the counts that they make.
-use Rattle.std.proofs.Common.{◌≡◌, ◌∙◌, ℕ, zero, suc, ◌+◌, ◌-◌, ◌*◌, ◌/◌, ◌%◌, ◌<◌, ◌≤◌, List, [], ◌∷◌, ◌++◌, length, get_or, set, take, replicate, refl, ap, sym, subst, zero-add, inl, inr, arith, ◌≢◌, slice_index}
-use Rattle.std.{specs.Int.{w16, w64, byte_worth, sum_through, from_le_bytes, div_ceil}, proofs.lemmas.Bool.{cases_eq, cases_lt}, proofs.lemmas.List.{ext_get_or, get_or-set_same, get_or-set_other, get_or_past, get_or-replicate, get_or_append_left, get_or-append_right, length-set, length-replicate, take_all}, proofs.lemmas.List.FromFn.get_or-map-range_with_len, proofs.lemmas.Nat.{mod-mul-add, mul-le, row_fits}}
+use Rattle.std.{proofs.Common.{◌≡◌, ◌∙◌, ℕ, zero, suc, ◌+◌, ◌-◌, ◌*◌, ◌/◌, ◌%◌, ◌<◌, ◌≤◌, List, [], ◌∷◌, ◌++◌, length, get_or, set, take, replicate, refl, ap, sym, subst, zero-add, inl, inr, arith, ◌≢◌, slice_index}, specs.Int.{w16, w64, byte_worth, sum_through, from_le_bytes, div_ceil}, proofs.lemmas.Bool.{cases_eq, cases_lt}, proofs.lemmas.List.{ext_get_or, get_or-set_same, get_or-set_other, get_or_past, get_or-replicate, get_or_append_left, get_or-append_right, length-set, length-replicate, take_all}, proofs.lemmas.List.FromFn.get_or-map-range_with_len, proofs.lemmas.Nat.{mod-mul-add, mul-le, row_fits}}
 use Rattle.flim_cube.specs.Bytes.{byte_in, count_in, counts_in, length_counts}
 
 -- A byte that is put in a list of lists is there, and the others are as before.

@@ -1,4 +1,3 @@
 pub mod Rows
 pub mod Cells
 pub mod Bytes
-pub mod Totals

@@ -1,7 +1,5 @@
 -- What cells stand for.
-use Rattle.std.specs.Prelude.{ℕ, ◌+◌, ◌*◌, ◌≤◌, List, length}
-use Rattle.std.proofs.Common.{arith}
-use Rattle.std.proofs.lemmas.Nat.{mul-le}
+use Rattle.std.{specs.Prelude.{ℕ, ◌+◌, ◌*◌, ◌≤◌, List, length}, proofs.Common.{arith}, proofs.lemmas.Nat.{mul-le}}
 use Rattle.flim_cube.{specs.declared.spread.Cells.Cells, specs.Bytes.{byte_in, counts_in, length_counts}}
 
 -- the count of each cell

@@ -1,6 +1,5 @@
 -- What holds of every cube.
-use Rattle.std.specs.Prelude.{◌≡◌, ℕ, ◌≤◌, ◌+◌, true, false, [], ◌∷◌, ◌++◌, length}
-use Rattle.std.proofs.Common.{rules, ◌∙◌}
+use Rattle.std.{specs.Prelude.{◌≡◌, ℕ, ◌≤◌, ◌+◌, true, false, [], ◌∷◌, ◌++◌, length}, proofs.Common.{rules, ◌∙◌}}
 use Rattle.tally_base.{specs.declared.event.Event.Event, specs.Events.is_photon, specs.Settings.entries, specs.Tally.{History, greatest_time}, proofs.Markers.{same_length, same_greatest}}
 use Rattle.scan_image.specs.Laws.{behind_marker}
 use Rattle.flim_cube.{specs.declared.cube.FlimCube.FlimCube, specs.Cells.{entries_of, few_entries}, specs.Cube.{Holds, settings}}

@@ -1,6 +1,5 @@
 -- The sums of the counts of a cube.
-use Rattle.std.specs.Prelude.{ℕ, sum_by}
-use Rattle.std.specs.List.{range_with_len}
+use Rattle.std.{specs.Prelude.{ℕ, sum_by}, specs.List.{range_with_len}}
 use Rattle.tally_base.{specs.Settings.CubeView, specs.Tally.History}
 use Rattle.flim_cube.specs.CubeCounts.{in_cell}
 

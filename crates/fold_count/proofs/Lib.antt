@@ -8,4 +8,3 @@ pub mod Settled
 pub mod Pushed
 pub mod Totals
 pub mod Rows
-pub mod Cells

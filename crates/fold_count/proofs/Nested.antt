@@ -1,6 +1,5 @@
 -- Bins in which the groups of those behind them were met too.
-use Rattle.std.proofs.Common.{◌≡◌, ◌∙◌, ℕ, zero, suc, ◌-◌, ◌^◌, ◌<◌, Bool, true, false, cond, List, [], ◌∷◌, ◌++◌, filter, length, refl, sym, ap, arith, slice_get, Some, bit_or, slice_set}
-use Rattle.std.{specs.Int.Bits.or_zero_r, specs.List.AllByRecursion, proofs.lemmas.List.Sums.sum_by-cons, proofs.lemmas.Nat.or_lt}
+use Rattle.std.{proofs.Common.{◌≡◌, ◌∙◌, ℕ, zero, suc, ◌-◌, ◌^◌, ◌<◌, Bool, List, [], ◌∷◌, ◌++◌, filter, length, refl, sym, ap, arith, slice_get, Some, bit_or, slice_set, rules}, specs.Int.Bits.or_zero_r, specs.List.AllByRecursion, proofs.lemmas.List.Sums.sum_by-cons, proofs.lemmas.Nat.or_lt}
 use Rattle.lag_ring.{specs.declared.ring.Entry.Entry, specs.Ring.{Ring, ring}, proofs.Rising.{all_push, all_weaker, all_at}, proofs.Lists.{all_map, all_filter}}
 use Rattle.fold_count.{specs.Folded.{joined, photons_in, photons_where, IsNested}, proofs.Unions.{or_assoc, or_again, or_within, or_both}}
 
@@ -14,12 +13,11 @@ join_same groups e is = ap (λ (b : ℕ). record { index = e.index; a = e.a; b =
 
 pub where_joined : (test : ℕ → Bool) (groups : ℕ) (bins : List Entry) → photons_where test (joined groups bins) ≡ photons_where test bins
 where_joined test groups [] = refl
-where_joined test groups (e ∷ bins) =
-    omega (arith, where_joined test groups bins, sum_by-cons (λ e. cond (test e.index) e.a 0) e bins, sum_by-cons (λ e. cond (test e.index) e.a 0) (join groups e) (joined groups bins))
+where_joined test groups (e ∷ bins) = search (rules, arith, sum_by-cons, join, where_joined test groups bins)
 
 pub photons_joined : (groups : ℕ) (bins : List Entry) → photons_in (joined groups bins) ≡ photons_in bins
 photons_joined groups [] = refl
-photons_joined groups (e ∷ bins) = omega (arith, photons_joined groups bins, sum_by-cons (λ e. e.a) e bins, sum_by-cons (λ e. e.a) (join groups e) (joined groups bins))
+photons_joined groups (e ∷ bins) = search (rules, arith, sum_by-cons, join, photons_joined groups bins)
 
 -- no groups more
 pub joined_none : (bins : List Entry) → joined 0 bins ≡ bins
@@ -60,7 +58,7 @@ nested_met (e ∷ bins) bin nested = (
 
 pub nested_filter : (p : Entry → Bool) (bins : List Entry) → IsNested bins → IsNested (filter p bins)
 nested_filter p [] nested = tt
-nested_filter p (e ∷ bins) nested = elim (p e) as (λ b. IsNested (cond b (e ∷ filter p bins) (filter p bins))) [ true ↦ (all_filter (λ f. bit_or e.b f.b ≡ e.b) p bins nested.0, nested_filter p bins nested.1) | false ↦ nested_filter p bins nested.1 ]
+nested_filter p (e ∷ bins) nested = search (rules, arith, all_filter, nested_filter p bins nested.1)
 
 -- ## The walk from the newest back
 
@@ -82,9 +80,7 @@ length-partly (suc i) groups (e ∷ bins) = ap suc (length-partly i groups bins)
 
 pub partly_step : (i groups : ℕ) (bins : List Entry) (e : Entry) → slice_get (partly (suc i) groups bins) i ≡ Some e → slice_set (partly (suc i) groups bins) i (join groups e) ≡ partly i groups bins
 partly_step i groups [] e at = cc
-partly_step zero groups (x ∷ bins) e at =
-    let same : x ≡ e = cc in
-    ap (λ y. join groups y ∷ joined groups bins) (sym same)
+partly_step zero groups (x ∷ bins) e at = search (rules, arith, join)
 partly_step (suc i) groups (x ∷ bins) e at = ap (λ xs. x ∷ xs) (partly_step i groups bins e at)
 
 partly_at : (i groups : ℕ) (bins : List Entry) → slice_get (partly (suc i) groups bins) i ≡ slice_get bins i
@@ -95,9 +91,7 @@ partly_at (suc i) groups (x ∷ bins) = partly_at i groups bins
 -- where all were met in a bin already, they were in those before it
 pub partly_all : (i groups : ℕ) (bins : List Entry) (e : Entry) → IsNested bins → slice_get (partly (suc i) groups bins) i ≡ Some e → bit_or e.b groups ≡ e.b → partly (suc i) groups bins ≡ joined groups bins
 partly_all i groups [] e nested at is = cc
-partly_all zero groups (x ∷ bins) e nested at is =
-    let same : x ≡ e = cc in
-    ap (λ y. y ∷ joined groups bins) (sym (join_same groups x (rw same is)))
+partly_all zero groups (x ∷ bins) e nested at is = search (rules, arith, join_same)
 partly_all (suc i) groups (x ∷ bins) e nested at is =
     let here : bit_or x.b e.b ≡ x.b = all_at (λ f. bit_or x.b f.b ≡ x.b) bins i e (sym (partly_at i groups bins) ∙ at) nested.0 in
     ap (λ y. y ∷ partly (suc i) groups bins) (sym (join_same groups x (or_within x.b e.b groups here is)))
@@ -105,16 +99,10 @@ partly_all (suc i) groups (x ∷ bins) e nested at is =
 
 -- the same at a place that is not 0
 pub partly_next : (at groups : ℕ) (bins : List Entry) (e : Entry) → 0 < at → slice_get (partly at groups bins) (at - 1) ≡ Some e → slice_set (partly at groups bins) (at - 1) (join groups e) ≡ partly (at - 1) groups bins
-partly_next zero groups bins e some at = absurd (omega (arith, some))
-partly_next (suc i) groups bins e some here =
-    let less : suc i - 1 ≡ i = omega arith in
-    rw less (partly_step i groups bins e (rw less at here))
+partly_next at groups bins e some here = search (rules, arith, partly_step)
 
 pub partly_stop : (at groups : ℕ) (bins : List Entry) (e : Entry) → 0 < at → IsNested bins → slice_get (partly at groups bins) (at - 1) ≡ Some e → bit_or e.b groups ≡ e.b → partly at groups bins ≡ joined groups bins
-partly_stop zero groups bins e some nested at is = absurd (omega (arith, some))
-partly_stop (suc i) groups bins e some nested here is =
-    let less : suc i - 1 ≡ i = omega arith in
-    partly_all i groups bins e nested (rw less at here) is
+partly_stop at groups bins e some nested here is = search (rules, arith, partly_all)
 
 pub ring_is : (r : Ring) (es : List Entry) (n : ℕ) → r.entries ≡ es → r.reach ≡ n → r ≡ ring es n
 ring_is r es n entries reach = λ i. record { entries = entries i; reach = reach i }

@@ -1,6 +1,5 @@
 -- One event more.
-use Rattle.std.proofs.Common.{◌≡◌, ◌∙◌, ℕ, zero, suc, ◌+◌, ◌-◌, ◌<◌, ◌≤◌, Bool, true, false, ◌&&◌, ◌||◌, cond, ltb, leb, eqb, List, [], ◌∷◌, ◌++◌, length, get_or, replicate, refl, sym, ap, arith, ⊎_elim, slice_index, bit_or}
-use Rattle.std.{specs.List.{list_any, AllByRecursion}, proofs.lemmas.Bool.cases_lt, proofs.lemmas.Bool.Decides.nat_tests, proofs.lemmas.List.Sums.sum_by-cons}
+use Rattle.std.{proofs.Common.{◌≡◌, ◌∙◌, ℕ, zero, suc, ◌+◌, ◌-◌, ◌<◌, ◌≤◌, Bool, true, false, ◌&&◌, ◌||◌, cond, ltb, leb, eqb, List, [], ◌∷◌, ◌++◌, length, get_or, replicate, refl, sym, ap, arith, slice_index, bit_or, rules}, specs.List.{list_any, AllByRecursion}, proofs.lemmas.Bool.cases_lt, proofs.lemmas.Bool.Decides.nat_tests, proofs.lemmas.List.Sums.sum_by-cons}
 use Rattle.tally_base.{specs.declared.event.Event.Event, specs.Events.{is_photon, is_in}, specs.Settings.FoldView, specs.Tally.History}
 use Rattle.lag_ring.{specs.declared.ring.Entry.Entry, proofs.Rising.{all_push, all_weaker}, proofs.Lists.all_front, specs.Ring.Ring}
 use Rattle.fold_count.{specs.FoldCounts.{is_of, is_of_any, is_seen, number_of, seen_set}, specs.Folded.{is_from, met_from, joined, Parted, Stands, Counts}, specs.Laws.number_same, proofs.Numbers.{number_agree, number_none}, proofs.Unions.number_or, proofs.Lists.{any_push, any_same, count_agree, count_push, count_same}, proofs.Bins.where_push, proofs.Nested.{where_joined, met_joined, last_of}, proofs.Settled.of_any}
@@ -74,30 +73,16 @@ met_more set h x t photon le =
 
 -- before the front the windows have ended
 unseen : (of from : Bool) (tick window t front : ℕ) → front ≡ tick - window → t < front → (of && (from && leb tick (t + window))) ≡ false
-unseen of from tick window t front is lt = let e : leb tick (t + window) ≡ false = grind (arith, nat_tests, is, lt) in rw e (none of from)
-  where
-    none : (a b : Bool) → (a && (b && false)) ≡ false
-    none true true = refl
-    none true false = refl
-    none false b = refl
+unseen of from tick window t front is lt = search (rules, arith)
 
 early : (any : Bool) (t front n m s : ℕ) → (t < front → n ≡ m) → (any && (ltb t front && eqb n s)) ≡ (any && (ltb t front && eqb m s))
-early any t front n m s same =
-    ⊎_elim
-    (λ (lt : t < front). ap (λ n. any && (ltb t front && eqb n s)) (same lt))
-    (λ (from : front ≤ t). let e : ltb t front ≡ false = grind (arith, nat_tests, from) in rw e refl)
-    (cases_lt t front)
+early any t front n m s same = search (rules, arith, cases_lt)
 
 late : (any b : Bool) (t front : ℕ) → front ≤ t → (any && (ltb t front && b)) ≡ false
-late any b t front from = let e : ltb t front ≡ false = grind (arith, nat_tests, from) in rw e (none any)
-  where
-    none : (a : Bool) → (a && false) ≡ false
-    none true = refl
-    none false = refl
+late any b t front from = search (rules, arith)
 
 one_photon : (b : Bool) (n : ℕ) → cond b (n + 1) 0 ≡ cond b n 0 + cond b 1 0
-one_photon true n = refl
-one_photon false n = refl
+one_photon b n = search (rules, arith)
 
 -- A photon of at least one of the groups joins the open bin.
 pub parted_photon : (set : FoldView) (cells : List ℕ) (kept : List Entry) (bin bin' : Entry) (front : ℕ) (h : History) (x : Event × ℕ) → front ≡ bin.index - set.window
@@ -141,12 +126,10 @@ parted_photon set cells kept bin bin' front h x at_front any here same more mark
         rw (any-is, e, here) refl
 
 pub any_of_both : (a b : Bool) → a ≡ true → b ≡ true → (a && b) ≡ true
-any_of_both true b first second = second
-any_of_both false b first second = first
+any_of_both a b first second = search (rules, arith)
 
 pub none_of_second : (a b : Bool) → b ≡ false → (a && b) ≡ false
-none_of_second true b is = is
-none_of_second false b is = refl
+none_of_second a b is = search (rules, arith)
 
 pub none_of_first : (a b : Bool) → a ≡ false → (a && b) ≡ false
 none_of_first a b is = ap (λ a. a && b) is
@@ -154,9 +137,7 @@ none_of_first a b is = ap (λ a. a && b) is
 -- ## A fold that is open
 
 pub open_counts : (closed : Bool) (set : FoldView) (cells : List ℕ) (ring : Ring) (bin : Entry) (h : History) → closed ≡ false → Counts closed set cells ring bin h → Stands set cells ring bin h
-open_counts true set cells ring bin h is counts = cc
-open_counts false set cells ring bin h is counts = counts
+open_counts closed set cells ring bin h is counts = search (rules, arith)
 
 pub counts_open : (closed : Bool) (set : FoldView) (cells : List ℕ) (ring : Ring) (bin : Entry) (h : History) → closed ≡ false → Stands set cells ring bin h → Counts closed set cells ring bin h
-counts_open true set cells ring bin h is stands = cc
-counts_open false set cells ring bin h is stands = stands
+counts_open closed set cells ring bin h is stands = search (rules, arith)

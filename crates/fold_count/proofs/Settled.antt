@@ -1,34 +1,20 @@
 -- The bins before a tick are counted.
-use Rattle.std.proofs.Common.{◌≡◌, ◌∙◌, ℕ, ◌+◌, ◌^◌, ◌<◌, ◌≤◌, Bool, true, false, ◌&&◌, cond, ltb, leb, eqb, List, [], ◌∷◌, ◌++◌, filter, length, get_or, refl, sym, arith, ⊎_elim, slice_index}
-use Rattle.std.{specs.List.{list_any, count_by, AllByRecursion}, proofs.lemmas.Bool.cases_lt, proofs.lemmas.Bool.Decides.nat_tests, proofs.lemmas.List.Folds.list_any_at}
-use Rattle.tally_base.{specs.declared.event.Event.Event, specs.Events.{is_photon, is_in}, specs.Settings.FoldView, specs.Tally.History}
+use Rattle.std.{proofs.Common.{◌≡◌, ◌∙◌, ℕ, ◌+◌, ◌^◌, ◌<◌, ◌≤◌, Bool, true, false, ◌&&◌, cond, ltb, leb, eqb, List, [], ◌∷◌, ◌++◌, filter, length, get_or, refl, sym, arith, slice_index, rules}, specs.List.{list_any, count_by, AllByRecursion}, proofs.lemmas.Bool.cases_lt, proofs.lemmas.Bool.Decides.nat_tests, proofs.lemmas.List.Folds.list_any_at}
+use Rattle.tally_base.{specs.declared.event.Event.Event, specs.Settings.FoldView, specs.Tally.History}
 use Rattle.lag_ring.{specs.declared.ring.Entry.Entry, proofs.Rising.{all_push, all_weaker}, proofs.Lists.all_filter}
 use Rattle.fold_count.{specs.FoldCounts.{is_of, is_of_any, is_seen, seen_set}, specs.Folded.{photons_of, photons_where, is_from, met_from, Parted, AreCounts}, proofs.Numbers.{number_agree, number_none}, proofs.Lists.{any_agree, any_none, count_agree, count_parts}, proofs.Bins.{where_push, where_kept, of_known}}
 
-both_true : (a b : Bool) → (a && b) ≡ true → (a ≡ true) × (b ≡ true)
-both_true true true is = (refl, refl)
-both_true true false is = (refl, is)
-both_true false b is = (is, cc)
-
 -- a photon of a group is one of at least one of them
 pub of_any : (groups : List ℕ) (x : Event × ℕ) (k : ℕ) → k < length groups → is_of (get_or groups k 0) x ≡ true → is_of_any groups x ≡ true
-of_any groups x k inside is =
-    let parts = both_true (is_photon x.0) (is_in x.1 (get_or groups k 0)) is in
-    rw (parts.0, list_any_at (λ group. is_in x.1 group) groups k 0 inside parts.1) refl
+of_any groups x k inside is = search (rules, arith, list_any_at)
 
 within : (of from to : Bool) → (of ≡ true → to ≡ true) → (of && (from && to)) ≡ (of && from)
 within false from to is = refl
-within true from to is = rw (is refl) (and_true from)
-  where
-    and_true : (b : Bool) → (b && true) ≡ b
-    and_true true = refl
-    and_true false = refl
+within true from to is = search (rules, arith)
 
 -- a photon that is seen by a time is one from there on, where no photon comes behind the window
 seen_from : (set : FoldView) (tick front t k : ℕ) (x : Event × ℕ) → tick ≤ front + set.window → front ≤ t → k < length set.groups → (is_of_any set.groups x ≡ true → x.0.time ≤ tick) → is_seen set.window t (get_or set.groups k 0) x ≡ is_from (get_or set.groups k 0) t x
-seen_from set tick front t k x near from inside upto =
-    within (is_of (get_or set.groups k 0) x) (leb t x.0.time) (leb x.0.time (t + set.window))
-    (λ of. let le : x.0.time ≤ tick = upto (of_any set.groups x k inside of) in grind (arith, nat_tests, near, from, le))
+seen_from set tick front t k x near from inside upto = search (rules, arith, within, of_any)
 
 -- where no photon is behind a window, its set is that of the groups with a photon from its first tick on
 pub known : (set : FoldView) (tick front : ℕ) (h : History) → tick ≤ front + set.window
@@ -54,39 +40,16 @@ met_none set tick t h lt upto = number_none (λ group. list_any (is_from group t
 pieces : (any : Bool) (t front before pat digits s : ℕ) → front ≤ before → (any ≡ true → front ≤ t → pat ≡ digits)
     → cond (any && (ltb t front && eqb pat s)) 1 0 + cond (any && (leb front t && (ltb t before && eqb digits s))) 1 0 ≡ cond (any && (ltb t before && eqb pat s)) 1 0
 pieces false t front before pat digits s le same = refl
-pieces true t front before pat digits s le same =
-    ⊎_elim
-    (λ (lt : t < front).
-    let e1 : ltb t front ≡ true = grind (arith, nat_tests, lt) in
-    let e2 : leb front t ≡ false = grind (arith, nat_tests, lt) in
-    let e3 : ltb t before ≡ true = grind (arith, nat_tests, lt, le) in
-    rw (e1, e2, e3) (omega arith))
-    (λ (from : front ≤ t).
-    let e1 : ltb t front ≡ false = grind (arith, nat_tests, from) in
-    let e2 : leb front t ≡ true = grind (arith, nat_tests, from) in
-    let e3 : pat ≡ digits = same refl from in
-    rw (e1, e2, e3) (omega arith))
-    (cases_lt t front)
+pieces true t front before pat digits s le same = search (rules, arith, cases_lt)
 
 -- what is kept from a later front on
 later : (any : Bool) (t front before : ℕ) (test : Bool) → front ≤ before → (any && (leb front t && (leb before t && test))) ≡ (any && (leb before t && test))
 later false t front before test le = refl
-later true t front before test le =
-    ⊎_elim
-    (λ (lt : t < before). let e : leb before t ≡ false = grind (arith, nat_tests, lt) in rw e (and_false (leb front t)))
-    (λ (from : before ≤ t). let e : leb front t ≡ true = grind (arith, nat_tests, from, le) in rw e refl)
-    (cases_lt t before)
-  where
-    and_false : (b : Bool) → (b && false) ≡ false
-    and_false true = refl
-    and_false false = refl
+later true t front before test le = search (rules, arith, cases_lt)
 
 everywhere : (any : Bool) (t tick before : ℕ) (test : Bool) → tick < before → (any ≡ true → t ≤ tick) → (any && (ltb t before && test)) ≡ (any && test)
 everywhere false t tick before test lt upto = refl
-everywhere true t tick before test lt upto =
-    let le : t ≤ tick = upto refl in
-    let e : ltb t before ≡ true = grind (arith, nat_tests, lt, le) in
-    rw e refl
+everywhere true t tick before test lt upto = search (rules, arith)
 
 module _ (set : FoldView) (cells : List ℕ) (bins : List Entry) (tick front : ℕ) (h : History) (is : Parted set cells bins tick front h) (near : tick ≤ front + set.window) (before : ℕ) (le : front ≤ before) where
   -- the cells once the bins before a tick are counted

@@ -1,6 +1,5 @@
 -- What is kept stays sound.
-use Rattle.std.proofs.Common.{◌≡◌, ◌∙◌, ℕ, ◌^◌, ◌<◌, ◌≤◌, Bool, true, List, filter, length, ap, arith, leb}
-use Rattle.std.{specs.List.AllByRecursion, proofs.lemmas.Bool.Decides.nat_tests, proofs.lemmas.Nat.pow_pos}
+use Rattle.std.{proofs.Common.{◌≡◌, ◌∙◌, ℕ, ◌^◌, ◌<◌, ◌≤◌, Bool, List, filter, length, ap, arith, leb, rules}, specs.List.AllByRecursion, proofs.lemmas.Nat.pow_pos}
 use Rattle.tally_base.{specs.Settings.FoldView, specs.Limits.time_limit}
 use Rattle.lag_ring.{specs.declared.ring.Entry.Entry, specs.Ring.Ring, specs.Ring.ring as ring_of, proofs.Lists.{all_both, all_filter, all_passed}, proofs.Rising.{all_push, all_weaker}}
 use Rattle.fold_count.{specs.Folded.{IsSound, as_met, joined}, proofs.Nested.{below_joined, sets_joined, nested_met, nested_filter}}
@@ -13,13 +12,7 @@ upto_open ring bin above =
 
 -- those that are kept from a tick on are before one that is not behind it only where the open one is
 pub kept_below : (ring : Ring) (bin : Entry) (before tick : ℕ) → AllByRecursion (λ e. e.index < bin.index) ring.entries → (before ≤ bin.index → bin.index < tick) → AllByRecursion (λ e. e.index < tick) (filter (λ e. leb before e.index) (as_met ring bin))
-kept_below ring bin before tick above lt =
-    all_both (λ e. leb before e.index ≡ true) (λ e. e.index ≤ bin.index) (λ e. e.index < tick)
-    (λ e from upto.
-    let late : before ≤ e.index = grind (arith, nat_tests, from) in
-    let behind : bin.index < tick = lt (omega (arith, late, upto)) in
-    omega (arith, behind, upto))
-    (filter (λ e. leb before e.index) (as_met ring bin)) (all_passed (λ e. leb before e.index) (as_met ring bin)) (all_filter (λ e. e.index ≤ bin.index) (λ e. leb before e.index) (as_met ring bin) (upto_open ring bin above))
+kept_below ring bin before tick above lt = search (rules, arith, all_both, all_passed, all_filter, upto_open)
 
 -- a bin without photons opens, or nothing waits any more
 pub sound_later : (set : FoldView) (cells cells' : List ℕ) (ring ring' : Ring) (bin : Entry) (before tick : ℕ) → IsSound set cells ring bin

@@ -1,6 +1,5 @@
 -- Sets taken together, as numbers.
-use Rattle.std.proofs.Common.{◌≡◌, ◌∙◌, ℕ, ◌+◌, ◌*◌, ◌/◌, ◌%◌, max, Bool, true, false, ◌||◌, cond, List, [], ◌∷◌, refl, sym, ap, arith, bit_or}
-use Rattle.std.{specs.Int.Bits.{or_step, or_self}, proofs.Math.Arith.bin_ind, proofs.lemmas.Nat.{or_shr, or_comm}}
+use Rattle.std.{proofs.Common.{◌≡◌, ◌∙◌, ℕ, ◌+◌, ◌*◌, ◌/◌, ◌%◌, max, Bool, true, false, ◌||◌, cond, List, [], ◌∷◌, refl, sym, ap, arith, bit_or, rules}, specs.Int.Bits.{or_step, or_self}, proofs.Math.Arith.bin_ind, proofs.lemmas.Nat.{or_shr, or_comm}}
 use Rattle.fold_count.specs.FoldCounts.{number_of}
 
 pub or_assoc : (a b c : ℕ) → bit_or (bit_or a b) c ≡ bit_or a (bit_or b c)
@@ -19,10 +18,7 @@ or_within a b c first second = ap (λ n. bit_or n c) (sym first) ∙ or_assoc a 
 
 -- and still does where both are taken together with one more
 pub or_both : (a b c : ℕ) → bit_or a b ≡ a → bit_or (bit_or a c) (bit_or b c) ≡ bit_or a c
-or_both a b c is =
-    sym (or_assoc (bit_or a c) b c)
-    ∙ ap (λ n. bit_or n c) (or_assoc a c b ∙ ap (bit_or a) (or_comm c b) ∙ sym (or_assoc a b c) ∙ ap (λ n. bit_or n c) is)
-    ∙ or_again a c
+or_both a b c is = search (rules, arith, or_assoc, or_comm, or_again)
 
 -- ## By digits
 

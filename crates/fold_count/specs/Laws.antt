@@ -1,7 +1,5 @@
 -- What holds of every fold.
-use Rattle.std.specs.Prelude.{◌≡◌, ℕ, ◌+◌, ◌≤◌, Bool, true, false, ◌&&◌, ◌||◌, ◌==◌, nat_le, nat_lt, List, [], ◌∷◌, ◌++◌, length, count_by}
-use Rattle.std.{specs.List.{list_any, AllByRecursion}, proofs.lemmas.List.Folds.list_any-append}
-use Rattle.std.proofs.Common.{arith, ◌∙◌, refl, sym, ap, subst}
+use Rattle.std.{specs.Prelude.{◌≡◌, ℕ, ◌+◌, ◌≤◌, Bool, true, false, ◌&&◌, ◌||◌, ◌==◌, nat_le, nat_lt, List, [], ◌∷◌, ◌++◌, length, count_by}, specs.List.{list_any, AllByRecursion}, proofs.lemmas.List.Folds.list_any-append, proofs.Common.{arith, ◌∙◌, refl, sym, ap, subst}}
 use Rattle.tally_base.{specs.declared.event.Event.Event, specs.Events.{is_photon, is_in}, specs.Settings.{FoldView, entries, fold_view}, specs.Tally.{History, greatest_time}, proofs.Markers.{same_length, same_greatest, same_count}}
 use Rattle.lag_ring.{specs.declared.ring.Entry.Entry, specs.Ring.Ring, proofs.Lists.all_front, proofs.Rising.all_push}
 use Rattle.fold_count.{specs.declared.fold.Fold.Fold, specs.FoldCounts.{number_of, is_of_any, is_seen, seen_set}, specs.Folded.{is_from, met_from, as_met, front_of, Counts}, specs.Fold.{Holds, settings, held}}

@@ -1,6 +1,5 @@
 -- The sum of the cells of a fold.
-use Rattle.std.specs.Prelude.{ℕ, ◌^◌, sum_by, length}
-use Rattle.std.specs.List.{range_with_len}
+use Rattle.std.{specs.Prelude.{ℕ, ◌^◌, sum_by, length}, specs.List.range_with_len}
 use Rattle.tally_base.{specs.Settings.FoldView, specs.Tally.History}
 use Rattle.fold_count.specs.FoldCounts.{in_set}
 

@@ -1,6 +1,5 @@
 // The bins of a fold that wait for their window to end.
-ghost use Rattle.std.specs.Prelude.{◌≡◌, ◌+◌, ◌^◌, ◌<◌, ◌≤◌, ◌==◌, ℕ, filter, length, slice_index, sum, nat_lt, nat_le, if◌then◌else◌};
-ghost use Rattle.std.specs.List.{AllByRecursion};
+ghost use Rattle.std.{specs.Prelude.{◌≡◌, ◌+◌, ◌^◌, ◌<◌, ◌≤◌, ◌==◌, ℕ, filter, length, slice_index, sum, nat_lt, nat_le, if◌then◌else◌}, specs.List.{AllByRecursion}};
 ghost use Rattle.lag_ring.{specs.Ring.IsRising, specs.Ring.ring as ring_of};
 ghost use Rattle.fold_count.specs.Folded.{waiting, joined, as_met, AreHeld, GainsBefore, IsNested, photons_in, photons_of, photons_where};
 

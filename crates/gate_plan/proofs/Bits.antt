@@ -1,6 +1,5 @@
 -- A number by its bits.
-use Rattle.std.proofs.Common.{◌≡◌, ap, sym, refl, ◌∙◌, ℕ, zero, suc, ◌+◌, ◌*◌, ◌/◌, ◌^◌, ◌<◌, ◌≤◌, Bool, true, false, ◌==◌, List, [], ◌∷◌, map, drop, length, get_or, set, arith}
-use Rattle.std.{proofs.lemmas.Grind.{common_steps, pow_more}, specs.Int.bit_at, proofs.lemmas.Nat.Bits.{bit_at-zero, bit_at-suc, bit_at_lowest}, proofs.lemmas.List.drop_more, proofs.Math.Pow.pow_mono}
+use Rattle.std.{proofs.Common.{◌≡◌, sym, ◌∙◌, ℕ, zero, suc, ◌+◌, ◌*◌, ◌^◌, ◌<◌, ◌≤◌, Bool, true, false, ◌==◌, List, [], ◌∷◌, map, drop, length, get_or, set, arith, rules}, proofs.lemmas.Grind.{common_steps, pow_more}, specs.Int.bit_at, proofs.lemmas.Nat.Bits.{bit_at-zero, bit_at-suc, bit_at_lowest}, proofs.lemmas.List.drop_more, proofs.Math.Pow.pow_mono}
 use Rattle.tally_base.{specs.declared.settings.Group.Group, specs.Settings.{group_view, GroupView}}
 use Rattle.gate_plan.specs.Taking.{one_if, bits_of}
 
@@ -8,16 +7,11 @@ pub bit_of_bits : (tests : List Bool) (i : ℕ) → bit_at (bits_of tests) i ≡
 bit_of_bits [] i = bit_at-zero i
 bit_of_bits (true ∷ tests) zero = bit_at_lowest (bits_of (true ∷ tests)) ∙ omega arith
 bit_of_bits (false ∷ tests) zero = bit_at_lowest (bits_of (false ∷ tests)) ∙ omega arith
-bit_of_bits (true ∷ tests) (suc i) =
-    let half : bits_of (true ∷ tests) / 2 ≡ bits_of tests = omega arith in
-    bit_at-suc (bits_of (true ∷ tests)) i ∙ rw half (bit_of_bits tests i)
-bit_of_bits (false ∷ tests) (suc i) =
-    let half : bits_of (false ∷ tests) / 2 ≡ bits_of tests = omega arith in
-    bit_at-suc (bits_of (false ∷ tests)) i ∙ rw half (bit_of_bits tests i)
+bit_of_bits (true ∷ tests) (suc i) = search (rules, arith, bit_at-suc, bit_of_bits tests i)
+bit_of_bits (false ∷ tests) (suc i) = search (rules, arith, bit_at-suc, bit_of_bits tests i)
 
 one_is : (b : Bool) → (one_if b == 1) ≡ b
-one_is true = refl
-one_is false = refl
+one_is b = search (rules, arith)
 
 pub bit_is : (tests : List Bool) (i : ℕ) → (bit_at (bits_of tests) i == 1) ≡ get_or tests i false
 bit_is tests i = rw (bit_of_bits tests i) (one_is (get_or tests i false))
@@ -39,13 +33,10 @@ pub below_next : (sum i added : ℕ) → sum < 2 ^ i → added ≤ 2 ^ i → sum
 below_next sum i added below most = omega (arith, pow_more 2 i)
 
 pub fits : (sum i : ℕ) → sum < 2 ^ i → i < 64 → sum + 2 ^ i < 2 ^ 64
-fits sum i below few =
-    let more : i + 1 ≤ 64 = omega arith in
-    omega (arith, pow_more 2 i, pow_mono more)
+fits sum i below few = grind (arith, common_steps, pow_more, pow_mono)
 
 pub added_most : (test : Bool) (power : ℕ) → one_if test * power ≤ power
-added_most true power = omega arith
-added_most false power = omega arith
+added_most test power = search (rules, arith)
 
 bits_step : (sum i rest added : ℕ) (test : Bool) → added ≡ one_if test * 2 ^ i → sum + 2 ^ i * (one_if test + 2 * rest) ≡ sum + added + 2 ^ (i + 1) * rest
 bits_step sum i rest added true is = omega (arith, is, bits_taken sum i rest)
@@ -53,26 +44,21 @@ bits_step sum i rest added false is = omega (arith, is, bits_left sum i rest)
 
 first_of : (P : GroupView → Bool) (gs : List Group) (place : ℕ) (g : Group) → place < length gs → g ≡ get_or gs place g
     → map P (map group_view (drop place gs)) ≡ P (group_view g) ∷ map P (map group_view (drop (place + 1) gs))
-first_of P gs place g within is = ap (λ xs. map P (map group_view xs)) (drop_more gs place g within) ∙ ap (λ w. P (group_view w) ∷ map P (map group_view (drop (place + 1) gs))) (sym is)
+first_of P gs place g within is = cc (drop_more gs place g within)
 
 pub bits_kept : (P : GroupView → Bool) (sum i added place : ℕ) (gs : List Group) (g : Group) (test : Bool) (all : ℕ) → place < length gs → g ≡ get_or gs place g → test ≡ P (group_view g) → added ≡ one_if test * 2 ^ i
     → sum + 2 ^ i * bits_of (map P (map group_view (drop place gs))) ≡ all
     → sum + added + 2 ^ (i + 1) * bits_of (map P (map group_view (drop (place + 1) gs))) ≡ all
 bits_kept P sum i added place gs g test all within is tests adds rest =
-    let so_far = rw (first_of P gs place g within is) at rest in
     let step = bits_step sum i (bits_of (map P (map group_view (drop (place + 1) gs)))) added (P (group_view g)) (rw tests at adds) in
-    sym step ∙ so_far
+    sym step ∙ (rw (first_of P gs place g within is) at rest)
 
 one_most : (test : Bool) → one_if test ≤ 1
-one_most true = omega arith
-one_most false = omega arith
+one_most test = search (rules, arith)
 
 pub bits_below : (P : GroupView → Bool) (groups : List GroupView) → bits_of (map P groups) < 2 ^ length groups
 bits_below P [] = omega arith
-bits_below P (group ∷ groups) =
-    let one : length (group ∷ groups) ≡ length groups + 1 = omega arith in
-    let more : 2 ^ length (group ∷ groups) ≡ 2 ^ (length groups + 1) = ap (λ n. 2 ^ n) one in
-    omega (arith, bits_below P groups, one_most (P group), more, pow_more 2 (length groups))
+bits_below P (group ∷ groups) = search (rules, arith, one_most, pow_more, bits_below P groups)
 
 pub filled_more : (table : List ℕ) (at v : ℕ) (f : ℕ → ℕ) → at < length table → ((i : ℕ) → i < at → get_or table i 0 ≡ f i) → v ≡ f at → (i : ℕ) → i < at + 1 → get_or (set table at v) i 0 ≡ f i
 filled_more table at v f inside were is i below = grind (arith, common_steps, were i)

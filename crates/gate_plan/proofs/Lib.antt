@@ -2,7 +2,6 @@ pub mod Bits
 pub mod Parts
 pub mod InputShifts
 pub mod Rows
-pub mod Inputs
 pub mod Histories
 pub mod Sorts
 pub mod Shifted

@@ -1,14 +1,10 @@
 -- The groups without a gate and those with gates, apart, are all groups.
-use Rattle.std.proofs.Common.{◌≡◌, ℕ, ◌+◌, ◌*◌, ◌^◌, ◌<◌, ◌≤◌, Bool, true, false, ◌&&◌, ◌||◌, ◌==◌, List, [], ◌∷◌, map, drop, get_or, length, refl, arith, ap, sym, ◌∙◌}
-use Rattle.std.{proofs.lemmas.List.{length-map, drop_more}, proofs.lemmas.Grind.common_steps, proofs.Math.Pow.pow_mono}
+use Rattle.std.{proofs.Common.{◌≡◌, ℕ, ◌+◌, ◌*◌, ◌^◌, ◌<◌, ◌≤◌, Bool, true, false, ◌&&◌, ◌==◌, List, [], ◌∷◌, map, drop, get_or, length, refl, arith, ap, sym, ◌∙◌, rules}, proofs.lemmas.List.{length-map}, proofs.lemmas.Grind.common_steps, proofs.Math.Pow.pow_mono}
 use Rattle.tally_base.{specs.declared.event.Event.Event, specs.declared.event.EventKind.TheVariants.{Photon, Marker}, specs.declared.settings.Group.Group, specs.Settings.{GroupView, group_view}}
-use Rattle.gate_plan.{specs.Shifting.{Sorting, shifted_kind, shifted_dtime}, specs.Taking.{is_among, is_in_gate, is_in_gates, takes_kind, groups_by, groups_in, one_if, bits_of}, specs.Parting.{is_open, passes, takes_gated, plain_bits, gated_bits}, proofs.Bits.{bits_below, bits_kept}}
+use Rattle.gate_plan.{specs.Shifting.{Sorting, shifted_kind, shifted_dtime}, specs.Taking.{is_among, is_in_gates, takes_kind, groups_by, groups_in, one_if, bits_of}, specs.Parting.{is_open, passes, takes_gated, plain_bits, gated_bits}, proofs.Bits.{bits_below, bits_kept}}
 
 one_of : (among : Bool) (gates : List (ℕ × ℕ)) (dtime : ℕ) → one_if (among && is_in_gates gates dtime) ≡ one_if (among && is_open gates) + one_if (among && passes gates dtime)
-one_of true [] dtime = omega arith
-one_of true (gate ∷ gates) dtime = omega arith
-one_of false [] dtime = omega arith
-one_of false (gate ∷ gates) dtime = omega arith
+one_of among gates dtime = search (rules, arith)
 
 pub parted : (groups : List GroupView) (input dtime : ℕ) → bits_of (map (λ (group : GroupView). is_among group.inputs input && is_in_gates group.gates dtime) groups) ≡ plain_bits groups input + gated_bits groups input dtime
 parted [] input dtime = omega arith
@@ -17,24 +13,20 @@ parted (group ∷ groups) input dtime = omega (arith, one_of (is_among group.inp
 pub parted_fits : (groups : List GroupView) (input dtime : ℕ) → length groups ≤ 64 → plain_bits groups input + gated_bits groups input dtime < 2 ^ 64
 parted_fits groups input dtime few =
     let below = bits_below (λ (group : GroupView). is_among group.inputs input && is_in_gates group.gates dtime) groups in
-    let more : 2 ^ length groups ≤ 2 ^ 64 = pow_mono few in
-    omega (arith, parted groups input dtime, below, more)
+    omega (arith, parted groups input dtime, below, pow_mono few)
 
 and_false : (b : Bool) → (b && false) ≡ false
-and_false true = refl
-and_false false = refl
+and_false b = search (rules, arith)
 
 -- no gates
 pub none_left : (gates : List (ℕ × ℕ)) (empty : Bool) → empty ≡ (length gates == 0) → empty ≡ true → gates ≡ []
-none_left [] empty is some = refl
-none_left (gate ∷ gates) empty is some = let none : (length (gate ∷ gates) == 0) ≡ true = sym is ∙ some in grind (arith, common_steps, none)
+none_left gates empty is some = grind (arith, common_steps)
 
 -- one group more that has gates
 pub gated_some : (input dtime sum place index : ℕ) (gs : List Group) (g : Group) (added all : ℕ) → index < length gs → g ≡ get_or gs index g → added ≡ one_if (takes_gated input dtime (group_view g)) * 2 ^ place
     → sum + 2 ^ place * bits_of (map (takes_gated input dtime) (map group_view (drop index gs))) ≡ all
     → sum + added + 2 ^ (place + 1) * bits_of (map (takes_gated input dtime) (map group_view (drop (index + 1) gs))) ≡ all
-gated_some input dtime sum place index gs g added all within is adds rest =
-    bits_kept (takes_gated input dtime) sum place added index gs g (takes_gated input dtime (group_view g)) all within is refl adds rest
+gated_some input dtime sum place index gs g added all within is adds rest = search (rules, arith, bits_kept)
 
 -- one that has none
 pub gated_none : (input dtime sum place index : ℕ) (gs : List Group) (g : Group) (all : ℕ) → index < length gs → g ≡ get_or gs index g → g.gates.items ≡ []
@@ -42,8 +34,7 @@ pub gated_none : (input dtime sum place index : ℕ) (gs : List Group) (g : Grou
     → sum + 2 ^ (place + 1) * bits_of (map (takes_gated input dtime) (map group_view (drop (index + 1) gs))) ≡ all
 gated_none input dtime sum place index gs g all within is gate rest =
     let off : takes_gated input dtime (group_view g) ≡ false = ap (λ gates. is_among g.inputs input && passes gates dtime) gate ∙ and_false (is_among g.inputs input) in
-    let none : 0 ≡ one_if false * 2 ^ place = grind arith in
-    let kept = bits_kept (takes_gated input dtime) sum place 0 index gs g false all within is (sym off) none rest in
+    let kept = bits_kept (takes_gated input dtime) sum place 0 index gs g false all within is (sym off) (grind arith) rest in
     omega (arith, kept)
 
 -- the groups of a photon
@@ -51,7 +42,7 @@ pub of_photon : (groups : List GroupView) (e : Event) (input dtime : ℕ) → e.
 of_photon groups e input dtime is = ap (λ kind. bits_of (map (λ group. takes_kind group kind) groups)) is ∙ parted groups input dtime
 
 pub of_shifted : (by : Sorting) (e : Event) (input dtime : ℕ) → e.kind ≡ Photon input dtime → groups_in by e ≡ plain_bits by.groups input + gated_bits by.groups input (shifted_dtime by input dtime)
-of_shifted by e input dtime is = ap (λ kind. bits_of (map (λ group. takes_kind group (shifted_kind by kind)) by.groups)) is ∙ parted by.groups input (shifted_dtime by input dtime)
+of_shifted by e input dtime is = cc (parted by.groups input (shifted_dtime by input dtime))
 
 none_of : (groups : List GroupView) → bits_of (map (λ (group : GroupView). false) groups) ≡ 0
 none_of [] = refl
@@ -69,15 +60,3 @@ gated_fits groups input dtime few = omega (arith, parted_fits groups input dtime
 
 pub few_groups : (groups : List Group) → length groups ≤ 64 → length (map group_view groups) ≤ 64
 few_groups groups few = let same : length (map group_view groups) ≡ length groups = simp length-map in omega (arith, same, few)
-
-or_shift : (a b c : Bool) → ((a || b) || c) ≡ (a || (b || c))
-or_shift true b c = refl
-or_shift false b c = refl
-
--- one gate more
-pub passes_more : (dtime index : ℕ) (gates : List (ℕ × ℕ)) (gate : ℕ × ℕ) (found test all : Bool) → index < length gates → gate ≡ get_or gates index gate → test ≡ is_in_gate dtime gate
-    → (found || passes (drop index gates) dtime) ≡ all → ((found || test) || passes (drop (index + 1) gates) dtime) ≡ all
-passes_more dtime index gates gate found test all within is tests rest =
-    let first : passes (drop index gates) dtime ≡ (test || passes (drop (index + 1) gates) dtime) =
-    ap (λ xs. passes xs dtime) (drop_more gates index gate within) ∙ ap (λ t. t || passes (drop (index + 1) gates) dtime) (ap (is_in_gate dtime) (sym is) ∙ sym tests) in
-    or_shift found test (passes (drop (index + 1) gates) dtime) ∙ (ap (λ t. found || t) (sym first) ∙ rest)

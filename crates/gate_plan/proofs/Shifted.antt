@@ -1,16 +1,13 @@
 -- Shifted events come in the order of the events.
-use Rattle.std.proofs.Common.{◌≡◌, ◌≢◌, ◌∙◌, ◌+◌, ◌≤◌, ◌<◌, ⊎_elim, ℕ, zero, suc, Bool, true, false, List, [], ◌∷◌, refl, ap, sym, map, arith, if◌then◌else◌}
-use Rattle.std.proofs.lemmas.List.{map-append}
-use Rattle.tally_base.{specs.declared.event.Event.Event, specs.declared.event.EventKind.EventKind, specs.declared.event.EventKind.TheVariants.{Photon, Marker}, specs.Events.is_photon_kind, specs.Tally.moves_floor, specs.Columns.rows, specs.Floors.{floor_after, InOrder}}
+use Rattle.std.{proofs.Common.{◌≡◌, ◌≢◌, ◌∙◌, ◌+◌, ◌≤◌, ◌<◌, ℕ, zero, suc, Bool, List, [], ◌∷◌, refl, ap, sym, map, arith, if◌then◌else◌, rules}, proofs.lemmas.List.{map-append}}
+use Rattle.tally_base.{specs.declared.event.Event.Event, specs.declared.event.EventKind.EventKind, specs.Events.is_photon_kind, specs.Tally.moves_floor, specs.Columns.rows, specs.Floors.{floor_after, InOrder}}
 use Rattle.gate_plan.{specs.Shifting.{Sorting, shifted, shifted_kind}, proofs.Sorts.last_or}
 
 photon_kind : (by : Sorting) (kind : EventKind) → is_photon_kind (shifted_kind by kind) ≡ is_photon_kind kind
-photon_kind by (Photon input dtime) = refl
-photon_kind by (Marker bits) = refl
+photon_kind by kind = search (rules, arith)
 
 moves_shifted : (strict : Bool) (by : Sorting) (e : Event) → moves_floor strict (shifted by e) ≡ moves_floor strict e
-moves_shifted true by e = refl
-moves_shifted false by e = photon_kind by e.kind
+moves_shifted strict by e = search (rules, arith, photon_kind)
 
 pub floor-shifted : (strict : Bool) (by : Sorting) (floor : ℕ) (es : List Event) → floor_after strict floor (map (shifted by) es) ≡ floor_after strict floor es
 floor-shifted strict by floor [] = refl
@@ -24,8 +21,7 @@ order-shifted strict by floor (e ∷ es) order =
     (order.0, rw (moves_shifted strict by e) order.1, rw (moves_shifted strict by e) (order-shifted strict by (if moves_floor strict e then e.time else floor) es order.2))
 
 same_kind : (by : Sorting) (kind : EventKind) → by.shifts ≡ [] → shifted_kind by kind ≡ kind
-same_kind by (Photon input dtime) none = rw none refl
-same_kind by (Marker bits) none = refl
+same_kind by kind none = search (rules, arith)
 
 pub same_event : (by : Sorting) (e : Event) → by.shifts ≡ [] → shifted by e ≡ e
 same_event by e none = ap (λ kind. record { place = e.place; kind = kind; time = e.time }) (same_kind by e.kind none)
@@ -43,11 +39,7 @@ shifted_rows by f e (suc n) is = rw (map-append, ← shifted_rows by f e n (λ i
 -- one event more is shifted, and those behind it are left
 pub shifted_more : (by : Sorting) (old now next : ℕ → Event) (at : ℕ) → ((i : ℕ) → i < at → now i ≡ shifted by (old i)) → ((i : ℕ) → at ≤ i → now i ≡ old i) → next at ≡ shifted by (now at) → ((i : ℕ) → i ≢ at → next i ≡ now i)
     → (i : ℕ) → i < at + 1 → next i ≡ shifted by (old i)
-shifted_more by old now next at before left here others i lt =
-    ⊎_elim
-    (λ (is : i ≡ at). rw is (here ∙ ap (shifted by) (left at (omega arith))))
-    (λ (below : i < at). others i (λ is. omega (arith, below, is)) ∙ before i below)
-    (last_or i at lt)
+shifted_more by old now next at before left here others i lt = search (rules, arith, last_or)
 
 pub left_behind : (old now next : ℕ → Event) (at : ℕ) → ((i : ℕ) → at ≤ i → now i ≡ old i) → ((i : ℕ) → i ≢ at → next i ≡ now i) → (i : ℕ) → at + 1 ≤ i → next i ≡ old i
 left_behind old now next at left others i above = others i (λ is. omega (arith, above, is)) ∙ left i (omega (arith, above))

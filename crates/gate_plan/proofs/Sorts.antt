@@ -1,6 +1,5 @@
 -- Rows that are sorted.
-use Rattle.std.proofs.Common.{◌≡◌, ◌+◌, ◌<◌, ℕ, zero, suc, List, refl, arith, length, get_or, set, ◌⊎◌, ⊎_elim}
-use Rattle.std.{proofs.lemmas.Grind.common_steps, proofs.lemmas.List.{get_or-set_same, map-append}}
+use Rattle.std.{proofs.Common.{◌≡◌, ◌+◌, ◌<◌, ℕ, zero, suc, List, refl, arith, length, get_or, set, ◌⊎◌, rules}, proofs.lemmas.Grind.common_steps, proofs.lemmas.List.{get_or-set_same, map-append}}
 use Rattle.tally_base.{specs.declared.event.Event.Event, specs.Settings.GroupView, specs.Columns.rows}
 use Rattle.gate_plan.{specs.Taking.groups_by, specs.Histories.grouped}
 
@@ -16,8 +15,4 @@ last_or i n lt = grind (arith, lt)
 
 -- one place more that has what it is to have
 pub set_more : (P : ℕ → ℕ → Type 0) (xs : List ℕ) (n v : ℕ) → n < length xs → ((i : ℕ) → i < n → P i (get_or xs i 0)) → P n v → (i : ℕ) → i < n + 1 → P i (get_or (set xs n v) i 0)
-set_more P xs n v inside before here i lt =
-    ⊎_elim
-    (λ (is : i ≡ n). rw (is, get_or-set_same xs n v 0 inside) here)
-    (λ (below : i < n). rw (other xs n i v 0 below) (before i below))
-    (last_or i n lt)
+set_more P xs n v inside before here i lt = search (rules, arith, get_or-set_same, other)

@@ -1,6 +1,5 @@
 -- The groups without a gate and those with gates, apart.
-use Rattle.std.specs.Prelude.{ℕ, ◌≡◌, ◌<◌, ◌+◌, ◌*◌, ◌^◌, Bool, true, false, ◌&&◌, List, [], ◌∷◌, map, sum_by, slice_index, slice_index_or}
-use Rattle.std.specs.List.{list_any, flat_map}
+use Rattle.std.{specs.Prelude.{ℕ, ◌≡◌, ◌<◌, ◌+◌, ◌*◌, ◌^◌, Bool, true, false, ◌&&◌, List, [], ◌∷◌, map, sum_by, slice_index, slice_index_or}, specs.List.{list_any, flat_map}}
 use Rattle.tally_base.specs.Settings.{GroupView}
 use Rattle.gate_plan.{specs.Taking.{is_among, is_in_gate, one_if, bits_of}, specs.declared.gated.Gated.Gated, specs.declared.only_gate.OnlyGate.OnlyGate}
 
@@ -50,6 +49,10 @@ groups_by plain gated input dtime = slice_index plain input + gated_sum gated in
 -- the groups of a photon behind an only gate
 abbrev pub groups_behind : ℕ → ℕ → OnlyGate → ℕ
 groups_behind input dtime only = slice_index (slice_index_or only.groups (one_if (is_in_gate dtime only.gate)) []) input
+
+-- An only gate tells the groups of photons by those without a gate and those with gates, where their number is one of 64 bits.
+abbrev pub TellsGroupsBy : List ℕ → List Gated → OnlyGate → Type 0
+TellsGroupsBy plain gated only = (input dtime : ℕ) → input < 256 → groups_by plain gated input dtime < 2 ^ 64 → groups_behind input dtime only ≡ groups_by plain gated input dtime
 
 -- An only gate tells what photons of these groups are in.
 abbrev pub TellsGroups : OnlyGate → List GroupView → Type 0

@@ -1,6 +1,5 @@
 -- Which groups an event is in.
-use Rattle.std.specs.Prelude.{ℕ, ◌+◌, ◌*◌, Bool, true, false, ◌&&◌, ◌==◌, nat_le, nat_lt, List, map, [], ◌∷◌}
-use Rattle.std.{specs.List.list_any, specs.Int.bit_at}
+use Rattle.std.{specs.Prelude.{ℕ, ◌+◌, ◌*◌, Bool, true, false, ◌&&◌, ◌==◌, nat_le, nat_lt, List, map, [], ◌∷◌}, specs.List.list_any, specs.Int.bit_at}
 use Rattle.tally_base.{specs.declared.event.Event.Event, specs.declared.event.EventKind.EventKind, specs.declared.event.EventKind.TheVariants.{Photon, Marker}, specs.Settings.GroupView}
 use Rattle.gate_plan.specs.Shifting.{Sorting, shifted}
 

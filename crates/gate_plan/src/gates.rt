@@ -1,6 +1,5 @@
 // The shifted dtimes of events, and the groups that they are in.
-ghost use Rattle.std.specs.Prelude.{◌≡◌, ◌<◌, ◌≤◌, ◌==◌, ℕ, map, length, None, is_some, slice_index, slice_index_or};
-ghost use Rattle.std.specs.Option.{ForSome};
+ghost use Rattle.std.{specs.Prelude.{◌≡◌, ◌<◌, ◌≤◌, ◌==◌, ℕ, map, length, None, is_some, slice_index, slice_index_or}, specs.Option.{ForSome}};
 ghost use Rattle.tally_base.specs.Settings.{group_view, shift_view};
 ghost use Rattle.gate_plan.{specs.Shifting.shift_of, specs.Parting.{plain_bits, gated_bits, gated_sum, all_gates, gates_in, TellsGroups}};
 

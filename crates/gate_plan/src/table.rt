@@ -1,8 +1,7 @@
 // The groups without a gate by input, and those with gates.
-ghost use Rattle.std.specs.Prelude.{◌≡◌, ◌<◌, ◌≤◌, ◌+◌, ◌-◌, ◌*◌, ◌^◌, ℕ, min, map, length, slice_index, slice_index_or, is_some, ◌==◌, false};
-ghost use Rattle.std.{specs.Int.bit_at, specs.Option.ForSome};
+ghost use Rattle.std.{specs.Prelude.{◌≡◌, ◌<◌, ◌≤◌, ◌+◌, ◌-◌, ◌*◌, ◌^◌, ℕ, min, map, length, slice_index, slice_index_or, is_some, ◌==◌, false}, specs.Int.bit_at, specs.Option.ForSome};
 ghost use Rattle.tally_base.specs.Settings.{group_view};
-ghost use Rattle.gate_plan.{specs.Taking.{is_among, is_in_gate, one_if}, specs.Parting.{takes_plainly, takes_gated, passes, gates_of, all_gates, gates_in, plain_bits, gated_bits, gated_bit, gated_sum, groups_by, groups_behind}};
+ghost use Rattle.gate_plan.{specs.Taking.{is_among, is_in_gate, one_if}, specs.Parting.{takes_plainly, takes_gated, passes, gates_of, all_gates, gates_in, plain_bits, gated_bits, gated_bit, gated_sum, TellsGroupsBy}};
 
 use crate::copies::gates_again;
 use crate::gated::Gated;
@@ -83,9 +82,7 @@ fn gated_at(group: &Group, place: u64) -> Gated
 /// The only gate of these groups, if they are one group that has one gate, with the groups of each input
 /// behind it, where these are the groups that have none.
 pub(crate) fn only_gate(gated: &[Gated], plain: &[u64; 256]) -> Option<OnlyGate>
-    ensures groups { ForSome result (λ gate. (input dtime : ℕ) → input < 256
-        → groups_by plain.now gated.now input dtime < 2 ^ 64
-        → groups_behind input dtime gate ≡ groups_by plain.now gated.now input dtime) }
+    ensures groups { ForSome result (TellsGroupsBy plain.now gated.now) }
     ensures one { is_some result ≡ (length (gates_in gated.now) == 1) }
 {
     match gated {

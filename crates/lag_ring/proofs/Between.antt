@@ -1,6 +1,5 @@
 -- How many entries have an index in a range.
-use Rattle.std.proofs.Common.{◌≡◌, ℕ, ◌+◌, ◌-◌, ◌<◌, ◌≤◌, Bool, true, ◌&&◌, ltb, leb, List, [], ◌∷◌, length, cond, sym, ap, ◌∙◌, arith}
-use Rattle.std.{specs.List.{count_by, AllByRecursion}, proofs.lemmas.Grind.common_steps, proofs.lemmas.List.Sums.{sum_by-cons, length-filter}}
+use Rattle.std.{proofs.Common.{◌≡◌, ℕ, ◌+◌, ◌-◌, ◌<◌, ◌≤◌, Bool, true, ◌&&◌, ltb, leb, List, [], ◌∷◌, length, cond, sym, ap, ◌∙◌, arith}, specs.List.{count_by, AllByRecursion}, proofs.lemmas.Grind.common_steps, proofs.lemmas.List.Sums.{sum_by-cons, length-filter}}
 use Rattle.lag_ring.{specs.declared.ring.Entry.Entry, specs.Ring.IsRising, proofs.Rising.filter_passed, proofs.Lists.all_both, proofs.Sums.sum_by-agree}
 
 abbrev pub between : ℕ → ℕ → Entry → Bool

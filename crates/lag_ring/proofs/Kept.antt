@@ -1,16 +1,6 @@
 -- What a ring keeps once a bin more is put into it.
-use Rattle.std.proofs.Common.{◌≡◌, ℕ, ◌+◌, ◌-◌, ◌<◌, ◌≤◌, Bool, true, false, ◌&&◌, leb, cond, List, [], ◌∷◌, ◌++◌, length, refl, ◌∙◌, arith}
-use Rattle.std.{specs.List.{sum_by, count_by, filter, AllByRecursion}, proofs.lemmas.Grind.common_steps, proofs.lemmas.List.Sums.{sum_by-append, sum_by_push}}
+use Rattle.std.{proofs.Common.{◌≡◌, ℕ, ◌+◌, ◌-◌, ◌<◌, ◌≤◌, Bool, true, false, ◌&&◌, leb, cond, List, [], ◌∷◌, ◌++◌, length, refl, ◌∙◌, arith}, specs.List.{sum_by, count_by, filter, AllByRecursion}, proofs.lemmas.Grind.common_steps, proofs.lemmas.List.Sums.{sum_by-append, sum_by_push}}
 use Rattle.lag_ring.{specs.declared.ring.Entry.Entry, specs.Ring.{Ring, ring, IsRising}, specs.Kept.{weight_where, IsInReach, Weighs, Keeps}, proofs.Rising.all_push, proofs.Lists.{all_front, all_back, all_filter, all_passed, of_some}, proofs.Sums.{sum_by-agree, sum_by-same, sum_by-zero, sum_by-filter}, proofs.Between.few_kept}
-
--- A ring of no entries has what there is of no elements.
-pub nothing_kept : {X : Type 0} (first second : X → Bool) (at : X → ℕ) (reach : ℕ) → Keeps first second at (ring [] reach) []
-nothing_kept first second at reach = record {
-  within = omega arith;
-  firsts = λ test near. refl;
-  seconds = λ test near. refl;
-  bounded = λ n below. tt;
-}
 
 module _ {X : Type 0} (group : X → Bool) (at : X → ℕ) (weight : Entry → ℕ) where
   near : (test : ℕ → Bool) (i w n reach : ℕ) → 0 < reach → (test i ≡ true → n < i + reach) → cond (leb (n - (reach - 1)) i) (cond (test i) w 0) 0 ≡ cond (test i) w 0

@@ -5,3 +5,5 @@ pub mod Between
 pub mod Kept
 pub mod Windows
 pub mod Places
+pub mod Spots
+pub mod Wholes

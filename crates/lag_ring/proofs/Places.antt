@@ -1,8 +1,5 @@
 -- Places that were noted one after the other.
-use Rattle.std.proofs.Common.{◌≡◌, ℕ, ◌+◌, List, [], ◌∷◌, ◌-◌, ◌++◌, ◌∙◌, ap, sym, map, length, arith}
-use Rattle.std.proofs.lemmas.List.{append_assoc, length-append}
-use Rattle.std.specs.List.{range_with_len}
-use Rattle.std.proofs.lemmas.List.FromFn.{map-range_with_len_more, length-map-range_with_len}
+use Rattle.std.{proofs.Common.{◌≡◌, ℕ, ◌+◌, List, [], ◌∷◌, ◌-◌, ◌++◌, ◌∙◌, ap, sym, map, length, arith}, proofs.lemmas.List.{append_assoc, length-append}, specs.List.{range_with_len}, proofs.lemmas.List.FromFn.{map-range_with_len_more, length-map-range_with_len}}
 use Rattle.lag_ring.specs.Cells.{upwards_from, downwards_from}
 
 more_of : (f : ℕ → ℕ) (xs ys : List ℕ) (n : ℕ) → ys ≡ xs ++ map f (range_with_len 0 n) → ys ++ f n ∷ [] ≡ xs ++ map f (range_with_len 0 (n + 1))

@@ -1,6 +1,5 @@
 -- Weights by tick.
-use Rattle.std.proofs.Common.{◌≡◌, ◌∙◌, ℕ, ◌+◌, ◌-◌, ◌*◌, ◌^◌, ◌<◌, ◌≤◌, Bool, true, false, eqb, cond, List, [], ◌∷◌, length, get_or, take, drop, ap, arith}
-use Rattle.std.{specs.List.{sum_by, AllByRecursion}, proofs.Math.Nat.mul-le-mul_right, proofs.lemmas.List.{get_or-take, get_or-drop}, proofs.lemmas.Bool.Decides.nat_tests, proofs.lemmas.List.Sums.{sum_by-cons, sum_by_more_le, sum_by-le-sum_by}}
+use Rattle.std.{proofs.Common.{◌≡◌, ◌∙◌, ℕ, ◌+◌, ◌-◌, ◌*◌, ◌^◌, ◌<◌, ◌≤◌, Bool, true, false, eqb, cond, List, [], ◌∷◌, length, get_or, take, drop, ap, arith}, specs.List.{sum_by, AllByRecursion}, proofs.Math.Nat.mul-le-mul_right, proofs.lemmas.List.{get_or-take, get_or-drop}, proofs.lemmas.Bool.Decides.nat_tests, proofs.lemmas.List.Sums.{sum_by-cons, sum_by_more_le, sum_by-le-sum_by}}
 use Rattle.lag_ring.{specs.declared.ring.Entry.Entry, specs.declared.window.Side.Side, specs.Window.{weight_of, weight_before, weight_at, product_at}, proofs.Sums.sum_by-same}
 
 pub part-le : (b : Bool) (w : ℕ) → cond b w 0 ≤ w

@@ -1,6 +1,5 @@
 -- Weights by tick.
-use Rattle.std.specs.Prelude.{ℕ, ◌≡◌, ◌+◌, ◌-◌, ◌*◌, ◌^◌, ◌<◌, ◌≤◌, ◌==◌, List, length, slice_index, sum_by}
-use Rattle.std.specs.List.{AllByRecursion}
+use Rattle.std.{specs.Prelude.{ℕ, ◌≡◌, ◌+◌, ◌-◌, ◌*◌, ◌^◌, ◌<◌, ◌≤◌, ◌==◌, List, length, slice_index, sum_by}, specs.List.{AllByRecursion}}
 use Rattle.lag_ring.{specs.declared.ring.Entry.Entry, specs.declared.window.Side.Side, specs.declared.window.Side.TheVariants.{First, Second}, specs.Kept.weight_where}
 
 abbrev pub weight_of : Side → Entry → ℕ

@@ -1,8 +1,7 @@
 // Cells that count pairs.
-ghost use Rattle.std.specs.Prelude.{◌≡◌, ℕ, ◌+◌, ◌-◌, ◌^◌, ◌<◌, ◌≤◌, [], ◌∷◌, ◌++◌, IfOk, length, replicate, slice_index, slice_set};
-ghost use Rattle.lag_ring.specs.Cells.{upwards_at, downwards_at, upwards_from, downwards_from};
+ghost use Rattle.std.specs.Prelude.{◌≡◌, ◌+◌, ◌^◌, ◌<◌, ◌≤◌, [], ◌∷◌, ◌++◌, IfOk, length, replicate, slice_index, slice_set};
 
-use crate::additions::Additions;
+use noted::Noted;
 use std::alloc::{AllocError, Global};
 use std::marker::Model;
 use std::sync::ledger::Ledger;
@@ -15,7 +14,7 @@ use tally_base::Steps;
 #[derive(Drop)]
 pub struct PairCells {
     cells: Vec<u128>,
-    additions: Additions,
+    additions: Noted<usize>,
 }
 
 impl Model for PairCells {
@@ -26,57 +25,7 @@ impl Model for PairCells {
 
     ghost coded = { cells_code };
 
-    ghost view = { λ c. pair_cells c.cells.items (length c.additions.places) c.additions.places };
-}
-
-/// Adds each number of a row to its cell, from one cell upwards.
-#[inline(always)]
-fn add_row_upwards<L: Ledger>(
-    cells: &mut [u128],
-    from: usize,
-    row: &[u32],
-    additions: &mut Additions,
-    steps: &mut Steps<L>,
-)
-    requires inside { from + length row.now ≤ length cells.old }
-    requires fits { (q : ℕ) → q < length row.now
-        → slice_index cells.old (from + q) + slice_index row.now q ≤ 2 ^ 80 }
-    ensures cells { (c : ℕ) → c < length cells.old → slice_index cells.new c
-        ≡ slice_index cells.old c + upwards_at from row.now c }
-    ensures same { length cells.new ≡ length cells.old }
-    ensures places { additions.new.places ≡ additions.old.places ++ upwards_from from (length row.now) }
-    ensures steps { steps.new ≡ steps.old + length row.now }
-{
-    for q in 0..row.len() {
-        cells[from + q] += u128::from(row[q]);
-        additions.note(&[from + q]);
-        steps.tick();
-    }
-}
-
-/// Adds each number of a row to its cell, from one cell downwards.
-#[inline(always)]
-fn add_row_downwards<L: Ledger>(
-    cells: &mut [u128],
-    from: usize,
-    row: &[u32],
-    additions: &mut Additions,
-    steps: &mut Steps<L>,
-)
-    requires inside { (from < length cells.old) × (length row.now ≤ from + 1) }
-    requires fits { (q : ℕ) → q < length row.now
-        → slice_index cells.old (from - q) + slice_index row.now q ≤ 2 ^ 80 }
-    ensures cells { (c : ℕ) → c < length cells.old → slice_index cells.new c
-        ≡ slice_index cells.old c + downwards_at from row.now c }
-    ensures same { length cells.new ≡ length cells.old }
-    ensures places { additions.new.places ≡ additions.old.places ++ downwards_from from (length row.now) }
-    ensures steps { steps.new ≡ steps.old + length row.now }
-{
-    for q in 0..row.len() {
-        cells[from - q] += u128::from(row[q]);
-        additions.note(&[from - q]);
-        steps.tick();
-    }
+    ghost view = { λ c. pair_cells c.cells.items (length c.additions.items) c.additions.items };
 }
 
 impl PairCells {
@@ -88,7 +37,7 @@ impl PairCells {
     {
         Ok(PairCells {
             cells: vec![in alloc; 0; cells as usize]?,
-            additions: Additions::new(),
+            additions: Noted::new(),
         })
     }
 
@@ -104,54 +53,6 @@ impl PairCells {
         self.cells[at as usize] += pairs;
         self.additions.note(&[at as usize]);
         steps.tick();
-    }
-
-    /// Adds a row of numbers of pairs to as many cells, in one step each: the first to the cell
-    /// `from`, and each further one to the cell above.
-    #[inline(always)]
-    #[tactic(auto, using(crate::proofs::Places::upwards_length))]
-    pub fn add_upwards<L: Ledger>(&mut self, from: u32, row: &[u32], steps: &mut Steps<L>)
-        requires inside { from + length row.now ≤ length self.old.cells }
-        requires sums { (q : ℕ) → q < length row.now
-            → slice_index self.old.cells (from + q) + slice_index row.now q ≤ 2 ^ 80 }
-        ensures cells { (c : ℕ) → c < length self.old.cells → slice_index self.new.cells c
-            ≡ slice_index self.old.cells c + upwards_at from row.now c }
-        ensures same { length self.new.cells ≡ length self.old.cells }
-        ensures added { self.new.added ≡ self.old.added + length row.now }
-        ensures places { self.new.places ≡ self.old.places ++ upwards_from from (length row.now) }
-        ensures steps { steps.new ≡ steps.old + length row.now }
-    {
-        add_row_upwards(
-            &mut self.cells,
-            from as usize,
-            row,
-            &mut self.additions,
-            steps,
-        );
-    }
-
-    /// Adds a row of numbers of pairs to as many cells, in one step each: the first to the cell
-    /// `from`, and each further one to the cell below.
-    #[inline(always)]
-    #[tactic(auto, using(crate::proofs::Places::downwards_length))]
-    pub fn add_downwards<L: Ledger>(&mut self, from: u32, row: &[u32], steps: &mut Steps<L>)
-        requires inside { (from < length self.old.cells) × (length row.now ≤ from + 1) }
-        requires sums { (q : ℕ) → q < length row.now
-            → slice_index self.old.cells (from - q) + slice_index row.now q ≤ 2 ^ 80 }
-        ensures cells { (c : ℕ) → c < length self.old.cells → slice_index self.new.cells c
-            ≡ slice_index self.old.cells c + downwards_at from row.now c }
-        ensures same { length self.new.cells ≡ length self.old.cells }
-        ensures added { self.new.added ≡ self.old.added + length row.now }
-        ensures places { self.new.places ≡ self.old.places ++ downwards_from from (length row.now) }
-        ensures steps { steps.new ≡ steps.old + length row.now }
-    {
-        add_row_downwards(
-            &mut self.cells,
-            from as usize,
-            row,
-            &mut self.additions,
-            steps,
-        );
     }
 
     /// How many pairs a cell has.

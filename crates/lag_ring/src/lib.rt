@@ -3,12 +3,16 @@
 //! `fold_count` and `tau_cascade` stand on it.
 #![tactic(auto)]
 
-mod additions;
 mod buffer;
+mod bytes;
 mod cells;
+mod parts;
 mod ring;
+mod rows;
 mod window;
 
+pub use bytes::{BYTE_LAGS, byte_lag_sums, put_bytes, weight_bound};
 pub use cells::PairCells;
 pub use ring::{Entry, LagRing};
+pub use rows::RowCells;
 pub use window::{FEW_LAGS, LAGS, Side, few_lag_sums, lag_sums, put_weights, total_weight};

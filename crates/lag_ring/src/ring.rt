@@ -1,6 +1,5 @@
 // The recent occupied bins.
-ghost use Rattle.std.specs.Prelude.{◌≡◌, ◌+◌, ◌<◌, ◌≤◌, [], ◌∷◌, ◌++◌, IfOk, filter, length, nat_le, slice_get, slice_set, Some, true};
-ghost use Rattle.std.specs.List.{AllByRecursion};
+ghost use Rattle.std.{specs.Prelude.{◌≡◌, ◌+◌, ◌<◌, ◌≤◌, [], ◌∷◌, ◌++◌, IfOk, filter, length, nat_le, slice_get, slice_set, Some, true}, specs.List.{AllByRecursion}};
 ghost use Rattle.lag_ring.specs.Ring.{IsRising, spare, ring, kept_or};
 
 use crate::buffer::Buffered;
@@ -45,8 +44,7 @@ pub struct LagRing {
 }
 
 impl Model for LagRing {
-    ghost use Rattle.std.specs.Prelude.{◌≡◌, ◌<◌, ◌≤◌, ◌^◌, [], true};
-    ghost use Rattle.std.specs.List.{AllByRecursion};
+    ghost use Rattle.std.{specs.Prelude.{◌≡◌, ◌<◌, ◌≤◌, ◌^◌, [], true}, specs.List.{AllByRecursion}};
     ghost use Rattle.lag_ring.specs.Ring.{Ring, ring, kept_or, ring_code};
 
     ghost Value = { Ring };

@@ -1,6 +1,5 @@
 // Weights by tick, and the pairs that they make at many lags at once.
-ghost use Rattle.std.specs.Prelude.{◌≡◌, ℕ, ◌+◌, ◌-◌, ◌*◌, ◌^◌, ◌<◌, ◌≤◌, ◌==◌, length, slice_index, sum_by, if◌then◌else◌};
-ghost use Rattle.std.specs.List.{AllByRecursion};
+ghost use Rattle.std.{specs.Prelude.{◌≡◌, ℕ, ◌+◌, ◌-◌, ◌*◌, ◌^◌, ◌<◌, ◌≤◌, ◌==◌, length, slice_index, sum_by, if◌then◌else◌}, specs.List.{AllByRecursion}};
 ghost use Rattle.lag_ring.specs.Window.{weight_of, weight_at, product_at};
 
 use crate::ring::Entry;

@@ -1,6 +1,5 @@
 -- The text of a body that grows by a byte.
-use Rattle.std.proofs.Common.{◌≡◌, ◌≢◌, ℕ, List, [], ◌∷◌, ◌++◌, Bool, true, false, cond, refl, sym, ap, ◌∙◌, append-nil, ◌==◌, not, take_while, ◌&&◌}
-use Rattle.std.{specs.List.{flat_map, list_all}, proofs.lemmas.Grind.flat_map-append, proofs.lemmas.List.Sums.take_while-cons}
+use Rattle.std.{proofs.Common.{◌≡◌, ◌≢◌, ℕ, List, [], ◌∷◌, ◌++◌, Bool, true, false, cond, refl, sym, ap, ◌∙◌, append-nil, ◌==◌, not, take_while, ◌&&◌}, specs.List.{flat_map, list_all}, proofs.lemmas.Grind.flat_map-append, proofs.lemmas.List.Sums.take_while-cons}
 use Rattle.tally_base.specs.Hexadecimal.{hexadecimal}
 use Rattle.ptu_tag.{specs.declared.kind.TagKind.TagKind, specs.declared.kind.TagKind.TheVariants.AnsiString}
 use Rattle.list_out.{specs.HeaderText.{body_text, shown_byte}, specs.Body.has_no_nul}

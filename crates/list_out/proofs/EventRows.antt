@@ -1,6 +1,5 @@
 -- The lines of events at known events.
-use Rattle.std.proofs.Common.{◌≡◌, [], ◌∷◌, true, false, refl, codes}
-use Rattle.std.specs.Fmt.{digits}
+use Rattle.std.{proofs.Common.{◌≡◌, [], ◌∷◌, true, false, refl, codes}, specs.Fmt.{digits}}
 use Rattle.tally_base.specs.declared.event.EventKind.TheVariants.{Photon, Marker}
 use Rattle.list_out.specs.EventText.{event_text, events_text}
 

@@ -1,6 +1,5 @@
 -- The text of a header that is at its end or refused grows no more.
-use Rattle.std.proofs.Common.{◌≡◌, ◌≢◌, ◌-◌, ◌^◌, ◌<◌, ◌≤◌, ℕ, List, [], ◌∷◌, ◌++◌, true, false, length, take, refl, sym, ap, ◌∙◌, subst, append-nil, arith, length-append, inl, inr, Result, Ok, Err, None, Some, nat_eq, if◌then◌else◌}
-use Rattle.std.{specs.declared.option.Option.Option, proofs.lemmas.Bool.cases_lt, proofs.lemmas.List.{length-take, take-append-le, take_all}}
+use Rattle.std.{proofs.Common.{◌≡◌, ◌≢◌, ◌-◌, ◌^◌, ◌<◌, ◌≤◌, ℕ, List, [], ◌∷◌, ◌++◌, true, false, length, take, refl, sym, ap, ◌∙◌, subst, append-nil, arith, length-append, inl, inr, Result, Ok, Err, None, Some, nat_eq, if◌then◌else◌}, specs.declared.option.Option.Option, proofs.lemmas.Bool.cases_lt, proofs.lemmas.List.{length-take, take-append-le, take_all}}
 use Rattle.tally_base.{specs.declared.fault.Fault.Fault, specs.declared.fault.Fault.TheVariants.{TruncatedHeader, HeaderLimit}, specs.declared.header.Header.Header, specs.declared.header.RecordType.RecordType, specs.RecordTypes.type_with}
 use Rattle.ptu_definitions.{specs.declared.found.Found.Found, specs.Endings.{Ending, OtherFile, BadType, BadLength, Whole, Open, ending}, specs.Fields.{header_of, with_value, with_type}, specs.Headers.{header_answer, header_limit, head_of, answer_as, with_rest, unfinished}, specs.Shown.Shows, proofs.AnswerLemmas.head-front, proofs.SeenLaws.seen-answered}
 use Rattle.list_out.{specs.HeaderText.{shown_text, header_text}, proofs.Growing.{Grown, shown_text-grows}}

@@ -1,6 +1,5 @@
 -- The text of a header grows with its bytes.
-use Rattle.std.proofs.Common.{◌≡◌, ◌+◌, ◌-◌, ◌<◌, ◌≤◌, ℕ, zero, suc, List, [], ◌∷◌, ◌++◌, true, false, length, take, drop, refl, sym, ap, ◌∙◌, subst, append_assoc, append-nil, take-append-drop, arith, length-append, inl, inr, None, Some, nat_lt, nat_eq, codes, not, ◌||◌, ◌⊎◌, if◌then◌else◌}
-use Rattle.std.{specs.declared.option.Option.Option, specs.Str.bytes_eq, specs.List.flat_map, proofs.lemmas.Bool.{cases_lt, cases_Bool}, proofs.lemmas.Bool.Decides.nat_tests, proofs.lemmas.List.{length-take, length-drop, take-append-le, drop-append-le, take_all}, proofs.Math.Seq.{take-append-add, drop-append-add}}
+use Rattle.std.{proofs.Common.{◌≡◌, ◌+◌, ◌-◌, ◌<◌, ◌≤◌, ℕ, zero, suc, List, [], ◌∷◌, ◌++◌, true, false, length, take, drop, refl, sym, ap, ◌∙◌, subst, append_assoc, append-nil, take-append-drop, arith, length-append, inl, inr, None, Some, nat_lt, nat_eq, codes, not, ◌||◌, ◌⊎◌, if◌then◌else◌}, specs.declared.option.Option.Option, specs.Str.bytes_eq, specs.List.flat_map, proofs.lemmas.Bool.{cases_lt, cases_Bool}, proofs.lemmas.Bool.Decides.nat_tests, proofs.lemmas.List.{length-take, length-drop, take-append-le, drop-append-le, take_all}, proofs.Math.Seq.{take-append-add, drop-append-add}}
 use Rattle.ptu_tag.{specs.declared.kind.TagKind.TagKind, specs.declared.kind.TagKind.TheVariants.{Empty8, Bool8, Int8, BitSet64, Color8, Float8, TDateTime, Float8Array, AnsiString, WideString, BinaryBlob}}
 use Rattle.ptu_definitions.{specs.TagFields.{code_in, is_known, is_negative, body_size, is_end}, specs.TagList.Item, specs.Seen.{seen_from, seen, seen_preamble}, proofs.Walks.{take_front, drop_front, not_less, is_less}, proofs.SeenLemmas.seen_from-short}
 use Rattle.list_out.{specs.HeaderText.{body_text, head_text, head_in, kind_with, item_text, end_text, preamble_text, shown_text}, specs.Body.has_no_nul, proofs.Bodies.{body_text-digits, body_text-passed, body_text-ended}}

@@ -1,6 +1,5 @@
 -- The text of a header at known bytes.
-use Rattle.std.proofs.Common.{◌≡◌, ◌-◌, ◌/◌, ◌%◌, ℕ, zero, suc, List, [], ◌∷◌, ◌++◌, length, take, replicate, refl, codes}
-use Rattle.std.specs.Fmt.{digits}
+use Rattle.std.{proofs.Common.{◌≡◌, ◌-◌, ◌/◌, ◌%◌, ℕ, zero, suc, List, [], ◌∷◌, ◌++◌, length, take, replicate, refl, codes}, specs.Fmt.{digits}}
 use Rattle.tally_base.specs.Hexadecimal.{hexadecimal}
 use Rattle.ptu_definitions.{specs.TagFields.{name_in, index_in, code_in, value_in, has_body, is_known}, specs.Seen.{seen, seen_from, seen_preamble}}
 use Rattle.list_out.specs.HeaderText.{head_text, body_text, kind_with, item_text, preamble_text, shown_text, header_text}

@@ -1,6 +1,5 @@
 -- What each step of a header reader adds to the text of the bytes taken.
-use Rattle.std.proofs.Common.{◌≡◌, ◌^◌, ◌<◌, ◌≤◌, ℕ, List, [], ◌∷◌, ◌++◌, Bool, length, take, drop, refl, sym, ap, ◌∙◌, append_assoc, append-nil, arith, length-append, None, Some, nat_eq, codes, if◌then◌else◌}
-use Rattle.std.{proofs.lemmas.Grind.flat_map-append, proofs.lemmas.Bool.Decides.nat_tests, proofs.lemmas.List.take_all}
+use Rattle.std.{proofs.Common.{◌≡◌, ◌^◌, ◌<◌, ◌≤◌, ℕ, List, [], ◌∷◌, ◌++◌, Bool, length, take, drop, refl, sym, ap, ◌∙◌, append_assoc, append-nil, arith, length-append, None, Some, nat_eq, codes, if◌then◌else◌}, proofs.lemmas.Grind.flat_map-append, proofs.lemmas.Bool.Decides.nat_tests, proofs.lemmas.List.take_all}
 use Rattle.ptu_tag.{specs.declared.kind.TagKind.TagKind, specs.declared.kind.TagKind.TheVariants.{Empty8, Bool8, Int8, BitSet64, Color8, Float8, TDateTime, Float8Array, AnsiString, WideString, BinaryBlob}, specs.declared.head.TagHead.TagHead, specs.Kinds.{IsHead, code_of}}
 use Rattle.ptu_definitions.{specs.TagFields.{code_in, body_size}, specs.TagList.Item, specs.Seen.{seen, seen_preamble}, proofs.Walks.is_less}
 use Rattle.list_out.{specs.HeaderText.{body_text, head_text, head_in, kind_with, item_text, end_text, bare_end, preamble_text, preamble_part, preamble_lines_of, shown_text, header_text}, proofs.Growing.{item_of, items_text, item_text-cut, shown_text-none}}

@@ -1,6 +1,5 @@
 -- What a body's text stands for.
-use Rattle.std.specs.Prelude.{ℕ, ◌≡◌, ◌≢◌, ◌==◌, not, List, Bool, true, false}
-use Rattle.std.specs.List.{list_all}
+use Rattle.std.{specs.Prelude.{ℕ, ◌≡◌, ◌≢◌, ◌==◌, not, List, Bool, true, false}, specs.List.{list_all}}
 use Rattle.ptu_tag.{specs.declared.kind.TagKind.TagKind, specs.declared.kind.TagKind.TheVariants.AnsiString}
 use Rattle.list_out.{specs.declared.body.Printing.Printing, specs.declared.body.Printing.TheVariants.{Digits, Text, Nothing}, specs.declared.body.BodyText.BodyText}
 

@@ -1,6 +1,5 @@
 -- The lines of events.
-use Rattle.std.specs.Prelude.{ℕ, Bool, true, false, List, ◌++◌, decimal, codes}
-use Rattle.std.specs.List.{flat_map}
+use Rattle.std.{specs.Prelude.{ℕ, Bool, true, false, List, ◌++◌, decimal, codes}, specs.List.{flat_map}}
 use Rattle.tally_base.{specs.declared.event.Event.Event, specs.declared.event.EventKind.EventKind, specs.declared.event.EventKind.TheVariants.{Photon, Marker}}
 use Rattle.ptu_definitions.{specs.Kept.Marked, specs.Streams.{Reading, given}}
 

@@ -1,6 +1,5 @@
 -- Lines of a word and a value.
-use Rattle.std.specs.Prelude.{ℕ, ℤ, List, ◌++◌, None, Some, codes, decimal}
-use Rattle.std.{specs.Fmt.signed_decimal, specs.declared.option.Option.Option}
+use Rattle.std.{specs.Prelude.{ℕ, ℤ, List, ◌++◌, None, Some, codes, decimal}, specs.Fmt.signed_decimal, specs.declared.option.Option.Option}
 use Rattle.tally_base.specs.Hexadecimal.{hexadecimal}
 
 abbrev pub line : List ℕ → List ℕ → List ℕ

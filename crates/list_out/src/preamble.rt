@@ -1,6 +1,5 @@
 // The lines of a preamble.
-ghost use Rattle.std.specs.Prelude.{◌≡◌, ◌+◌, ◌*◌, ◌≤◌, ◌++◌, length};
-ghost use Rattle.std.specs.List.{flat_map};
+ghost use Rattle.std.{specs.Prelude.{◌≡◌, ◌+◌, ◌*◌, ◌≤◌, ◌++◌, length}, specs.List.{flat_map}};
 ghost use Rattle.arrayvec.specs.ArrayVec.{array_vec_len};
 ghost use Rattle.tally_base.specs.Hexadecimal.{hexadecimal};
 ghost use Rattle.list_out.specs.HeaderText.{preamble_lines_of};

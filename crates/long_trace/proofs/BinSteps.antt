@@ -1,30 +1,20 @@
 -- What one event more does to the numbers that are kept, and to the lines.
-use Rattle.std.proofs.Common.{◌≡◌, ◌∙◌, ℕ, ◌+◌, ◌-◌, ◌/◌, ◌*◌, ◌<◌, ◌≤◌, Bool, true, false, ◌&&◌, List, [], ◌∷◌, ◌++◌, max, refl, sym, ap, arith, append-nil, append_assoc, IsTrue, nat_lt, nat_le, ◌==◌, slice_index, if◌then◌else◌}
-use Rattle.std.{proofs.lemmas.Bool.Decides.nat_tests, proofs.lemmas.Nat.{div-mul-add, le-div}}
+use Rattle.std.{proofs.Common.{◌≡◌, ◌∙◌, ℕ, ◌+◌, ◌-◌, ◌/◌, ◌*◌, ◌<◌, ◌≤◌, Bool, true, false, ◌&&◌, List, [], ◌∷◌, ◌++◌, max, refl, sym, ap, arith, append-nil, append_assoc, IsTrue, nat_lt, nat_le, ◌==◌, slice_index, if◌then◌else◌, rules}, proofs.lemmas.Nat.{div-mul-add, le-div}}
 use Rattle.tally_base.{specs.declared.event.Event.Event, specs.Events.{is_photon, is_in}, specs.Settings.TraceView, specs.Tally.History}
 use Rattle.count_trace.specs.TraceCounts.{count_before}
 use Rattle.long_trace.{specs.Texts.{frequency_limit, is_binned, bin_at, bin_line, closed_lines}, specs.Bins.{BinState, CountsOn}, proofs.Steps.{of_group, times-group, none-follows, none-closes, same-follows, same-closes, next-follows, next-closes}}
 
 binned : (p g l : Bool) → (p && (g && l)) ≡ ((p && g) && l)
-binned true g l = refl
-binned false g l = refl
+binned p g l = search (rules, arith)
 
 pub binned-not : (set : TraceView) (x : Event × ℕ) → of_group set x ≡ false → is_binned set x ≡ false
 binned-not set x none = binned (is_photon x.0) (is_in x.1 set.group) (nat_le set.origin x.0.time) ∙ ap (λ b. b && nat_le set.origin x.0.time) none
 
 pub binned-early : (set : TraceView) (x : Event × ℕ) → x.0.time < set.origin → is_binned set x ≡ false
-binned-early set x early =
-    let no : nat_le set.origin x.0.time ≡ false = grind (arith, nat_tests, early) in
-    binned (is_photon x.0) (is_in x.1 set.group) (nat_le set.origin x.0.time) ∙ ap (λ l. of_group set x && l) no ∙ none (of_group set x)
-  where
-    none : (b : Bool) → (b && false) ≡ false
-    none true = refl
-    none false = refl
+binned-early set x early = search (rules, arith, binned, of_group)
 
 pub binned-is : (set : TraceView) (x : Event × ℕ) → of_group set x ≡ true → set.origin ≤ x.0.time → is_binned set x ≡ true
-binned-is set x is le =
-    let yes : nat_le set.origin x.0.time ≡ true = grind (arith, nat_tests, le) in
-    binned (is_photon x.0) (is_in x.1 set.group) (nat_le set.origin x.0.time) ∙ ap (λ b. b && nat_le set.origin x.0.time) is ∙ yes
+binned-is set x is le = search (rules, arith, binned)
 
 pub CountsOn-none : (set : TraceView) (state : BinState) (x : Event × ℕ) (lines : List ℕ) → is_binned set x ≡ false → CountsOn set state state (x ∷ []) lines lines
 CountsOn-none set state x lines e = record {
@@ -68,14 +58,6 @@ CountsOn-next set state x lines lines' next frequencies many e at later raised r
   closed = λ h is. next-closes set state h x next e at later is (record { bin = next; count = 1; frequencies = frequencies; many = many }) refl (next-follows set state h x next e at later is frequencies many raised raised_many);
 }
 
-pub CountsOn-nil : (set : TraceView) (state : BinState) (lines : List ℕ) → CountsOn set state state [] lines lines
-CountsOn-nil set state lines = record {
-  text = [];
-  put = sym (append-nil lines);
-  counted = λ h is. rw (append-nil h) is;
-  closed = λ h is. rw (append-nil h) (sym (append-nil (closed_lines set h)));
-}
-
 pub CountsOn-trans : (set : TraceView) (a b c : BinState) (m n : History) (lines lines' lines'' : List ℕ) → CountsOn set a b m lines lines' → CountsOn set b c n lines' lines'' → CountsOn set a c (m ++ n) lines lines''
 CountsOn-trans set a b c m n lines lines' lines'' p q = record {
   text = p.text ++ q.text;
@@ -102,25 +84,18 @@ before-push set h x more is = times-group set (λ time. nat_lt time set.origin) 
 
 -- a time past the end of a bin is in a later one
 pub later_bin : (origin index width low time : ℕ) → 0 < width → low ≡ origin + index * width → low + width ≤ time → index < (time - origin) / width
-later_bin origin index width low time some edge later =
-    let more : (index + 1) * width ≤ time - origin = omega (arith, edge, later) in
-    omega (arith, le-div (index + 1) (time - origin) width some more)
+later_bin origin index width low time some edge later = search (rules, arith, le-div)
 
 -- a time in a bin has its number
 pub same_bin : (origin index width low time : ℕ) → low ≡ origin + index * width → low ≤ time → time - low < width → (time - origin) / width ≡ index
-same_bin origin index width low time edge begun inside =
-    let is : time - origin ≡ index * width + (time - low) = omega (arith, edge, begun) in
-    ap (λ n. n / width) is ∙ div-mul-add index width (time - low) inside
+same_bin origin index width low time edge begun inside = search (rules, arith, div-mul-add)
 
 -- none of the group
 pub none-group : (b : Bool) (more : ℕ) → more ≡ (if b then 1 else 0) → more ≡ 0 → b ≡ false
-none-group true more is none = absurd (omega (arith, is, none))
-none-group false more is none = refl
+none-group b more is none = search (rules, arith)
 
 pub some-photon : (g p : Bool) (more : ℕ) → more ≡ (if g && p then 1 else 0) → 0 < more → p ≡ true
-some-photon true true more is some = refl
-some-photon true false more is some = absurd (omega (arith, is, some))
-some-photon false p more is some = absurd (omega (arith, is, some))
+some-photon g p more is some = search (rules, arith)
 
 pub other-way : (g p p' : Bool) → p' ≡ p → ◌≡◌ {A = ℕ} (if g && p then 1 else 0) (if p' && g then 1 else 0)
 other-way true true p' same = rw same refl
@@ -131,7 +106,4 @@ other-way false false p' same = rw same refl
 -- where the newest bin begins, behind one event more
 pub low-next : (g p : Bool) (more low low' floor time origin : ℕ) → more ≡ (if g && p then 1 else 0) → (IsTrue p → floor ≤ time) → low ≤ max floor origin → (0 < more → low' ≤ max time origin) → (more ≡ 0 → low' ≡ low)
     → low' ≤ max (if p then time else floor) origin
-low-next true true more low low' floor time origin is order below new same = let h : low' ≤ max time origin = new (omega (arith, is)) in h
-low-next true false more low low' floor time origin is order below new same = let h : low' ≡ low = same is in omega (arith, h, below)
-low-next false true more low low' floor time origin is order below new same = let h : low' ≡ low = same is in let later : floor ≤ time = order refl in omega (arith, h, below, later)
-low-next false false more low low' floor time origin is order below new same = let h : low' ≡ low = same is in omega (arith, h, below)
+low-next g p more low low' floor time origin is order below new same = search (rules, arith)

@@ -1,10 +1,9 @@
 -- What is behind the lines of the bins that are closed.
-use Rattle.std.proofs.Common.{◌≡◌, ◌∙◌, ℕ, ◌+◌, ◌-◌, ◌<◌, Bool, true, false, ◌&&◌, inl, inr, cond, List, ◌++◌, refl, sym, ap, subst, arith, append-nil, append_assoc, nat_lt, ◌==◌, count_by, if◌then◌else◌}
-use Rattle.std.{proofs.lemmas.Bool.cases_eq, proofs.lemmas.Bool.Decides.nat_tests, specs.declared.option.Option.Option}
+use Rattle.std.{proofs.Common.{◌≡◌, ◌∙◌, ℕ, ◌+◌, ◌-◌, ◌<◌, Bool, true, false, ◌&&◌, cond, List, ◌++◌, refl, sym, ap, subst, arith, append-nil, append_assoc, nat_lt, ◌==◌, count_by, if◌then◌else◌, rules}, proofs.lemmas.Bool.cases_eq, proofs.lemmas.Bool.Decides.nat_tests, specs.declared.option.Option.Option}
 use Rattle.bench_io.{specs.Sinks.{AppendsShort, PassesOn}, proofs.Bytes.{PassesOn-trans, AppendsShort-passed, AppendsShort-more, AppendsShort-same}}
 use Rattle.tally_base.{specs.Settings.TraceView, specs.Tally.History}
 use Rattle.count_trace.specs.TraceCounts.{in_trace_bin, count_before}
-use Rattle.long_trace.{specs.Texts.{frequency_limit, span, bin_line, bin_lines, closed_lines, counts, frequency, frequency_line, frequency_lines, frequencies_text, summary_text, first_line, open_text, whole_text}, specs.Bins.{BinState, CountsBins}, proofs.Firsts.{lines-more, lines-front, count-more}, proofs.Steps.closed-is}
+use Rattle.long_trace.{specs.Texts.{frequency_limit, span, bin_line, bin_lines, closed_lines, counts, frequency, frequency_line, frequency_lines, frequencies_text, summary_text, open_text, whole_text}, specs.Bins.{BinState, CountsBins}, proofs.Firsts.{lines-more, lines-front, count-more}, proofs.Steps.closed-is}
 
 none_more : (n : ℕ) → n + 0 ≡ n
 none_more n = omega arith
@@ -25,11 +24,7 @@ module _ (set : TraceView) (state : BinState) (h : History) (is : CountsBins set
 
   -- all lines are those that are closed, and that of the last bin
   lines-none : state.count ≡ 0 → bin_lines set (span set h) h ≡ closed_lines set h ++ bin_line state.bin state.count
-  lines-none none =
-      ap (λ n. bin_lines set n h) (span-none none ∙ sym (is.none_yet none))
-      ∙ sym (closed-is set state h is)
-      ∙ sym (append-nil (closed_lines set h))
-      ∙ ap (λ n. closed_lines set h ++ bin_line state.bin n) (sym none)
+  lines-none none = search (rules, arith, span-none, closed-is, append-nil)
 
   lines-some : 0 < state.count → bin_lines set (span set h) h ≡ closed_lines set h ++ bin_line state.bin state.count
   lines-some some =
@@ -43,21 +38,12 @@ module _ (set : TraceView) (state : BinState) (h : History) (is : CountsBins set
   counted-none p none = ap (λ n. count_by p (counts set n h)) (span-none none ∙ sym (is.none_yet none))
 
   pub counted-some : (p : ℕ → Bool) → 0 < state.count → count_by p (counts set (span set h) h) ≡ count_by p (counts set state.bin h) + cond (p state.count) 1 0
-  counted-some p some =
-      ap (λ n. count_by p (counts set n h)) (span-some some)
-      ∙ count-more p (λ b. in_trace_bin set b h) state.bin (state.bin + 1) refl
-      ∙ ap (λ n. count_by p (counts set state.bin h) + cond (p n) 1 0) (sym is.counted)
+  counted-some p some = search (rules, arith, span-some, count-more)
 
   -- the whole text is what was printed, the line of the last bin and the summary
   whole-is : bin_lines set (span set h) h ≡ closed_lines set h ++ bin_line state.bin state.count
       → whole_text set h ≡ open_text set h ++ (bin_line state.bin state.count ++ summary_text (counts set (span set h) h) (count_before set h))
-  whole-is lines =
-      let first = first_line set in
-      let last = bin_line state.bin state.count in
-      let end = summary_text (counts set (span set h) h) (count_before set h) in
-      ap (λ l. first ++ l ++ end) lines
-      ∙ ap (λ l. l ++ end) (sym (append_assoc first (closed_lines set h) last))
-      ∙ append_assoc (first ++ closed_lines set h) last end
+  whole-is lines = search (rules, arith, append_assoc)
 
   pub whole-none : state.count ≡ 0 → whole_text set h ≡ open_text set h ++ (bin_line state.bin state.count ++ summary_text (counts set (span set h) h) (count_before set h))
   whole-none none = whole-is (lines-none none)
@@ -68,22 +54,10 @@ module _ (set : TraceView) (state : BinState) (h : History) (is : CountsBins set
 module _ (set : TraceView) (state : BinState) (h : History) (is : CountsBins set state h) where
   -- With the newest bin, if it isn't empty, they are the counts of all bins.
   pub all-counted : (p : ℕ → Bool) (n m : ℕ) → n ≡ count_by p (counts set state.bin h) → m ≡ n + (if nat_lt 0 state.count && p state.count then 1 else 0) → m ≡ count_by p (counts set (span set h) h)
-  all-counted p n m before is_sum = elim (cases_eq state.count 0) [
-    | inl none ↦
-        let no : nat_lt 0 state.count ≡ false = grind (arith, nat_tests, none) in
-        let same : m ≡ n = is_sum ∙ ap (λ (b : Bool). n + (if b && p state.count then 1 else 0)) no ∙ none_more n in
-        same ∙ before ∙ sym (counted-none set state h is p none)
-    | inr other ↦
-        let some : 0 < state.count = omega (arith, other) in
-        let yes : nat_lt 0 state.count ≡ true = grind (arith, nat_tests, some) in
-        is_sum ∙ ap (λ (b : Bool). n + (if b && p state.count then 1 else 0)) yes ∙ ap (λ k. k + (if p state.count then 1 else 0)) before ∙ sym (counted-some set state h is p some)
-  ]
+  all-counted p n m before is_sum = search (rules, arith, cases_eq, none_more, counted-none, counted-some)
 
   pub whole-any : whole_text set h ≡ open_text set h ++ (bin_line state.bin state.count ++ summary_text (counts set (span set h) h) (count_before set h))
-  whole-any = elim (cases_eq state.count 0) [
-    | inl none ↦ whole-none set state h is none
-    | inr other ↦ whole-some set state h is (omega (arith, other))
-  ]
+  whole-any = search (rules, arith, cases_eq, whole-none, whole-some)
 
 -- ## The lines of the frequencies
 

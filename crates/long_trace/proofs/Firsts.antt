@@ -1,6 +1,5 @@
 -- What is made of the first numbers, one by one.
-use Rattle.std.proofs.Common.{◌≡◌, ◌∙◌, ℕ, zero, suc, ◌+◌, ◌<◌, Bool, true, false, cond, List, [], ◌∷◌, ◌++◌, map, refl, sym, ap, arith, append-nil, append_assoc, count_by}
-use Rattle.std.{specs.List.{range_with_len, flat_map}, proofs.lemmas.List.flat_map_more, proofs.lemmas.List.FromFn.map-range_with_len_more, proofs.lemmas.List.Sums.sum_by_push}
+use Rattle.std.{proofs.Common.{◌≡◌, ◌∙◌, ℕ, zero, suc, ◌+◌, ◌<◌, Bool, true, false, cond, List, [], ◌∷◌, ◌++◌, map, refl, sym, ap, arith, append-nil, append_assoc, count_by, rules}, specs.List.{range_with_len, flat_map}, proofs.lemmas.List.flat_map_more, proofs.lemmas.List.FromFn.map-range_with_len_more, proofs.lemmas.List.Sums.sum_by_push}
 
 pub first-more : {A : Type 0} (f : ℕ → A) (n m : ℕ) → m ≡ n + 1 → map f (range_with_len 0 m) ≡ map f (range_with_len 0 n) ++ f n ∷ []
 first-more f n m e = rw e (map-range_with_len_more f 0 n n (omega arith))
@@ -25,8 +24,7 @@ lines-more f n m e =
     ∙ ap (λ l. l ++ f n) (sym (flat-of-map f (range_with_len 0 n)))
 
 pub lines-same : {A : Type 0} (f g : ℕ → List A) (n : ℕ) → ((b : ℕ) → b < n → f b ≡ g b) → flat_map f (range_with_len 0 n) ≡ flat_map g (range_with_len 0 n)
-lines-same f g n same =
-    flat-of-map f (range_with_len 0 n) ∙ ap (λ l. flat_map (λ k. k) l) (first-same f g n same) ∙ sym (flat-of-map g (range_with_len 0 n))
+lines-same f g n same = search (rules, arith, flat-of-map, first-same)
 
 -- the lines of more begin with those of fewer
 pub lines-front : {A : Type 0} (f : ℕ → List A) (n k m : ℕ) → m ≡ k + n → (rest : List A) × (flat_map f (range_with_len 0 m) ≡ flat_map f (range_with_len 0 n) ++ rest)
@@ -40,8 +38,7 @@ pub count-more : (p : ℕ → Bool) (f : ℕ → ℕ) (n m : ℕ) → m ≡ n + 
 count-more p f n m e = ap (count_by p) (first-more f n m e) ∙ sum_by_push (λ x. cond (p x) 1 0) (map f (range_with_len 0 n)) (f n)
 
 one_more : (b : Bool) (k : ℕ) → cond b k 0 + cond b 1 0 ≡ cond b (suc k) 0
-one_more true k = omega arith
-one_more false k = omega arith
+one_more b k = search (rules, arith)
 
 nought : (b : Bool) → ◌≡◌ {A = ℕ} (cond b 0 0) 0
 nought true = refl

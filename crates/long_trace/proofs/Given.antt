@@ -1,16 +1,11 @@
 -- A trace that is given events, and then more.
-use Rattle.std.proofs.Common.{◌≡◌, ◌∙◌, ◌+◌, ◌≤◌, Bool, true, false, List, [], ◌∷◌, ◌++◌, ℕ, max, length, refl, sym, ap, arith, append-nil, append_assoc, length-append, IsTrue, nat_lt, if◌then◌else◌}
+use Rattle.std.proofs.Common.{◌≡◌, ◌∙◌, ◌+◌, ◌≤◌, Bool, false, List, [], ◌∷◌, ◌++◌, ℕ, max, length, sym, ap, arith, append-nil, append_assoc, length-append, IsTrue, nat_lt, if◌then◌else◌, rules}
 use Rattle.tally_base.{specs.declared.event.Event.Event, specs.Events.is_photon, specs.Tally.{History, greatest_time}, specs.Settings.trace_view, proofs.Greatest.greatest-push}
 use Rattle.count_trace.{specs.TraceCounts.count_before, proofs.Blocks.count-append}
 use Rattle.long_trace.{specs.declared.trace.LongTrace.LongTrace, specs.LongTrace.{GivenMore, set_of, is_going}, specs.Texts.{first_line, closed_lines, open_text}, specs.Bins.CountsOn, specs.States.state_of}
 
 pub GivenMore-nil : (t : LongTrace) → GivenMore t t [] []
-GivenMore-nil t = record {
-  same_set = refl;
-  same_going = refl;
-  follows = λ h is. rw (append-nil h) is;
-  closed = λ h is. rw (append-nil h) (sym (append-nil (open_text (trace_view (set_of t)) h)));
-}
+GivenMore-nil t = search (rules, arith, append-nil)
 
 pub GivenMore-trans : (a b c : LongTrace) (m n : History) (lines lines' : List ℕ) → GivenMore a b m lines → GivenMore b c n lines' → GivenMore a c (m ++ n) (lines ++ lines')
 GivenMore-trans a b c m n lines lines' p q = record {
@@ -46,13 +41,8 @@ GivenMore-counts old new more lines lines' same going on none before taken floor
     }
 
 later : (b : Bool) (floor time : ℕ) → (IsTrue b → floor ≤ time) → (if b then time else floor) ≡ (if b then max floor time else floor)
-later true floor time order = let h : floor ≤ time = order refl in omega (arith, h)
-later false floor time order = refl
+later b floor time order = search (rules, arith)
 
 -- the greatest time of one event more
 pub floor-one : (h : History) (e : Event) (groups floor now : ℕ) → (IsTrue (is_photon e) → floor ≤ e.time) → now ≡ (if is_photon e then e.time else floor) → floor ≡ greatest_time false h → now ≡ greatest_time false (h ++ (e, groups) ∷ [])
-floor-one h e groups floor now order moved is =
-    moved
-    ∙ later (is_photon e) floor e.time order
-    ∙ ap (λ t. if is_photon e then max t e.time else t) is
-    ∙ sym (greatest-push false h (e, groups))
+floor-one h e groups floor now order moved is = search (rules, arith, later, greatest-push)

@@ -1,9 +1,7 @@
 pub mod Firsts
 pub mod Steps
-pub mod Spans
 pub mod BinSteps
 pub mod Ends
 pub mod Given
 pub mod Rising
 pub mod Rows
-pub mod Totals

@@ -1,6 +1,5 @@
 -- The lines of bins that are closed stay, where the times of photons don't fall.
-use Rattle.std.proofs.Common.{◌≡◌, ◌∙◌, ℕ, ◌+◌, ◌-◌, ◌*◌, ◌<◌, ◌≤◌, Bool, true, false, ◌&&◌, List, [], ◌∷◌, ◌++◌, max, refl, sym, ap, arith, append-nil, append_assoc, IsTrue, nat_le, if◌then◌else◌}
-use Rattle.std.{proofs.lemmas.Nat.le-div, proofs.Math.Nat.div-mul-le_self}
+use Rattle.std.{proofs.Common.{◌≡◌, ◌∙◌, ℕ, ◌+◌, ◌-◌, ◌<◌, ◌≤◌, Bool, true, false, ◌&&◌, List, [], ◌∷◌, ◌++◌, max, refl, sym, ap, arith, append-nil, append_assoc, IsTrue, nat_le, if◌then◌else◌, rules}, proofs.lemmas.Nat.le-div, proofs.Math.Nat.div-mul-le_self}
 use Rattle.tally_base.{specs.declared.event.Event.Event, specs.Events.{is_photon, is_in}, specs.Settings.TraceView, specs.Tally.History}
 use Rattle.count_trace.specs.TraceCounts.{in_trace_bin, count_before}
 use Rattle.long_trace.{specs.Texts.{is_binned, bin_at, span, bin_line, bin_lines, closed_lines, counts, summary_text, first_line, open_text, whole_text}, proofs.Firsts.{lines-front, lines-same}, proofs.Steps.{bin-none, bin-other, span-push}}
@@ -21,9 +20,7 @@ rises-parts floor (x ∷ a) b up = let rest = rises-parts (if is_photon x.0 then
 
 -- A later time is in no earlier bin.
 pub bin-later : (set : TraceView) (a b : ℕ) → 0 < set.width → a ≤ b → bin_at set a ≤ bin_at set b
-bin-later set a b some le =
-    let part : bin_at set a * set.width ≤ a - set.origin = div-mul-le_self (a - set.origin) set.width in
-    le-div (bin_at set a) (b - set.origin) set.width some (omega (arith, part, le))
+bin-later set a b some le = search (rules, arith, div-mul-le_self, le-div)
 
 still : (set : TraceView) (n : ℕ) (h h' : History) → ((b : ℕ) → b < n → in_trace_bin set b h' ≡ in_trace_bin set b h) → bin_lines set n h' ≡ bin_lines set n h
 still set n h h' same = lines-same (λ b. bin_line b (in_trace_bin set b h')) (λ b. bin_line b (in_trace_bin set b h)) n (λ b lt. ap (bin_line b) (same b lt))
@@ -35,8 +32,7 @@ pub record Goes (set : TraceView) (h h' : History) (time : ℕ) : Type 0 where
   pub keeps : closed_lines set h' ≡ closed_lines set h ++ tail
 
 photon-of : (p g l : Bool) → (p && (g && l)) ≡ true → p ≡ true
-photon-of true g l e = refl
-photon-of false g l e = cc
+photon-of p g l e = search (rules, arith)
 
 top : (a b : ℕ) → a ≤ b → max a b ≡ b
 top a b le = omega (arith, le)
@@ -70,8 +66,7 @@ one-unbinned set h x time e below =
     }
 
 floor-up : (set : TraceView) (p : Bool) (floor time : ℕ) → 0 < set.width → (IsTrue p → floor ≤ time) → bin_at set floor ≤ bin_at set (if p then time else floor)
-floor-up set true floor time some up = bin-later set floor time some (up refl)
-floor-up set false floor time some up = omega arith
+floor-up set p floor time some up = search (rules, arith, bin-later)
 
 one-goes : (set : TraceView) (h : History) (x : Event × ℕ) (floor : ℕ) → 0 < set.width → (IsTrue (is_photon x.0) → floor ≤ x.0.time) → span set h ≤ bin_at set floor + 1 → Goes set h (h ++ x ∷ []) (if is_photon x.0 then x.0.time else floor)
 one-goes set h x floor some up below = by (is_binned set x) refl

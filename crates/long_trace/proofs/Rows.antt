@@ -1,6 +1,5 @@
 -- Known traces.
-use Rattle.std.proofs.Common.{◌≡◌, ℕ, [], ◌∷◌, refl, codes}
-use Rattle.std.specs.Fmt.{digits}
+use Rattle.std.{proofs.Common.{◌≡◌, ℕ, [], ◌∷◌, refl, codes}, specs.Fmt.digits}
 use Rattle.tally_base.{specs.declared.event.Event.Event, specs.declared.event.EventKind.TheVariants.{Photon, Marker}, specs.Settings.TraceView, specs.Tally.History}
 use Rattle.long_trace.specs.Texts.{span, frequencies_text, open_text, whole_text}
 

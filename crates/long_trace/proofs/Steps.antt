@@ -1,6 +1,5 @@
 -- One event more.
-use Rattle.std.proofs.Common.{◌≡◌, ◌∙◌, ℕ, ◌+◌, ◌-◌, ◌/◌, ◌<◌, Bool, true, false, ◌&&◌, cond, List, [], ◌∷◌, ◌++◌, max, refl, sym, ap, arith, append-nil, nat_le, ◌==◌, slice_index, count_by, if◌then◌else◌}
-use Rattle.std.{proofs.lemmas.Bool.Decides.nat_tests, proofs.lemmas.List.Sums.{sum_by_push, fold_push}}
+use Rattle.std.{proofs.Common.{◌≡◌, ◌∙◌, ℕ, ◌+◌, ◌-◌, ◌/◌, ◌<◌, Bool, true, false, ◌&&◌, cond, List, [], ◌∷◌, ◌++◌, max, sym, ap, arith, append-nil, nat_le, ◌==◌, slice_index, count_by, if◌then◌else◌, rules}, proofs.lemmas.Bool.Decides.nat_tests, proofs.lemmas.List.Sums.{sum_by_push, fold_push}}
 use Rattle.tally_base.{specs.declared.event.Event.Event, specs.Events.{is_photon, is_in}, specs.Settings.TraceView, specs.Tally.History}
 use Rattle.count_trace.specs.TraceCounts.{count_times, in_trace_bin}
 use Rattle.long_trace.{specs.Texts.{frequency_limit, is_binned, bin_at, span, bin_line, bin_lines, closed_lines, counts, frequency, above}, specs.Bins.{BinState, CountsBins}, proofs.Firsts.{first-same, lines-same, count-skip, lines-skip}}
@@ -13,17 +12,14 @@ pub times-push : (set : TraceView) (test : ℕ → Bool) (h : History) (x : Even
 times-push set test h x = sum_by_push (λ (x : Event × ℕ). cond (is_photon x.0 && (is_in x.1 set.group && test x.0.time)) 1 0) h x
 
 by_test : (p g t : Bool) → (p && (g && t)) ≡ ((p && g) && t)
-by_test true g t = refl
-by_test false g t = refl
+by_test p g t = search (rules, arith)
 
 -- by its group
 pub times-group : (set : TraceView) (test : ℕ → Bool) (h : History) (x : Event × ℕ) (b : Bool) → of_group set x ≡ b → count_times set test (h ++ x ∷ []) ≡ count_times set test h + cond (b && test x.0.time) 1 0
-times-group set test h x b is = times-push set test h x ∙ ap (λ t. count_times set test h + cond t 1 0) (by_test (is_photon x.0) (is_in x.1 set.group) (test x.0.time) ∙ ap (λ t. t && test x.0.time) is)
+times-group set test h x b is = search (rules, arith, times-push, by_test)
 
 parted : (p g l t : Bool) → (p && (g && (l && t))) ≡ ((p && (g && l)) && t)
-parted true true l t = refl
-parted true false l t = refl
-parted false g l t = refl
+parted p g l t = search (rules, arith)
 
 pub bin-push : (set : TraceView) (b : ℕ) (h : History) (x : Event × ℕ) (is : Bool) → is_binned set x ≡ is → in_trace_bin set b (h ++ x ∷ []) ≡ in_trace_bin set b h + cond (is && (bin_at set x.0.time == b)) 1 0
 bin-push set b h x is e =
@@ -46,9 +42,7 @@ pub bin-other : (set : TraceView) (b : ℕ) (h : History) (x : Event × ℕ) →
 bin-other set b h x e other = let more = bin-push set b h x true e ∙ ap (λ t. in_trace_bin set b h + cond t 1 0) (eq_not (bin_at set x.0.time) b other) in omega (arith, more)
 
 pub span-push : (set : TraceView) (h : History) (x : Event × ℕ) (is : Bool) → is_binned set x ≡ is → span set (h ++ x ∷ []) ≡ cond is (max (span set h) (bin_at set x.0.time + 1)) (span set h)
-span-push set h x is e =
-    fold_push (λ n (x : Event × ℕ). if is_binned set x then max n (bin_at set x.0.time + 1) else n) 0 h x
-    ∙ ap (λ t. cond t (max (span set h) (bin_at set x.0.time + 1)) (span set h)) e
+span-push set h x is e = search (rules, arith, fold_push)
 
 -- the bins before the newest are those before the last that isn't empty
 last_less : (count bin : ℕ) → (count ≡ 0 → bin ≡ 0) → (if count == 0 then 0 else bin + 1) - 1 ≡ bin

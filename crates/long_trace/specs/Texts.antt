@@ -1,6 +1,5 @@
 -- What a trace without end prints of the events that it is given.
-use Rattle.std.specs.Prelude.{ℕ, Bool, ◌+◌, ◌-◌, ◌/◌, ◌==◌, ◌&&◌, nat_le, max, List, [], ◌++◌, map, fold, count_by, codes, decimal, if◌then◌else◌}
-use Rattle.std.specs.List.{range_with_len, flat_map}
+use Rattle.std.{specs.Prelude.{ℕ, Bool, ◌+◌, ◌-◌, ◌/◌, ◌==◌, ◌&&◌, nat_le, max, List, [], ◌++◌, map, fold, count_by, codes, decimal, if◌then◌else◌}, specs.List.{range_with_len, flat_map}}
 use Rattle.tally_base.{specs.declared.event.Event.Event, specs.Events.{is_photon, is_in}, specs.Settings.TraceView, specs.Tally.History}
 use Rattle.count_trace.specs.TraceCounts.{in_trace_bin, count_before}
 

@@ -1,6 +1,5 @@
 -- How many bins of a trace without end there are by their counts.
-use Rattle.std.specs.Prelude.{ℕ, List, sum_by}
-use Rattle.std.specs.List.{range_with_len}
+use Rattle.std.{specs.Prelude.{ℕ, List, sum_by}, specs.List.range_with_len}
 use Rattle.long_trace.specs.Texts.{frequency_limit, frequency}
 
 -- how many of the counts have a number of their own

@@ -1,6 +1,5 @@
 -- What a call appends of a text of which a front was appended before.
-use Rattle.std.specs.Prelude.{ℕ, List, ◌≡◌, ◌++◌}
-use Rattle.std.{specs.declared.option.Option.Option, specs.Io.KnownBytes.Appends}
+use Rattle.std.{specs.Prelude.{ℕ, List, ◌≡◌, ◌++◌}, specs.declared.option.Option.Option, specs.Io.KnownBytes.Appends}
 use Rattle.bench_io.specs.Sinks.{AppendsShort}
 
 -- The rest of the text behind the front was appended.

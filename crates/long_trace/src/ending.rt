@@ -1,6 +1,5 @@
 // What a trace without end prints at the end.
-ghost use Rattle.std.specs.Prelude.{◌≡◌, ◌++◌, ℕ, List, OnOk, OnErr};
-ghost use Rattle.std.specs.Io.KnownBytes.{Appends};
+ghost use Rattle.std.{specs.Prelude.{◌≡◌, ◌++◌, ℕ, List, OnOk, OnErr}, specs.Io.KnownBytes.{Appends}};
 ghost use Rattle.bench_io.specs.Sinks.{AppendsShort, PassesOn};
 ghost use Rattle.tally_base.specs.FaultCounts.{FailsOnce};
 ghost use Rattle.long_trace.{specs.Texts.{bin_line, frequencies_text, above, before_line, above_line}, specs.States.{AreFrequencies, end_text}};

@@ -1,9 +1,7 @@
 // A trace without end.
-ghost use Rattle.std.specs.Prelude.{◌≡◌, ◌+◌, ◌*◌, ◌<◌, ◌≤◌, ◌&&◌, if◌then◌else◌, IfErr, OnOk, OnErr, max, slice_index, sum};
-ghost use Rattle.std.specs.Io.KnownBytes.{Appends};
+ghost use Rattle.std.{specs.Prelude.{◌≡◌, ◌+◌, ◌*◌, ◌<◌, ◌≤◌, ◌&&◌, if◌then◌else◌, IfErr, OnOk, OnErr, max, slice_index, sum}, specs.Io.KnownBytes.{Appends}};
 ghost use Rattle.bench_io.specs.Sinks.{AppendsShort};
-ghost use Rattle.tally_base.specs.FaultCounts.{FailsOnce};
-ghost use Rattle.tally_base.specs.Events.{is_photon, is_in};
+ghost use Rattle.tally_base.{specs.FaultCounts.{FailsOnce}, specs.Events.{is_photon, is_in}};
 
 use crate::closed::Closed;
 use crate::counting::{OpenBin, closed_with, count_at, count_block};

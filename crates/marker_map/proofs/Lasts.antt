@@ -1,22 +1,18 @@
 -- One more element, and what the last one that passes parts a list into.
-use Rattle.std.proofs.Common.{◌≡◌, ◌∙◌, Bool, true, false, ◌||◌, cond, List, [], ◌∷◌, ◌++◌, refl, ap, Option, None, Some, filter}
-use Rattle.std.{specs.List.{list_any, last_or}, proofs.lemmas.List.append-nil, proofs.lemmas.List.Elements.filter-append, proofs.lemmas.List.Folds.list_any-append}
+use Rattle.std.{proofs.Common.{◌≡◌, ◌∙◌, Bool, true, false, ◌||◌, cond, List, [], ◌∷◌, ◌++◌, refl, ap, Option, None, Some, filter, arith, rules}, specs.List.{list_any, last_or}, proofs.lemmas.List.append-nil, proofs.lemmas.List.Elements.filter-append, proofs.lemmas.List.Folds.list_any-append}
 use Rattle.marker_map.specs.Lasts.{last_that, until_last, behind_last, from_last}
 
 list_any-one : {X : Type 0} (p : X → Bool) (y : X) (b : Bool) → p y ≡ b → list_any p (y ∷ []) ≡ b
-list_any-one p y true is = ap (λ b. b || false) is
-list_any-one p y false is = ap (λ b. b || false) is
+list_any-one p y b is = search (rules, arith)
 
 pub list_any-push : {X : Type 0} (p : X → Bool) (xs : List X) (y : X) (b : Bool) → p y ≡ b → list_any p (xs ++ y ∷ []) ≡ (list_any p xs || b)
 list_any-push p xs y b is = list_any-append p xs (y ∷ []) ∙ ap (λ b. list_any p xs || b) (list_any-one p y b is)
 
 or-true : (b : Bool) → (b || true) ≡ true
-or-true true = refl
-or-true false = refl
+or-true b = search (rules, arith)
 
 or-false : (b : Bool) → (b || false) ≡ b
-or-false true = refl
-or-false false = refl
+or-false b = search (rules, arith)
 
 pub any-passing : {X : Type 0} (p : X → Bool) (xs : List X) (y : X) → p y ≡ true → list_any p (xs ++ y ∷ []) ≡ true
 any-passing p xs y is = list_any-push p xs y true is ∙ or-true (list_any p xs)
@@ -39,47 +35,30 @@ last-failing p xs y is = ap (last_or None) (filter-push p xs y false is ∙ appe
 
 pub until-passing : {X : Type 0} (p : X → Bool) (xs : List X) (y : X) → p y ≡ true → until_last p (xs ++ y ∷ []) ≡ xs ++ y ∷ []
 until-passing p [] y is = ap (λ b. cond (b || false) (y ∷ []) []) is
-until-passing p (x ∷ xs) y is =
-    let any : list_any p (x ∷ (xs ++ y ∷ [])) ≡ true = any-passing p (x ∷ xs) y is in
-    ap (λ b. cond b (x ∷ until_last p (xs ++ y ∷ [])) []) any ∙ ap (λ ys. x ∷ ys) (until-passing p xs y is)
+until-passing p (x ∷ xs) y is = cc (any-passing p (x ∷ xs) y is, until-passing p xs y is)
 
 pub until-failing : {X : Type 0} (p : X → Bool) (xs : List X) (y : X) → p y ≡ false → until_last p (xs ++ y ∷ []) ≡ until_last p xs
 until-failing p [] y is = ap (λ b. cond (b || false) (y ∷ []) []) is
-until-failing p (x ∷ xs) y is =
-    let any : list_any p (x ∷ (xs ++ y ∷ [])) ≡ list_any p (x ∷ xs) = any-failing p (x ∷ xs) y is in
-    ap (λ b. cond b (x ∷ until_last p (xs ++ y ∷ [])) []) any ∙ ap (λ ys. cond (list_any p (x ∷ xs)) (x ∷ ys) []) (until-failing p xs y is)
+until-failing p (x ∷ xs) y is = cc (any-failing p (x ∷ xs) y is, until-failing p xs y is)
 
 pub behind-passing : {X : Type 0} (p : X → Bool) (xs : List X) (y : X) → p y ≡ true → behind_last p (xs ++ y ∷ []) ≡ []
 behind-passing p [] y is = ap (λ b. cond (b || false) [] (y ∷ [])) is
-behind-passing p (x ∷ xs) y is =
-    let any : list_any p (x ∷ (xs ++ y ∷ [])) ≡ true = any-passing p (x ∷ xs) y is in
-    ap (λ b. cond b (behind_last p (xs ++ y ∷ [])) (x ∷ (xs ++ y ∷ []))) any ∙ behind-passing p xs y is
+behind-passing p (x ∷ xs) y is = cc (any-passing p (x ∷ xs) y is, behind-passing p xs y is)
 
 cons-cond : {X : Type 0} (b : Bool) (xs zs : List X) (y : X) → cond b (xs ++ y ∷ []) (zs ++ y ∷ []) ≡ cond b xs zs ++ y ∷ []
-cons-cond true xs zs y = refl
-cons-cond false xs zs y = refl
+cons-cond b xs zs y = search (rules, arith)
 
 pub behind-failing : {X : Type 0} (p : X → Bool) (xs : List X) (y : X) → p y ≡ false → behind_last p (xs ++ y ∷ []) ≡ behind_last p xs ++ y ∷ []
 behind-failing p [] y is = ap (λ b. cond (b || false) [] (y ∷ [])) is
-behind-failing p (x ∷ xs) y is =
-    let any : list_any p (x ∷ (xs ++ y ∷ [])) ≡ list_any p (x ∷ xs) = any-failing p (x ∷ xs) y is in
-    ap (λ b. cond b (behind_last p (xs ++ y ∷ [])) (x ∷ (xs ++ y ∷ []))) any
-    ∙ (ap (λ ys. cond (list_any p (x ∷ xs)) ys (x ∷ (xs ++ y ∷ []))) (behind-failing p xs y is)
-    ∙ cons-cond (list_any p (x ∷ xs)) (behind_last p xs) (x ∷ xs) y)
+behind-failing p (x ∷ xs) y is = cc (any-failing p (x ∷ xs) y is, behind-failing p xs y is, cons-cond (list_any p (x ∷ xs)) (behind_last p xs) (x ∷ xs) y)
 
 pub from-passing : {X : Type 0} (p : X → Bool) (xs : List X) (y : X) → p y ≡ true → from_last p (xs ++ y ∷ []) ≡ y ∷ []
 from-passing p [] y is = ap (λ b. cond b (y ∷ []) []) is
-from-passing p (x ∷ xs) y is = ap (λ b. cond b (from_last p (xs ++ y ∷ [])) (cond (p x) (x ∷ (xs ++ y ∷ [])) [])) (any-passing p xs y is) ∙ from-passing p xs y is
+from-passing p (x ∷ xs) y is = cc (any-passing p xs y is, from-passing p xs y is)
 
 from-cases : {X : Type 0} (any here : Bool) (front xs : List X) (x y : X) → cond any (cond any (front ++ y ∷ []) []) (cond here (x ∷ (xs ++ y ∷ [])) []) ≡ cond (here || any) (cond any front (cond here (x ∷ xs) []) ++ y ∷ []) []
-from-cases true true front xs x y = refl
-from-cases true false front xs x y = refl
-from-cases false true front xs x y = refl
-from-cases false false front xs x y = refl
+from-cases any here front xs x y = search (rules, arith)
 
 pub from-failing : {X : Type 0} (p : X → Bool) (xs : List X) (y : X) → p y ≡ false → from_last p (xs ++ y ∷ []) ≡ cond (list_any p xs) (from_last p xs ++ y ∷ []) []
 from-failing p [] y is = ap (λ b. cond b (y ∷ []) []) is
-from-failing p (x ∷ xs) y is =
-    ap (λ b. cond b (from_last p (xs ++ y ∷ [])) (cond (p x) (x ∷ (xs ++ y ∷ [])) [])) (any-failing p xs y is)
-    ∙ (ap (λ ys. cond (list_any p xs) ys (cond (p x) (x ∷ (xs ++ y ∷ [])) [])) (from-failing p xs y is)
-    ∙ from-cases (list_any p xs) (p x) (from_last p xs) xs x y)
+from-failing p (x ∷ xs) y is = cc (any-failing p xs y is, from-failing p xs y is, from-cases (list_any p xs) (p x) (from_last p xs) xs x y)

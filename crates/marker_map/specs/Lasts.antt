@@ -1,6 +1,5 @@
 -- A list, seen from its last element that passes a test.
-use Rattle.std.specs.Prelude.{Bool, List, [], ◌∷◌, Option, None, filter, if◌then◌else◌}
-use Rattle.std.specs.List.{list_any, last_or}
+use Rattle.std.{specs.Prelude.{Bool, List, [], ◌∷◌, Option, None, filter, if◌then◌else◌}, specs.List.{list_any, last_or}}
 
 -- the last element that passes
 abbrev pub last_that : {X : Type 0} → (X → Bool) → List X → Option X

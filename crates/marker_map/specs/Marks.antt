@@ -1,6 +1,5 @@
 -- The markers of a scan.
-use Rattle.std.specs.Prelude.{ℕ, ◌-◌, Bool, false, ◌==◌, max, List, Option, None, Some, fold}
-use Rattle.std.specs.Int.{bit_at}
+use Rattle.std.{specs.Prelude.{ℕ, ◌-◌, Bool, false, ◌==◌, max, List, Option, None, Some, fold}, specs.Int.{bit_at}}
 
 -- what a marker event says: its bits and its time
 pub record Mark : Type 0 where

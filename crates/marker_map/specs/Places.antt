@@ -1,6 +1,5 @@
 -- Where a photon is in an image, by all the markers before it.
-use Rattle.std.specs.Prelude.{ℕ, Bool, ◌-◌, ◌/◌, ◌%◌, ◌&&◌, ◌==◌, nat_lt, List, Option, None, Some, count_by, option_and_then, if◌then◌else◌}
-use Rattle.std.specs.List.{list_any}
+use Rattle.std.{specs.Prelude.{ℕ, Bool, ◌-◌, ◌/◌, ◌%◌, ◌&&◌, ◌==◌, nat_lt, List, Option, None, Some, count_by, option_and_then, if◌then◌else◌}, specs.List.{list_any}}
 use Rattle.tally_base.specs.Settings.{ImageView}
 use Rattle.marker_map.{specs.Lasts.{last_that, until_last, behind_last, from_last}, specs.Marks.{Mark, has_bit, has_named_bit}}
 

@@ -1,6 +1,5 @@
 -- The line and the rows that lines keep.
-use Rattle.std.specs.Prelude.{ℕ, ◌+◌, ◌%◌, ◌==◌, ◌&&◌, List, Option, None, Some, is_none, option_map, option_and_then, if◌then◌else◌}
-use Rattle.std.specs.List.{list_any}
+use Rattle.std.{specs.Prelude.{ℕ, ◌+◌, ◌%◌, ◌==◌, ◌&&◌, List, Option, None, Some, is_none, option_map, option_and_then, if◌then◌else◌}, specs.List.{list_any}}
 use Rattle.tally_base.specs.Settings.{ImageView}
 use Rattle.marker_map.{specs.Lasts.from_last, specs.Marks.Mark, specs.Places.{is_frame, line_of, lines_in, row_of}, specs.declared.lines.Line.Line}
 

@@ -1,6 +1,5 @@
 // The lines of a scan.
-ghost use Rattle.std.specs.Prelude.{◌≡◌, ◌+◌, ◌<◌, ◌≤◌, None, Some, option_map, if◌then◌else◌};
-ghost use Rattle.std.specs.Option.{ForSome};
+ghost use Rattle.std.{specs.Prelude.{◌≡◌, ◌+◌, ◌<◌, ◌≤◌, None, Some, option_map, if◌then◌else◌}, specs.Option.{ForSome}};
 ghost use Rattle.tally_base.{specs.Settings.image_view, specs.Limits.record_limit, specs.Divisors.divisor_of};
 ghost use Rattle.marker_map.{specs.Places.runs_back, specs.Rows.{line_at, row_after}};
 

@@ -1,6 +1,5 @@
 -- A block of events more for a picker.
-use Rattle.std.proofs.Common.{◌≡◌, ◌∙◌, ℕ, ◌+◌, ◌<◌, ◌≤◌, Bool, true, false, List, [], ◌∷◌, ◌++◌, Some, cond, ap, sym, subst, refl, arith, append_assoc, inl, inr, length, length-append, ⊎_elim, IsTrue, if◌then◌else◌}
-use Rattle.std.{specs.List.filter, proofs.lemmas.List.Elements.filter-append}
+use Rattle.std.{proofs.Common.{◌≡◌, ◌∙◌, ℕ, ◌+◌, ◌<◌, ◌≤◌, Bool, true, false, List, [], ◌∷◌, ◌++◌, Some, cond, ap, sym, subst, refl, arith, append_assoc, inl, inr, length, length-append, ⊎_elim, IsTrue, if◌then◌else◌, rules}, specs.List.filter, proofs.lemmas.List.Elements.filter-append}
 use Rattle.tally_base.{specs.declared.event.Event.Event, specs.declared.fault.Fault.Fault, specs.Events.is_photon, specs.FaultCounts.Rose, specs.Tally.moves_floor, specs.Floors.{floor_after, InOrder}}
 use Rattle.ptu_definitions.{specs.Kept.Marked, specs.Prefixes.each_after, specs.Settled.not_marked, proofs.DeliveredLaws.{not_marked-append, not_marked-false}, proofs.PrefixLemmas.each_after-append}
 use Rattle.abs_time.specs.Floors.{orders_markers}
@@ -11,12 +10,10 @@ use Rattle.photon_pick.{specs.Giving.{Pen, pen, Gave, Stopped}, specs.Late.too_l
 -- ## The order of those that are chosen
 
 rises : (b : Bool) (low floor time : ℕ) → (IsTrue b → floor ≤ time) → low ≤ floor → low ≤ (if b then time else floor)
-rises true low floor time order below = let h : floor ≤ time = order refl in omega (arith, below, h)
-rises false low floor time order below = below
+rises b low floor time order below = search (rules, arith)
 
 photon-moves : (strict : Bool) (e : Event) → is_photon e ≡ true → moves_floor strict e ≡ true
-photon-moves true e is = refl
-photon-moves false e is = is
+photon-moves strict e is = search (rules, arith)
 
 -- The photons that are chosen of events in order come in order, and none behind the greatest time.
 pub order-chosen : (p : Event → Bool) → ((e : Event) → p e ≡ true → is_photon e ≡ true) → (strict : Bool) (low floor : ℕ) (es : List Event) → low ≤ floor → InOrder strict floor es
@@ -85,16 +82,11 @@ module _ (s t : Stand) (l : Marked) (h : Took s t l) (of_mode : mode_of t.picker
   words-more behind ps = each_after-append (photon_words s.mode) behind (chosen_of s l) ps
 
   late-more : (ps : List Event) → too_late (mode_of t.picker) ps ≡ [] → too_late s.mode (chosen_of s l ++ ps) ≡ []
-  late-more ps none =
-      let here : too_late s.mode ps ≡ [] = subst (λ m. too_late m ps ≡ []) mode none in
-      filter-append (λ x. is_too_late s.mode x.time) (chosen_of s l) ps ∙ rw (h.in_time, here) refl
+  late-more ps none = search (rules, arith, mode, filter-append)
 
   puts-behind : (q : Pen) (ps : List Event) → ((behind : List Event) → HasPicked t.picker behind → PutsWords t.written q.written t.held q.held (each_after (photon_words (mode_of t.picker)) behind ps))
       → (behind : List Event) → HasPicked s.picker behind → PutsWords s.written q.written s.held q.held (each_after (photon_words s.mode) behind (chosen_of s l ++ ps))
-  puts-behind q ps puts behind stands =
-      subst (λ w. PutsWords s.written q.written s.held q.held w) (sym (words-more behind ps))
-      (puts-more s.written t.written q.written s.held t.held q.held (each_after (photon_words s.mode) behind (chosen_of s l)) (each_after (photon_words s.mode) (behind ++ chosen_of s l) ps) (h.text behind stands)
-      (subst (λ m. PutsWords t.written q.written t.held q.held (each_after (photon_words m) (behind ++ chosen_of s l) ps)) mode (puts (behind ++ chosen_of s l) (h.picked behind stands))))
+  puts-behind q ps puts behind stands = search (rules, arith, words-more, puts-more, mode)
 
   cuts-more : (q : Pen) (ps : List Event) → ((behind : List Event) → HasPicked t.picker behind → CutsWords t.written q.written t.held q.held (each_after (photon_words (mode_of t.picker)) behind ps))
       → (behind : List Event) → HasPicked s.picker behind → CutsWords s.written q.written s.held q.held (each_after (photon_words s.mode) behind (chosen_of s l ++ ps))

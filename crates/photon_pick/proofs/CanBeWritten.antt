@@ -1,11 +1,10 @@
 -- The photons of a group of a file can be written, up to the first that is too late.
-use Rattle.std.proofs.Common.{◌≡◌, ◌∙◌, ◌-◌, ℕ, ◌+◌, List, [], ◌∷◌, ◌++◌, Bool, true, false, Ok, Err, cond, length, take, drop, map, refl, sym, ap, subst, Result, ◌==◌}
-use Rattle.std.{specs.List.{All, AllByRecursion, filter}, proofs.lemmas.Bool.eqb-true, proofs.lemmas.List.take-append-drop, proofs.lemmas.List.Elements.{All-nil, All-cons, All-head, All-tail, All-append, All-filter, All-from_recursion, filter-append}, proofs.lemmas.List.Sorted.All-permutation}
-use Rattle.tally_base.{specs.declared.event.Event.Event, specs.declared.event.EventKind.TheVariants.Marker as MarkerEvent, specs.declared.event.Policy.Policy, specs.declared.fault.Fault.Fault, specs.declared.header.Mode.Mode, specs.declared.header.Mode.TheVariants.{T2, T3}, specs.declared.header.RecordType.RecordType, specs.Events.{is_photon, is_ordered}, specs.RecordTypes.mode_of}
-use Rattle.ptu_definitions.{specs.declared.records.Raw.Raw, specs.declared.records.Raw.TheVariants.{Photon, Marker, Wrap, Reserved}, specs.declared.records.Summary.Summary, specs.Fitting.{Fits, KindFits}, specs.Kept.kept, specs.Layouts.meaning_of, specs.Prefixes.each_after, specs.Settled.{is_overtaken, unless_overtaken, not_overtaken, in_time, ordered, kept_by, Rises}, specs.Streams.{Reading, reading, unrefused_after, given, streamed}, specs.Times.{event_of, event_after, events}, specs.Words.words_of, proofs.DeliveredLaws.{in_time-kept, delivered-settled}, proofs.FittingLemmas.meaning-fits, proofs.SettledLaws.{in_time-permutation, Rises-put_all}, proofs.SettledLemmas.{Rises-lower, IsNonDecreasingBy-Rises}}
+use Rattle.std.{proofs.Common.{◌≡◌, ◌∙◌, ℕ, ◌+◌, List, [], ◌∷◌, ◌++◌, Bool, true, false, cond, length, take, drop, map, refl, sym, ap, subst, Result, ◌==◌, arith, rules}, specs.List.{All, AllByRecursion, filter}, proofs.lemmas.Bool.eqb-true, proofs.lemmas.List.take-append-drop, proofs.lemmas.List.Elements.{All-nil, All-head, All-tail, All-append, All-filter, All-from_recursion, filter-append}, proofs.lemmas.List.Sorted.All-permutation}
+use Rattle.tally_base.{specs.declared.event.Event.Event, specs.declared.event.EventKind.TheVariants.Marker as MarkerEvent, specs.declared.event.Policy.Policy, specs.declared.fault.Fault.Fault, specs.declared.header.Mode.Mode, specs.declared.header.RecordType.RecordType, specs.Events.{is_photon, is_ordered}, specs.RecordTypes.mode_of}
+use Rattle.ptu_definitions.{specs.declared.records.Raw.Raw, specs.declared.records.Summary.Summary, specs.Fitting.{Fits, KindFits}, specs.Kept.kept, specs.Layouts.meaning_of, specs.Prefixes.each_after, specs.Settled.{is_overtaken, unless_overtaken, not_overtaken, in_time, ordered, kept_by, Rises}, specs.Streams.{Reading, reading, given, streamed}, specs.Times.{event_of, event_after, events}, specs.Words.words_of, proofs.DeliveredLaws.{in_time-kept, delivered-settled}, proofs.FittingLemmas.meaning-fits, proofs.SettledLaws.{in_time-permutation, Rises-put_all}, proofs.SettledLemmas.{Rises-lower, IsNonDecreasingBy-Rises}}
 use Rattle.gate_plan.specs.Shifting.{Sorting}
 use Rattle.record_write.specs.Picked.{is_too_late, IsPhotonOf, CanBePicked}
-use Rattle.photon_pick.{specs.Chosen.is_chosen, specs.Late.{too_late, writable}, specs.Texts.photons_in, specs.Ends.{photons_kept, photons_by, photons_of}, proofs.Parts.writable-all, proofs.Wanted.{first-of, ordered-photon}}
+use Rattle.photon_pick.{specs.Chosen.is_chosen, specs.Late.{too_late, writable}, specs.Texts.photons_in, specs.Ends.{photons_kept, photons_by, photons_of}, proofs.Parts.writable-all, proofs.Wanted.{first-of}}
 
 -- ## Events fit the mode of their records
 
@@ -13,14 +12,10 @@ abbrev FitAll : Mode → List Event → Type 0
 FitAll mode es = All (λ (e : Event). KindFits mode e.kind) es
 
 marker-fits : (mode : Mode) (bits : ℕ) → KindFits mode (MarkerEvent bits)
-marker-fits T2 bits = tt
-marker-fits T3 bits = tt
+marker-fits mode bits = search (rules, arith)
 
 event-fits : (mode : Mode) (place base : ℕ) (raw : Raw) → Fits mode raw → FitAll mode (event_of place base raw)
-event-fits mode place base (Photon input time dtime) fits = All-cons (λ (e : Event). KindFits mode e.kind) _ [] fits.1 (All-nil (λ (e : Event). KindFits mode e.kind))
-event-fits mode place base (Marker bits time) fits = All-cons (λ (e : Event). KindFits mode e.kind) _ [] (marker-fits mode bits) (All-nil (λ (e : Event). KindFits mode e.kind))
-event-fits mode place base (Wrap ticks) fits = All-nil (λ (e : Event). KindFits mode e.kind)
-event-fits mode place base Reserved fits = All-nil (λ (e : Event). KindFits mode e.kind)
+event-fits mode place base raw fits = search (rules, arith, mode, marker-fits)
 
 events-fit_after : (mode : Mode) (meaning : ℕ → Raw) → ((word : ℕ) → Fits mode (meaning word)) → (before : List Raw) (words : List ℕ) → FitAll mode (each_after event_after before (map meaning words))
 events-fit_after mode meaning fits before [] = All-nil (λ (e : Event). KindFits mode e.kind)
@@ -35,8 +30,7 @@ events-fit mode meaning fits words = events-fit_after mode meaning fits [] words
 
 -- those that aren't late are among them
 unless-one : (P : Event → Type 0) (late : Bool) (e : Event) (rest : List Event) → P e → All P rest → All P (cond late [] (e ∷ []) ++ rest)
-unless-one P true e rest p all = all
-unless-one P false e rest p all = All-cons P e rest p all
+unless-one P late e rest p all = search (rules, arith)
 
 not_overtaken-all : (P : Event → Type 0) (k : ℕ) (before es : List Event) → All P es → All P (each_after (unless_overtaken k) before es)
 not_overtaken-all P k before [] all = All-nil P
@@ -69,27 +63,15 @@ front-follows mode ps qs can = record { fits = front-all (IsPhotonOf mode) ps qs
 -- those before the first that is too late
 writable-fits : (P : Event → Type 0) (mode : Mode) (ps : List Event) → AllByRecursion P ps → AllByRecursion P (writable mode ps)
 writable-fits P mode [] all = tt
-writable-fits P mode (p ∷ ps) all = by (is_too_late mode p.time) (writable-fits P mode ps all.1)
-  where
-    by : (late : Bool) → AllByRecursion P (writable mode ps) → AllByRecursion P (cond late [] (p ∷ writable mode ps))
-    by true rest = tt
-    by false rest = (all.0, rest)
+writable-fits P mode (p ∷ ps) all = search (rules, arith, mode, writable-fits P mode ps all.1)
 
 writable-rises : (t : ℕ) (mode : Mode) (ps : List Event) → Rises t ps → Rises t (writable mode ps)
 writable-rises t mode [] up = tt
-writable-rises t mode (p ∷ ps) up = by (is_too_late mode p.time) (writable-rises p.time mode ps up.1)
-  where
-    by : (late : Bool) → Rises p.time (writable mode ps) → Rises t (cond late [] (p ∷ writable mode ps))
-    by true rest = tt
-    by false rest = (up.0, rest)
+writable-rises t mode (p ∷ ps) up = search (rules, arith, mode, writable-rises p.time mode ps up.1)
 
 writable-soon : (mode : Mode) (ps : List Event) → AllByRecursion (λ e. is_too_late mode e.time ≡ false) (writable mode ps)
 writable-soon mode [] = tt
-writable-soon mode (p ∷ ps) = by (is_too_late mode p.time) refl (writable-soon mode ps)
-  where
-    by : (late : Bool) → is_too_late mode p.time ≡ late → AllByRecursion (λ e. is_too_late mode e.time ≡ false) (writable mode ps) → AllByRecursion (λ e. is_too_late mode e.time ≡ false) (cond late [] (p ∷ writable mode ps))
-    by true is rest = tt
-    by false is rest = (is, rest)
+writable-soon mode (p ∷ ps) = search (rules, arith, mode, writable-soon mode ps)
 
 writable-can : (mode : Mode) (ps : List Event) → CanFollow mode ps → CanBePicked mode (writable mode ps)
 writable-can mode ps can = record {
@@ -120,13 +102,7 @@ module _ (mode : Mode) (chooses : Event → Bool) (photons : (e : Event) → cho
   -- photons are ordered in each mode, so no photon is lost with the markers that aren't
   chosen-ordered : (es : List Event) → filter chooses (ordered mode es) ≡ filter chooses es
   chosen-ordered [] = refl
-  chosen-ordered (e ∷ es) = by (chosen-ordered es) (chooses e) (is_ordered mode e) refl refl
-    where
-      by : filter chooses (ordered mode es) ≡ filter chooses es → (b o : Bool) → chooses e ≡ b → is_ordered mode e ≡ o → filter chooses (cond o (e ∷ ordered mode es) (ordered mode es)) ≡ cond b (e ∷ filter chooses es) (filter chooses es)
-      by rest true true is on = rw is (ap (λ l. e ∷ l) rest)
-      by rest true false is on = let bad = sym (ordered-photon mode e (photons e is)) ∙ on in cc
-      by rest false true is on = rw is rest
-      by rest false false is on = rest
+  chosen-ordered (e ∷ es) = search (rules, arith, chooses, mode, chosen-ordered es)
 
   -- where late events are left out they are those of the list in order of time too
   kept-in_time : (k : ℕ) (es : List Event) → filter chooses (kept_by k mode es) ≡ filter chooses (in_time k (ordered mode es))
@@ -177,19 +153,13 @@ module _ (record_type : RecordType) (policy : Policy) (sorting : Sorting) (group
 
   photons_in-follow : (words : List ℕ) → CanFollow mode (photons_in chooses how words)
   unfolding given
-  photons_in-follow words =
-      let before = unrefused_after how [] words in
-      let es = events (map how.meaning before) in
-      let kept = kept_by policy.settle mode es in
-      rw (delivered-settled policy.settle mode es)
-      (taken-follow mode chooses chosen-photon (length kept - policy.settle) kept (photons_kept-follow before))
+  photons_in-follow words = search (rules, arith, how, mode, delivered-settled, taken-follow, chooses, chosen-photon, photons_kept-follow)
 
   photons_by-follow : (words : List ℕ) (answer : Result Summary Fault) → CanFollow mode (photons_by chooses how words answer)
-  photons_by-follow words (Ok summary) = photons_kept-follow words
-  photons_by-follow words (Err fault) = photons_in-follow words
+  photons_by-follow words answer = search (rules, arith, photons_kept-follow, photons_in-follow)
 
   pub kept-can : (words : List ℕ) → too_late mode (photons_kept chooses how words) ≡ [] → CanBePicked mode (photons_kept chooses how words)
-  kept-can words none = subst (CanBePicked mode) (writable-all mode (photons_kept chooses how words) none) (writable-can mode (photons_kept chooses how words) (photons_kept-follow words))
+  kept-can words none = search (rules, arith, mode, writable-all, chooses, how, writable-can, photons_kept-follow)
 
   pub written-can : (bytes : List ℕ) → CanBePicked mode (writable mode (photons_of chooses how bytes))
   written-can bytes = writable-can mode (photons_of chooses how bytes) (photons_by-follow (words_of bytes) (streamed how bytes))

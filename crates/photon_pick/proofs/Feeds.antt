@@ -1,6 +1,5 @@
 -- What a piece writes of the photons of a group.
-use Rattle.std.proofs.Common.{◌≡◌, ◌∙◌, ℕ, List, [], ◌++◌, Bool, None, Some, Ok, Err, refl, ap, inl, inr, ⊎_elim, Result, OnOk}
-use Rattle.std.{specs.List.filter, specs.declared.option.Option.Option, specs.Io.KnownBytes.Appends}
+use Rattle.std.{proofs.Common.{◌≡◌, ◌∙◌, ℕ, List, [], ◌++◌, Bool, None, Some, Ok, Err, refl, ap, inl, inr, ⊎_elim, Result, OnOk, arith, rules}, specs.List.filter, specs.declared.option.Option.Option, specs.Io.KnownBytes.Appends}
 use Rattle.tally_base.{specs.declared.event.Event.Event, specs.declared.fault.Fault.Fault, specs.declared.fault.Fault.TheVariants.WriteFault, specs.FaultCounts.Rose}
 use Rattle.bench_io.{specs.Sinks.AppendsShort, proofs.Bytes.{Appends-flushed, AppendsShort-flushed, AppendsShort-more, AppendsShort-kept, Keeps-from_none}}
 use Rattle.ptu_definitions.{specs.Kept.Marked, specs.Settled.not_marked, specs.Streams.{Reading, record_refusal, given}}
@@ -75,9 +74,7 @@ module _ {T : Type 0} (g : Ghosts T) (a b : T) (at : T → Stand) (chooses : Eve
   -- What a piece wrote, where the block was flushed.
   pub feeds-on : (r : Result (Unit {0}) Fault) → s.fault ≡ None → Appends t.written c t.held → faults ≡ t.sink → Fed g how a b words now r
       → WritesText (text words) (text now) (refuses now) s.written c s.sink faults (answer_by t.fault r) × OnOk (answer_by t.fault r) (HasPickedIn chooses how t.picker now)
-  feeds-on (Ok done) free flushed still fed =
-      let kept : t.fault ≡ None = (gave fed.1).same_fault ∙ free in
-      rw kept ((gave-clear fed.1 None fed.0, gave-wrote fed.1 flushed still), gave-stands fed.1)
+  feeds-on (Ok done) free flushed still fed = search (rules, arith, gave, gave-clear, gave-wrote, gave-stands)
   feeds-on (Err fault) free flushed still fed =
       ⊎_elim
       (λ (r : (record_refusal how now ≡ Some fault) × GaveOn g how a b words now).

@@ -1,8 +1,5 @@
 pub mod Rows
-pub mod Chooses
-pub mod Gives
 pub mod BlockTakes
-pub mod Steps
 pub mod Wanted
 pub mod Parts
 pub mod Feeds
@@ -10,4 +7,3 @@ pub mod Ends
 pub mod Streams
 pub mod Stays
 pub mod CanBeWritten
-pub mod BeforeLate

@@ -1,6 +1,5 @@
 -- What was put of photons behind others, and what is left of them.
-use Rattle.std.proofs.Common.{◌≡◌, ◌∙◌, ℕ, List, [], ◌∷◌, ◌++◌, Bool, true, false, Some, cond, refl, sym, ap, subst, append_assoc, append-nil, arith, length, length-append}
-use Rattle.std.{specs.List.filter, specs.declared.option.Option.Option, proofs.lemmas.List.Elements.filter-append}
+use Rattle.std.{proofs.Common.{◌≡◌, ◌∙◌, ℕ, List, [], ◌∷◌, ◌++◌, Bool, true, false, Some, cond, refl, sym, ap, subst, append_assoc, append-nil, arith, length, length-append, rules}, specs.List.filter, specs.declared.option.Option.Option, proofs.lemmas.List.Elements.filter-append}
 use Rattle.tally_base.{specs.declared.event.Event.Event, specs.declared.header.Mode.Mode}
 use Rattle.bench_io.specs.Sinks.{AppendsShort, PassesOn}
 use Rattle.ptu_definitions.{specs.Kept.Marked, specs.Prefixes.{each_after, first}, specs.Settled.not_marked, proofs.DeliveredLaws.not_marked-append, proofs.PrefixLemmas.each_after-append}
@@ -40,16 +39,14 @@ move-time : (m n : Mode) (time : ℕ) (b : Bool) → m ≡ n → is_too_late m t
 move-time m n time b same h = subst (λ x. is_too_late x time ≡ b) same h
 
 move-cut : (m n : Mode) (a b : Option (List ℕ)) (held : List ℕ) (behind photons : List Event) → m ≡ n → held ≡ [] → AppendsShort a b (held ++ bytes_in (each_after (photon_words m) behind photons)) → AppendsShort a b (bytes_in (each_after (photon_words n) behind photons))
-move-cut m n a b held behind photons same none h =
-    let first = subst (λ x. AppendsShort a b (held ++ bytes_in (each_after (photon_words x) behind photons))) same h in
-    subst (λ x. AppendsShort a b (x ++ bytes_in (each_after (photon_words n) behind photons))) none first
+move-cut m n a b held behind photons same none h = search (rules, arith)
 
 -- ## Texts
 
 -- the words of photons behind others
 pub words-more : (mode : Mode) (ps qs : List Event) → bytes_in (picked_words mode (ps ++ qs)) ≡ bytes_in (picked_words mode ps) ++ bytes_in (each_after (photon_words mode) ps qs)
 unfolding picked_words
-words-more mode ps qs = ap bytes_in (each_after-append (photon_words mode) [] ps qs) ∙ bytes_in-append (each_after (photon_words mode) [] ps) (each_after (photon_words mode) ps qs)
+words-more mode ps qs = search (rules, arith, each_after-append, bytes_in-append)
 
 pub AppendsShort-none : (a b : Option (List ℕ)) → AppendsShort a b [] → ⊥
 AppendsShort-none a b q = let e : length {A = ℕ} [] ≡ length (q.0 ++ q.1) = ap length q.3 in let some = q.2 in omega (arith, e, some, length-append q.0 q.1)
@@ -68,7 +65,7 @@ module _ (s t : Stand) (chooses : Event → Bool) (mode : Mode) (same_choice : s
 
   -- the bytes where these photons come behind those before
   bytes-now : (qs : List Event) → writable mode total ≡ before ++ qs → bytes_of mode total ≡ bytes_of mode before ++ bytes_in (each_after (photon_words mode) before qs)
-  bytes-now qs is = ap (λ ps. bytes_in (picked_words mode ps)) is ∙ words-more mode before qs ∙ ap (λ l. l ++ bytes_in (each_after (photon_words mode) before qs)) (sym bytes-before)
+  bytes-now qs is = search (rules, arith, words-more, bytes-before)
 
   -- what was put, from a block that held nothing
   put-in : (qs : List Event) → ((behind : List Event) → HasPicked s.picker behind → PutsPhotons s t behind qs) → PassesOn s.written t.written (bytes_in (each_after (photon_words mode) before qs)) t.held
@@ -80,10 +77,7 @@ module _ (s t : Stand) (chooses : Event → Bool) (mode : Mode) (same_choice : s
   module _ (more : Marked) (took : Took s t more) (are : total ≡ before ++ filter chooses (not_marked more)) where
     -- All photons that are chosen were put.
     pub took-clear : too_late mode total ≡ []
-    took-clear =
-        let it = took.in_time in
-        let soon : too_late mode (filter chooses (not_marked more)) ≡ [] = rw (same_choice, same_mode) at it in
-        ap (too_late mode) are ∙ too_late-both mode before (filter chooses (not_marked more)) clear soon
+    took-clear = search (rules, arith, too_late-both)
 
     pub took-bytes : bytes_of mode total ≡ bytes_of mode before ++ bytes_in (each_after (photon_words mode) before (filter chooses (not_marked more)))
     took-bytes = bytes-now (filter chooses (not_marked more)) (writable-all mode total took-clear ∙ are)
@@ -109,10 +103,10 @@ module _ (s t : Stand) (chooses : Event → Bool) (mode : Mode) (same_choice : s
     -- it was too late
     module _ (late : RefusedLate s t r.front r.e) where
       pub late-first : first (too_late mode total) ≡ Some r.e
-      late-first = ap (λ ps. first (too_late mode ps)) refused-are ∙ first-late mode (before ++ r.front) (filter chooses (not_marked back)) r.e refused-clear (move-time s.mode mode r.e.time true same_mode late.late)
+      late-first = search (rules, arith, refused-are, first-late, refused-clear, move-time)
 
       pub late-bytes : bytes_of mode total ≡ bytes_of mode before ++ bytes_in (each_after (photon_words mode) before r.front)
-      late-bytes = bytes-now r.front (ap (writable mode) refused-are ∙ writable-late mode (before ++ r.front) (filter chooses (not_marked back)) r.e refused-clear (move-time s.mode mode r.e.time true same_mode late.late))
+      late-bytes = search (rules, arith, bytes-now, refused-are, writable-late, refused-clear, move-time)
 
       pub late-put : PassesOn s.written t.written (bytes_in (each_after (photon_words mode) before r.front)) t.held
       late-put = put-in r.front late.text
@@ -135,6 +129,4 @@ module _ (s t : Stand) (chooses : Event → Bool) (mode : Mode) (same_choice : s
           )
 
       pub cut-short : AppendsShort s.written t.written (bytes_in (each_after (photon_words mode) before (r.front ++ r.e ∷ []))) × (t.held ≡ [])
-      cut-short =
-          let it = cut.text before picked in
-          (move-cut s.mode mode s.written t.written s.held before (r.front ++ r.e ∷ []) same_mode empty it.short, it.empty)
+      cut-short = search (rules, arith, move-cut)

@@ -1,6 +1,5 @@
 -- What all bytes behind a header write of the photons that are chosen.
-use Rattle.std.specs.Prelude.{ℕ, ◌≡◌, Bool, List, [], map, Result, Ok, Err}
-use Rattle.std.{specs.List.filter, specs.declared.option.Option.Option}
+use Rattle.std.{specs.Prelude.{ℕ, ◌≡◌, Bool, List, [], map, Result, Ok, Err}, specs.List.filter, specs.declared.option.Option.Option}
 use Rattle.tally_base.{specs.declared.event.Event.Event, specs.declared.fault.Fault.Fault, specs.declared.header.Mode.Mode, specs.Faults.fault_in}
 use Rattle.ptu_definitions.{specs.declared.records.Summary.Summary, specs.Prefixes.first, specs.Settled.kept_by, specs.Streams.{Reading, streamed}, specs.Times.events, specs.Words.words_of}
 use Rattle.told_text.specs.Texts.{WritesText}

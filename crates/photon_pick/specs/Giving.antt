@@ -1,6 +1,5 @@
 -- What giving photons to a picker writes.
-use Rattle.std.specs.Prelude.{ℕ, ◌≡◌, ◌<◌, ◌≤◌, ◌⊎◌, All, slice_index, true, false, List, [], ◌∷◌, ◌++◌}
-use Rattle.std.specs.declared.option.Option.{Option}
+use Rattle.std.{specs.Prelude.{ℕ, ◌≡◌, ◌<◌, ◌≤◌, ◌⊎◌, All, slice_index, true, false, List, [], ◌∷◌, ◌++◌}, specs.declared.option.Option.Option}
 use Rattle.tally_base.{specs.declared.event.Event.Event, specs.declared.fault.Fault.Fault, specs.declared.fault.Fault.TheVariants.{PickTime, WriteFault}, specs.FaultCounts.Rose, specs.Floors.{floor_after, InOrder}, specs.Events.is_photon, specs.Columns.count, specs.declared.block.Block.Block}
 use Rattle.record_stream.specs.Blocks.{AllFit}
 use Rattle.bench_io.specs.declared.sink.Sink.{Ghosts}

@@ -1,6 +1,5 @@
 -- Which photons are too late to be written.
-use Rattle.std.specs.Prelude.{List, [], ◌∷◌, if◌then◌else◌}
-use Rattle.std.specs.List.{filter}
+use Rattle.std.{specs.Prelude.{List, [], ◌∷◌, if◌then◌else◌}, specs.List.filter}
 use Rattle.tally_base.{specs.declared.event.Event.Event, specs.declared.header.Mode.Mode}
 use Rattle.record_write.specs.Picked.{is_too_late}
 

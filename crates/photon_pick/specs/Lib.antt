@@ -6,5 +6,4 @@ pub mod BeforeLate
 pub mod Taking
 pub mod Texts
 pub mod Pieces
-pub mod Begins
 pub mod Ends

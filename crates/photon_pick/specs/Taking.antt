@@ -1,7 +1,5 @@
 -- What a taker that gives photons to a picker got.
-use Rattle.std.specs.Prelude.{ℕ, ◌≡◌, ◌+◌, ◌⊎◌, max, Bool, true, false, List, [], ◌∷◌, ◌++◌, Some, length, refl}
-use Rattle.std.{specs.List.filter, specs.declared.option.Option.Option}
-use Rattle.std.proofs.Common.{append-nil, arith}
+use Rattle.std.{specs.Prelude.{ℕ, ◌≡◌, ◌+◌, ◌⊎◌, max, Bool, true, false, List, [], ◌∷◌, ◌++◌, Some, length, refl}, specs.List.filter, specs.declared.option.Option.Option, proofs.Common.{append-nil, arith}}
 use Rattle.tally_base.{specs.declared.event.Event.Event, specs.declared.fault.Fault.Fault, specs.declared.fault.Fault.TheVariants.{PickTime, WriteFault}, specs.declared.header.Mode.Mode, specs.FaultCounts.Rose}
 use Rattle.bench_io.proofs.Bytes.{PassesOn-held}
 use Rattle.ptu_definitions.{specs.Kept.{Marked, floor_of}, specs.Prefixes.each_after, specs.Settled.not_marked}

@@ -1,6 +1,5 @@
 -- What the words of a file write of the photons that are chosen.
-use Rattle.std.specs.Prelude.{ℕ, ◌≡◌, Bool, List, [], None, Some, Result, Ok, Err}
-use Rattle.std.{specs.List.filter, specs.declared.option.Option.Option}
+use Rattle.std.{specs.Prelude.{ℕ, ◌≡◌, Bool, List, [], None, Some, Result, Ok, Err}, specs.List.filter, specs.declared.option.Option.Option}
 use Rattle.tally_base.{specs.declared.event.Event.Event, specs.declared.fault.Fault.Fault, specs.declared.fault.Fault.TheVariants.PickTime}
 use Rattle.ptu_definitions.{specs.Prefixes.first, specs.Settled.not_marked, specs.Streams.{Reading, record_refusal, given}}
 use Rattle.short_file.specs.ShortFiles.{bytes_in}

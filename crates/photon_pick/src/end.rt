@@ -1,7 +1,7 @@
 // What the end of a file writes of the photons of a group.
 ghost use Rattle.std.specs.Prelude.{◌≡◌, ◌<◌, ◌≤◌, [], None};
-ghost use Rattle.record_stream.specs.Standing.{how_of, given_by, greatest_of, refused_with};
-ghost use Rattle.photon_pick.{specs.Chosen.is_of_group, specs.Texts.answer_by, specs.Pieces.{IsNoFurther, PicksEnd}, specs.Begins.Begins};
+ghost use Rattle.record_stream.{specs.Standing.{how_of, given_by, greatest_of, refused_with}, specs.Pieces.Begins};
+ghost use Rattle.photon_pick.{specs.Chosen.is_of_group, specs.Texts.answer_by, specs.Pieces.{IsNoFurther, PicksEnd}};
 
 use crate::taker::Picks;
 use bench_io::{Block, Sink};
@@ -26,8 +26,8 @@ fn end_picks<'g, 'p, 'o, O: Sink>(
     stream: RecordStream,
     picks: &mut Picks<'g, 'p, 'o, O>,
 ) -> Result<(), Fault>
-    requires begins { Begins stream picks.old.mode picks.old.taken picks.old.floor picks.old.block
-        picks.old.fault }
+    requires begins { Begins stream picks.old.mode picks.old.taken picks.old.floor picks.old.block }
+    requires unrefused { picks.old.fault ≡ None }
     requires going { refused_with stream ≡ None }
     ensures writes { PicksEnd O.Sink (is_of_group picks.old.gates.now picks.old.group) stream
         picks.old.picker.now picks.old.out.now picks.new.out.now result }

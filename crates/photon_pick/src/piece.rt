@@ -1,8 +1,8 @@
 // What a piece of a file writes of the photons of a group.
-ghost use Rattle.std.specs.Prelude.{◌≡◌, ◌+◌, ◌*◌, ◌<◌, ◌≤◌, ◌++◌, List, ℕ, [], None, length, OnOk};
-ghost use Rattle.ptu_definitions.specs.Counted.{record_limit};
-ghost use Rattle.record_stream.specs.Standing.{how_of, refused_with, bytes_in, HasStreamed};
-ghost use Rattle.photon_pick.{specs.Chosen.is_of_group, specs.Texts.answer_by, specs.Pieces.{GoesOn, IsNoFurther, PicksPiece}, specs.Begins.Begins};
+ghost use Rattle.std.specs.Prelude.{◌≡◌, ◌<◌, ◌≤◌, None, OnOk};
+ghost use Rattle.record_stream.{specs.Standing.refused_with, specs.Pieces.{TakesOn, Begins}};
+ghost use Rattle.record_write.specs.Picker.{mode_of};
+ghost use Rattle.photon_pick.{specs.Chosen.is_of_group, specs.Texts.answer_by, specs.Pieces.{GoesOn, IsNoFurther, PicksPiece}};
 
 use crate::taker::Picks;
 use bench_io::{Block, Sink};
@@ -28,17 +28,16 @@ fn feed_picks<'g, 'p, 'o, O: Sink>(
     picks: &mut Picks<'g, 'p, 'o, O>,
 ) -> Result<(), Fault>
     requires begins { Begins stream.old picks.old.mode picks.old.taken picks.old.floor
-        picks.old.block picks.old.fault }
+        picks.old.block }
+    requires unrefused { picks.old.fault ≡ None }
     requires going { refused_with stream.old ≡ None }
-    ensures taken { (bytes : List ℕ) → HasStreamed stream.old bytes
-        → HasStreamed stream.new (bytes ++ piece.now) }
-    ensures same_how { how_of stream.new ≡ how_of stream.old }
-    ensures limit { bytes_in stream.new ≤ 4 * record_limit + 3 }
+    ensures fed { TakesOn stream.old stream.new piece.now }
     ensures writes { PicksPiece O.Sink
         (is_of_group picks.old.gates.now picks.old.group) stream.old piece.now
         picks.old.picker.now picks.new.picker.now picks.old.out.now picks.new.out.now result }
     ensures goes_on { OnOk result
         (GoesOn stream.old stream.new picks.new.picker.now piece.now) }
+    ensures same_mode { mode_of picks.new.picker.now ≡ mode_of picks.old.picker.now }
     ensures same { (picks.new.out.ghost_name ≡ picks.old.out.ghost_name)
         × (picks.new.picker.ghost_name ≡ picks.old.picker.ghost_name) }
 {
@@ -65,15 +64,11 @@ pub fn pick_piece<O: Sink>(
     requires group { (0 < group) × (group ≤ 64) }
     requires behind { IsNoFurther stream.old picker.old }
     requires going { refused_with stream.old ≡ None }
-    ensures taken { (bytes : List ℕ) → HasStreamed stream.old bytes
-        → HasStreamed stream.new (bytes ++ piece.now) }
-    ensures same_how { how_of stream.new ≡ how_of stream.old }
-    ensures limit { bytes_in stream.new ≤ 4 * record_limit + 3 }
+    ensures fed { TakesOn stream.old stream.new piece.now }
     ensures writes { PicksPiece O.Sink (is_of_group gates.now group) stream.old piece.now
         picker.old picker.new out.old out.new result }
-    ensures going { OnOk result ((refused_with stream.new ≡ None)
-        × (bytes_in stream.new ≡ bytes_in stream.old + length piece.now)) }
-    ensures behind { OnOk result (IsNoFurther stream.new picker.new) }
+    ensures goes_on { OnOk result (GoesOn stream.old stream.new picker.new piece.now) }
+    ensures same_mode { mode_of picker.new ≡ mode_of picker.old }
 {
     let mode = picker.mode();
     let mut picks = Picks {

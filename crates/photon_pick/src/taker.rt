@@ -46,8 +46,7 @@ pub(crate) struct Picks<'g, 'p, 'o, O: Sink> {
 }
 
 impl<'g, 'p, 'o, O: Sink> EventTaker for Picks<'g, 'p, 'o, O> {
-    ghost use Rattle.std.specs.Prelude.{refl};
-    ghost use Rattle.std.proofs.Common.{◌∙◌};
+    ghost use Rattle.std.{specs.Prelude.{refl}, proofs.Common.{◌∙◌}};
     ghost use Rattle.photon_pick.specs.Taking.{Took, Refused, took_none, stand};
 
     ghost got = { λ s t l. Took (stand (is_chosen (sorting_of s.gates.now) s.group) s.picker.now s.mode s.taken s.floor
@@ -61,11 +60,11 @@ impl<'g, 'p, 'o, O: Sink> EventTaker for Picks<'g, 'p, 'o, O> {
         (O.faults t.out.now) (O.written t.out.now) t.block t.fault) l };
 
     ghost same = { λ s t. (t.out.ghost_name ≡ s.out.ghost_name)
-        × (t.picker.ghost_name ≡ s.picker.ghost_name) };
+        × (t.picker.ghost_name ≡ s.picker.ghost_name) × (t.mode ≡ s.mode) };
 
-    ghost same_none = { λ t. (refl, refl) };
+    ghost same_none = { λ t. (refl, refl, refl) };
 
-    ghost same_more = { λ t u v p q. (q.0 ∙ p.0, q.1 ∙ p.1) };
+    ghost same_more = { λ t u v p q. (q.0 ∙ p.0, q.1 ∙ p.1, q.2 ∙ p.2) };
 
     ghost mode = { λ t. t.mode };
 

@@ -1,7 +1,6 @@
 -- A text that stands behind another one.
-use Rattle.std.proofs.Common.{◌≡◌, ◌∙◌, ℕ, Bool, List, [], ◌++◌, None, Ok, Err, sym, ap, append_assoc, append-nil, inl, inr, Result}
-use Rattle.std.specs.declared.option.Option.{Option}
-use Rattle.tally_base.{specs.declared.event.Event.Event, specs.declared.fault.Fault.Fault, specs.declared.header.Header.Header, specs.RecordTypes.mode_of, specs.Faults.fault_in}
+use Rattle.std.{proofs.Common.{◌≡◌, ◌∙◌, ℕ, Bool, List, [], ◌++◌, None, Ok, Err, sym, ap, append_assoc, append-nil, inl, inr, Result, arith, rules}, specs.declared.option.Option.{Option}}
+use Rattle.tally_base.{specs.declared.event.Event.Event, specs.declared.fault.Fault.Fault, specs.declared.header.Header.Header, specs.RecordTypes.mode_of}
 use Rattle.told_text.specs.Texts.{WroteText, CutText, WritesText}
 use Rattle.ptu_definitions.specs.Streams.{Reading}
 use Rattle.plan_text.{specs.Plan.PlanView, specs.Fits.fits}
@@ -9,8 +8,8 @@ use Rattle.gate_plan.{specs.Shifting.{Sorting, sorting}, specs.Plans.reading_by}
 use Rattle.short_file.specs.ShortFiles.{short_header}
 use Rattle.record_write.{specs.declared.picker.Picker.Picker, specs.Picker.HasPicked}
 use Rattle.photon_pick.{specs.Chosen.is_chosen, proofs.Stays.{text-none, has-none, unrefused}}
-use Rattle.command_work.{specs.Tellings.unless_declined, proofs.Streams.refused-none}
-use Rattle.pick_work.{specs.PickOutcomes.chosen_by, specs.PickPieces.{picks, picks_by}}
+use Rattle.command_work.{proofs.Streams.refused-none}
+use Rattle.pick_work.{specs.PickPieces.{picks, picks_by}}
 
 module _ (head shown grown : List ℕ) (refused : Option Fault) (old new : Option (List ℕ)) (before after : ℕ) where
   adds : (more : List ℕ) → grown ≡ shown ++ more → head ++ grown ≡ (head ++ shown) ++ more
@@ -37,7 +36,4 @@ module _ (chooses : Event → Bool) (how : Reading) where
 
 -- a reader of a plan that suits is told of as the plan is
 pub picks-same : (group : ℕ) (plan : PlanView) (header : Header) (by : Sorting) (how : Reading) → fits (mode_of header.record_type) plan ≡ Ok tt → by ≡ sorting plan → how ≡ reading_by plan header → picks (is_chosen by group) how ≡ picks_by group plan header
-picks-same group plan header by how suits same_sorting same_how =
-    ap (λ (b : Sorting). picks (is_chosen b group) how) same_sorting
-    ∙ ap (picks (chosen_by plan group)) same_how
-    ∙ sym (ap (λ (r : Result (Unit {0}) Fault). unless_declined (fault_in r) (picks (chosen_by plan group) (reading_by plan header))) suits)
+picks-same group plan header by how suits same_sorting same_how = search (rules, arith)

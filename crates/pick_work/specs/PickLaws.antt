@@ -4,11 +4,11 @@ use Rattle.tally_base.{specs.declared.event.Event.Event, specs.declared.fault.Fa
 use Rattle.ptu_definitions.{specs.Headers.header_answer, specs.Words.words_of, specs.Streams.Reading}
 use Rattle.plan_text.{specs.Plan.PlanView, specs.Fits.fits}
 use Rattle.gate_plan.specs.Plans.{reading_by}
-use Rattle.record_stream.{specs.declared.stream.RecordStream.RecordStream, specs.Standing.how_of}
+use Rattle.record_stream.{specs.declared.stream.RecordStream.RecordStream, specs.Standing.how_of, proofs.Lasts.streamed-clear}
 use Rattle.short_file.specs.ShortFiles.{short_header}
 use Rattle.record_write.specs.declared.picker.Picker.{Picker}
 use Rattle.photon_pick.{specs.Texts.{text_in, refusal_in}, proofs.Stays.{text-front, refused-stays, refused-inside, end-inside, unrefused}}
-use Rattle.command_work.{specs.Behaviours.AsItReads, specs.Works.WantsNone, specs.Tellings.{IsText, Suits, headed_end, headed_text, HeadedGoes, unless_declined}, proofs.TellingLaws.{same-end, fits-law}, proofs.Streams.streamed-clear}
+use Rattle.command_work.{specs.Behaviours.AsItReads, specs.Works.WantsNone, specs.Tellings.{IsText, Suits, headed_end, headed_text, HeadedGoes, unless_declined}, proofs.TellingLaws.{same-end, fits-law}}
 use Rattle.pick_work.{specs.PickOutcomes.{chosen_by, picked_if_fits, picked_behind, so_far_if_fits, so_far_behind, pick_so_far, goes_on_behind, picking}, specs.PickPieces.{picks, picks_by, HasWritten}}
 
 pub picks-law : (chooses : Event → Bool) (how : Reading) → IsText (picks chooses how)

@@ -1,6 +1,5 @@
 -- What `pick` ends with over the bytes of a file.
-use Rattle.std.specs.Prelude.{ℕ, ◌≡◌, ◌&&◌, nat_le, Bool, List, [], ◌++◌, length, None, Some, Result, Ok, Err, if◌then◌else◌}
-use Rattle.std.specs.declared.option.Option.{Option}
+use Rattle.std.{specs.Prelude.{ℕ, ◌≡◌, ◌&&◌, nat_le, Bool, List, [], ◌++◌, length, None, Some, Result, Ok, Err, if◌then◌else◌}, specs.declared.option.Option.Option}
 use Rattle.tally_base.{specs.declared.event.Event.Event, specs.declared.fault.Fault.Fault, specs.declared.fault.Fault.TheVariants.NoGroup, specs.declared.header.Header.Header, specs.RecordTypes.mode_of}
 use Rattle.ptu_definitions.{specs.Headers.header_answer, specs.Words.words_of, specs.Streams.Reading}
 use Rattle.plan_text.{specs.Plan.PlanView, specs.Fits.fits}

@@ -1,6 +1,5 @@
 -- What holds of a table of any kind, and of the tables of a plan.
-use Rattle.std.proofs.Common.{◌≡◌, ◌≤◌, List, [], ◌∷◌, length, arith, sum_by}
-use Rattle.std.proofs.lemmas.List.Sums.{sum_by-cons}
+use Rattle.std.{proofs.Common.{◌≡◌, ◌≤◌, List, [], ◌∷◌, length, arith, sum_by}, proofs.lemmas.List.Sums.sum_by-cons}
 use Rattle.tally_base.{specs.Settings.{entries, is_strict}, specs.Tally.{History, greatest_time}}
 use Rattle.tau_cascade.proofs.Work.{work_within}
 use Rattle.plan_parts.{specs.declared.part.Part.Part, specs.declared.part.Part.TheVariants.Correlation as InCorrelation, specs.contracts.part.PartTally.TheImpl.ghosts, specs.Part.laws_of, specs.Parts.{settings_in, entries_in, IsWithinWork}}

@@ -1,6 +1,5 @@
 -- The bound of a plan that keeps the rules.
-use Rattle.std.proofs.Common.{◌≡◌, refl, ℕ, suc, ◌+◌, ◌*◌, ◌≤◌, true, List, [], ◌∷◌, length, map, filter_map, codes, Option, Some, None, unwrap_or, Ok, inl, inr, arith}
-use Rattle.std.{specs.List.{sum_by, cons_option, flat_map, AllByRecursion}, proofs.lemmas.List.Sums.{sum_by-append, sum_by-cons}, proofs.lemmas.Nat.mul-le, proofs.lemmas.Bool.Decides.nat_tests}
+use Rattle.std.{proofs.Common.{rules}, proofs.Common.{◌≡◌, refl, ℕ, suc, ◌+◌, ◌*◌, ◌≤◌, true, List, [], ◌∷◌, length, map, filter_map, codes, Option, Some, None, unwrap_or, Ok, inl, inr, arith}, specs.List.{sum_by, cons_option, flat_map, AllByRecursion}, proofs.lemmas.List.Sums.{sum_by-append, sum_by-cons}, proofs.lemmas.Nat.mul-le, proofs.lemmas.Bool.Decides.nat_tests}
 use Rattle.toml.specs.Data.{Data, table, get}
 use Rattle.tally_base.specs.Settings.{PartSettings, entries}
 use Rattle.toml_rules.{specs.Rules.{AllHold, each}, specs.Values.{number_or, list_at}}
@@ -63,12 +62,10 @@ unfolding plan
 parts_keep d short = all_keep kinds d (kinds_keep_few d) (kinds_of_lists (λ (list : TableList). length (list_at list.key d) ≤ list.most) short)
 
 few_kept : (found : Option ℕ) → ((n : ℕ) → found ≡ Some n → n ≤ 64) → unwrap_or found 0 ≤ 64
-few_kept None most = omega arith
-few_kept (Some n) most = most n refl
+few_kept found most = search (rules, arith)
 
 settle_most : (found : Option Data) (n : ℕ) → number_or 0 0 64 found ≡ Some n → n ≤ 64
-settle_most None n is = grind (arith, is)
-settle_most (Some d) n is = integer_most 0 64 d n is
+settle_most found n is = search (rules, arith, integer_most)
 
 -- at most 64 events are kept back
 settle_few : (d : Data) → settle_or_none d ≤ 64

@@ -1,11 +1,10 @@
 -- What proofs ask of each kind of table: its place in the order of the report, and that none of its tables keeps more
 -- than one of the greatest settings.
-use Rattle.std.proofs.Common.{◌≡◌, refl, ℕ, zero, suc, ◌+◌, ◌-◌, ◌*◌, ◌/◌, ◌^◌, ◌≤◌, Bool, true, false, cond, List, [], ◌∷◌, map, codes, ◌&&◌, nat_le, length, Option, Some, None, arith, pos}
-use Rattle.std.{specs.List.AllByRecursion, specs.Option.{option_and_then, option_map}, proofs.lemmas.Nat.mul-le, proofs.Math.Nat.div-le_of_le-mul, proofs.Math.Pow.pow_mono, proofs.lemmas.Bool.Decides.nat_tests}
-use Rattle.toml.specs.Data.{Data, Items, as_array, get, integer}
-use Rattle.tally_base.{specs.Settings.{PartSettings, ImageView, entries, hist_view, trace_view, startstop_view, coincidence_view, image_view, correlation_view, cube_view, fold_view}, specs.Settings.PartSettings.{HistSettings, TraceSettings, StartStopSettings, CoincidenceSettings, ImageSettings, CorrelationSettings, CubeSettings, FoldSettings}, specs.Limits.wrap_limit}
-use Rattle.toml_rules.specs.Values.{list_of, integer_in, number_in}
-use Rattle.plan_text.{specs.Kind.Kind, specs.Kinds.{kinds, lists, part_lists}, specs.Groups.{groups, group_number}, specs.Histograms.{histogram, hist_of}, specs.Traces.{trace, trace_of, origin}, specs.StartStops.{startstop, startstop_of}, specs.Coincidences.{coincidence, coincidence_of}, specs.Images.{image, image_values, image_of, raster, raster_of, bits, serpentine}, specs.Correlations.{correlation, correlation_of, lags, if_even}, specs.Cubes.{cube, cube_of, bins, has_few_bins}, specs.Folds.{fold_settings, fold_of, numbers, numbers_in, numbers_among, numbers_from}, specs.Plan.plan, specs.declared.plan.Plan.Plan}
+use Rattle.std.{proofs.Common.{rules}, proofs.Common.{◌≡◌, refl, ℕ, suc, ◌+◌, ◌-◌, ◌*◌, ◌/◌, ◌^◌, ◌≤◌, Bool, true, false, cond, List, [], ◌∷◌, map, codes, ◌&&◌, nat_le, length, Option, Some, None, arith}, specs.List.AllByRecursion, specs.Option.{option_and_then, option_map}, proofs.lemmas.Nat.mul-le, proofs.Math.Nat.div-le_of_le-mul, proofs.Math.Pow.pow_mono, proofs.lemmas.Bool.Decides.nat_tests}
+use Rattle.toml.specs.Data.{Data, Items, as_array, get}
+use Rattle.tally_base.{specs.Settings.{PartSettings, ImageView, entries}, specs.Settings.PartSettings.{HistSettings, TraceSettings, StartStopSettings, CoincidenceSettings, ImageSettings, CorrelationSettings, CubeSettings, FoldSettings}, specs.Limits.wrap_limit}
+use Rattle.toml_rules.specs.Values.{integer_in, number_in}
+use Rattle.plan_text.{specs.Kind.Kind, specs.Kinds.{kinds, lists, part_lists}, specs.Groups.{groups, group_number}, specs.Histograms.{histogram, hist_of}, specs.Traces.{trace, trace_of}, specs.StartStops.{startstop, startstop_of}, specs.Coincidences.{coincidence, coincidence_of}, specs.Images.{image, image_values, image_of, raster, raster_of, bits, serpentine}, specs.Correlations.{correlation, correlation_of, lags, if_even}, specs.Cubes.{cube, cube_of, bins, has_few_bins}, specs.Folds.{fold_settings, fold_of, numbers, numbers_in, numbers_from}, specs.Plan.plan, specs.declared.plan.Plan.Plan}
 
 -- ## Its place
 
@@ -34,39 +33,16 @@ of_kind settings n is [] = tt
 of_kind settings n is (set ∷ sets) = (is set, of_kind settings n is sets)
 
 pub by_kinds : (plan : Plan) → AreByKinds 0 (part_lists plan)
-by_kinds plan = (
-  of_kind (λ set. HistSettings (hist_view set)) 0 (λ set. refl) plan.histograms.items,
-  (
-    of_kind (λ set. TraceSettings (trace_view set)) 1 (λ set. refl) plan.traces.items,
-    (
-      of_kind (λ set. StartStopSettings (startstop_view set)) 2 (λ set. refl) plan.startstops.items,
-      (
-        of_kind (λ set. CoincidenceSettings (coincidence_view set)) 3 (λ set. refl) plan.coincidences.items,
-        (
-          of_kind (λ set. ImageSettings (image_view set)) 4 (λ set. refl) plan.images.items,
-          (
-            of_kind (λ set. CorrelationSettings (correlation_view set)) 5 (λ set. refl) plan.correlations.items,
-            (
-              of_kind (λ set. CubeSettings (cube_view set)) 6 (λ set. refl) plan.cubes.items,
-              (of_kind (λ set. FoldSettings (fold_view set)) 7 (λ set. refl) plan.folds.items, tt),
-            ),
-          ),
-        ),
-      ),
-    ),
-  ),
-)
+by_kinds plan = search (rules, arith, of_kind)
 
 -- ## Its greatest table
 
 pub integer_most : (least greatest : ℕ) (d : Data) (n : ℕ) → integer_in least greatest d ≡ Some n → n ≤ greatest
-integer_most least greatest (integer (pos m)) n is = grind (arith, nat_tests, is)
-integer_most least greatest _ n is = cc
+integer_most least greatest d n is = search (rules, arith)
 
 -- a number that was read is not above the greatest
 most_read : (least greatest : ℕ) (found : Option Data) (n : ℕ) → number_in least greatest found ≡ Some n → n ≤ greatest
-most_read least greatest None n is = cc
-most_read least greatest (Some d) n is = integer_most least greatest d n is
+most_read least greatest found n is = search (rules, arith, integer_most)
 
 -- a number that may be there is at most so great
 abbrev IsAtMost : ℕ → Option ℕ → Type 0
@@ -75,73 +51,46 @@ IsAtMost most found = (n : ℕ) → found ≡ Some n → n ≤ most
 -- ## The greatest table of each kind
 
 hist_keeps : (group width bins : Option ℕ) (p : PartSettings) → IsAtMost 32768 bins → hist_of group width bins ≡ Some p → entries p ≤ 32769
-hist_keeps (Some group) (Some width) (Some bins) p few is =
-    let same : p ≡ HistSettings (record { group = group; width = width; bins = bins }) = cc in
-    rw same (omega (arith, few bins refl))
-hist_keeps (Some group) (Some width) None p few is = cc
-hist_keeps (Some group) None bins p few is = cc
-hist_keeps None width bins p few is = cc
+hist_keeps group width bins p few is = search (rules, arith)
 
 histogram_keeps : (d t : Data) (p : PartSettings) → histogram d t ≡ Some p → entries p ≤ 32769
 unfolding histogram
-histogram_keeps d t p is =
-    hist_keeps (group_number d (get (codes "group") t)) (number_in 1 32768 (get (codes "width") t)) (number_in 1 32768 (get (codes "bins") t)) p (most_read 1 32768 (get (codes "bins") t)) is
+histogram_keeps d t p is = search (rules, arith, hist_keeps, most_read)
 
 trace_of_keeps : (group begin width bins : Option ℕ) (p : PartSettings) → IsAtMost (2 ^ 20) bins → trace_of group begin width bins ≡ Some p → entries p ≤ 1048579
-trace_of_keeps (Some group) (Some begin) (Some width) (Some bins) p few is =
-    let same : p ≡ TraceSettings (record { group = group; origin = begin; width = width; bins = bins }) = cc in
-    rw same (omega (arith, few bins refl))
-trace_of_keeps (Some group) (Some begin) (Some width) None p few is = cc
-trace_of_keeps (Some group) (Some begin) None bins p few is = cc
-trace_of_keeps (Some group) None width bins p few is = cc
-trace_of_keeps None begin width bins p few is = cc
+trace_of_keeps group begin width bins p few is = search (rules, arith)
 
 trace_keeps : (d t : Data) (p : PartSettings) → trace d t ≡ Some p → entries p ≤ 1048579
 unfolding trace
-trace_keeps d t p is =
-    trace_of_keeps (group_number d (get (codes "group") t)) (origin t) (number_in 1 wrap_limit (get (codes "width") t)) (number_in 1 (2 ^ 20) (get (codes "bins") t)) p (most_read 1 (2 ^ 20) (get (codes "bins") t)) is
+trace_keeps d t p is = search (rules, arith, trace_of_keeps, most_read)
 
 startstop_of_keeps : (start stop width bins : Option ℕ) (p : PartSettings) → IsAtMost 32768 bins → startstop_of start stop width bins ≡ Some p → entries p ≤ 32770
-startstop_of_keeps (Some start) (Some stop) (Some width) (Some bins) p few is =
-    let same : p ≡ StartStopSettings (record { start = start; stop = stop; width = width; bins = bins }) = cc in
-    rw same (omega (arith, few bins refl))
-startstop_of_keeps (Some start) (Some stop) (Some width) None p few is = cc
-startstop_of_keeps (Some start) (Some stop) None bins p few is = cc
-startstop_of_keeps (Some start) None width bins p few is = cc
-startstop_of_keeps None stop width bins p few is = cc
+startstop_of_keeps start stop width bins p few is = search (rules, arith)
 
 startstop_keeps : (d t : Data) (p : PartSettings) → startstop d t ≡ Some p → entries p ≤ 32770
 unfolding startstop
-startstop_keeps d t p is =
-    startstop_of_keeps (group_number d (get (codes "start") t)) (group_number d (get (codes "stop") t)) (number_in 1 wrap_limit (get (codes "width") t)) (number_in 1 32768 (get (codes "bins") t)) p (most_read 1 32768 (get (codes "bins") t)) is
+startstop_keeps d t p is = search (rules, arith, startstop_of_keeps, most_read)
 
 -- a quotient is not above what is divided
 quotient : (n m : ℕ) → n / m ≤ n
-quotient n zero = omega arith
-quotient n (suc m) = div-le_of_le-mul (suc m) (grind arith)
+quotient n m = search (rules, arith, div-le_of_le-mul)
 
 coincidence_of_keeps : (first second reach width : Option ℕ) (p : PartSettings) → IsAtMost (2 ^ 20) reach → coincidence_of first second reach width ≡ Some p → entries p ≤ 3145731
 coincidence_of_keeps (Some first) (Some second) (Some reach) (Some width) p few is =
     let same : p ≡ CoincidenceSettings (record { first = first; second = second; reach = reach; width = width }) = cc in
     rw same (omega (arith, few reach refl, quotient (2 * reach) width))
-coincidence_of_keeps (Some first) (Some second) (Some reach) None p few is = cc
-coincidence_of_keeps (Some first) (Some second) None width p few is = cc
-coincidence_of_keeps (Some first) None reach width p few is = cc
-coincidence_of_keeps None second reach width p few is = cc
+coincidence_of_keeps _ _ _ _ p few is = cc
 
 coincidence_keeps : (d t : Data) (p : PartSettings) → coincidence d t ≡ Some p → entries p ≤ 3145731
 unfolding coincidence
-coincidence_keeps d t p is =
-    coincidence_of_keeps (group_number d (get (codes "first") t)) (group_number d (get (codes "second") t)) (number_in 1 (2 ^ 20) (get (codes "reach") t)) (number_in 1 (2 ^ 21) (get (codes "width") t)) p (most_read 1 (2 ^ 20) (get (codes "reach") t)) is
+coincidence_keeps d t p is = search (rules, arith, coincidence_of_keeps, most_read)
 
 -- a raster has at most 2,048 by 2,048 pixels
 raster_few : (width height dwell : Option ℕ) (r : ℕ × (ℕ × ℕ)) → IsAtMost 2048 width → IsAtMost 2048 height → raster_of width height dwell ≡ Some r → (r.0 ≤ 2048) × (r.1.0 ≤ 2048)
 raster_few (Some width) (Some height) (Some dwell) r narrow low is =
     let same : r ≡ (width, (height, dwell)) = cc in
     rw same (narrow width refl, low height refl)
-raster_few (Some width) (Some height) None r narrow low is = cc
-raster_few (Some width) None dwell r narrow low is = cc
-raster_few None height dwell r narrow low is = cc
+raster_few _ _ _ r narrow low is = cc
 
 raster_in : (t : Data) (r : ℕ × (ℕ × ℕ)) → raster t ≡ Some r → (r.0 ≤ 2048) × (r.1.0 ≤ 2048)
 unfolding raster
@@ -153,20 +102,14 @@ image_of_keeps (Some group) (Some raster) (Some bits) (Some serpentine) set few 
     let same : set ≡ record { group = group; width = raster.0; height = raster.1.0; dwell = raster.1.1; line = bits.0; frame = bits.1.0; stop = bits.1.1; serpentine = serpentine } = cc in
     let few = few raster refl in
     rw same (omega (arith, mul-le raster.0 raster.1.0 2048 2048 few.0 few.1))
-image_of_keeps (Some group) (Some raster) (Some bits) None set few is = cc
-image_of_keeps (Some group) (Some raster) None serpentine set few is = cc
-image_of_keeps (Some group) None bits serpentine set few is = cc
-image_of_keeps None raster bits serpentine set few is = cc
+image_of_keeps _ _ _ _ set few is = cc
 
 values_keep : (d t : Data) (set : ImageView) → image_values d t ≡ Some set → entries (ImageSettings set) ≤ 4194308
 unfolding image_values
 values_keep d t set is = image_of_keeps (group_number d (get (codes "group") t)) (raster t) (bits t) (serpentine t) set (raster_in t) is
 
 settings_keep : (found : Option ImageView) (p : PartSettings) → ((set : ImageView) → found ≡ Some set → entries (ImageSettings set) ≤ 4194308) → option_map ImageSettings found ≡ Some p → entries p ≤ 4194308
-settings_keep None p few is = cc
-settings_keep (Some set) p few is =
-    let same : p ≡ ImageSettings set = cc in
-    rw same (few set refl)
+settings_keep found p few is = search (rules, arith)
 
 image_keeps : (d t : Data) (p : PartSettings) → image d t ≡ Some p → entries p ≤ 4194308
 image_keeps d t p is = settings_keep (image_values d t) p (values_keep d t) is
@@ -177,10 +120,7 @@ correlation_of_keeps (Some first) (Some second) (Some lags) (Some levels) p near
     let near = near lags refl in
     let few = few levels refl in
     rw same (omega (arith, mul-le levels (lags + 1) 40 129 few (omega (arith, near)), mul-le (levels - 1) (lags / 2) 39 64 (omega (arith, few)) (omega (arith, near))))
-correlation_of_keeps (Some first) (Some second) (Some lags) None p near few is = cc
-correlation_of_keeps (Some first) (Some second) None levels p near few is = cc
-correlation_of_keeps (Some first) None lags levels p near few is = cc
-correlation_of_keeps None second lags levels p near few is = cc
+correlation_of_keeps _ _ _ _ p near few is = cc
 
 even_most : (found : Option ℕ) (most : ℕ) → IsAtMost most found → IsAtMost most (option_and_then if_even found)
 even_most None most few n is = cc
@@ -192,20 +132,14 @@ lags_few t = even_most (number_in 2 128 (get (codes "lags") t)) 128 (most_read 2
 
 correlation_keeps : (d t : Data) (p : PartSettings) → correlation d t ≡ Some p → entries p ≤ 7784
 unfolding correlation
-correlation_keeps d t p is =
-    correlation_of_keeps (group_number d (get (codes "first") t)) (group_number d (get (codes "second") t)) (lags t) (number_in 1 40 (get (codes "levels") t)) p (lags_few t) (most_read 1 40 (get (codes "levels") t)) is
+correlation_keeps d t p is = search (rules, arith, correlation_of_keeps, lags_few, most_read)
 
 few_bins_keep : (image : ImageView) (bins : ℕ × ℕ) (p : PartSettings) (few : Bool) → has_few_bins image bins.1 ≡ few → cond few (Some (CubeSettings (record { image = image; dwidth = bins.0; dbins = bins.1 }))) None ≡ Some p → entries p ≤ 67108869
-few_bins_keep image bins p true few is =
-    let same : p ≡ CubeSettings (record { image = image; dwidth = bins.0; dbins = bins.1 }) = cc in
-    let most : image.width * image.height * bins.1 ≤ 2 ^ 26 = grind (arith, nat_tests, few) in
-    rw same (omega (arith, most))
+few_bins_keep image bins p true few is = search (rules, arith)
 few_bins_keep image bins p false few is = cc
 
 cube_of_keeps : (image : Option ImageView) (bins : Option (ℕ × ℕ)) (p : PartSettings) → cube_of image bins ≡ Some p → entries p ≤ 67108869
-cube_of_keeps (Some image) (Some bins) p is = few_bins_keep image bins p (has_few_bins image bins.1) refl is
-cube_of_keeps (Some image) None p is = cc
-cube_of_keeps None bins p is = cc
+cube_of_keeps image bins p is = search (rules, arith, few_bins_keep)
 
 cube_keeps : (d t : Data) (p : PartSettings) → cube d t ≡ Some p → entries p ≤ 67108869
 unfolding cube
@@ -214,33 +148,24 @@ cube_keeps d t p is = cube_of_keeps (image_values d t) (bins t) p is
 -- as many numbers as integers
 counted : (n : ℕ) (more : Option (List ℕ)) (count : ℕ) (ns : List ℕ) → ((ms : List ℕ) → more ≡ Some ms → length ms ≡ count) → option_map (λ numbers. n ∷ numbers) more ≡ Some ns → length ns ≡ suc count
 counted n None count ns few is = cc
-counted n (Some ms) count ns few is =
-    let same : ns ≡ n ∷ ms = cc in
-    let rest : length ms ≡ count = few ms refl in
-    rw same (omega (arith, rest))
+counted n (Some ms) count ns few is = search (rules, arith)
 
 first_counted : (found : Option ℕ) (most : ℕ) (ds : List Data) (ns : List ℕ) → ((low : ℕ) (ms : List ℕ) → numbers_from most low ds ≡ Some ms → length ms ≡ length ds) → option_and_then (λ n. option_map (λ numbers. n ∷ numbers) (numbers_from most (n + 1) ds)) found ≡ Some ns → length ns ≡ suc (length ds)
-first_counted None most ds ns few is = cc
-first_counted (Some n) most ds ns few is = counted n (numbers_from most (n + 1) ds) (length ds) ns (few (n + 1)) is
+first_counted found most ds ns few is = search (rules, arith, counted)
 
 numbers_count : (most low : ℕ) (ds : List Data) (ns : List ℕ) → numbers_from most low ds ≡ Some ns → length ns ≡ length ds
 numbers_count most low [] ns is = let same : ns ≡ [] = cc in rw same refl
 numbers_count most low (d ∷ ds) ns is = first_counted (integer_in low most d) most ds ns (λ low ms. numbers_count most low ds ms) is
 
 some_and_few : (a b : Bool) → (a && b) ≡ true → b ≡ true
-some_and_few true b is = is
-some_and_few false b is = cc
+some_and_few a b is = search (rules, arith)
 
 among_few : (most : ℕ) (ds : List Data) (ns : List ℕ) (few : Bool) → (nat_le 1 (length ds) && nat_le (length ds) 6) ≡ few → cond few (numbers_from most 1 ds) None ≡ Some ns → length ns ≤ 6
-among_few most ds ns true few is =
-    let most_six : nat_le (length ds) 6 ≡ true = some_and_few (nat_le 1 (length ds)) (nat_le (length ds) 6) few in
-    let le : length ds ≤ 6 = grind (arith, nat_tests, most_six) in
-    omega (arith, le, numbers_count most 1 ds ns is)
+among_few most ds ns true few is = search (rules, arith, some_and_few, numbers_count)
 among_few most ds ns false few is = cc
 
 in_few : (most : ℕ) (found : Option Items) (ns : List ℕ) → numbers_in most found ≡ Some ns → length ns ≤ 6
-in_few most None ns is = cc
-in_few most (Some items) ns is = among_few most (list_of items) ns (nat_le 1 (length (list_of items)) && nat_le (length (list_of items)) 6) refl is
+in_few most found ns is = search (rules, arith, among_few)
 
 numbers_few : (d t : Data) (ns : List ℕ) → numbers d t ≡ Some ns → length ns ≤ 6
 unfolding numbers
@@ -251,13 +176,11 @@ fold_of_keeps (Some groups) (Some window) p few near is =
     let same : p ≡ FoldSettings (record { groups = groups; window = window }) = cc in
     let sets : 2 ^ length groups ≤ 2 ^ 6 = pow_mono (few groups refl) in
     rw same (omega (arith, near window refl, sets))
-fold_of_keeps (Some groups) None p few near is = cc
-fold_of_keeps None window p few near is = cc
+fold_of_keeps _ _ p few near is = cc
 
 fold_keeps : (d t : Data) (p : PartSettings) → fold_settings d t ≡ Some p → entries p ≤ 1048642
 unfolding fold_settings
-fold_keeps d t p is =
-    fold_of_keeps (numbers d t) (number_in 1 (2 ^ 20) (get (codes "window") t)) p (numbers_few d t) (most_read 1 (2 ^ 20) (get (codes "window") t)) is
+fold_keeps d t p is = search (rules, arith, fold_of_keeps, numbers_few, most_read)
 
 -- ## All kinds
 
@@ -266,22 +189,6 @@ abbrev pub KeepsFew : Data → Kind → Type 0
 KeepsFew d kind = (t : Data) (p : PartSettings) → kind.read d t ≡ Some p → entries p ≤ entries kind.greatest
 
 pub kinds_keep_few : (d : Data) → AllByRecursion (KeepsFew d) kinds
-kinds_keep_few d = (
-  histogram_keeps d,
-  (
-    trace_keeps d,
-    (
-      startstop_keeps d,
-      (
-        coincidence_keeps d,
-        (
-          image_keeps d,
-          (
-            correlation_keeps d,
-            (cube_keeps d, (fold_keeps d, tt)),
-          ),
-        ),
-      ),
-    ),
-  ),
-)
+kinds_keep_few d =
+    let last : _ × (_ × (_ × (_ × Unit {0}))) = (image_keeps d, (correlation_keeps d, (cube_keeps d, (fold_keeps d, tt)))) in
+    (histogram_keeps d, (trace_keeps d, (startstop_keeps d, (coincidence_keeps d, last))))

@@ -1,6 +1,5 @@
 -- What bytes answer as a plan, and what they call for.
-use Rattle.std.proofs.Common.{◌≡◌, ◌<◌, ◌≤◌, ◌∙◌, refl, sym, ap, ℕ, List, length, Option, None, Some, Ok, Err, inl, inr, arith, ◌≢◌, ◌⊎◌, Result}
-use Rattle.std.proofs.lemmas.Bool.{cases_lt}
+use Rattle.std.{proofs.Common.{rules}, proofs.Common.{◌≡◌, ◌<◌, ◌≤◌, ◌∙◌, refl, sym, ap, ℕ, List, length, Option, None, Some, Ok, Err, inl, inr, arith, ◌≢◌, Result}, proofs.lemmas.Bool.cases_lt}
 use Rattle.tally_base.{specs.declared.fault.Fault.Fault, specs.declared.fault.Fault.TheVariants.{OutOfMemory, PlanTooLong, PlanSyntax, PlanRule}}
 use Rattle.toml.specs.Data.{table, Members}
 use Rattle.toml_rules.{specs.Rules.{Rule, all_kept, AllHold, IsLeast, Names}, proofs.Least.{names_least, all_kept_nowhere}}
@@ -10,8 +9,7 @@ abbrev Calls : List ℕ → Fault → Type 0
 Calls bytes fault = IsCalledFor bytes fault × (fault ≢ OutOfMemory)
 
 named : (bytes : List ℕ) (ms : Members) (fault : Fault) → length bytes ≤ text_limit → document bytes ≡ Some ms → Names (plan_rules (table ms)) fault → Calls bytes fault
-named bytes ms (PlanRule n index) short is names = ((short, ms, is, names), λ e. cc)
-named bytes ms _ short is names = absurd names
+named bytes ms fault short is names = search (rules, arith)
 
 by_rules : (bytes : List ℕ) (ms : Members) (r : Result (Unit {0}) Fault) (fault : Fault) → length bytes ≤ text_limit → document bytes ≡ Some ms → all_kept (plan_rules (table ms)) ≡ r → if_kept r (plan (table ms)) ≡ Err fault → Calls bytes fault
 by_rules bytes ms (Ok done) fault short is kept err = cc
@@ -21,9 +19,7 @@ by_rules bytes ms (Err other) fault short is kept err =
 
 by_document : (bytes : List ℕ) (read : Option Members) (fault : Fault) → length bytes ≤ text_limit → document bytes ≡ read → plan_of_document read ≡ Err fault → Calls bytes fault
 unfolding plan_of_document
-by_document bytes None fault short is err =
-    let same : fault ≡ PlanSyntax = cc in
-    rw same ((short, is), λ e. cc)
+by_document bytes None fault short is err = search (rules, arith)
 by_document bytes (Some ms) fault short is err = by_rules bytes ms (all_kept (plan_rules (table ms))) fault short is refl err
 
 pub called : (bytes : List ℕ) (fault : Fault) → plan_answer bytes ≡ Err fault → Calls bytes fault
@@ -36,37 +32,20 @@ called bytes fault err = elim (cases_lt text_limit (length bytes)) [
     too_long is long = let same : fault ≡ PlanTooLong = cc in rw same (long, λ e. cc)
 
 valid_rules : (bytes : List ℕ) (ms : Members) (r : Result (Unit {0}) Fault) (view : PlanView) → length bytes ≤ text_limit → document bytes ≡ Some ms → all_kept (plan_rules (table ms)) ≡ r → if_kept r (plan (table ms)) ≡ Ok view → IsValid bytes
-valid_rules bytes ms (Ok done) view short is kept ok =
-    let all = all_kept_nowhere (plan_rules (table ms)) kept in
-    (short, ms, is, all, plan_is_whole (table ms) all)
+valid_rules bytes ms (Ok done) view short is kept ok = search (rules, arith, all_kept_nowhere, plan_is_whole)
 valid_rules bytes ms (Err fault) view short is kept ok = cc
 
 valid_document : (bytes : List ℕ) (read : Option Members) (view : PlanView) → length bytes ≤ text_limit → document bytes ≡ read → plan_of_document read ≡ Ok view → IsValid bytes
 unfolding plan_of_document
-valid_document bytes None view short is ok = cc
-valid_document bytes (Some ms) view short is ok = valid_rules bytes ms (all_kept (plan_rules (table ms))) view short is refl ok
+valid_document bytes read view short is ok = search (rules, arith, valid_rules)
 
 pub valid : (bytes : List ℕ) (view : PlanView) → plan_answer bytes ≡ Ok view → IsValid bytes
-valid bytes view ok = elim (cases_lt text_limit (length bytes)) [
-  | inl long ↦ let e = plan_answer_long bytes long in cc
-  | inr short ↦ valid_document bytes (document bytes) view short refl (sym (answer_in_time bytes short) ∙ ok)
-]
+valid bytes view ok = search (rules, arith, cases_lt, plan_answer_long, valid_document, answer_in_time)
 
 -- ## From what the bytes are to the answer
 
--- the least broken rule with its least index is one
-same_least : (rules : List Rule) (n index other at' : ℕ) → IsLeast rules n index → IsLeast rules other at' → (n ≡ other) × (index ≡ at')
-same_least rules n index other at' p q = both (p.least other at' q.broken) (q.least n index p.broken)
-  where
-    both : ((n < other) ⊎ ((n ≡ other) × (index ≤ at'))) → ((other < n) ⊎ ((other ≡ n) × (at' ≤ index))) → (n ≡ other) × (index ≡ at')
-    both (inl a) (inl b) = absurd (omega (arith, a, b))
-    both (inl a) (inr b) = absurd (omega (arith, a, b.0))
-    both (inr a) (inl b) = absurd (omega (arith, a.0, b))
-    both (inr a) (inr b) = (a.0, omega (arith, a.1, b.1))
-
 least_named : (rules : List Rule) (n index : ℕ) (fault : Fault) → IsLeast rules n index → Names rules fault → fault ≡ PlanRule n index
-least_named rules n index (PlanRule other at') least names = let e = same_least rules n index other at' least names in rw (e.0, e.1) refl
-least_named rules n index _ least names = absurd names
+least_named rules n index fault least names = search (rules, arith)
 
 least_kept : (rules : List Rule) (n index : ℕ) (r : Result (Unit {0}) Fault) → IsLeast rules n index → all_kept rules ≡ r → ((fault : Fault) → r ≡ Err fault → Names rules fault) → all_kept rules ≡ Err (PlanRule n index)
 least_kept rules n index (Ok done) least kept named = absurd (all_kept_nowhere rules kept n index least.broken)

@@ -1,9 +1,7 @@
 -- What bytes are as a document, and what reading them as a plan answers.
-use Rattle.std.proofs.Common.{◌≡◌, ap, refl, ◌∙◌, ℕ, ◌<◌, ◌≤◌, false, List, length, nat_le, le-leb, Some, None, Err, inl, inr, IsUtf8, arith}
-use Rattle.std.{specs.Str.is_utf8, proofs.lemmas.Str.{IsUtf8-from_is_utf8, is_utf8-from_IsUtf8}, proofs.lemmas.Bool.cases_Bool, proofs.lemmas.Bool.Decides.nat_tests}
+use Rattle.std.{proofs.Common.{rules}, proofs.Common.{◌≡◌, ap, refl, ◌∙◌, ℕ, ◌<◌, ◌≤◌, List, length, le-leb, Some, None, Err, inl, inr, IsUtf8, arith}, specs.Str.is_utf8, proofs.lemmas.Str.{IsUtf8-from_is_utf8, is_utf8-from_IsUtf8}, proofs.lemmas.Bool.cases_Bool}
 use Rattle.tally_base.specs.declared.fault.Fault.TheVariants.{PlanTooLong, PlanSyntax}
-use Rattle.toml.specs.Data.{Data, table, Members}
-use Rattle.toml.specs.Parse.{parse_document}
+use Rattle.toml.{specs.Data.{Data, table, Members}, specs.Parse.parse_document}
 use Rattle.toml_rules.specs.Rules.{all_kept}
 use Rattle.plan_text.{specs.Plan.{plan_rules, plan}, specs.Reading.{text_limit, document, if_kept, plan_of_document, plan_answer}}
 
@@ -22,9 +20,7 @@ document_of_none bytes other =
 -- what a plan is of which only the first bytes are known, one more than it may have
 pub plan_answer_long : (bytes : List ℕ) → text_limit < length bytes → plan_answer bytes ≡ Err PlanTooLong
 unfolding plan_answer
-plan_answer_long bytes long =
-    let no : nat_le (length bytes) text_limit ≡ false = grind (arith, nat_tests) in
-    rw no refl
+plan_answer_long bytes long = search (rules, arith)
 
 pub answer_in_time : (bytes : List ℕ) → length bytes ≤ text_limit → plan_answer bytes ≡ plan_of_document (document bytes)
 unfolding plan_answer

@@ -1,15 +1,9 @@
 -- A plan of version 1 says nothing that version 2 adds.
-use Rattle.std.proofs.Common.{◌≡◌, ap, sym, refl, ℕ, ◌≤◌, ◌==◌, Bool, true, false, ◌&&◌, ◌||◌, List, [], ◌∷◌, length, filter_map, codes, ◌∙◌, Option, Some, None, unwrap_or, Ok, inl, inr, arith, Ordering, Less, Equal, Greater, nat_cmp, All}
-use Rattle.std.{specs.List.{AllByRecursion, cons_option, flat_map}, specs.Option.option_map, proofs.lemmas.Bool.cases_Bool, proofs.lemmas.List.Elements.{All-from_recursion, recursion_from_All, All-append, All-nil}}
-use Rattle.std.{specs.Ordering.match_ordering, specs.Cmp.Lexicographic.slice_cmp, proofs.lemmas.Map.Lookups.exact_bytes}
+use Rattle.std.{proofs.Common.{rules}, proofs.Common.{◌≡◌, refl, ℕ, ◌≤◌, Bool, true, false, ◌&&◌, ◌||◌, List, [], ◌∷◌, length, filter_map, codes, Option, Some, None, Ok, inl, inr, arith, Ordering, nat_cmp, All}, specs.List.{AllByRecursion, cons_option, flat_map}, specs.Option.option_map, proofs.lemmas.Bool.cases_Bool, proofs.lemmas.List.Elements.{All-from_recursion, All-append, All-nil}, specs.Ordering.match_ordering, specs.Cmp.Lexicographic.slice_cmp, proofs.lemmas.Map.Lookups.exact_bytes}
 use Rattle.toml.specs.Data.{Data, Members, table, no_members, member, get, get_member}
-use Rattle.tally_base.specs.Settings.{PartSettings, GroupView, ImageView}
-use Rattle.tally_base.specs.Settings.PartSettings.{ImageSettings}
-use Rattle.tally_base.specs.Limits.{wrap_limit}
-use Rattle.toml_rules.{specs.Rules.AllHold, specs.Values.{is_one_of, members_within, has_keys, number_in, number_or, truth_or, list_at}}
-use Rattle.plan_text.{specs.Version.is_second, specs.Kind.{Kind, tables}, specs.Kinds.{kinds, first_kinds, table_lists}, specs.Groups.{groups, group, group_of, group_number, inputs, gates, one_gate}, specs.Shifts.{shifts, shifts_from, period, period_or_one, all_shifts}, specs.Settle.{settle, settle_or_none}}
-use Rattle.plan_text.{specs.Histograms.{histogram_kind, histogram, hist_of}, specs.Traces.{trace_kind, trace, trace_of, origin}, specs.StartStops.{startstop_kind, startstop, startstop_of}, specs.Coincidences.{coincidence_kind, coincidence, coincidence_of}, specs.Images.{images, image, image_values, image_of, raster, bits, serpentine, other_image_keys, has_image_keys}, specs.Correlations.{correlation_kind, correlation, correlation_of, lags}, specs.Cubes.{cubes, cube}, specs.Folds.{folds, fold_settings}}
-use Rattle.plan_text.{specs.Document.{document_rules, known_keys, has_known_keys}, specs.Plan.{PlanView, plan, plan_rules}, specs.Reading.{document, plan_answer}, specs.FirstVersion.{IsOfFirst, SaysFirst}, proofs.Whole.{Holds, all_before, all_after, lists_hold, each_holds}, proofs.Called.{valid, plans}}
+use Rattle.tally_base.{specs.Settings.{PartSettings, GroupView, ImageView}, specs.Settings.PartSettings.ImageSettings}
+use Rattle.toml_rules.{specs.Rules.AllHold, specs.Values.{is_one_of, members_within, has_keys, list_at}}
+use Rattle.plan_text.{specs.Version.is_second, specs.Kind.{Kind, tables}, specs.Kinds.{kinds, table_lists}, specs.Groups.{groups, group, group_of, group_number, inputs, gates, one_gate}, specs.Shifts.{shifts, period, period_or_one, all_shifts}, specs.Settle.{settle, settle_or_none}, specs.Histograms.{histogram_kind, histogram, hist_of}, specs.Traces.{trace_kind, trace, trace_of}, specs.StartStops.{startstop_kind, startstop, startstop_of}, specs.Coincidences.{coincidence_kind, coincidence, coincidence_of}, specs.Images.{images, image, image_values, image_of, raster, bits, serpentine, other_image_keys, has_image_keys}, specs.Correlations.{correlation_kind, correlation, correlation_of, lags}, specs.Cubes.{cubes}, specs.Folds.{folds}, specs.Document.{document_rules, known_keys, has_known_keys}, specs.Plan.{PlanView, plan, plan_rules}, specs.Reading.{document, plan_answer}, specs.FirstVersion.{IsOfFirst, SaysFirst}, proofs.Whole.{all_before, all_after, lists_hold, each_holds}, proofs.Called.{valid, plans}}
 
 -- ## A key that is not known
 
@@ -22,9 +16,7 @@ both false b h = cc
 
 -- at one member, of which the rest has nothing at the key
 absent_here : (key k : List ℕ) (o : Ordering) (d : Data) (rest : Option Data) → slice_cmp nat_cmp key k ≡ o → (key ≡ k → ⊥) → rest ≡ None → match_ordering o rest (Some d) rest ≡ None
-absent_here key k Less d rest is other none = none
-absent_here key k Greater d rest is other none = none
-absent_here key k Equal d rest is other none = absurd (other (exact_bytes key k is))
+absent_here key k o d rest is other none = search (rules, arith, exact_bytes)
 
 absent : (needed other : List (List ℕ)) (key : List ℕ) (ms : Members) → (is_one_of needed key || is_one_of other key) ≡ false → members_within needed other ms ≡ true → get_member key ms ≡ None
 absent needed other key no_members unknown within = refl
@@ -34,14 +26,12 @@ absent needed other key (member k d ms) unknown within =
 
 -- A table with only known keys has nothing at another.
 absent_in : (needed other : List (List ℕ)) (key : List ℕ) (d : Data) → (is_one_of needed key || is_one_of other key) ≡ false → has_keys needed other d ≡ true → get key d ≡ None
-absent_in needed other key (table ms) unknown has = absent needed other key ms unknown (both _ _ has).1
-absent_in needed other key _ unknown has = cc
+absent_in needed other key d unknown has = search (rules, arith, absent)
 
 -- ## What is found in a list
 
 found_here : {Y : Type 0} (P : Y → Type 0) (here : Option Y) (rest : List Y) → ((y : Y) → here ≡ Some y → P y) → AllByRecursion P rest → AllByRecursion P (cons_option here rest)
-found_here P None rest each all = all
-found_here P (Some y) rest each all = (each y refl, all)
+found_here P here rest each all = search (rules, arith)
 
 found_all : {X Y : Type 0} (f : X → Option Y) (P : Y → Type 0) (Q : X → Type 0) (xs : List X) → ((x : X) (y : Y) → Q x → f x ≡ Some y → P y) → AllByRecursion Q xs → AllByRecursion P (filter_map f xs)
 found_all f P Q [] each all = tt
@@ -54,61 +44,34 @@ any (x ∷ xs) = (tt, any xs)
 -- ## Tables of the kinds of version 1
 
 hist_is : (group width bins : Option ℕ) (p : PartSettings) → hist_of group width bins ≡ Some p → IsOfFirst p
-hist_is (Some group) (Some width) (Some bins) p is = rw (sym (some_same is)) tt
-hist_is (Some group) (Some width) None p is = cc
-hist_is (Some group) None bins p is = cc
-hist_is None width bins p is = cc
+hist_is group width bins p is = search (rules, arith, some_same)
 
 trace_is : (group begin width bins : Option ℕ) (p : PartSettings) → trace_of group begin width bins ≡ Some p → IsOfFirst p
-trace_is (Some group) (Some begin) (Some width) (Some bins) p is = rw (sym (some_same is)) tt
-trace_is (Some group) (Some begin) (Some width) None p is = cc
-trace_is (Some group) (Some begin) None bins p is = cc
-trace_is (Some group) None width bins p is = cc
-trace_is None begin width bins p is = cc
+trace_is group begin width bins p is = search (rules, arith, some_same)
 
 startstop_is : (start stop width bins : Option ℕ) (p : PartSettings) → startstop_of start stop width bins ≡ Some p → IsOfFirst p
-startstop_is (Some start) (Some stop) (Some width) (Some bins) p is = rw (sym (some_same is)) tt
-startstop_is (Some start) (Some stop) (Some width) None p is = cc
-startstop_is (Some start) (Some stop) None bins p is = cc
-startstop_is (Some start) None width bins p is = cc
-startstop_is None stop width bins p is = cc
+startstop_is start stop width bins p is = search (rules, arith, some_same)
 
 coincidence_is : (first second reach width : Option ℕ) (p : PartSettings) → coincidence_of first second reach width ≡ Some p → IsOfFirst p
-coincidence_is (Some first) (Some second) (Some reach) (Some width) p is = rw (sym (some_same is)) tt
-coincidence_is (Some first) (Some second) (Some reach) None p is = cc
-coincidence_is (Some first) (Some second) None width p is = cc
-coincidence_is (Some first) None reach width p is = cc
-coincidence_is None second reach width p is = cc
+coincidence_is first second reach width p is = search (rules, arith, some_same)
 
 correlation_is : (first second lags levels : Option ℕ) (p : PartSettings) → correlation_of first second lags levels ≡ Some p → IsOfFirst p
-correlation_is (Some first) (Some second) (Some lags) (Some levels) p is = rw (sym (some_same is)) tt
-correlation_is (Some first) (Some second) (Some lags) None p is = cc
-correlation_is (Some first) (Some second) None levels p is = cc
-correlation_is (Some first) None lags levels p is = cc
-correlation_is None second lags levels p is = cc
+correlation_is first second lags levels p is = search (rules, arith, some_same)
 
 image_is : (group : Option ℕ) (raster : Option (ℕ × (ℕ × ℕ))) (bits : Option (ℕ × (Option ℕ × Option ℕ))) (set : ImageView) → image_of group raster bits (Some false) ≡ Some set → set.serpentine ≡ false
-image_is (Some group) (Some raster) (Some bits) set is = rw (sym (some_same is)) refl
-image_is (Some group) (Some raster) None set is = cc
-image_is (Some group) None bits set is = cc
-image_is None raster bits set is = cc
+image_is group raster bits set is = search (rules, arith, some_same)
 
 image_part : (found : Option ImageView) (p : PartSettings) → ((set : ImageView) → found ≡ Some set → set.serpentine ≡ false) → option_map ImageSettings found ≡ Some p → IsOfFirst p
-image_part None p forwards is = cc
-image_part (Some set) p forwards is = rw (sym (some_same is)) (forwards set refl)
+image_part found p forwards is = search (rules, arith, some_same)
 
 group_is : (set : Option ℕ) (ranges : Option (List (ℕ × ℕ))) (g : GroupView) → ((gates : List (ℕ × ℕ)) → ranges ≡ Some gates → length gates ≤ 1) → group_of set ranges ≡ Some g → length g.gates ≤ 1
-group_is (Some set) (Some gates) g few is = rw (sym (some_same is)) (few gates refl)
-group_is (Some set) None g few is = cc
-group_is None ranges g few is = cc
+group_is set ranges g few is = search (rules, arith, some_same)
 
 one_range : (range : Option (ℕ × ℕ)) (gates : List (ℕ × ℕ)) → option_map (λ range. range ∷ []) range ≡ Some gates → length gates ≤ 1
-one_range None gates is = cc
-one_range (Some range) gates is = rw (sym (some_same is)) (omega arith)
+one_range range gates is = search (rules, arith, some_same)
 
 one_gate_is : (found : Option Data) (gates : List (ℕ × ℕ)) → one_gate found ≡ Some gates → length gates ≤ 1
-one_gate_is None gates is = rw (sym (some_same is)) (omega arith)
-one_gate_is (Some d) gates is = one_range _ gates is
+one_gate_is found gates is = search (rules, arith, some_same, one_range)
 
 -- ## A plan of version 1
 
@@ -168,19 +131,10 @@ module _ (d : Data) (first : is_second d ≡ false) (all : AllHold (plan_rules d
   each_kind =
       let free = λ (kind : Kind) (is : (t : Data) (p : PartSettings) → kind.read d t ≡ Some p → IsOfFirst p). found_all (kind.read d) IsOfFirst (λ t. Unit {0}) (tables kind d) (λ t p any. is t p) (any (tables kind d)) in
       let no_cubes : cubes d ≡ [] = no_tables (codes "cube") refl in
-      let no_folds : folds d ≡ [] = no_tables (codes "fold") refl in (
-        free histogram_kind (λ t p. hist_is _ _ _ p),
-        (
-          free trace_kind (λ t p. trace_is _ _ _ _ p),
-          (
-            free startstop_kind (λ t p. startstop_is _ _ _ _ p),
-            (
-              free coincidence_kind (λ t p. coincidence_is _ _ _ _ p),
-              (found_all (image d) IsOfFirst (λ t. has_image_keys d t ≡ true) (images d) image_forwards images_known, (free correlation_kind (λ t p. correlation_is _ _ _ _ p), (rw no_cubes tt, (rw no_folds tt, tt)))),
-            ),
-          ),
-        ),
-      )
+      let no_folds : folds d ≡ [] = no_tables (codes "fold") refl in
+      let of_images = found_all (image d) IsOfFirst (λ t. has_image_keys d t ≡ true) (images d) image_forwards images_known in
+      let last : _ × (_ × (_ × (_ × Unit {0}))) = (of_images, (free correlation_kind (λ t p. correlation_is _ _ _ _ p), (rw no_cubes tt, (rw no_folds tt, tt)))) in
+      (free histogram_kind (λ t p. hist_is _ _ _ p), (free trace_kind (λ t p. trace_is _ _ _ _ p), (free startstop_kind (λ t p. startstop_is _ _ _ _ p), (free coincidence_kind (λ t p. coincidence_is _ _ _ _ p), last))))
 
   parts_first : (more : List Kind) → AllByRecursion OfFirst more → All IsOfFirst (flat_map (λ kind. filter_map (kind.read d) (tables kind d)) more)
   parts_first [] of_first = All-nil IsOfFirst

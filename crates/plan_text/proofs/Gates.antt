@@ -1,8 +1,6 @@
 -- Gates that rise, one gate at a time.
-use Rattle.std.proofs.Common.{◌≡◌, refl, ap, sym, ◌∙◌, ℕ, ◌+◌, ◌<◌, ◌≤◌, List, [], ◌∷◌, ◌++◌, map, drop, length, get_or, Option, None, Some, option_map, arith}
-use Rattle.toml.specs.Data.{Data, as_array}
-use Rattle.toml.specs.declared.value.Value.{Value}
-use Rattle.toml.specs.View.{view}
+use Rattle.std.proofs.Common.{◌≡◌, refl, ap, sym, ◌∙◌, ℕ, ◌+◌, ◌<◌, ◌≤◌, List, [], ◌∷◌, ◌++◌, map, drop, length, get_or, Option, Some, option_map, arith, rules}
+use Rattle.toml.{specs.Data.{Data, as_array}, specs.declared.value.Value.Value, specs.View.view}
 use Rattle.tally_base.specs.Gates.{AreGates}
 use Rattle.plan_text.{specs.Groups.{range_among, ranges_from}, proofs.Inputs.first_of}
 
@@ -24,15 +22,7 @@ put_last [] range more = refl
 put_last (first ∷ front) range more = ap (λ l. first ∷ l) (put_last front range more)
 
 both_put : (front : List (ℕ × ℕ)) (range : ℕ × ℕ) (more : Option (List (ℕ × ℕ))) → option_map (λ l. front ++ l) (option_map (λ l. range ∷ l) more) ≡ option_map (λ l. (front ++ range ∷ []) ++ l) more
-both_put front range None = refl
-both_put front range (Some more) = ap (λ l. Some l) (put_last front range more)
-
-pub ranges_first : (ds : List Data) → option_map (λ l. [] ++ l) (ranges_from 0 ds) ≡ ranges_from 0 ds
-ranges_first ds = none_put (ranges_from 0 ds)
-  where
-    none_put : (more : Option (List (ℕ × ℕ))) → option_map (λ l. [] ++ l) more ≡ more
-    none_put None = refl
-    none_put (Some more) = refl
+both_put front range more = search (rules, arith, put_last)
 
 ranges_step : (front : List (ℕ × ℕ)) (low : ℕ) (range : ℕ × ℕ) (d : Data) (ds : List Data) → range_among low (as_array d) ≡ Some range
     → option_map (λ l. front ++ l) (ranges_from low (d ∷ ds)) ≡ option_map (λ l. (front ++ range ∷ []) ++ l) (ranges_from range.1 ds)

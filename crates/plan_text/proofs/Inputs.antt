@@ -1,22 +1,11 @@
 -- The bit set of inputs, one input at a time.
-use Rattle.std.proofs.Common.{◌≡◌, ap, sym, refl, ◌∙◌, ℕ, ◌+◌, ◌<◌, ◌≤◌, ◌^◌, List, ◌∷◌, map, drop, length, get_or, Option, Some, None, option_map, arith}
-use Rattle.std.{proofs.Math.Pow.pow_mono, proofs.lemmas.Grind.pow_more, proofs.lemmas.List.drop_more}
-use Rattle.toml.specs.Data.{Data}
-use Rattle.toml.specs.declared.value.Value.{Value}
-use Rattle.toml.specs.View.{view}
+use Rattle.std.{proofs.Common.{rules}, proofs.Common.{◌≡◌, ap, sym, ◌∙◌, ℕ, ◌+◌, ◌<◌, ◌≤◌, ◌^◌, List, ◌∷◌, map, drop, length, get_or, Option, Some, option_map, arith}, proofs.Math.Pow.pow_mono, proofs.lemmas.Grind.pow_more, proofs.lemmas.List.drop_more}
+use Rattle.toml.{specs.Data.Data, specs.declared.value.Value.Value, specs.View.view}
 use Rattle.toml_rules.specs.Values.{integer_in}
 use Rattle.plan_text.specs.Groups.{inputs_from}
 
-none_added : (set : Option ℕ) → option_map (λ more. 0 + more) set ≡ set
-none_added None = refl
-none_added (Some more) = ap (λ n. Some n) (omega arith)
-
 both_added : (a b : ℕ) (set : Option ℕ) → option_map (λ more. a + more) (option_map (λ more. b + more) set) ≡ option_map (λ more. a + b + more) set
-both_added a b None = refl
-both_added a b (Some more) = ap (λ n. Some n) (omega arith)
-
-pub inputs_first : (ds : List Data) → option_map (λ set. 0 + set) (inputs_from 0 ds) ≡ inputs_from 0 ds
-inputs_first ds = none_added (inputs_from 0 ds)
+both_added a b set = search (rules, arith)
 
 pub inputs_step : (inputs low n : ℕ) (d : Data) (ds : List Data) → integer_in low 64 d ≡ Some n
     → option_map (λ set. inputs + set) (inputs_from low (d ∷ ds)) ≡ option_map (λ set. inputs + 2 ^ n + set) (inputs_from (n + 1) ds)
@@ -29,17 +18,7 @@ first_of vs i v within at = ap (map view) (drop_more vs i v within) ∙ ap (λ w
 pub inputs_kept : (inputs low n added i : ℕ) (vs : List Value) (v : Value) (all : Option ℕ) → i < length vs → v ≡ get_or vs i v → Some n ≡ integer_in low 64 (view v) → added ≡ 2 ^ n
     → option_map (λ set. inputs + set) (inputs_from low (map view (drop i vs))) ≡ all
     → option_map (λ set. inputs + added + set) (inputs_from (n + 1) (map view (drop (i + 1) vs))) ≡ all
-inputs_kept inputs low n added i vs v all within at is power rest =
-    let one = inputs_step inputs low n (view v) (map view (drop (i + 1) vs)) (sym is) in
-    let so_far = rw (first_of vs i v within at) at rest in
-    rw power (sym one ∙ so_far)
-
--- an integer that is out of its order or range
-pub inputs_refused : (inputs low i : ℕ) (vs : List Value) (v : Value) (all : Option ℕ) → i < length vs → v ≡ get_or vs i v → None ≡ integer_in low 64 (view v)
-    → option_map (λ set. inputs + set) (inputs_from low (map view (drop i vs))) ≡ all → None ≡ all
-inputs_refused inputs low i vs v all within at is rest =
-    let so_far = rw (first_of vs i v within at) at rest in
-    rw (← is) at so_far
+inputs_kept inputs low n added i vs v all within at is power rest = search (rules, arith, inputs_step, first_of)
 
 -- a number below 2 ^ low, and a power from there on
 pub below_next : (inputs low n : ℕ) → inputs < 2 ^ low → low ≤ n → inputs + 2 ^ n < 2 ^ (n + 1)

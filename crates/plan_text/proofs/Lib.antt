@@ -2,7 +2,6 @@ pub mod OnLiterals
 pub mod Inputs
 pub mod Gates
 pub mod Numbers
-pub mod EachShift
 pub mod Documents
 pub mod Rise
 pub mod Rows
@@ -10,6 +9,5 @@ pub mod Whole
 pub mod Misfits
 pub mod Called
 pub mod ByKind
-pub mod PartLists
 pub mod Bound
 pub mod FirstVersion

@@ -1,18 +1,16 @@
 -- What `fits` refuses is the first part that doesn't suit the mode.
-use Rattle.std.proofs.Common.{◌≡◌, refl, ap, ◌∙◌, ℕ, ◌+◌, List, [], ◌∷◌, ◌++◌, ◌<◌, length, map, Bool, Option, None, Some, Result, Ok, Err, inl, inr, arith, rules}
-use Rattle.std.{specs.List.AllByRecursion, proofs.lemmas.Result.IfErr-at_err}
+use Rattle.std.{proofs.Common.{◌≡◌, refl, ap, ◌∙◌, ℕ, ◌+◌, List, [], ◌∷◌, ◌++◌, ◌<◌, length, map, Bool, Option, None, Some, Result, Ok, Err, inl, inr, arith, rules}, specs.List.AllByRecursion, proofs.lemmas.Result.IfErr-at_err}
 use Rattle.tally_base.{specs.declared.fault.Fault.Fault, specs.declared.fault.Fault.TheVariants.PlanMode, specs.declared.header.Mode.Mode, specs.declared.header.Mode.TheVariants.{T2, T3}, specs.declared.part.PartKind.PartKind, specs.declared.part.PartKind.TheVariants.{Gate, Shift}, specs.declared.settings.ShiftSet.ShiftSet, specs.Settings.{PartSettings, shift_view}}
 use Rattle.toml_rules.{specs.Rules.{or_next, held_from, BreaksFirst, BreaksAt}, proofs.Least.{or_next_err, breaks_first, kept_nowhere}}
 use Rattle.plan_text.{specs.Plan.PlanView, specs.Fits.{fits, misfit, refusal, group_suits, shift_suits, groups_fit, shifts_fit, parts_fit, IsFirstMisfit, IsMisfit}}
 
 pub or_next_assoc : (a b c : Result (Unit {0}) Fault) → or_next a (or_next b c) ≡ or_next (or_next a b) c
-or_next_assoc (Ok done) b c = refl
-or_next_assoc (Err fault) b c = refl
+or_next_assoc a b c = search (rules, arith)
 
 -- tables after tables
 pub parts_fit_after : (mode : Mode) (before after : List PartSettings) → parts_fit mode (before ++ after) ≡ or_next (parts_fit mode before) (parts_fit mode after)
 parts_fit_after mode [] after = refl
-parts_fit_after mode (part ∷ before) after = ap (or_next (refusal mode (misfit mode part))) (parts_fit_after mode before after) ∙ or_next_assoc (refusal mode (misfit mode part)) (parts_fit mode before) (parts_fit mode after)
+parts_fit_after mode (part ∷ before) after = search (rules, arith, or_next_assoc, parts_fit_after mode before after)
 
 -- ## From the answer to the first part
 
@@ -21,8 +19,7 @@ refused_by mode None fault err = search (rules, err)
 refused_by mode (Some kind) fault err = (kind, refl, IfErr-at_err (λ e. e ≡ PlanMode kind 1 mode) err refl)
 
 pub suits_by : (mode : Mode) (found : Option PartKind) → refusal mode found ≡ Ok tt → found ≡ None
-suits_by mode None ok = refl
-suits_by mode (Some kind) ok = search (rules, ok)
+suits_by mode found ok = search (rules, arith)
 
 first_refused : (mode : Mode) (parts : List PartSettings) (fault : Fault) → parts_fit mode parts ≡ Err fault → (kind : PartKind) × (fault ≡ PlanMode kind 1 mode) × IsFirstMisfit mode parts kind
 first_refused mode [] fault err = search (rules, err)
@@ -71,19 +68,11 @@ first_by make first tests index (Err fault) breaks is =
     is ∙ ap (λ f. Err f) (names ∙ ap make same)
 
 none_by : (make : ℕ → Fault) (first : ℕ) (tests : List Bool) (r : Result (Unit {0}) Fault) → ((at' : ℕ) → BreaksAt first tests at' → ⊥) → held_from make first tests ≡ r → held_from make first tests ≡ Ok tt
-none_by make first tests (Ok done) none is = is
-none_by make first tests (Err fault) none is =
-    let (other, names, found) = breaks_first make first tests fault is in
-    absurd (none other found.breaks)
+none_by make first tests r none is = search (rules, arith, breaks_first)
 
 pub is_first : (mode : Mode) (plan : PlanView) (fault : Fault) → IsMisfit mode plan fault → fits mode plan ≡ Err fault
 unfolding fits
-is_first mode plan fault (inl (number, is, first)) =
-    rw (first_by (λ number. PlanMode Gate number mode) 1 (map (group_suits mode) plan.groups) number (groups_fit mode plan.groups) first refl, is) refl
-is_first mode plan fault (inr (inl (gates, (number, is, first)))) =
-    rw (none_by (λ number. PlanMode Gate number mode) 1 (map (group_suits mode) plan.groups) (groups_fit mode plan.groups) gates refl, first_by (λ number. PlanMode Shift number mode) 1 (map (shift_suits mode) plan.shifts) number (shifts_fit mode plan.shifts) first refl, is) refl
-is_first mode plan fault (inr (inr (gates, shifts, (kind, is, first)))) =
-    rw (none_by (λ number. PlanMode Gate number mode) 1 (map (group_suits mode) plan.groups) (groups_fit mode plan.groups) gates refl, none_by (λ number. PlanMode Shift number mode) 1 (map (shift_suits mode) plan.shifts) (shifts_fit mode plan.shifts) shifts refl, first.stands, refused_first mode first.before first.here first.after kind first.names first.suit, is) refl
+is_first mode plan fault h1 = search (rules, arith, first_by, none_by, refused_first)
 
 -- ## Shifts
 

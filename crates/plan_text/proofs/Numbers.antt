@@ -1,8 +1,6 @@
 -- Numbers of groups that rise, one at a time.
-use Rattle.std.proofs.Common.{◌≡◌, refl, ap, sym, ◌∙◌, ℕ, ◌+◌, ◌<◌, ◌≤◌, List, [], ◌∷◌, ◌++◌, map, drop, length, get_or, Option, None, Some, option_map, arith}
-use Rattle.toml.specs.Data.{Data}
-use Rattle.toml.specs.declared.value.Value.{Value}
-use Rattle.toml.specs.View.{view}
+use Rattle.std.proofs.Common.{◌≡◌, refl, ap, sym, ◌∙◌, ℕ, ◌+◌, ◌<◌, ◌≤◌, List, [], ◌∷◌, ◌++◌, map, drop, length, get_or, Option, Some, option_map, arith, rules}
+use Rattle.toml.{specs.Data.Data, specs.declared.value.Value.Value, specs.View.view}
 use Rattle.tally_base.specs.Gates.{AreGroups}
 use Rattle.toml_rules.specs.Values.{integer_in}
 use Rattle.plan_text.{specs.Folds.numbers_from, proofs.Inputs.first_of}
@@ -25,8 +23,7 @@ put_last [] n more = refl
 put_last (first ∷ front) n more = ap (λ l. first ∷ l) (put_last front n more)
 
 both_put : (front : List ℕ) (n : ℕ) (more : Option (List ℕ)) → option_map (λ l. front ++ l) (option_map (λ l. n ∷ l) more) ≡ option_map (λ l. (front ++ n ∷ []) ++ l) more
-both_put front n None = refl
-both_put front n (Some more) = ap (λ l. Some l) (put_last front n more)
+both_put front n more = search (rules, arith, put_last)
 
 numbers_step : (front : List ℕ) (most low n : ℕ) (d : Data) (ds : List Data) → integer_in low most d ≡ Some n
     → option_map (λ l. front ++ l) (numbers_from most low (d ∷ ds)) ≡ option_map (λ l. (front ++ n ∷ []) ++ l) (numbers_from most (n + 1) ds)

@@ -1,9 +1,8 @@
 -- Where each rule holds, each table of a list is in the plan.
-use Rattle.std.proofs.Common.{◌≡◌, ap, refl, ℕ, ◌+◌, Bool, true, List, [], ◌∷◌, ◌++◌, map, filter_map, ◌∙◌, Option, Some, None, is_some, inl, inr}
-use Rattle.std.{proofs.lemmas.Bool.{cases_Bool, false≢true}, proofs.lemmas.List.map-append, specs.List.{AllByRecursion, cons_option, flat_map}}
+use Rattle.std.{proofs.Common.{arith, rules}, proofs.Common.{◌≡◌, ap, refl, ℕ, ◌+◌, Bool, true, List, [], ◌∷◌, ◌++◌, map, filter_map, ◌∙◌, Option, Some, is_some, inl, inr}, proofs.lemmas.Bool.{cases_Bool, false≢true}, proofs.lemmas.List.map-append, specs.List.{AllByRecursion, cons_option, flat_map}}
 use Rattle.toml.specs.Data.{Data}
 use Rattle.toml_rules.{specs.Rules.{Rule, BreaksAt, IsBroken, AllHold, or_next, all_kept}, proofs.Least.all_kept_after}
-use Rattle.plan_text.{specs.Plan.{plan_rules, lists_kept, plan, IsWhole}, specs.Document.document_rules, specs.Kind.{Kind, tables, last_rule, kind_rules, list_of_kind}, specs.Kinds.{kinds, first_kinds, second_kinds, first_lists, second_lists, table_lists}, specs.Groups.{group_rules, groups, group, group_of, inputs, gates}, specs.Shifts.{shift_rules, all_shifts}, specs.TableList.TableList}
+use Rattle.plan_text.{specs.Plan.{plan_rules, lists_kept, plan, IsWhole}, specs.Document.document_rules, specs.Kind.{Kind, tables, last_rule, kind_rules, list_of_kind}, specs.Kinds.{kinds, first_lists, second_lists, table_lists}, specs.Groups.{group_rules, groups, group, group_of, inputs, gates}, specs.Shifts.{shift_rules, all_shifts}, specs.TableList.TableList}
 
 -- rules of a part are rules of the whole
 broken_after : (before after : List Rule) (n at : ℕ) → IsBroken after n at → IsBroken (before ++ after) n at
@@ -37,8 +36,7 @@ both_hold a b c [] joins first second = tt
 both_hold a b c (x ∷ xs) joins first second = (joins x first.0 second.0, both_hold a b c xs joins first.1 second.1)
 
 kept_first : {Y : Type 0} (here : Option Y) (found : List Y) (seen : List (Option Y)) → is_some here ≡ true → map (λ y. Some y) found ≡ seen → map (λ y. Some y) (cons_option here found) ≡ here ∷ seen
-kept_first None found seen some rest = absurd (false≢true some)
-kept_first (Some y) found seen some rest = ap (λ more. Some y ∷ more) rest
+kept_first here found seen some rest = search (rules, arith, false≢true)
 
 all_kept_in : {X Y : Type 0} (f : X → Option Y) (xs : List X) → AllByRecursion (λ x. is_some (f x) ≡ true) xs → map (λ y. Some y) (filter_map f xs) ≡ map f xs
 all_kept_in f [] some = refl
@@ -46,9 +44,7 @@ all_kept_in f (x ∷ xs) some = kept_first (f x) (filter_map f xs) (map f xs) so
 
 -- a group is read where its inputs and its gates are
 group_read : (inputs : Option ℕ) (gates : Option (List (ℕ × ℕ))) → is_some inputs ≡ true → is_some gates ≡ true → is_some (group_of inputs gates) ≡ true
-group_read None gates first second = first
-group_read (Some set) None first second = second
-group_read (Some set) (Some ranges) first second = refl
+group_read inputs gates first second = search (rules, arith)
 
 groups_in : (d : Data) → AllHold (group_rules d) → map (λ y. Some y) (filter_map (group d) (groups d)) ≡ map (group d) (groups d)
 unfolding group_rules group
@@ -79,19 +75,12 @@ Holds d list = AllHold (list.rules d)
 kinds_whole : (kinds : List Kind) (d : Data) → AllByRecursion (Holds d) (map list_of_kind kinds)
     → map (λ y. Some y) (flat_map (λ kind. filter_map (kind.read d) (tables kind d)) kinds) ≡ flat_map (λ kind. map (kind.read d) (tables kind d)) kinds
 kinds_whole [] d all = refl
-kinds_whole (kind ∷ kinds) d all =
-    let found = filter_map (kind.read d) (tables kind d) in
-    let more = flat_map (λ kind. filter_map (kind.read d) (tables kind d)) kinds in
-    map-append (λ y. Some y) found more
-    ∙ ap (λ l. l ++ map (λ y. Some y) more) (kind_whole kind d all.0)
-    ∙ ap (λ l. map (kind.read d) (tables kind d) ++ l) (kinds_whole kinds d all.1)
+kinds_whole (kind ∷ kinds) d all = search (rules, arith, map-append, kind_whole, kinds_whole kinds d all.1)
 
 -- going through the rules of lists one behind the other
 pub kept_by_lists : (lists : List TableList) (d : Data) → all_kept (flat_map (λ list. list.rules d) lists) ≡ lists_kept lists d
 kept_by_lists [] d = refl
-kept_by_lists (list ∷ lists) d =
-    all_kept_after (list.rules d) (flat_map (λ list. list.rules d) lists)
-    ∙ ap (or_next (all_kept (list.rules d))) (kept_by_lists lists d)
+kept_by_lists (list ∷ lists) d = search (rules, arith, all_kept_after, kept_by_lists lists d)
 
 pub plan_kept : (d : Data) → all_kept (plan_rules d) ≡ or_next (all_kept (document_rules d)) (lists_kept table_lists d)
 unfolding plan_rules
@@ -120,8 +109,7 @@ all_both P (x ∷ xs) ys first last = (first.0, all_both P xs ys first.1 last)
 
 -- what holds of each list holds of that of each kind
 pub kinds_of_lists : (P : TableList → Type 0) → AllByRecursion P table_lists → AllByRecursion P (map list_of_kind kinds)
-kinds_of_lists P all =
-    all_both P (map list_of_kind first_kinds) (map list_of_kind second_kinds) (all_first P first_lists second_lists all).1 (all_last P first_lists second_lists all).1
+kinds_of_lists P all = search (rules, arith, all_both, all_first, all_last)
 
 pub plan_is_whole : (d : Data) → AllHold (plan_rules d) → IsWhole d
 unfolding plan_rules plan

@@ -1,6 +1,5 @@
 -- What the document of a plan says as a whole, and the rules on it.
-use Rattle.std.specs.Prelude.{ℕ, ◌≤◌, Bool, nat_le, List, [], ◌∷◌, ◌++◌, length, codes, Option, None, Some, is_some, if◌then◌else◌}
-use Rattle.std.specs.List.{AllByRecursion}
+use Rattle.std.{specs.Prelude.{ℕ, ◌≤◌, Bool, nat_le, List, [], ◌∷◌, ◌++◌, length, codes, Option, None, Some, is_some, if◌then◌else◌}, specs.List.AllByRecursion}
 use Rattle.tally_base.specs.Limits.{record_limit}
 use Rattle.toml.specs.Data.{Data, get}
 use Rattle.toml_rules.{specs.Rules.{Rule, whole, each}, specs.Values.{list_at, may_be_tables, has_keys, number_or, second_of}}

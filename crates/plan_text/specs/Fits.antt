@@ -1,6 +1,5 @@
 -- Which parts of a plan suit a file of a mode.
-use Rattle.std.specs.Prelude.{◌≡◌, ℕ, ◌==◌, Bool, true, false, List, [], ◌∷◌, ◌++◌, map, length, ◌⊎◌, Result, Ok, Err, Option, None, Some}
-use Rattle.std.specs.List.{AllByRecursion}
+use Rattle.std.{specs.Prelude.{◌≡◌, ℕ, ◌==◌, Bool, true, false, List, [], ◌∷◌, ◌++◌, map, length, ◌⊎◌, Result, Ok, Err, Option, None, Some}, specs.List.AllByRecursion}
 use Rattle.tally_base.{specs.declared.fault.Fault.Fault, specs.declared.fault.Fault.TheVariants.PlanMode, specs.declared.header.Mode.Mode, specs.declared.header.Mode.TheVariants.{T2, T3}, specs.declared.part.PartKind.PartKind, specs.declared.part.PartKind.TheVariants.{Gate, Shift, Histogram, StartStop, Coincidence, Image, Cube, Fold}, specs.Settings.{GroupView, ShiftView, PartSettings}, specs.Settings.PartSettings.{HistSettings, StartStopSettings, CoincidenceSettings, ImageSettings, CubeSettings, FoldSettings}}
 use Rattle.plan_text.specs.Plan.{PlanView}
 use Rattle.toml_rules.specs.Rules.{or_next, held_from, BreaksFirst, BreaksAt}

@@ -1,7 +1,6 @@
 // The groups of a plan.
 ghost use Rattle.std.specs.Prelude.{◌≡◌, ◌<◌, ◌≤◌, ◌^◌, IfSome, map, length, is_some, option_map, codes};
-ghost use Rattle.toml.specs.Data.{get, as_array};
-ghost use Rattle.toml.specs.View.{view};
+ghost use Rattle.toml.{specs.Data.{get, as_array}, specs.View.{view}};
 ghost use Rattle.tally_base.{specs.Gates.AreGates, specs.Settings.group_view};
 ghost use Rattle.toml_rules.specs.Rules.{all_kept};
 ghost use Rattle.plan_text.specs.Groups.{inputs_from, inputs_among, inputs, range_in, range_among, ranges_from, ranges_in, many_gates, one_gate, gates, groups, has_group_keys, group_rules, group, group_number};

@@ -1,8 +1,7 @@
 // How a plan is read.
 ghost use Rattle.std.specs.Prelude.{◌≡◌, ◌≤◌, ◌<◌, ◌≢◌, map, filter_map, length, IfOk, IfErr, OnOk, Some, None, Err, unwrap_or, false};
 ghost use Rattle.tally_base.{specs.Faults.is_outside, specs.Settings.group_view, specs.Limits.record_limit};
-ghost use Rattle.toml.specs.Data.{Members, table};
-ghost use Rattle.toml.specs.View.{view};
+ghost use Rattle.toml.{specs.Data.{Members, table}, specs.View.{view}};
 ghost use Rattle.toml_rules.specs.Rules.{all_kept, Names, AllHold};
 ghost use Rattle.plan_text.{specs.Groups.{groups, group}, specs.Document.{order, reserved, records, HasFewTables}, specs.Kinds.table_lists, specs.Settle.settle_or_none, specs.Plan.{order_of, reserved_of, plan_rules, lists_kept, plan, IsWhole}, specs.Reading.{document, plan_answer, plan_view, plan_seen, if_kept, IsCalledFor, IsValid}};
 

@@ -1,6 +1,5 @@
 -- What is said of a request is said of what the words ask for.
-use Rattle.std.proofs.Common.{◌≡◌, ℕ, List, Some, subst, Result}
-use Rattle.std.specs.declared.option.Option.{Option}
+use Rattle.std.{proofs.Common.{◌≡◌, ℕ, List, Some, subst, Result}, specs.declared.option.Option.{Option}}
 use Rattle.tally_base.specs.declared.fault.Fault.{Fault}
 use Rattle.command_words.specs.Commands.{Request}
 use Rattle.ptu_cli.specs.Behaviours.{behaviour}

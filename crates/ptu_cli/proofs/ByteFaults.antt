@@ -1,6 +1,5 @@
 -- No refusal of bytes is that of a bad command line.
-use Rattle.std.proofs.Common.{◌≡◌, ℕ, ◌+◌, List, [], ◌∷◌, ◌++◌, subst, Bool, true, false, None, Some, Ok, Err, refl, arith, ◌≢◌, ◌==◌, ◌&&◌, map, Result, length, nat_lt, nat_le, if◌then◌else◌}
-use Rattle.std.specs.declared.option.Option.{Option}
+use Rattle.std.{proofs.Common.{◌≡◌, ℕ, ◌+◌, List, [], ◌∷◌, ◌++◌, subst, Bool, true, false, None, Some, Ok, Err, refl, arith, ◌≢◌, ◌==◌, ◌&&◌, map, Result, length, nat_lt, nat_le, if◌then◌else◌}, specs.declared.option.Option.{Option}}
 use Rattle.tally_base.{specs.declared.fault.Fault.Fault, specs.declared.fault.Fault.TheVariants.{HeaderLimit, TruncatedHeader, RecordLimit, TruncatedRecord, ReservedRecord, TimeLimit, BackwardTime}, specs.declared.header.Header.Header, specs.declared.header.RecordType.RecordType, specs.Faults.{status_of, fault_in}, specs.declared.event.Event.Event, specs.declared.header.Mode.Mode, specs.Events.{stops_late, stops_reserved}}
 use Rattle.ptu_definitions.{specs.declared.found.Found.Found, specs.declared.records.KindCounts.KindCounts, specs.Words.{words_of, rest_of}, specs.Kinds.{counts_of, is_reserved}, specs.Counted.{counted, records_of, record_limit}, specs.Endings.{Ending, OtherFile, BadType, BadLength, Whole, Open, ending}, specs.Fields.{found_in, header_of, version_in, with_type, with_value}, specs.Headers.{header_answer, head_of, answer_as, with_rest, header_limit}, specs.declared.records.Summary.Summary, specs.Times.{events, event_after, passes}, specs.Kept.greatest, specs.Settled.is_late_by, specs.Streams.{Reading, late_refusal, refusal, record_refusal, or_refusal, summary, streamed}, proofs.Firsts.first-refusal}
 use Rattle.command_work.specs.Outcomes.{status}

@@ -1,6 +1,5 @@
 -- Good words and files end well, and only words that are no command end as a bad command line.
-use Rattle.std.proofs.Common.{◌≡◌, ◌≤◌, ◌<◌, ℕ, List, true, None, Some, Ok, Err, refl, sym, ap, ◌∙◌, subst, arith, inl, inr, ◌≢◌, ◌⊎◌, Result, IfErr}
-use Rattle.std.specs.declared.option.Option.{Option}
+use Rattle.std.{proofs.Common.{◌≡◌, ◌≤◌, ◌<◌, ℕ, List, true, None, Some, Ok, Err, refl, sym, ap, ◌∙◌, subst, arith, inl, inr, ◌≢◌, ◌⊎◌, Result, IfErr}, specs.declared.option.Option.{Option}}
 use Rattle.tally_base.{specs.declared.slot.Slot.Slot, specs.declared.slot.Slot.TheVariants.{Plan, Data}, specs.declared.fault.Fault.Fault, specs.declared.fault.Fault.TheVariants.{Usage, OpenFault, ReadFault, WriteFault, OutOfMemory}, specs.Faults.{is_outside, fault_in, status_of, HasReason}, specs.FaultCounts.Rose}
 use Rattle.bench_io.{specs.Inputs.{File, InputState}, proofs.Bytes.{Appends-nil, Keeps-from_none}}
 use Rattle.plan_text.{specs.Plan.PlanView, specs.Reading.plan_answer}

@@ -4,5 +4,3 @@ pub mod Complete
 pub mod ByteFaults
 pub mod RunFaults
 pub mod Sound
-pub mod PickFaults
-pub mod TraceFaults

@@ -1,6 +1,5 @@
 -- No refusal of a plan, or of a file by a plan, is that of a bad command line.
-use Rattle.std.proofs.Common.{◌≡◌, ℕ, List, Bool, true, false, None, Some, Ok, Err, refl, arith, ◌≢◌, ◌==◌, Result, length, nat_le, if◌then◌else◌}
-use Rattle.std.specs.declared.option.Option.{Option}
+use Rattle.std.{proofs.Common.{◌≡◌, ℕ, List, Bool, true, false, None, Some, Ok, Err, refl, arith, ◌≢◌, ◌==◌, Result, length, nat_le, if◌then◌else◌}, specs.declared.option.Option.{Option}}
 use Rattle.tally_base.{specs.declared.fault.Fault.Fault, specs.declared.fault.Fault.TheVariants.{PlanTooLong, PlanRule}, specs.declared.header.Header.Header, specs.declared.header.Mode.Mode, specs.Faults.{status_of, fault_in}, specs.RecordTypes.mode_of}
 use Rattle.ptu_definitions.{specs.declared.records.Summary.Summary, specs.Headers.header_answer, specs.Words.{words_of, rest_of}, specs.Streams.{record_refusal, summary, streamed}}
 use Rattle.toml.specs.Data.{table, Members}

@@ -1,6 +1,5 @@
 -- What each command does, told once.
-use Rattle.std.specs.Prelude.{None, Some}
-use Rattle.std.specs.declared.option.Option.{Option}
+use Rattle.std.{specs.Prelude.{None, Some}, specs.declared.option.Option.{Option}}
 use Rattle.list_out.specs.HeaderText.{header_text}
 use Rattle.command_work.{specs.Outcomes.written, specs.Behaviours.{AtEnd, AsItReads, ForPlan, ForTables, Behaviour, NoCommand, Alone, OnFile, ByPlan}}
 use Rattle.file_work.specs.FileOutcomes.{counting, printing, events_so_far, listing_all}

@@ -1,6 +1,5 @@
 -- What a command asks for.
-use Rattle.std.specs.Prelude.{List, map, string_bytes}
-use Rattle.std.{specs.declared.string.String.String, specs.declared.alloc.Global.Global, specs.declared.option.Option.Option}
+use Rattle.std.{specs.Prelude.{List, map, string_bytes}, specs.declared.string.String.String, specs.declared.alloc.Global.Global, specs.declared.option.Option.Option}
 use Rattle.command_words.specs.Commands.{Request, request_of}
 use Rattle.ptu_cli.specs.Behaviours.{behaviour}
 use Rattle.command_work.specs.Behaviours.{Behaviour}

@@ -1,6 +1,5 @@
 -- What a run of the whole program leaves, by what its words ask for.
-use Rattle.std.specs.Prelude.{ℕ, ◌≡◌, ◌⊎◌, ◌↔◌, ◌≤◌, ◌<◌, List, None, Some}
-use Rattle.std.specs.declared.option.Option.{Option}
+use Rattle.std.{specs.Prelude.{ℕ, ◌≡◌, ◌⊎◌, ◌↔◌, ◌≤◌, ◌<◌, List, None, Some}, specs.declared.option.Option.{Option}}
 use Rattle.tally_base.{specs.declared.slot.Slot.Slot, specs.declared.fault.Fault.Fault, specs.declared.fault.Fault.TheVariants.{OpenFault, ReadFault, WriteFault, OutOfMemory}, specs.FaultCounts.Rose}
 use Rattle.bench_io.{specs.Inputs.{File, InputState}, specs.declared.inputs.Inputs.Ghosts as InputGhosts, specs.declared.sink.Sink.Ghosts as SinkGhosts}
 use Rattle.command_words.specs.Commands.{Request}

@@ -1,6 +1,5 @@
 -- What is delivered makes up the settled list, and with the rest the kept list.
-use Rattle.std.proofs.Common.{◌≡◌, ◌+◌, ◌-◌, ◌<◌, ◌≤◌, ℕ, List, [], ◌∷◌, ◌++◌, Bool, true, false, cond, map, length, drop, refl, sym, ap, ◌∙◌, append_assoc, append-nil, zero-add, arith, ⊎_elim, nat_lt, not, ◌&&◌, ◌==◌, ◌||◌}
-use Rattle.std.{specs.List.{AllByRecursion, filter, list_any}, proofs.lemmas.List.{map-append, take_all}, proofs.lemmas.List.Elements.filter-append, proofs.lemmas.Bool.{cases_lt, lt-ltb, ltb-false, eqb-true, ltb-true}}
+use Rattle.std.{proofs.Common.{◌≡◌, ◌+◌, ◌-◌, ◌<◌, ◌≤◌, ℕ, List, [], ◌∷◌, ◌++◌, Bool, true, false, cond, map, length, drop, refl, sym, ap, ◌∙◌, append_assoc, append-nil, zero-add, arith, ⊎_elim, nat_lt, not, ◌&&◌, ◌==◌, ◌||◌}, specs.List.{AllByRecursion, filter, list_any}, proofs.lemmas.List.{map-append, take_all}, proofs.lemmas.List.Elements.filter-append, proofs.lemmas.Bool.{cases_lt, lt-ltb, ltb-false, eqb-true, ltb-true}}
 use Rattle.tally_base.{specs.declared.event.Event.Event, specs.declared.header.Mode.Mode, specs.Events.is_ordered}
 use Rattle.ptu_definitions.{specs.Prefixes.each_after, specs.Kept.{Marked, mark, marked, is_late, kept}, specs.Settled.{later_than, is_overtaken, unless_overtaken, not_overtaken, put_in, put_all, in_time, without_last, last_of, marked_as, settles, delivered, delivered_last, those_marked, not_marked, late_by, is_late_by, ordered, kept_by, settled_by}, specs.Settling.IsOpen, proofs.PrefixLemmas.each_after-append, proofs.SettledLemmas.{later_than-cons, later_than-push, put_in-append, length-put_in}, proofs.SettlingLemmas.{all-push, joined-late, joined-put, joined-give, open-none, open-late, open-wait, open-emit, settled-is, waits-is, settles-late, settles-more}, proofs.SettlingLemmas.is_late as late-is, proofs.SettlingLemmas.is_not_late as late-is_not}
 

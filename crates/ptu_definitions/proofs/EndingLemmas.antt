@@ -1,6 +1,5 @@
 -- The function finds the ending that applies.
-use Rattle.std.proofs.Common.{◌≡◌, ◌+◌, ◌<◌, ◌≤◌, ◌≢◌, ℕ, zero, suc, List, [], ◌∷◌, ◌++◌, true, false, length, take, refl, sym, ap, ◌∙◌, append_assoc, arith, length-append, inl, inr, nat_lt, codes}
-use Rattle.std.{specs.Str.bytes_eq, proofs.lemmas.Slice.Eq.bytes_eq-Decides, proofs.lemmas.Bool.cases_lt}
+use Rattle.std.{proofs.Common.{◌≡◌, ◌+◌, ◌<◌, ◌≤◌, ◌≢◌, ℕ, zero, suc, List, [], ◌∷◌, ◌++◌, true, false, length, take, refl, sym, ap, ◌∙◌, append_assoc, arith, length-append, inl, inr, nat_lt, codes}, specs.Str.bytes_eq, proofs.lemmas.Slice.Eq.bytes_eq-Decides, proofs.lemmas.Bool.cases_lt}
 use Rattle.ptu_definitions.{specs.TagFields.{code_in, is_known, is_negative, body_size}, specs.TagList.{Item, bytes_of, IsFront}, specs.Endings.{OtherFile, BadType, BadLength, Whole, Open, IsOtherFile, HasBadType, HasBadLength, HasHeader, walk, ending}, proofs.Walks.{not_less, is_less, walk-short, walk-bad_type, walk-bad_length, walk-cut, walk-end, with_items, with_items-open, with_items-bad_type, with_items-bad_length, with_items-whole, ending-front, same_bytes}}
 
 -- a limit that isn't 0

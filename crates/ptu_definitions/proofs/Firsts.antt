@@ -1,8 +1,7 @@
 -- The record refusal is that of the least record that is refused.
-use Rattle.std.proofs.Common.{◌≡◌, ◌<◌, ℕ, zero, suc, List, [], ◌∷◌, ◌++◌, None, Some, length, take, get_or, refl, sym, ap, ◌∙◌, append_assoc, append-nil, arith, ◌↔◌, Bool, true, false, ◌&&◌, ◌+◌, nat_le, map, if◌then◌else◌}
-use Rattle.std.specs.declared.option.Option.{Option}
-use Rattle.tally_base.{specs.declared.event.Event.Event, specs.declared.header.Mode.Mode, specs.Faults.is_outside, specs.declared.fault.Fault.TheVariants.{RecordLimit, ReservedRecord, BackwardTime, TimeLimit}, specs.Events.{stops_late, stops_reserved}, specs.declared.fault.Fault.Fault}
-use Rattle.ptu_definitions.{specs.Kinds.is_reserved, specs.Times.{events, event_after, passes}, specs.Kept.greatest, specs.Settled.is_late_by, specs.Prefixes.{each_after, listed, first}, specs.Streams.{Reading, late_refusal, refusal, refusals, record_refusal, unrefused_after, events_in, given}, specs.Firsts.IsFirst, proofs.StreamLemmas.{listed-none, listed-rest, refused-push, refused-more, unrefused-all, unrefused-upto}}
+use Rattle.std.{proofs.Common.{◌≡◌, ◌<◌, ℕ, zero, suc, List, [], ◌∷◌, ◌++◌, None, Some, Ok, Err, ◌==◌, length, take, get_or, refl, sym, ap, ◌∙◌, append_assoc, append-nil, arith, ◌↔◌, Bool, true, false, ◌&&◌, ◌+◌, nat_le, map, if◌then◌else◌}, specs.declared.option.Option.Option}
+use Rattle.tally_base.{specs.declared.event.Event.Event, specs.declared.header.Mode.Mode, specs.Faults.{is_outside, fault_in}, specs.declared.fault.Fault.TheVariants.{RecordLimit, ReservedRecord, BackwardTime, TimeLimit, TruncatedRecord}, specs.Events.{stops_late, stops_reserved}, specs.declared.fault.Fault.Fault}
+use Rattle.ptu_definitions.{specs.Kinds.is_reserved, specs.Times.{events, event_after, passes}, specs.Kept.greatest, specs.Settled.is_late_by, specs.Prefixes.{each_after, listed, first}, specs.Streams.{Reading, late_refusal, refusal, refusals, record_refusal, unrefused_after, events_in, given, streamed, or_refusal, summary}, specs.Firsts.IsFirst, proofs.StreamLemmas.{listed-none, listed-rest, refused-push, refused-more, unrefused-all, unrefused-upto}, specs.Words.{words_of, rest_of}}
 
 abbrev after : Reading → List ℕ → List ℕ → List Fault
 after how before ws = each_after (λ before word. listed (refusal how before word)) before ws
@@ -130,3 +129,19 @@ refusal-inside how before word =
 
 pub record_refusal-inside : (how : Reading) (words : List ℕ) (fault : Fault) → record_refusal how words ≡ Some fault → is_outside fault ≡ false
 record_refusal-inside how words fault h = let r = first-refusal how words fault h in refusal-inside how r.front r.word fault r.refused
+
+-- each fault of a stream is one that its bytes call for
+pub streamed-inside : (how : Reading) (bytes : List ℕ) (fault : Fault) → fault_in (streamed how bytes) ≡ Some fault → is_outside fault ≡ false
+unfolding streamed
+streamed-inside how bytes fault is = by (record_refusal how (words_of bytes)) refl is
+  where
+    cut : (b : Bool) → fault_in (if b then Ok (summary how (words_of bytes)) else Err (TruncatedRecord (length (rest_of bytes)))) ≡ Some fault → is_outside fault ≡ false
+    cut true h = cc
+    cut false h = let same : TruncatedRecord (length (rest_of bytes)) ≡ fault = cc in rw (← same) refl
+
+    by : (o : Option Fault) → record_refusal how (words_of bytes) ≡ o → fault_in (or_refusal o (if length (rest_of bytes) == 0 then Ok (summary how (words_of bytes)) else Err (TruncatedRecord (length (rest_of bytes))))) ≡ Some fault → is_outside fault ≡ false
+    by (Some own) e h =
+        let same : own ≡ fault = cc in
+        let inside = record_refusal-inside how (words_of bytes) own e in
+        rw same at inside
+    by None e h = cut (length (rest_of bytes) == 0) h

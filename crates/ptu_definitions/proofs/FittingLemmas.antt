@@ -1,7 +1,6 @@
 -- The fields of each word are as large as the mode of its record type allows.
-use Rattle.std.proofs.Common.{ℕ, Bool, true, false, arith}
+use Rattle.std.{proofs.Common.{ℕ, Bool, true, false, arith}, proofs.lemmas.Grind.common_steps, proofs.lemmas.Bool.Decides.nat_tests}
 use Rattle.tally_base.{specs.declared.header.RecordType.RecordType, specs.declared.header.RecordType.TheVariants.{PicoHarpT2, PicoHarpT3, HydraHarpT2, HydraHarpT3, HydraHarp2T2, HydraHarp2T3, TimeHarp260NT2, TimeHarp260NT3, TimeHarp260PT2, TimeHarp260PT3, MultiHarpT2, MultiHarpT3}, specs.declared.header.Mode.TheVariants.{T2, T3}, specs.RecordTypes.mode_of}
-use Rattle.std.{proofs.lemmas.Grind.common_steps, proofs.lemmas.Bool.Decides.nat_tests}
 use Rattle.ptu_definitions.{specs.Layouts.{pico_t2, pico_t3, hydra_t2, hydra_t3, meaning_of}, specs.Fitting.Fits}
 
 pico_t2-fits : (word : ℕ) → Fits T2 (pico_t2 word)

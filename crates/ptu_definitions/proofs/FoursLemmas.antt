@@ -1,6 +1,5 @@
 -- Bytes in fours are their words, and what is left over.
-use Rattle.std.proofs.Common.{◌≡◌, ◌+◌, ◌*◌, ◌/◌, ◌<◌, ◌≤◌, ℕ, zero, suc, List, [], ◌∷◌, length, drop, refl, arith}
-use Rattle.std.{specs.Simd.first_chunks, specs.Int.{from_le_bytes, w32}}
+use Rattle.std.{proofs.Common.{◌≡◌, ◌+◌, ◌*◌, ◌/◌, ◌<◌, ◌≤◌, ℕ, zero, suc, List, [], ◌∷◌, length, drop, refl, arith}, specs.Simd.first_chunks, specs.Int.{from_le_bytes, w32}}
 use Rattle.ptu_definitions.{specs.Words.{word_of, words_of, rest_of}, specs.Fours.numbers}
 
 number_of : (a b c d : ℕ) → from_le_bytes w32 (a ∷ b ∷ c ∷ d ∷ []) ≡ word_of a b c d

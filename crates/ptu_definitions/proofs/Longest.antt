@@ -1,6 +1,5 @@
 -- All bytes have no front, a longest front or a header.
-use Rattle.std.proofs.Common.{◌≡◌, ◌⊎◌, ◌+◌, ◌≤◌, ℕ, zero, suc, List, [], ◌∷◌, ◌++◌, true, false, length, take, drop, refl, sym, ap, ◌∙◌, append_assoc, append-nil, take-append-drop, arith, length-append, inl, inr, codes}
-use Rattle.std.{specs.Str.bytes_eq, proofs.lemmas.List.{length-take, length-drop, take-append-le}, proofs.lemmas.Bool.{cases_Bool, cases_lt}, proofs.lemmas.Slice.Eq.bytes_eq-Decides}
+use Rattle.std.{proofs.Common.{◌≡◌, ◌⊎◌, ◌+◌, ◌≤◌, ℕ, zero, suc, List, [], ◌∷◌, ◌++◌, true, false, length, take, drop, refl, sym, ap, ◌∙◌, append_assoc, append-nil, take-append-drop, arith, length-append, inl, inr, codes}, specs.Str.bytes_eq, proofs.lemmas.List.{length-take, length-drop, take-append-le}, proofs.lemmas.Bool.{cases_Bool, cases_lt}, proofs.lemmas.Slice.Eq.bytes_eq-Decides}
 use Rattle.ptu_definitions.{specs.TagFields.{code_in, is_known, is_negative, body_size, is_end}, specs.TagList.{Item, IsItem, AreInner, bytes_of, IsFront, IsHeader}, specs.Endings.HasHeader, specs.Seen.{HasLongestFront, HasNoFront}, proofs.Walks.{drop_front, tag_front, whole_length, magic_front}, proofs.AnswerLemmas.bytes_of-append, proofs.Nests.{fronts-nest, header-ends}, proofs.SeenLaws.AreInner-push}
 
 -- A whole item stands at the front of the bytes.

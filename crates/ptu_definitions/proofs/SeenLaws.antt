@@ -1,6 +1,5 @@
 -- What bytes show, by the longest front or header, and where they have an answer.
-use Rattle.std.proofs.Common.{min, subst, ◌+◌, ◌≡◌, ◌≢◌, ◌-◌, ◌<◌, ◌≤◌, ◌^◌, ℕ, zero, suc, List, [], ◌∷◌, ◌++◌, true, false, length, take, drop, refl, sym, ap, ◌∙◌, append_assoc, append-nil, take-append-drop, arith, length-append, inl, inr, None, Some, Err, nat_eq, codes, Result}
-use Rattle.std.{specs.Str.bytes_eq, proofs.lemmas.List.{length-take, take-append-le}, proofs.lemmas.Bool.{cases_Bool, cases_lt, cases_eq}, proofs.lemmas.Bool.Decides.nat_tests, proofs.lemmas.Slice.Eq.bytes_eq-Decides, specs.declared.option.Option.Option}
+use Rattle.std.{proofs.Common.{min, subst, ◌+◌, ◌≡◌, ◌≢◌, ◌-◌, ◌<◌, ◌≤◌, ◌^◌, ℕ, zero, suc, List, [], ◌∷◌, ◌++◌, true, false, length, take, drop, refl, sym, ap, ◌∙◌, append_assoc, append-nil, take-append-drop, arith, length-append, inl, inr, None, Some, Err, nat_eq, codes, Result}, specs.Str.bytes_eq, proofs.lemmas.List.{length-take, take-append-le}, proofs.lemmas.Bool.{cases_Bool, cases_lt, cases_eq}, proofs.lemmas.Bool.Decides.nat_tests, proofs.lemmas.Slice.Eq.bytes_eq-Decides, specs.declared.option.Option.Option}
 use Rattle.tally_base.{specs.declared.fault.Fault.Fault, specs.declared.fault.Fault.TheVariants.TruncatedHeader, specs.declared.header.Header.Header, specs.declared.header.RecordType.RecordType, specs.RecordTypes.type_with}
 use Rattle.ptu_definitions.{specs.declared.found.Found.Found, specs.TagFields.{code_in, is_known, is_negative, body_size, is_end}, specs.TagList.{Item, IsItem, AreInner, bytes_of}, specs.Endings.{Ending, OtherFile, BadType, BadLength, Whole, Open, HasTag, IsOtherFile, EndsAs, ending}, specs.Fields.{found_in, header_of, version_in, with_type, with_value}, specs.Headers.{header_answer, head_of, answer_as, with_rest, unfinished}, specs.Shown.Shows, specs.Seen.{seen_from, seen, seen_preamble, begun, IsLongestFront, HasNoFront}, proofs.Walks.{not_less, is_less}, proofs.Sound.ending-applies, proofs.AnswerLemmas.{head-front, answer-open, bytes_of-append}, proofs.SeenLemmas.{seen_from-short, seen_from-part, seen_from-unknown, seen_from-negative, seen-front, seen-short, seen-other, seen-unknown, seen-negative, seen-header, seen_preamble-short, seen_preamble-other, seen_preamble-front, seen_preamble-header}}
 

@@ -1,6 +1,5 @@
 -- What the bytes taken show.
-use Rattle.std.proofs.Common.{◌≡◌, ◌+◌, ◌-◌, ◌<◌, ◌≤◌, ℕ, zero, suc, List, [], ◌∷◌, ◌++◌, true, false, length, take, drop, refl, sym, ap, ◌∙◌, append_assoc, append-nil, arith, length-append, inl, inr, None, Some, nat_lt, codes}
-use Rattle.std.{specs.Str.bytes_eq, proofs.Math.Seq.{take-append_seam, take-append-add}, proofs.lemmas.List.{take_all, take-append-le, length-take, length-drop}, proofs.lemmas.Bool.cases_Bool}
+use Rattle.std.{proofs.Common.{◌≡◌, ◌+◌, ◌-◌, ◌<◌, ◌≤◌, ℕ, zero, suc, List, [], ◌∷◌, ◌++◌, true, false, length, take, drop, refl, sym, ap, ◌∙◌, append_assoc, append-nil, arith, length-append, inl, inr, None, Some, nat_lt, codes}, specs.Str.bytes_eq, proofs.Math.Seq.{take-append_seam, take-append-add}, proofs.lemmas.List.{take_all, take-append-le, length-take, length-drop}, proofs.lemmas.Bool.cases_Bool}
 use Rattle.ptu_definitions.{specs.TagFields.{code_in, is_known, is_negative, body_size, is_end}, specs.TagList.{Item, IsItem, AreInner, bytes_of, IsFront, IsHeader}, specs.Endings.IsOtherFile, specs.Seen.{seen_from, seen, seen_preamble}, proofs.Walks.{take_front, drop_front, not_less, is_less, body_front, tag_front, whole_length, same_bytes, magic_front}, proofs.EndingLemmas.other_bytes}
 
 pub seen_from-short : (limit : ℕ) (bytes : List ℕ) → length bytes < 48 → seen_from limit bytes ≡ []

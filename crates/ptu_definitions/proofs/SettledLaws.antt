@@ -1,6 +1,5 @@
 -- Laws of the kept list and the settled list.
-use Rattle.std.proofs.Common.{◌≡◌, ◌+◌, ◌<◌, ◌≤◌, ℕ, List, [], ◌∷◌, ◌++◌, Bool, true, false, cond, length, length-append, refl, sym, ap, ◌∙◌, append_assoc, append-nil, arith, nat_lt, ◌==◌}
-use Rattle.std.{specs.List.filter, specs.List.Sorted.{IsPermutation, IsNonDecreasingBy}, proofs.lemmas.List.Sorted.{IsPermutation-refl, IsPermutation-cons, IsPermutation-middle, IsPermutation-trans, IsPermutation-append_left}, proofs.lemmas.List.Elements.filter-append, proofs.lemmas.Bool.{ltb-true, ltb-false, eqb-true, ne_eqb}}
+use Rattle.std.{proofs.Common.{◌≡◌, ◌+◌, ◌<◌, ◌≤◌, ℕ, List, [], ◌∷◌, ◌++◌, Bool, true, false, cond, length, length-append, refl, sym, ap, ◌∙◌, append_assoc, append-nil, arith, nat_lt, ◌==◌}, specs.List.filter, specs.List.Sorted.{IsPermutation, IsNonDecreasingBy}, proofs.lemmas.List.Sorted.{IsPermutation-refl, IsPermutation-cons, IsPermutation-middle, IsPermutation-trans, IsPermutation-append_left}, proofs.lemmas.List.Elements.filter-append, proofs.lemmas.Bool.{ltb-true, ltb-false, eqb-true, ne_eqb}}
 use Rattle.tally_base.specs.declared.event.Event.{Event}
 use Rattle.ptu_definitions.{specs.Prefixes.each_after, specs.Settled.{later_than, is_overtaken, unless_overtaken, not_overtaken, put_in, put_all, in_time, Rises}, proofs.SettledLemmas.{later_than-length, Rises-put_in, IsNonDecreasingBy-Rises}}
 

@@ -1,6 +1,5 @@
 -- Lists in order of time, and one event more.
-use Rattle.std.proofs.Common.{◌≡◌, ◌+◌, ◌-◌, ◌<◌, ◌≤◌, ℕ, zero, suc, List, [], ◌∷◌, ◌++◌, Bool, true, false, cond, length, get_or, refl, sym, ap, subst, ◌∙◌, append-nil, arith, nat_lt}
-use Rattle.std.{specs.List.{AllByRecursion, AllWithin, insert, remove}, specs.List.Sorted.IsNonDecreasingBy, proofs.lemmas.Bool.{ltb-true, ltb-false}, proofs.lemmas.List.Sums.{sum_by_push, sum_by-cons}}
+use Rattle.std.{proofs.Common.{◌≡◌, ◌+◌, ◌-◌, ◌<◌, ◌≤◌, ℕ, zero, suc, List, [], ◌∷◌, ◌++◌, Bool, true, false, cond, length, get_or, refl, sym, ap, subst, ◌∙◌, append-nil, arith, nat_lt}, specs.List.{AllByRecursion, AllWithin, insert, remove}, specs.List.Sorted.IsNonDecreasingBy, proofs.lemmas.Bool.{ltb-true, ltb-false}, proofs.lemmas.List.Sums.{sum_by_push, sum_by-cons}}
 use Rattle.tally_base.specs.declared.event.Event.{Event}
 use Rattle.ptu_definitions.{specs.Settled.{later_than, is_overtaken, unless_overtaken, not_overtaken, put_in, put_all, in_time, Rises}, proofs.PrefixLemmas.each-push}
 

@@ -1,6 +1,5 @@
 -- What is settled, one event after another.
-use Rattle.std.proofs.Common.{◌≡◌, ◌+◌, ◌-◌, ◌<◌, ◌≤◌, ℕ, List, [], ◌∷◌, ◌++◌, Bool, true, false, cond, length, refl, sym, ap, subst, ◌∙◌, append_assoc, length-append, arith, ⊎_elim, nat_lt}
-use Rattle.std.{specs.List.AllByRecursion, proofs.lemmas.Bool.{cases_lt, lt-ltb, le-ltb}, proofs.Math.Seq.{take-append_seam, drop-append_seam}}
+use Rattle.std.{proofs.Common.{◌≡◌, ◌+◌, ◌-◌, ◌<◌, ◌≤◌, ℕ, List, [], ◌∷◌, ◌++◌, Bool, true, false, cond, length, refl, sym, ap, subst, ◌∙◌, append_assoc, length-append, arith, ⊎_elim, nat_lt}, specs.List.AllByRecursion, proofs.lemmas.Bool.{cases_lt, lt-ltb, le-ltb}, proofs.Math.Seq.{take-append_seam, drop-append_seam}}
 use Rattle.tally_base.specs.declared.event.Event.{Event}
 use Rattle.ptu_definitions.{specs.Settled.{later_than, is_overtaken, put_in, in_time, without_last, last_of, marked_as, settles, Rises}, specs.Settling.IsOpen, proofs.SettledLemmas.{later_than-push, later_than-cons, later_than-put_in, length-put_in, Rises-put_in, put_in-append, is_no_later, all_later, later_than-length, in_time-late, in_time-push}}
 

@@ -1,6 +1,5 @@
 -- More bytes behind a file change its header's answer only where the header is cut.
-use Rattle.std.proofs.Common.{subst, ◌+◌, ◌≡◌, ◌≢◌, ◌-◌, ◌≤◌, ◌^◌, ℕ, List, [], ◌∷◌, ◌++◌, length, take, drop, refl, sym, ap, ◌∙◌, append_assoc, append-nil, arith, length-append, inl, inr, Ok, Err, Result}
-use Rattle.std.{proofs.lemmas.List.{length-take, take-append-le, drop-append-le, take_all, length-drop}, proofs.lemmas.Bool.cases_lt}
+use Rattle.std.{proofs.Common.{subst, ◌+◌, ◌≡◌, ◌≢◌, ◌-◌, ◌≤◌, ◌^◌, ℕ, List, [], ◌∷◌, ◌++◌, length, take, drop, refl, sym, ap, ◌∙◌, append_assoc, append-nil, arith, length-append, inl, inr, Ok, Err, Result}, proofs.lemmas.List.{length-take, take-append-le, drop-append-le, take_all, length-drop}, proofs.lemmas.Bool.cases_lt}
 use Rattle.tally_base.{specs.declared.fault.Fault.Fault, specs.declared.fault.Fault.TheVariants.TruncatedHeader, specs.declared.header.Header.Header}
 use Rattle.ptu_definitions.{specs.TagList.{Item, bytes_of}, specs.Endings.{Ending, OtherFile, BadType, BadLength, Whole, Open, HasTag, HasHeader, IsOpen, EndsAs, ending}, specs.Fields.{found_in, header_of, version_in}, specs.Headers.{header_answer, head_of, answer_as, with_rest, unfinished}, proofs.Sound.{ending-applies, ending-one}, proofs.AnswerLemmas.{head-front, answer-open, answer-at, bytes_of-append}, proofs.SeenLaws.{other-append, behind_tag, refusal, err_is}}
 

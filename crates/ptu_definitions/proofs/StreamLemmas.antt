@@ -1,16 +1,11 @@
 -- Streams that grow.
-use Rattle.std.proofs.Common.{◌≡◌, ℕ, List, [], ◌∷◌, ◌++◌, Bool, cond, None, Some, map, max, refl, sym, ap, ◌∙◌, append_assoc, append-nil, arith, nat_lt, not, ◌&&◌, ◌||◌}
-use Rattle.std.{specs.declared.option.Option.Option, specs.List.list_any, proofs.lemmas.Grind.common_steps, proofs.lemmas.List.map-append, proofs.lemmas.Bool.Decides.nat_tests}
+use Rattle.std.{proofs.Common.{◌≡◌, ℕ, List, [], ◌∷◌, ◌++◌, Bool, cond, None, Some, map, max, refl, sym, ap, ◌∙◌, append_assoc, append-nil, arith, nat_lt, not, ◌&&◌, ◌||◌}, specs.declared.option.Option.Option, specs.List.list_any, proofs.lemmas.Grind.common_steps, proofs.lemmas.List.map-append, proofs.lemmas.Bool.Decides.nat_tests}
 use Rattle.tally_base.{specs.declared.event.Event.Event, specs.declared.header.Mode.Mode, specs.Events.is_ordered, specs.declared.fault.Fault.Fault}
 use Rattle.ptu_definitions.{specs.declared.records.Raw.Raw, specs.Prefixes.{each_after, listed, first}, specs.Times.{event_after, events}, specs.Kept.{floor_of, mark, marked, is_late, greatest, ordered_time, Marked}, specs.Streams.{Reading, refusal, refusals, record_refusal, unless_refused, unrefused_after, events_in, given}, proofs.PrefixLemmas.{each-push, each_after-append, first-append}, proofs.DeliveredLaws.{delivered_after, delivered-append}}
 
 pub events-push : (records : List Raw) (raw : Raw) → events (records ++ raw ∷ []) ≡ events records ++ event_after records raw
 unfolding events
 events-push records raw = each-push event_after records raw
-
-pub marked-push : (mode : Mode) (es : List Event) (e : Event) → marked mode (es ++ e ∷ []) ≡ marked mode es ++ (e, is_late mode es e) ∷ []
-unfolding marked
-marked-push mode es e = each-push (mark mode) es e
 
 -- some ordered event has a greater time where the greatest has
 later-max : (b r : Bool) (t x m : ℕ) → r ≡ nat_lt t m → ((b && nat_lt t x) || r) ≡ nat_lt t (max (cond b x 0) m)

@@ -1,6 +1,5 @@
 -- Which events are late, and the kept list, where no event is put in its place.
-use Rattle.std.specs.Prelude.{ℕ, ◌&&◌, Bool, nat_lt, max, List, [], ◌∷◌, map, filter, not, if◌then◌else◌}
-use Rattle.std.specs.List.{list_any}
+use Rattle.std.{specs.Prelude.{ℕ, ◌&&◌, Bool, nat_lt, max, List, [], ◌∷◌, map, filter, not, if◌then◌else◌}, specs.List.list_any}
 use Rattle.tally_base.{specs.declared.event.Event.Event, specs.declared.header.Mode.Mode, specs.Events.is_ordered}
 use Rattle.ptu_definitions.specs.Prefixes.{each}
 

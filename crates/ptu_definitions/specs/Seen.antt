@@ -1,6 +1,5 @@
 -- What the bytes taken so far show: the preamble and the items.
-use Rattle.std.specs.Prelude.{ℕ, zero, suc, ◌≡◌, ◌+◌, ◌≤◌, ◌||◌, List, [], ◌∷◌, ◌++◌, length, take, drop, codes, not, nat_lt, if◌then◌else◌, None, Some}
-use Rattle.std.{specs.declared.option.Option.Option, specs.Str.bytes_eq}
+use Rattle.std.{specs.Prelude.{ℕ, zero, suc, ◌≡◌, ◌+◌, ◌≤◌, ◌||◌, List, [], ◌∷◌, ◌++◌, length, take, drop, codes, not, nat_lt, if◌then◌else◌, None, Some}, specs.declared.option.Option.Option, specs.Str.bytes_eq}
 use Rattle.ptu_definitions.{specs.TagFields.{code_in, is_known, is_negative, body_size, is_end}, specs.TagList.{Item, IsFront, IsHeader}, specs.Endings.first_item}
 
 -- Each item whose tag is whole and good, the last of them with as much of its body as is there.

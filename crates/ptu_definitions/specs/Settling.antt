@@ -1,6 +1,5 @@
 -- What is known of events in the order in which they came, of those settled and of those not settled yet.
-use Rattle.std.specs.Prelude.{ℕ, ◌≡◌, ◌<◌, ◌≤◌, List, [], length}
-use Rattle.std.specs.List.{AllByRecursion}
+use Rattle.std.{specs.Prelude.{ℕ, ◌≡◌, ◌<◌, ◌≤◌, List, [], length}, specs.List.AllByRecursion}
 use Rattle.tally_base.specs.declared.event.Event.{Event}
 use Rattle.ptu_definitions.specs.Settled.{later_than, Rises}
 

@@ -1,9 +1,8 @@
 // Laws of the definitions, each as the contract of a function that does nothing.
-ghost use Rattle.std.specs.Prelude.{◌==◌, filter, ◌≡◌, ◌≢◌, ◌↔◌, ◌⊎◌, ◌++◌, ◌∷◌, [], ◌+◌, ◌<◌, ◌≤◌, ◌^◌, ℕ, List, Result, Ok, length, take, get_or};
+ghost use Rattle.std.{specs.Prelude.{◌==◌, filter, ◌≡◌, ◌≢◌, ◌↔◌, ◌⊎◌, ◌++◌, ◌∷◌, [], ◌+◌, ◌<◌, ◌≤◌, ◌^◌, ℕ, List, Result, Ok, length, take, get_or}, specs.List.Sorted.{IsPermutation, IsNonDecreasingBy}};
 ghost use Rattle.tally_base.specs.declared.fault.Fault.TheVariants as Fault;
 ghost use Rattle.tally_base.{specs.declared.fault.Fault.Fault, specs.declared.header.Header.Header, specs.declared.event.Event.Event, specs.declared.header.Mode.Mode};
 ghost use Rattle.ptu_definitions.{specs.Headers.{HasAnswer, header_answer}, specs.TagList.{Item, IsFront, IsHeader}, specs.Begins.{Front, BeginsWith, IsFrontOf, Nest, IsBegun, ShowsItems, ShowsNoMore}, specs.Seen.{seen, seen_preamble, begun, IsLongestFront, HasLongestFront, HasNoFront}, specs.Shown.Shows, specs.Endings.{Ending, EndsAs, HasHeader}, specs.Kept.{marked, kept, is_late, greatest, floor_of}, specs.Settled.{not_overtaken, in_time, is_late_by, ordered, kept_by, settled_by, late_by, delivered, delivered_last, not_marked, those_marked}, specs.Streams.{Reading, refusal, record_refusal, unrefused_after, events_in, given}, specs.Firsts.IsFirst};
-ghost use Rattle.std.specs.List.Sorted.{IsPermutation, IsNonDecreasingBy};
 
 /// Exactly one answer applies to a file, and it is the one that the function finds.
 pub fn one_answer()

@@ -1,6 +1,5 @@
 -- How a reader goes on.
-use Rattle.std.proofs.Common.{◌≡◌, ◌+◌, ◌<◌, ◌≤◌, ◌≢◌, ◌^◌, ◌&&◌, ℕ, zero, suc, List, [], ◌∷◌, ◌++◌, Bool, true, false, length, take, drop, refl, sym, ap, ◌∙◌, subst, append_assoc, append-nil, take-append-drop, arith, length-append, Ok, Err, Some, inl, inr, IsTrue, ◌↔◌, nat_lt, nat_eq, codes, Result}
-use Rattle.std.{proofs.Math.Seq.take-append-add, proofs.lemmas.List.{take_all, take-append-le, length-take}, proofs.lemmas.Bool.Decides.nat_tests, proofs.lemmas.Bool.{and_parts, cases_eq, cases_lt, false≢true}, specs.Int.{w64, cast_signed}}
+use Rattle.std.{proofs.Common.{◌≡◌, ◌+◌, ◌<◌, ◌≤◌, ◌≢◌, ◌^◌, ◌&&◌, ℕ, zero, suc, List, [], ◌∷◌, ◌++◌, Bool, true, false, length, take, drop, refl, sym, ap, ◌∙◌, subst, append_assoc, append-nil, take-append-drop, arith, length-append, Ok, Err, Some, inl, inr, IsTrue, ◌↔◌, nat_lt, nat_eq, codes, Result}, proofs.Math.Seq.take-append-add, proofs.lemmas.List.{take_all, take-append-le, length-take}, proofs.lemmas.Bool.Decides.nat_tests, proofs.lemmas.Bool.{and_parts, cases_eq, cases_lt, false≢true}, specs.Int.{w64, cast_signed}}
 use Rattle.tally_base.{specs.declared.fault.Fault.Fault, specs.declared.fault.Fault.TheVariants.{TruncatedHeader, HeaderLimit, BadMagic, TagType, TagLength}, specs.declared.header.Header.Header}
 use Rattle.ptu_definitions.{specs.declared.found.Found.Found, specs.TagFields.{code_in, value_in, is_known, is_negative, body_size, is_end}, specs.TagList.{Item, IsItem, AreInner, bytes_of, IsPreamble, IsFront}, specs.Endings.{Open, ending, IsOtherFile}, specs.Fields.{found_in, header_of, version_in, with_tag}, specs.Headers.{header_answer, with_rest}, specs.Seen.{seen, seen_preamble}, proofs.SeenLemmas.{seen-short, seen-tag, seen-body, seen-before, seen-other, seen-unknown, seen-negative, seen_preamble-short, seen_preamble-other, seen_preamble-front, seen_preamble-append}, specs.Shown.Shows, proofs.EndingLemmas.{ending-start, ending-carried, ending-cut}, proofs.AnswerLemmas.{bytes_of-append, answer-open, answer-limit, answer-header, answer-other, answer-bad_type, answer-bad_length, found_in-push, Shows-append}}
 use Rattle.ptu_header.{specs.declared.reader.HeaderReader.HeaderReader, specs.declared.reader.Phase.Phase, specs.declared.step.HeaderStep.HeaderStep, specs.declared.step.HeaderStep.TheVariants.{More, Preamble, Tag, Body, Done, Refused}, specs.Phases.phase_after, specs.Reading.{Takes, TookTag, InPreamble, InTag, InBody, AtEnd, Stays, Adds, AddsNothing, IsDue, bare, EndsInTag, EndsInBody, Reads, HasRead, goes_on, Steps, StepsWhole, Took}}

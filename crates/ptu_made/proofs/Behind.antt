@@ -1,6 +1,5 @@
 -- The words behind one more photon.
-use Rattle.std.proofs.Common.{◌≡◌, ◌+◌, ◌<◌, ℕ, zero, suc, List, [], ◌∷◌, ◌++◌, refl, ap, arith}
-use Rattle.std.proofs.lemmas.List.Sums.{sum_by-cons}
+use Rattle.std.{proofs.Common.{◌≡◌, ◌+◌, ◌<◌, ℕ, zero, suc, List, [], ◌∷◌, ◌++◌, refl, ap, arith}, proofs.lemmas.List.Sums.sum_by-cons}
 use Rattle.ptu_definitions.specs.Prefixes.{each_after, each}
 use Rattle.ptu_made.specs.Generator.{next_state, states, gap, channel, last_time, photon_words, words_behind}
 

@@ -1,6 +1,5 @@
 -- Bytes that are held in a part of an array.
-use Rattle.std.proofs.Common.{◌≡◌, ◌+◌, ◌-◌, ◌≤◌, ℕ, List, [], ◌++◌, length, take, drop, refl, sym, ap, ◌∙◌, arith, append_assoc, slice_range}
-use Rattle.std.{proofs.lemmas.List.{length-take, take-take, drop-append-le, drop-drop}, proofs.lemmas.Slice.{take-put_mid, between_is}, proofs.Math.Seq.{take-add, take-append-add}}
+use Rattle.std.{proofs.Common.{◌≡◌, ◌+◌, ◌-◌, ◌≤◌, ℕ, List, [], ◌++◌, length, take, drop, refl, sym, ap, ◌∙◌, arith, append_assoc, slice_range}, proofs.lemmas.List.{length-take, take-take, drop-append-le, drop-drop}, proofs.lemmas.Slice.{take-put_mid, between_is}, proofs.Math.Seq.{take-add, take-append-add}}
 use borrow.Rule.Slice.PartMut.{put_mid}
 
 pub held-more : (next end k : ℕ) (held bytes : List ℕ) → next ≤ end → end ≤ length held → length bytes ≡ 4 → slice_range (put_mid end k held bytes) next (end + 4) ≡ slice_range held next end ++ bytes
@@ -15,9 +14,6 @@ held-split next end count held fits =
     let whole : end - next ≡ count + (end - (next + count)) = omega arith in
     let part : (next + count) - next ≡ count = omega arith in
     rw (whole, part) (take-add count (end - (next + count)) (drop next held) ∙ ap (λ l. take count (drop next held) ++ take (end - (next + count)) l) (drop-drop count next held))
-
-pub held-none : (at end : ℕ) (held : List ℕ) → at ≡ end → slice_range held at end ≡ []
-held-none at end held same = let none : end - at ≡ 0 = omega arith in rw none refl
 
 -- the first bytes with those that were read behind them
 read_behind : (filled k count : ℕ) (into new : List ℕ) → filled ≤ length into → count ≤ length new → take (filled + count) (put_mid filled k into new) ≡ take filled into ++ take count new

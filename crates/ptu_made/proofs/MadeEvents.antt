@@ -1,6 +1,5 @@
 -- The events of the made file are its photons.
-use Rattle.std.proofs.Common.{◌≡◌, ◌+◌, ◌*◌, ◌/◌, ◌%◌, ◌<◌, ◌≤◌, ℕ, zero, suc, Bool, true, false, List, [], ◌∷◌, ◌++◌, length, map, refl, ◌∙◌, arith, nat_lt, if◌then◌else◌}
-use Rattle.std.{proofs.lemmas.List.Sums.{sum_by-cons, sum_by_push}, proofs.lemmas.Bool.Decides.nat_tests}
+use Rattle.std.{proofs.Common.{◌≡◌, ◌+◌, ◌*◌, ◌/◌, ◌%◌, ◌<◌, ◌≤◌, ℕ, zero, suc, Bool, true, false, List, [], ◌∷◌, ◌++◌, length, map, refl, ◌∙◌, arith, nat_lt, if◌then◌else◌}, proofs.lemmas.List.Sums.{sum_by-cons, sum_by_push}, proofs.lemmas.Bool.Decides.nat_tests}
 use Rattle.tally_base.specs.declared.event.EventKind.TheVariants.{Photon as PhotonEvent}
 use Rattle.ptu_definitions.{specs.declared.records.Raw.Raw, specs.declared.records.Raw.TheVariants.{Photon, Wrap}, specs.Layouts.hydra_t2, specs.Prefixes.each_after, specs.Times.{amount, base, event_after, events}}
 use Rattle.ptu_made.{specs.Generator.{next_state, states, gap, channel, last_time, unit, photon_word, words_behind, made_words}, specs.Records.made_photons, proofs.Behind.{Giving, all_given, all_given-cons, words_behind-cons}, proofs.Meanings.{photon-meaning, wrap-meaning}}

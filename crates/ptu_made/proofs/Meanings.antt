@@ -1,6 +1,5 @@
 -- The words of the made file are photons and wraps.
-use Rattle.std.proofs.Common.{◌≡◌, ◌+◌, ◌*◌, ◌/◌, ◌%◌, ◌^◌, ◌<◌, ℕ, zero, suc, Bool, true, false, List, [], ◌∷◌, ◌++◌, length, get_or, refl, arith, nat_lt, if◌then◌else◌}
-use Rattle.std.specs.List.{AllByRecursion}
+use Rattle.std.{proofs.Common.{◌≡◌, ◌+◌, ◌*◌, ◌/◌, ◌%◌, ◌^◌, ◌<◌, ℕ, zero, suc, Bool, true, false, List, [], ◌∷◌, ◌++◌, length, get_or, refl, arith, nat_lt, if◌then◌else◌}, specs.List.AllByRecursion}
 use Rattle.ptu_definitions.{specs.declared.records.Raw.TheVariants.{Photon, Wrap}, specs.Layouts.{hydra_t2, bits}, specs.Words.{words_of, rest_of}}
 use Rattle.ptu_made.{specs.Generator.{states, gap, channel, unit, photon_word, words_behind, made_words}, specs.Records.IsPhotonOrWrap, proofs.Behind.words_behind-cons}
 use Rattle.short_file.{specs.ShortFiles.bytes_in, proofs.WordBytes.{IsWord, words_of-bytes_in, rest_of-bytes_in}}

@@ -1,6 +1,5 @@
 -- No record of the made file is refused.
-use Rattle.std.proofs.Common.{◌≡◌, ◌+◌, ◌*◌, ◌<◌, ◌≤◌, ℕ, zero, suc, Bool, true, false, None, List, [], ◌∷◌, length, map, take, get_or, refl, ◌∙◌, arith, nat_lt, nat_le, ◌&&◌, if◌then◌else◌}
-use Rattle.std.{specs.List.AllByRecursion, specs.declared.option.Option.Option, proofs.lemmas.List.{length-map, length-take}, proofs.lemmas.List.Sums.sum_by-cons, proofs.lemmas.Bool.Decides.nat_tests}
+use Rattle.std.{proofs.Common.{◌≡◌, ◌+◌, ◌*◌, ◌<◌, ◌≤◌, ℕ, zero, suc, Bool, true, false, None, List, [], ◌∷◌, length, map, take, get_or, refl, ◌∙◌, arith, nat_lt, nat_le, ◌&&◌, if◌then◌else◌}, specs.List.AllByRecursion, specs.declared.option.Option.Option, proofs.lemmas.List.{length-map, length-take}, proofs.lemmas.List.Sums.sum_by-cons, proofs.lemmas.Bool.Decides.nat_tests}
 use Rattle.tally_base.{specs.declared.event.Policy.Policy, specs.declared.fault.Fault.Fault, specs.declared.header.RecordType.TheVariants.HydraHarp2T2, specs.Events.stops_late, specs.Limits.wrap_limit}
 use Rattle.ptu_definitions.{specs.declared.records.Raw.Raw, specs.declared.records.Raw.TheVariants.{Photon, Marker, Wrap, Reserved}, specs.Kinds.{is_reserved, is_wrap}, specs.Layouts.hydra_t2, specs.Times.{amount, base}, specs.Streams.{reading, refusal, record_refusal}, proofs.Firsts.none-refused}
 use Rattle.ptu_made.{specs.Generator.unit, specs.Records.IsPhotonOrWrap, proofs.Meanings.{IsMade, all_means}}

@@ -1,6 +1,5 @@
 -- A made file as inputs.
-use Rattle.std.specs.Prelude.{ℕ, List, ◌++◌, ◌≡◌, true, false, None, Some, is_some}
-use Rattle.std.{specs.declared.option.Option.Option, proofs.Common.sym, proofs.lemmas.Option.{none-some, same_Some}}
+use Rattle.std.{specs.Prelude.{ℕ, List, ◌++◌, ◌≡◌, true, false, None, Some, is_some}, specs.declared.option.Option.Option, proofs.Common.sym, proofs.lemmas.Option.{none-some, same_Some}}
 use Rattle.tally_base.{specs.declared.slot.Slot.Slot, specs.declared.slot.Slot.TheVariants.{Plan, Data}}
 use Rattle.bench_io.{specs.Inputs.InputState, specs.Given.{IsOf, no_bytes}, proofs.Givens.IsOf-left}
 use Rattle.ptu_made.{specs.declared.made.Made.Made, specs.declared.slot.Begun.Begun, specs.MadeFile.made_file, specs.Unread.{bytes_left, told_in, given_in}}
@@ -29,7 +28,7 @@ made_asked_first made slot opened = opened
 
 agrees_in : (slot : Option Begun) (file : List ℕ) → told_in slot ≡ Some file → IsOf (given_in slot) file
 agrees_in None file told = absurd (none-some file told)
-agrees_in (Some begun) file told = IsOf-left file begun.given.bytes _ begun.ended (sym (same_Some (begun.given.bytes ++ bytes_left begun.unread) file told))
+agrees_in (Some begun) file told = IsOf-left file begun.given.items _ begun.ended (sym (same_Some (begun.given.items ++ bytes_left begun.unread) file told))
 
 pub made_agrees : (made : Made) (slot : Slot) (file : List ℕ) → (made_state made).told slot ≡ Some file → IsOf ((made_state made).given slot) file
 unfolding made_state

@@ -1,6 +1,5 @@
 -- The made file.
-use Rattle.std.specs.Prelude.{ℕ, List}
-use Rattle.std.specs.declared.option.Option.{Option}
+use Rattle.std.{specs.Prelude.{ℕ, List}, specs.declared.option.Option.Option}
 use Rattle.tally_base.{specs.declared.event.Policy.Policy, specs.declared.fault.Fault.Fault, specs.declared.header.Mode.TheVariants.T2, specs.declared.header.RecordType.TheVariants.HydraHarp2T2}
 use Rattle.ptu_definitions.specs.Streams.{reading, record_refusal}
 use Rattle.short_file.specs.ShortFiles.{short_file}

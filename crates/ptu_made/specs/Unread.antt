@@ -1,6 +1,5 @@
 -- The bytes that are still to come of a made file, and those that its reads gave.
-use Rattle.std.specs.Prelude.{ℕ, List, [], ◌++◌, None, Some, slice_range}
-use Rattle.std.specs.declared.option.Option.{Option}
+use Rattle.std.{specs.Prelude.{ℕ, List, [], ◌++◌, None, Some, slice_range}, specs.declared.option.Option.Option}
 use Rattle.bench_io.specs.Given.{Given, gave, no_bytes, is_over}
 use Rattle.ptu_made.{specs.declared.unread.Unread.Unread, specs.declared.slot.Begun.Begun, specs.Left.words_left}
 use Rattle.short_file.specs.ShortFiles.{bytes_in}
@@ -20,9 +19,9 @@ rest_in (Some begun) = bytes_left begun.unread
 -- the whole file of a slot: what was given of it and what is left
 abbrev pub told_in : Option Begun → Option (List ℕ)
 told_in None = None
-told_in (Some begun) = Some (begun.given.bytes ++ bytes_left begun.unread)
+told_in (Some begun) = Some (begun.given.items ++ bytes_left begun.unread)
 
 -- what the reads of a slot have given
 abbrev pub given_in : Option Begun → Given
 given_in None = no_bytes
-given_in (Some begun) = gave begun.given.bytes (is_over (bytes_left begun.unread) begun.ended)
+given_in (Some begun) = gave begun.given.items (is_over (bytes_left begun.unread) begun.ended)

@@ -1,6 +1,5 @@
 // Laws of the made file, each as the contract of a function that does nothing.
-ghost use Rattle.std.specs.Prelude.{◌≡◌, ◌+◌, ◌*◌, ◌≤◌, ℕ, List, [], Ok, false, length, map};
-ghost use Rattle.std.specs.List.{All};
+ghost use Rattle.std.{specs.Prelude.{◌≡◌, ◌+◌, ◌*◌, ◌≤◌, ℕ, List, [], Ok, false, length, map}, specs.List.{All}};
 ghost use Rattle.tally_base.{specs.declared.event.Policy.Policy, specs.Events.stops_late};
 ghost use Rattle.tally_base.specs.declared.header.RecordType.TheVariants as RecordType;
 ghost use Rattle.ptu_definitions.{specs.Headers.header_answer, specs.Layouts.meaning_of, specs.Times.{base, events}, specs.Words.{words_of, rest_of}};

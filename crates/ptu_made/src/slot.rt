@@ -4,14 +4,14 @@ ghost use Rattle.bench_io.specs.Given.{GivesCount};
 ghost use Rattle.ptu_made.specs.Unread.{bytes_left, rest_in, told_in, given_in};
 
 use crate::unread::Unread;
-use byte_log::ByteLog;
+use noted::Noted;
 
 /// A made file that was opened: what is still to come of it, what was given, and whether a read has
 /// said the end.
 #[derive(Drop)]
 pub(crate) struct Begun {
     unread: Unread,
-    given: ByteLog,
+    given: Noted<u8>,
     ended: bool,
 }
 
@@ -19,12 +19,12 @@ impl Begun {
     /// A file of which nothing was read.
     pub(crate) fn new(unread: Unread) -> Begun
         ensures unread { result.unread ≡ unread }
-        ensures given { result.given.bytes ≡ [] }
+        ensures given { result.given.items ≡ [] }
         ensures ended { result.ended ≡ false }
     {
         Begun {
             unread,
-            given: ByteLog::new(),
+            given: Noted::new(),
             ended: false,
         }
     }

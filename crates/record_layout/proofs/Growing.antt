@@ -1,6 +1,5 @@
 -- A counter's bytes grow.
-use Rattle.std.proofs.Common.{◌≡◌, ◌+◌, ◌-◌, ◌*◌, ◌<◌, ◌≤◌, ℕ, List, [], ◌++◌, length, map, Ok, Err, refl, sym, ap, ◌∙◌, arith, length-append, false, nat_lt, nat_eq}
-use Rattle.std.{specs.Int.{from_le_bytes, w32}, proofs.lemmas.List.{length-map, map-append}, proofs.lemmas.Bool.Decides.nat_tests}
+use Rattle.std.{proofs.Common.{◌≡◌, ◌+◌, ◌-◌, ◌*◌, ◌<◌, ◌≤◌, ℕ, List, [], ◌++◌, length, map, Ok, Err, refl, sym, ap, ◌∙◌, arith, length-append, false, nat_lt, nat_eq}, specs.Int.{from_le_bytes, w32}, proofs.lemmas.List.{length-map, map-append}, proofs.lemmas.Bool.Decides.nat_tests}
 use Rattle.tally_base.{specs.declared.fault.Fault.TheVariants.{RecordLimit, TruncatedRecord}, specs.declared.header.RecordType.RecordType}
 use Rattle.ptu_definitions.{specs.declared.records.KindCounts.KindCounts, specs.Words.{words_of, rest_of}, specs.Fours.numbers, specs.Layouts.meaning_of, specs.Kinds.counts_of, specs.Counted.{counted, records_of, record_limit}, specs.Shown.Shows, proofs.WordsLemmas.{words_of-append, rest_of-append, length-words_of, length-rest_of, length-words_of-append}}
 use Rattle.record_layout.{specs.Sums.sum_of, specs.Counting.AreCounts, proofs.KindLemmas.counts_of-append}

@@ -1,6 +1,5 @@
 -- How many of some words are of each kind.
-use Rattle.std.proofs.Common.{◌≡◌, ◌+◌, ◌-◌, ◌<◌, ◌≤◌, ℕ, zero, suc, get_or, take, List, [], ◌∷◌, ◌++◌, Bool, cond, length, map, refl, sym, ap, ◌∙◌, arith, count_by}
-use Rattle.std.{specs.Int.{from_le_bytes, w32}, proofs.lemmas.List.{length-append, length-map}, proofs.lemmas.List.Sums.sum_by-append}
+use Rattle.std.{proofs.Common.{◌≡◌, ◌+◌, ◌-◌, ◌<◌, ◌≤◌, ℕ, zero, suc, get_or, take, List, [], ◌∷◌, ◌++◌, Bool, cond, length, map, refl, sym, ap, ◌∙◌, arith, count_by}, specs.Int.{from_le_bytes, w32}, proofs.lemmas.List.{length-append, length-map}, proofs.lemmas.List.Sums.sum_by-append}
 use Rattle.ptu_definitions.{specs.declared.records.Raw.Raw, specs.declared.records.Raw.TheVariants.{Photon, Marker, Wrap, Reserved}, specs.Fours.numbers, specs.Kinds.{is_photon, is_marker, is_wrap, is_reserved, counts_of}}
 use Rattle.record_layout.specs.Sums.{IsSplit, sum_of}
 

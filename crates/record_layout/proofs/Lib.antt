@@ -1,7 +1,8 @@
 pub mod BegunLemmas
-mod FieldLemmas
 mod KindLemmas
 mod CodeLemmas
 mod RowLemmas
 mod Growing
 mod Rows
+pub mod Chosen
+pub mod Added

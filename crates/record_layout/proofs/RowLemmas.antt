@@ -1,6 +1,5 @@
 -- The parts of a record say what its fields say.
-use Rattle.std.proofs.Common.{◌≡◌, ℕ, Bool, true, false, arith}
-use Rattle.std.{proofs.lemmas.Grind.common_steps, proofs.lemmas.Bool.Decides.nat_tests}
+use Rattle.std.{proofs.Common.{◌≡◌, ℕ, Bool, true, false, arith}, proofs.lemmas.Grind.common_steps, proofs.lemmas.Bool.Decides.nat_tests}
 use Rattle.ptu_definitions.{specs.Layouts.bits, specs.Times.amount}
 use Rattle.record_layout.{specs.Rowed.{raw_of, hydra_t2_code, hydra_t3_code, hydra_t2_amount, hydra_t3_amount, pico_code, pico_amount}, specs.Joins.{joined_pico_t2, joined_pico_t3, joined_hydra_t2, joined_hydra_t3}}
 
@@ -24,36 +23,10 @@ pub row-hydra_t3 : (old : Bool) (top time dtime : ℕ) → raw_of (record { code
 row-hydra_t3 true top time dtime = old-t3 top time dtime
 row-hydra_t3 false top time dtime = new-t3 top time dtime
 
-old-t2-amount : (top time dtime : ℕ) → hydra_t2_amount true top time ≡ amount (joined_hydra_t2 true (record { top = top; dtime = dtime; time = time }))
-old-t2-amount top time dtime = grind (arith, common_steps, nat_tests)
-
-new-t2-amount : (top time dtime : ℕ) → hydra_t2_amount false top time ≡ amount (joined_hydra_t2 false (record { top = top; dtime = dtime; time = time }))
-new-t2-amount top time dtime = grind (arith, common_steps, nat_tests)
-
-pub amount-hydra_t2 : (old : Bool) (top time dtime : ℕ) → hydra_t2_amount old top time ≡ amount (joined_hydra_t2 old (record { top = top; dtime = dtime; time = time }))
-amount-hydra_t2 true top time dtime = old-t2-amount top time dtime
-amount-hydra_t2 false top time dtime = new-t2-amount top time dtime
-
-old-t3-amount : (top time dtime : ℕ) → hydra_t3_amount true top time ≡ amount (joined_hydra_t3 true (record { top = top; dtime = dtime; time = time }))
-old-t3-amount top time dtime = grind (arith, common_steps, nat_tests)
-
-new-t3-amount : (top time dtime : ℕ) → hydra_t3_amount false top time ≡ amount (joined_hydra_t3 false (record { top = top; dtime = dtime; time = time }))
-new-t3-amount top time dtime = grind (arith, common_steps, nat_tests)
-
-pub amount-hydra_t3 : (old : Bool) (top time dtime : ℕ) → hydra_t3_amount old top time ≡ amount (joined_hydra_t3 old (record { top = top; dtime = dtime; time = time }))
-amount-hydra_t3 true top time dtime = old-t3-amount top time dtime
-amount-hydra_t3 false top time dtime = new-t3-amount top time dtime
-
 pub row-pico_t2 : (top time dtime marker : ℕ) → marker ≡ bits time 0 4
     → raw_of (record { code = pico_code top marker; time = time; dtime = 0; amount = pico_amount 210698240 top marker }) ≡ joined_pico_t2 (record { top = top; dtime = dtime; time = time })
 row-pico_t2 top time dtime marker is = grind (arith, common_steps, nat_tests)
 
-pub amount-pico_t2 : (top time dtime marker : ℕ) → marker ≡ bits time 0 4 → pico_amount 210698240 top marker ≡ amount (joined_pico_t2 (record { top = top; dtime = dtime; time = time }))
-amount-pico_t2 top time dtime marker is = grind (arith, common_steps, nat_tests)
-
 pub row-pico_t3 : (top time dtime marker : ℕ) → marker ≡ bits dtime 0 4
     → raw_of (record { code = pico_code top marker; time = time; dtime = dtime; amount = pico_amount 65536 top marker }) ≡ joined_pico_t3 (record { top = top; dtime = dtime; time = time })
 row-pico_t3 top time dtime marker is = grind (arith, common_steps, nat_tests)
-
-pub amount-pico_t3 : (top time dtime marker : ℕ) → marker ≡ bits dtime 0 4 → pico_amount 65536 top marker ≡ amount (joined_pico_t3 (record { top = top; dtime = dtime; time = time }))
-amount-pico_t3 top time dtime marker is = grind (arith, common_steps, nat_tests)

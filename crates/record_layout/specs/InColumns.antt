@@ -1,6 +1,5 @@
 -- Records by their parts in columns.
-use Rattle.std.specs.Prelude.{ℕ, ◌+◌, ◌*◌, ◌/◌, ◌%◌, ◌≡◌, ◌<◌, [], List, length, slice_index, slice_index_or}
-use Rattle.std.specs.Int.{from_le_bytes, w32}
+use Rattle.std.{specs.Prelude.{ℕ, zero, suc, ◌+◌, ◌*◌, ◌/◌, ◌%◌, ◌≡◌, ◌<◌, ◌≤◌, [], List, length, slice_index, slice_index_or}, specs.Int.{from_le_bytes, w32}}
 use Rattle.ptu_definitions.{specs.declared.records.Raw.Raw, specs.Times.amount}
 use Rattle.record_layout.{specs.Rowed.raw_of, specs.declared.row.Row.Row, specs.declared.columns.Columns.Columns}
 
@@ -33,3 +32,34 @@ row_at unit rows i = record {
 -- The columns have the records of these words.
 abbrev pub HasRows : (ℕ → Raw) → ℕ → Columns → List (List ℕ) → Type 0
 HasRows meaning unit rows words = (i : ℕ) → i < length words → IsRow meaning (row_at unit rows i) (from_le_bytes w32 (slice_index_or words i []))
+
+-- The row says the same record.
+pub record IsAs (row other : Row) : Type 0 where
+  pub raw : raw_of row ≡ raw_of other
+  pub amounts : row.amount ≡ other.amount
+
+-- how many wraps the record at a place stands for
+abbrev pub wraps_at : Columns → ℕ → ℕ
+wraps_at rows i = slice_index rows.wraps i
+
+-- the sum of the first so many
+unfoldable pub sum_to : (ℕ → ℕ) → ℕ → ℕ
+sum_to f zero = 0
+sum_to f (suc n) = sum_to f n + f n
+
+-- The wraps up to each of 64 records are added.
+abbrev pub HasSums : Columns → Type 0
+HasSums rows = (i : ℕ) → i < 64 → slice_index rows.sums i ≡ sum_to (wraps_at rows) (i + 1)
+
+-- the time of the record at a place, with the wraps before it and its own
+abbrev pub time_in : ℕ → ℕ → Columns → ℕ → ℕ
+time_in base unit rows i = base + unit * slice_index rows.sums i + slice_index rows.times i
+
+-- the time before the one at a place
+abbrev pub before : ℕ → (ℕ → ℕ) → ℕ → ℕ
+before low f zero = low
+before low f (suc i) = f i
+
+-- None of so many times is before the one before it.
+abbrev pub Rises : ℕ → (ℕ → ℕ) → ℕ → Type 0
+Rises low f n = (i : ℕ) → i < n → before low f i ≤ f i

@@ -6,3 +6,6 @@ pub mod Sums
 pub mod Counting
 pub mod Rowed
 pub mod InColumns
+pub mod Chosen
+pub mod InClose
+pub mod FewWraps

@@ -1,6 +1,5 @@
 // The records of a few words, by their parts.
-ghost use Rattle.std.specs.Prelude.{◌≡◌, ◌*◌, ◌<◌, ◌≤◌, ℕ, [], length, map, slice_index_or};
-ghost use Rattle.std.specs.Int.{from_le_bytes, w32};
+ghost use Rattle.std.{specs.Prelude.{◌≡◌, ◌*◌, ◌^◌, ◌<◌, ◌≤◌, ℕ, [], true, nat_lt, if◌then◌else◌, length, map, slice_index, slice_index_or}, specs.Int.{from_le_bytes, w32}};
 ghost use Rattle.ptu_definitions.{specs.Fours.numbers, specs.Kinds.counts_of};
 ghost use Rattle.record_layout.{specs.Sums.IsSplit, specs.InColumns.{joined, code_in, dtime_in}};
 
@@ -13,14 +12,16 @@ use ptu_definitions::KindCounts;
 #[derive(Clone, Copy)]
 pub struct Columns {
     // The code of each record, and its dtime in the upper half, as a block of events has them.
-    marks: [u32; 64],
-    times: [u32; 64],
+    pub(crate) marks: [u32; 64],
+    pub(crate) times: [u32; 64],
     // How many wraps each record stands for: narrower than how much later the times behind it are.
     wraps: [u32; 64],
+    // How many wraps there are up to each record, with its own, once they are added.
+    pub(crate) sums: [u32; 64],
 }
 
 impl Columns {
-    ghost use Rattle.record_layout.specs.InColumns.{HasRows, IsRow, row_at};
+    ghost use Rattle.record_layout.specs.InColumns.{HasRows, IsRow, IsAs, row_at, wraps_at, sum_to, HasSums, time_in, Rises};
 
     /// Columns for records, which say nothing yet.
     pub fn new() -> Columns {
@@ -28,6 +29,7 @@ impl Columns {
             marks: [0; 64],
             times: [0; 64],
             wraps: [0; 64],
+            sums: [0; 64],
         }
     }
 
@@ -45,17 +47,54 @@ impl Columns {
         }
     }
 
-    /// Puts the record of the word at a place, 0 to 63, with how many wraps it stands for.
+    /// Puts the record of the word at a place, 0 to 63, with how many wraps it stands for. The time of a record that is
+    /// no event has no meaning.
     #[inline(always)]
     fn put(&mut self, at: usize, row: &Row, wraps: u32)
         requires { at < 64 }
         ensures there { (unit : ℕ) → unit * wraps ≡ row.now.amount
-            → row_at unit self.new at ≡ row.now }
+            → IsAs (row_at unit self.new at) row.now }
         ensures before { (unit i : ℕ) → i < at → row_at unit self.new i ≡ row_at unit self.old i }
     {
         self.marks[at] = joined(row.code, row.dtime);
-        self.times[at] = row.time;
+        self.times[at] = time_of(row);
         self.wraps[at] = wraps;
+    }
+
+    /// Adds the wraps up to each of 64 records, and answers how many there are in all.
+    #[inline(always)]
+    pub fn add_up(&mut self) -> u32
+        requires few { (i : ℕ) → i < 64 → wraps_at self.old i ≤ 2 ^ 25 }
+        ensures sums { HasSums self.new }
+        ensures value { result ≡ sum_to (wraps_at self.new) 64 }
+        ensures same { (unit i : ℕ) → row_at unit self.new i ≡ row_at unit self.old i }
+        ensures wraps { self.new.wraps ≡ self.old.wraps }
+    {
+        let mut sum = 0u32;
+        for i in 0..64usize {
+            sum += self.wraps[i];
+            self.sums[i] = sum;
+        }
+        sum
+    }
+
+    /// True only where no time of the 64 records falls, from this one on. The sign of each difference tells it.
+    #[inline(always)]
+    pub fn rises<R: RecordLayout>(&self, base: u64, low: u64) -> bool
+        requires base { base ≤ 2 ^ 62 }
+        requires low { low < 2 ^ 63 }
+        requires sums { (i : ℕ) → i < 64 → slice_index self.now.sums i ≤ 2 ^ 31 }
+        ensures rises { result ≡ true → Rises low (time_in base R.UNIT self.now) 64 }
+        ensures few { (i : ℕ) → i < 64 → slice_index self.now.times i < 2 ^ 32 }
+    {
+        let mut last = low;
+        let mut falls = 0u64;
+        for i in 0..64usize {
+            let time = base + R::unit() * self.sums[i] as u64 + self.times[i] as u64;
+            falls |= time.wrapping_sub(last);
+            last = time;
+        }
+        falls < (1 << 63)
     }
 
     /// How many of the words are of each kind whose records it has. It reads their codes alone.
@@ -102,6 +141,14 @@ impl Columns {
     }
 }
 
+/// The time of a record if it is an event, or else 0.
+#[inline(always)]
+fn time_of(row: &Row) -> u32
+    ensures { result ≡ (if nat_lt row.now.code 512 then row.now.time else 0) }
+{
+    if row.code < 512 { row.time } else { 0 }
+}
+
 /// A code and a dtime as one number.
 #[inline(always)]
 fn joined(code: u16, dtime: u16) -> u32
@@ -112,7 +159,7 @@ fn joined(code: u16, dtime: u16) -> u32
 
 /// The code in such a number.
 #[inline(always)]
-fn code_in(mark: u32) -> u16
+pub(crate) fn code_in(mark: u32) -> u16
     ensures { result ≡ code_in mark }
 {
     (mark % 0x1_0000) as u16
@@ -120,7 +167,7 @@ fn code_in(mark: u32) -> u16
 
 /// The dtime in such a number.
 #[inline(always)]
-fn dtime_in(mark: u32) -> u16
+pub(crate) fn dtime_in(mark: u32) -> u16
     ensures { result ≡ dtime_in mark }
 {
     (mark / 0x1_0000) as u16

@@ -1,9 +1,8 @@
 // The T2 layout of HydraHarp and later devices.
-ghost use Rattle.std.specs.Prelude.{◌≡◌, ◌<◌, ◌^◌};
-ghost use Rattle.std.proofs.Common.{rules};
+ghost use Rattle.std.{specs.Prelude.{◌≡◌, ◌<◌, ◌^◌}, proofs.Common.{rules}};
 ghost use Rattle.tally_base.specs.declared.header.Mode.TheVariants.{T2};
 ghost use Rattle.ptu_definitions.specs.Layouts.{hydra_t2, hydra_t2_wrap, wraps_in};
-ghost use Rattle.record_layout.{specs.Joins.joined_hydra_t2, specs.Rowed.{hydra_t2_code, hydra_t2_amount, hydra_t2_unit, hydra_wraps}, specs.JoinLaws.{hydra_t2-is_join, hydra_t2-unit_small}};
+ghost use Rattle.record_layout.{specs.Joins.joined_hydra_t2, specs.Rowed.{hydra_t2_code, hydra_t2_amount, hydra_t2_unit, hydra_wraps}, specs.FewWraps.hydra_t2-few, specs.JoinLaws.{hydra_t2-is_join, hydra_t2-unit_small}};
 
 use crate::fields::Fields;
 use crate::layout::RecordLayout;
@@ -52,6 +51,8 @@ impl<const OLD: bool> RecordLayout for HydraT2<OLD> {
     ghost dtime_mask_high = { Prim.search rules };
 
     ghost unit_small = { hydra_t2-unit_small OLD };
+
+    ghost wraps_few = { hydra_t2-few OLD };
 
     ghost decode_is_join = { hydra_t2-is_join OLD };
 

@@ -1,9 +1,8 @@
 // The T3 layout of HydraHarp and later devices.
-ghost use Rattle.std.specs.Prelude.{◌≡◌};
-ghost use Rattle.std.proofs.Common.{rules};
+ghost use Rattle.std.{specs.Prelude.{◌≡◌}, proofs.Common.{rules}};
 ghost use Rattle.tally_base.specs.declared.header.Mode.TheVariants.{T3};
 ghost use Rattle.ptu_definitions.specs.Layouts.{hydra_t3, hydra_t3_wrap};
-ghost use Rattle.record_layout.{specs.Joins.joined_hydra_t3, specs.Rowed.{hydra_t3_code, hydra_t3_amount}, specs.JoinLaws.hydra_t3-is_join};
+ghost use Rattle.record_layout.{specs.Joins.joined_hydra_t3, specs.Rowed.{hydra_t3_code, hydra_t3_amount}, specs.FewWraps.hydra_t3-few, specs.JoinLaws.hydra_t3-is_join};
 
 use crate::fields::Fields;
 use crate::hydra_t2::{wraps_by, wraps_in};
@@ -53,6 +52,8 @@ impl<const OLD: bool> RecordLayout for HydraT3<OLD> {
     ghost dtime_mask_high = { Prim.search rules };
 
     ghost unit_small = { Prim.search rules };
+
+    ghost wraps_few = { hydra_t3-few OLD };
 
     ghost decode_is_join = { hydra_t3-is_join OLD };
 

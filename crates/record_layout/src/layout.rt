@@ -64,6 +64,9 @@ pub trait RecordLayout {
 
     ghost unit_small: { UNIT < 2 ^ 28 };
 
+    /// No word stands for more than 2^25 wraps, so those of 64 words fit 32 bits.
+    ghost wraps_few: { (word n : ℕ) → UNIT * n ≡ amount (meaning word) → n ≤ 2 ^ 25 };
+
     ghost top_shift_low: { 25 ≤ TOP_SHIFT };
 
     ghost top_shift_high: { TOP_SHIFT ≤ 31 };

@@ -5,6 +5,7 @@
 
 mod begun;
 mod by_type;
+mod close;
 mod columns;
 mod counter;
 mod fields;
@@ -17,6 +18,7 @@ mod row;
 
 pub use begun::BegunWord;
 pub use by_type::decode;
+pub use close::Close;
 pub use columns::Columns;
 pub use counter::Counter;
 pub use fields::Fields;

@@ -1,9 +1,8 @@
 // The layouts of PicoHarp.
-ghost use Rattle.std.specs.Prelude.{◌≡◌};
-ghost use Rattle.std.proofs.Common.{rules};
+ghost use Rattle.std.{specs.Prelude.{◌≡◌}, proofs.Common.{rules}};
 ghost use Rattle.tally_base.specs.declared.header.Mode.TheVariants.{T2, T3};
 ghost use Rattle.ptu_definitions.specs.Layouts.{pico_t2, pico_t3};
-ghost use Rattle.record_layout.{specs.Joins.{joined_pico_t2, joined_pico_t3}, specs.Rowed.{pico_code, pico_amount, pico_wraps}, specs.JoinLaws.{pico_t2-is_join, pico_t3-is_join}};
+ghost use Rattle.record_layout.{specs.FewWraps.{pico_t2-few, pico_t3-few}, specs.Joins.{joined_pico_t2, joined_pico_t3}, specs.Rowed.{pico_code, pico_amount, pico_wraps}, specs.JoinLaws.{pico_t2-is_join, pico_t3-is_join}};
 
 use crate::fields::Fields;
 use crate::layout::RecordLayout;
@@ -56,6 +55,8 @@ impl RecordLayout for PicoT2 {
     ghost dtime_mask_high = { Prim.search rules };
 
     ghost unit_small = { Prim.search rules };
+
+    ghost wraps_few = { pico_t2-few };
 
     ghost decode_is_join = { pico_t2-is_join };
 
@@ -138,6 +139,8 @@ impl RecordLayout for PicoT3 {
     ghost dtime_mask_high = { Prim.search rules };
 
     ghost unit_small = { Prim.search rules };
+
+    ghost wraps_few = { pico_t3-few };
 
     ghost decode_is_join = { pico_t3-is_join };
 

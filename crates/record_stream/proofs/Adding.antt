@@ -1,27 +1,18 @@
 -- One word more of which none is refused and no event is late.
-use Rattle.std.proofs.Common.{◌≡◌, ◌+◌, ◌<◌, ◌≤◌, ◌^◌, ℕ, List, [], ◌∷◌, ◌++◌, Bool, true, false, max, None, Ok, map, refl, sym, ap, subst, ◌∙◌, append_assoc, append-nil, arith, add-zero, ◌&&◌, IsTrue, nat_lt, if◌then◌else◌}
-use Rattle.std.{proofs.lemmas.List.{map-append, map_push}, proofs.lemmas.List.Elements.All-push, proofs.lemmas.Bool.Decides.nat_tests}
+use Rattle.std.{proofs.Common.{rules}, proofs.Common.{◌≡◌, ◌+◌, ◌<◌, ◌≤◌, ◌^◌, ℕ, List, [], ◌∷◌, ◌++◌, false, max, None, Ok, map, refl, sym, ap, subst, ◌∙◌, append_assoc, append-nil, arith, add-zero, ◌&&◌, IsTrue, if◌then◌else◌}, proofs.lemmas.List.{map-append, map_push}, proofs.lemmas.List.Elements.All-push}
 use Rattle.tally_base.{specs.declared.event.Event.Event, specs.declared.event.EventKind.TheVariants.{Photon as PhotonEvent, Marker as MarkerEvent}, specs.declared.header.Mode.Mode, specs.declared.header.Mode.TheVariants.{T2, T3}, specs.Events.{is_ordered, stops_reserved}, specs.Limits.{time_limit, wrap_limit}, proofs.Floors.{floor-push, order-push}}
 use Rattle.ptu_definitions.{specs.declared.records.Raw.Raw, specs.declared.records.Raw.TheVariants.{Photon, Marker, Wrap, Reserved}, specs.Kinds.is_reserved, specs.Times.{event_after, event_of, events, amount}, specs.Fitting.{Fits, KindFits}, specs.Kept.{Marked, ordered_time}, specs.Streams.{Reading, events_in}, proofs.StreamLemmas.{clear-push, events-push, events_in-push, fresh}}
-use Rattle.abs_time.{specs.declared.clock.Placed.Placed, specs.declared.clock.Placed.TheVariants.{Event as InOrderPlaced, Late, Wrap as WrapPlaced, Reserved as ReservedPlaced}, specs.Placing.{IsClock, against, place_answer}, proofs.ClockLemmas.{IsClock-photon, IsClock-marker, IsClock-wrap, IsClock-reserved, answer-photon, answer-marker, answer-wrap, answer-reserved}, specs.Floors.orders_markers, proofs.Floors.moves_by}
+use Rattle.abs_time.{specs.declared.clock.Placed.Placed, specs.declared.clock.Placed.TheVariants.{Event as InOrderPlaced, Wrap as WrapPlaced, Reserved as ReservedPlaced}, specs.Placing.{IsClock, against, place_answer}, proofs.ClockLemmas.{IsClock-photon, IsClock-marker, IsClock-wrap, IsClock-reserved, answer-photon, answer-marker, answer-wrap, answer-reserved}, specs.Floors.orders_markers, proofs.Floors.moves_by}
 use Rattle.settle.specs.Passing.{place_after}
 use Rattle.record_stream.{specs.Blocks.{on_time, greatest_with, IsOnTime, Adds, IsInLine, PlacesRise, RisesWithin}, specs.Recorded.refused_late, proofs.Placed.{IsEarly, event_in, marks_of, comes, refusal-ok, refused-early, fresh-plain}}
 
 -- an event that is not late
 against-on_time : (mode : Mode) (top : ℕ) (e : Event) → (IsTrue (is_ordered mode e) → top ≤ e.time) → against mode top e ≡ InOrderPlaced e
-against-on_time mode top e on = by_case (is_ordered mode e) on
-  where
-    by_case : (b : Bool) → (IsTrue b → top ≤ e.time) → (if b && nat_lt e.time top then Late e top else InOrderPlaced e) ≡ InOrderPlaced e
-    by_case true on = let h : top ≤ e.time = on refl in let t : nat_lt e.time top ≡ false = grind (arith, nat_tests, h) in rw t refl
-    by_case false on = refl
+against-on_time mode top e on = search (rules, arith)
 
 -- and the greatest time with it
 pub greatest-on_time : (mode : Mode) (top : ℕ) (e : Event) → (IsTrue (is_ordered mode e) → top ≤ e.time) → max top (ordered_time mode e) ≡ (if is_ordered mode e then e.time else top)
-greatest-on_time mode top e on = by_case (is_ordered mode e) on
-  where
-    by_case : (b : Bool) → (IsTrue b → top ≤ e.time) → max top (if b then e.time else 0) ≡ (if b then e.time else top)
-    by_case true on = let h : top ≤ e.time = on refl in omega (arith, h)
-    by_case false on = omega arith
+greatest-on_time mode top e on = search (rules, arith)
 
 -- the clock with a record more, of which no event is late
 pub clock-push : (mode : Mode) (n base top : ℕ) (records : List Raw) (raw : Raw) → IsClock mode n base top records → IsOnTime mode top (event_of (n + 1) base raw)

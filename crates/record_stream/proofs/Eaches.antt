@@ -1,6 +1,5 @@
 -- The events of a block, one by one.
-use Rattle.std.proofs.Common.{◌≡◌, ◌+◌, ◌<◌, ℕ, zero, suc, List, [], ◌∷◌, ◌++◌, Bool, true, false, All, length, refl, sym, ap, subst, ◌∙◌, append_assoc, arith, length-append, ◌⊎◌, ⊎_elim, ◌&&◌, not, IsTrue, if◌then◌else◌, max, append-nil}
-use Rattle.std.{specs.List.AllByRecursion, proofs.lemmas.List.Elements.All-from_recursion, proofs.lemmas.Grind.get_or_at_push, proofs.lemmas.List.{map-append, get_or_append_left}}
+use Rattle.std.{proofs.Common.{rules}, proofs.Common.{◌≡◌, ◌+◌, ◌<◌, ℕ, zero, suc, List, [], ◌∷◌, ◌++◌, Bool, false, All, length, sym, ap, subst, ◌∙◌, append_assoc, arith, length-append, ◌⊎◌, ⊎_elim, ◌&&◌, not, IsTrue, if◌then◌else◌, max, append-nil}, specs.List.AllByRecursion, proofs.lemmas.List.Elements.All-from_recursion, proofs.lemmas.Grind.get_or_at_push, proofs.lemmas.List.{map-append, get_or_append_left}}
 use Rattle.tally_base.{specs.declared.event.Event.Event, specs.declared.header.Mode.Mode, specs.Events.is_ordered, specs.Tally.moves_floor, specs.Columns.rows, specs.Floors.{floor_after, InOrder}, proofs.BlockRows.more_rows, proofs.Floors.floor-more}
 use Rattle.ptu_definitions.specs.Kept.{Marked, floor_of}
 use Rattle.abs_time.{specs.Floors.orders_markers, proofs.Floors.{moves_by, moved_floor-push}}
@@ -28,17 +27,13 @@ pub each-rows : (P : Event → Type 0) (f : ℕ → Event) (n i : ℕ) → i < n
 each-rows P f n i lt all = all-rows P f n i lt (All-from_recursion P (rows f n) all)
 
 pub on_time-rows : (l : Marked) (f : ℕ → Event) (i : ℕ) → (l ++ on_time (rows f i)) ++ (f i, false) ∷ [] ≡ l ++ on_time (rows f (i + 1))
-on_time-rows l f i =
-    append_assoc l (on_time (rows f i)) ((f i, false) ∷ [])
-    ∙ ap (λ m. l ++ m) (sym (ap on_time (more_rows f i) ∙ map-append (λ (e : Event). (e, false)) (rows f i) (f i ∷ [])))
+on_time-rows l f i = search (rules, arith, append_assoc, more_rows, map-append)
 
 pub not_late : (b : Bool) (x y : ℕ) → (if b && not false then x else y) ≡ (if b then x else y)
-not_late true x y = refl
-not_late false x y = refl
+not_late b x y = search (rules, arith)
 
 ordered-true : (b : Bool) → IsTrue (b && not false) → IsTrue b
-ordered-true true is = refl
-ordered-true false is = is
+ordered-true b is = search (rules, arith)
 
 -- an event in order moves the floor
 pub ordered-moves : (mode : Mode) (e : Event) → IsTrue (is_ordered mode e && not false) → IsTrue (moves_floor (orders_markers mode) e)
@@ -47,13 +42,7 @@ ordered-moves mode e is = rw (moves_by mode e) (ordered-true (is_ordered mode e)
 -- and so does one event more
 pub floor-step : (mode mode' : Mode) (low floor now : ℕ) (f : ℕ → Event) (i : ℕ) (e : Event) → mode' ≡ mode → e ≡ f i → floor ≡ floor_after (orders_markers mode) low (rows f i)
     → now ≡ (if is_ordered mode' e && not false then e.time else floor) → now ≡ floor_after (orders_markers mode) low (rows f (i + 1))
-floor-step mode mode' low floor now f i e mode_is e_is floor_is moved =
-    let strict = orders_markers mode in
-    let flat : (if is_ordered mode' e && not false then e.time else floor) ≡ (if is_ordered mode (f i) then (f i).time else floor_after strict low (rows f i)) =
-    rw (mode_is, e_is, floor_is) (not_late (is_ordered mode (f i)) (f i).time (floor_after strict low (rows f i))) in
-    let more : floor_after strict low (rows f (i + 1)) ≡ (if is_ordered mode (f i) then (f i).time else floor_after strict low (rows f i)) =
-    floor-more strict low f i ∙ ap (λ b. if b then (f i).time else floor_after strict low (rows f i)) (moves_by mode (f i)) in
-    moved ∙ flat ∙ sym more
+floor-step mode mode' low floor now f i e mode_is e_is floor_is moved = search (rules, arith, not_late, floor-more, moves_by)
 
 -- the greatest time with a block
 pub floor_of-block : (mode : Mode) (l : Marked) (es : List Event) (first now : ℕ) → now ≡ max first (floor_of mode l) → InOrder (orders_markers mode) now es

@@ -1,6 +1,5 @@
 -- Bytes in fours.
-use Rattle.std.proofs.Common.{◌≡◌, ◌+◌, ◌<◌, ℕ, List, [], ◌∷◌, ◌++◌, Some, length, take, drop, get_or, take-append-drop, refl, sym, ap, ◌∙◌, subst, append_assoc}
-use Rattle.std.{specs.Int.{from_le_bytes, w32}, proofs.lemmas.List.{take_more, map-append}}
+use Rattle.std.{proofs.Common.{arith, rules}, proofs.Common.{◌≡◌, ◌+◌, ◌<◌, ℕ, List, [], ◌∷◌, ◌++◌, Some, length, take, drop, get_or, take-append-drop, refl, sym, ap, ◌∙◌, subst, append_assoc}, specs.Int.{from_le_bytes, w32}, proofs.lemmas.List.{take_more, map-append}}
 use Rattle.ptu_definitions.{specs.Words.{words_of, rest_of}, proofs.WordsLemmas.{words_of-append, rest_of-append}, specs.Streams.{Reading, record_refusal}, proofs.StreamLemmas.refused-more, specs.Fours.numbers}
 use Rattle.tally_base.specs.declared.fault.Fault.{Fault}
 
@@ -20,10 +19,7 @@ all_at P before ws i d w lt is h = subst P (whole_at before ws i) (more_at (λ l
 -- What is carried, and a piece behind it.
 module _ (carried bytes piece : List ℕ) (is : carried ≡ rest_of bytes) where
   pub cut-words : (first others : List (List ℕ)) → numbers (first ++ others) ≡ words_of (carried ++ piece) → (words_of bytes ++ numbers first) ++ numbers others ≡ words_of (bytes ++ piece)
-  cut-words first others cut =
-      append_assoc (words_of bytes) (numbers first) (numbers others)
-      ∙ ap (λ l. words_of bytes ++ l) (sym (map-append (from_le_bytes w32) first others) ∙ cut ∙ ap (λ l. words_of (l ++ piece)) is)
-      ∙ sym (words_of-append bytes piece)
+  cut-words first others cut = search (rules, arith, append_assoc, map-append, words_of-append)
 
   pub cut-rest : (rest : List ℕ) → rest ≡ rest_of (carried ++ piece) → rest ≡ rest_of (bytes ++ piece)
   cut-rest rest cut = cut ∙ ap (λ l. rest_of (l ++ piece)) is ∙ sym (rest_of-append bytes piece)

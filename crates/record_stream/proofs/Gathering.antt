@@ -1,8 +1,7 @@
 -- One word more in a block.
-use Rattle.std.proofs.Common.{◌≡◌, ◌+◌, ◌<◌, ◌≤◌, ℕ, List, [], ◌∷◌, ◌++◌, Bool, true, false, length, map, get_or, refl, sym, ap, subst, ◌∙◌, add-zero, append-nil, append_assoc, arith, ⊎_elim, ◌&&◌, nat_le, count_by, cond}
-use Rattle.std.{specs.Int.{from_le_bytes, w32}, proofs.lemmas.Bool.cases_Bool, proofs.lemmas.List.Sums.{get_or-le-sum_by, sum_by-cons}, proofs.lemmas.List.Elements.filter-append, proofs.lemmas.List.map_push}
-use Rattle.tally_base.{specs.declared.event.Event.Event, specs.declared.header.Mode.Mode, specs.Events.{is_ordered, stops_reserved}, specs.Limits.wrap_limit}
-use Rattle.ptu_definitions.{specs.declared.records.Raw.Raw, specs.Kinds.is_reserved, specs.Times.{event_of, events, amount}, specs.Fitting.Fits, specs.Fours.numbers, specs.Streams.{Reading, events_in}}
+use Rattle.std.{proofs.Common.{rules}, proofs.Common.{◌≡◌, ◌+◌, ◌<◌, ◌≤◌, ℕ, List, [], ◌∷◌, ◌++◌, Bool, true, false, length, map, get_or, refl, sym, ap, ◌∙◌, add-zero, append-nil, append_assoc, arith, ◌&&◌, nat_le, count_by}, specs.Int.{from_le_bytes, w32}, proofs.lemmas.Bool.cases_Bool, proofs.lemmas.List.Sums.{get_or-le-sum_by, sum_by-cons}, proofs.lemmas.List.Elements.filter-append, proofs.lemmas.List.map_push}
+use Rattle.tally_base.{specs.declared.event.Event.Event, specs.declared.header.Mode.Mode, specs.Events.{stops_reserved}, specs.Limits.wrap_limit}
+use Rattle.ptu_definitions.{specs.declared.records.Raw.Raw, specs.Kinds.is_reserved, specs.Times.{event_of, amount}, specs.Fitting.Fits, specs.Fours.numbers, specs.Streams.{Reading}}
 use Rattle.abs_time.specs.Placing.{base_of, IsClock}
 use Rattle.record_layout.{specs.declared.row.Row.Row, specs.Rowed.raw_of}
 use Rattle.record_stream.{specs.Blocks.{chosen, Adds, IsInLine, greatest_with}, specs.Rows.{ordered_below, greatest_with_row}, specs.Walking.{how_of, greatest_of, clock_in, AddsBehind, Gathers}, specs.declared.walk.Walk.Walk, proofs.Adding.{adds-push, clock-push, in_line-push}, proofs.RowEvents.{greatest-row, on_time-row}}
@@ -11,36 +10,20 @@ use Rattle.record_stream.{specs.Blocks.{chosen, Adds, IsInLine, greatest_with}, 
 count_by-meanings : (p : Raw → Bool) (meaning : ℕ → Raw) (words : List (List ℕ))
     → count_by (λ bytes. p (meaning (from_le_bytes w32 bytes))) words ≡ count_by p (map meaning (numbers words))
 count_by-meanings p meaning [] = refl
-count_by-meanings p meaning (bytes ∷ words) =
-    sum_by-cons (λ (x : List ℕ). cond (p (meaning (from_le_bytes w32 x))) 1 0) bytes words
-    ∙ ap (λ n. cond (p (meaning (from_le_bytes w32 bytes))) 1 0 + n) (count_by-meanings p meaning words)
-    ∙ sym (sum_by-cons (λ (x : Raw). cond (p x) 1 0) (meaning (from_le_bytes w32 bytes)) (map meaning (numbers words)))
+count_by-meanings p meaning (bytes ∷ words) = search (rules, arith, sum_by-cons, count_by-meanings p meaning words)
 
 -- where none is counted none passes
 none-at : {X : Type 0} (p : X → Bool) (xs : List X) (i : ℕ) (d : X) → count_by p xs ≡ 0 → i < length xs → p (get_or xs i d) ≡ false
-none-at p xs i d none lt =
-    ⊎_elim
-    (λ (passed : p (get_or xs i d) ≡ true).
-    let one : cond (p (get_or xs i d)) 1 0 ≤ count_by p xs = get_or-le-sum_by (λ x. cond (p x) 1 0) xs i d lt in
-    let more : 1 ≤ count_by p xs = rw passed at one in
-    absurd (omega (arith, more, none)))
-    (λ (failed : p (get_or xs i d) ≡ false). failed)
-    (cases_Bool (p (get_or xs i d)))
+none-at p xs i d none lt = search (rules, arith, get_or-le-sum_by, cases_Bool)
 
 and_false : (a b : Bool) → (b ≡ true → a ≡ false) → (a && b) ≡ false
-and_false a true unless = rw (unless refl) refl
-and_false true false unless = refl
-and_false false false unless = refl
+and_false a b unless = search (rules, arith)
 
 -- no word is refused as reserved
 pub none-reserved : (how : Reading) (meaning : ℕ → Raw) (words : List (List ℕ)) (i : ℕ) (d : List ℕ) (w : ℕ) → meaning ≡ how.meaning → i < length words → w ≡ from_le_bytes w32 (get_or words i d)
     → (stops_reserved how.policy.reserved ≡ true → count_by is_reserved (map meaning (numbers words)) ≡ 0)
     → (is_reserved (how.meaning w) && stops_reserved how.policy.reserved) ≡ false
-none-reserved how meaning words i d w same lt is none =
-    and_false (is_reserved (how.meaning w)) (stops_reserved how.policy.reserved)
-    (λ stops.
-    rw (← same, is)
-    (none-at (λ (bytes : List ℕ). is_reserved (meaning (from_le_bytes w32 bytes))) words i d (count_by-meanings is_reserved meaning words ∙ none stops) lt))
+none-reserved how meaning words i d w same lt is none = search (rules, arith, and_false, none-at, count_by-meanings)
 
 both : (a b : Bool) → (a && b) ≡ true → (a ≡ true) × (b ≡ true)
 both true true h = (refl, refl)
@@ -83,33 +66,13 @@ module _ (how : Reading) (low base top base' top' n : ℕ) (in_order in_order' :
 
 -- All events of a list, or those in order alone.
 pub chosen-append : (only : Bool) (mode : Mode) (xs ys : List Event) → chosen only mode (xs ++ ys) ≡ chosen only mode xs ++ chosen only mode ys
-chosen-append false mode xs ys = refl
-chosen-append true mode xs ys = filter-append (λ (e : Event). is_ordered mode e) xs ys
-
-chosen-none : (only : Bool) (mode : Mode) → ◌≡◌ {A = List Event} [] (chosen only mode [])
-chosen-none false mode = refl
-chosen-none true mode = refl
+chosen-append only mode xs ys = search (rules, arith, filter-append)
 
 -- nothing is gathered of no words
 pub gathers-none : (walk : Walk) (words : List (List ℕ)) (only : Bool) (sum greatest : ℕ) (es : List Event) → words ≡ [] → es ≡ [] → sum ≡ base_of (clock_in walk) → sum ≤ wrap_limit → greatest ≡ greatest_of walk → Gathers walk words only true sum greatest es
-gathers-none walk words only sum greatest es no_words none sum_is low greatest_is = rw (no_words, none, sum_is, greatest_is) (record {
-  limit = omega (arith, low, sum_is);
-  came = [];
-  chosen = chosen-none only (how_of walk).mode;
-  places = record { rises = tt; last = omega arith };
-  in_line = λ sure. record { in_order = tt; greatest = refl; fit = λ k d lt. absurd (omega (arith, lt)) };
-  leads = λ sure records h. rw (append-nil, add-zero) h;
-  adds = λ sure before h.
-      rw (append-nil, add-zero) (record {
-        clear = h.clear;
-        clock = rw (← walk.same_mode) h.placed;
-        came = sym (append-nil (events (map (how_of walk).meaning before)));
-        delivers = λ plain. sym (append-nil (events_in (how_of walk) before));
-      });
-})
+gathers-none walk words only sum greatest es no_words none sum_is low greatest_is = search (rules, arith, append-nil, add-zero)
 
 -- where all events are gathered
 pub gathers-all : (walk : Walk) (words : List (List ℕ)) (in_order : Bool) (sum greatest : ℕ) (es : List Event) → Gathers walk words false in_order sum greatest es → in_order ≡ true
     → IsInLine (how_of walk).mode (greatest_of walk) greatest es × AddsBehind walk words sum greatest es
-gathers-all walk words in_order sum greatest es g sure =
-    (subst (IsInLine (how_of walk).mode (greatest_of walk) greatest) (sym g.chosen) (g.in_line sure), subst (AddsBehind walk words sum greatest) (sym g.chosen) (g.adds sure))
+gathers-all walk words in_order sum greatest es g sure = search (rules, arith)

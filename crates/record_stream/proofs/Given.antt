@@ -1,18 +1,15 @@
 -- A block that is given to a taker.
-use Rattle.std.proofs.Common.{◌≡◌, ◌+◌, ◌≤◌, ℕ, List, [], ◌∷◌, ◌++◌, true, false, None, Ok, Err, OnOk, OnErr, length, map, refl, sym, ap, ◌∙◌, arith, length-append, is_err}
-use Rattle.std.{specs.declared.result.Result.Result, proofs.lemmas.List.map-append}
+use Rattle.std.{proofs.Common.{rules}, proofs.Common.{◌≡◌, ◌+◌, ◌≤◌, ℕ, List, [], ◌∷◌, ◌++◌, true, false, None, OnOk, OnErr, length, map, refl, sym, ap, ◌∙◌, arith, length-append, is_err}, specs.declared.result.Result.Result, proofs.lemmas.List.map-append}
 use Rattle.tally_base.{specs.declared.event.Event.Event, specs.declared.header.Mode.Mode, specs.FaultCounts.Rose, specs.Floors.floor_after, proofs.Lower.floor-lower}
 use Rattle.ptu_definitions.{specs.declared.records.KindCounts.KindCounts, specs.declared.records.Summary.Summary, specs.Kinds.counts_of, specs.Kept.Marked, specs.Streams.{Reading, refusals, record_refusal, given, events_in}, proofs.StreamLemmas.given-clear}
 use Rattle.abs_time.{specs.declared.clock.Clock.Clock, specs.Placing.{mode_of, placed_by, base_of, greatest_by}, specs.Floors.orders_markers}
 use Rattle.record_stream.{specs.declared.taker.EventTaker.Ghosts, specs.OneMore.with_block, specs.Blocks.{on_time, Adds, BrokeAmong}, specs.Feeding.{IsAt, GaveOn, BrokeOn}, specs.SoFar.so_far, proofs.Summaries.so_far-more}
 
 pub ok_of : {X E P : Type 0} (r : Result X E) → is_err r ≡ false → OnOk r P → P
-ok_of (Ok x) is p = p
-ok_of (Err e) is p = cc
+ok_of r is p = search (rules, arith)
 
 pub err_of : {X E P : Type 0} (r : Result X E) → is_err r ≡ true → OnErr r P → P
-err_of (Ok x) is p = cc
-err_of (Err e) is p = p
+err_of r is p = search (rules, arith)
 
 pub length-on_time : (es : List Event) → length (on_time es) ≡ length es
 length-on_time [] = refl
@@ -45,11 +42,4 @@ module _ {T : Type 0} (g : Ghosts T) (how : Reading) (old new : T) (n base top :
 
   -- or broke the taker
   pub block_broke : BrokeAmong g.got g.broke old new es → Rose (g.faults old) (g.faults new) → BrokeOn g how old new before now
-  block_broke b rose = record {
-    front = on_time b.front;
-    back = on_time b.back;
-    some = omega (arith, b.some, length-on_time b.front);
-    adds = given-block ∙ ap (λ l. given how before ++ l) (ap on_time b.are ∙ map-append (λ (e : Event). (e, false)) b.front b.back);
-    broken = b.broken;
-    rose = rose;
-  }
+  block_broke b rose = search (rules, arith, length-on_time, given-block, map-append)

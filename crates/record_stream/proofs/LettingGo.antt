@@ -1,6 +1,5 @@
 -- Events in order, of which none is late, and those that are let go with them.
-use Rattle.std.proofs.Common.{◌≡◌, ◌≢◌, ◌+◌, ◌<◌, ◌≤◌, ℕ, zero, suc, List, [], ◌∷◌, ◌++◌, Bool, true, false, None, Some, length, map, max, refl, sym, ap, subst, ◌∙◌, append_assoc, append-nil, arith, length-append, ◌⊎◌, ⊎_elim, ◌&&◌, not, is_some, nat_lt, IfSome, IsTrue, if◌then◌else◌}
-use Rattle.std.{specs.Option.option_to_list, specs.List.{All, list_any}, specs.declared.option.Option.Option, proofs.lemmas.Bool.ne_eqb, proofs.lemmas.Bool.Decides.nat_tests, proofs.lemmas.List.Elements.filter-append}
+use Rattle.std.{proofs.Common.{rules}, proofs.Common.{◌≡◌, ◌≢◌, ◌+◌, ◌<◌, ◌≤◌, ℕ, zero, suc, List, [], ◌∷◌, ◌++◌, Bool, true, false, None, Some, length, map, max, refl, sym, ap, subst, ◌∙◌, append_assoc, append-nil, arith, length-append, ◌⊎◌, ⊎_elim, ◌&&◌, not, is_some, nat_lt, IfSome, IsTrue, if◌then◌else◌}, specs.Option.option_to_list, specs.List.{All, list_any}, specs.declared.option.Option.Option, proofs.lemmas.Bool.ne_eqb, proofs.lemmas.Bool.Decides.nat_tests, proofs.lemmas.List.Elements.filter-append}
 use Rattle.tally_base.{specs.declared.event.Event.Event, specs.declared.header.Mode.Mode, specs.Events.is_ordered, specs.Tally.moves_floor, specs.Columns.rows, specs.Floors.{floor_after, InOrder}, proofs.Floors.{order-at, order-parts}, proofs.BlockRows.rows-split}
 use Rattle.ptu_definitions.{specs.Kept.{Marked, floor_of, greatest, is_late}, specs.Settled.{delivered, is_overtaken, not_marked, ordered, put_in, settles}, specs.Streams.{Reading, events_in}, specs.Times.events, proofs.DeliveredLaws.{delivered-append, delivered_after, delivered_after-ordered, not_marked-append, not_marked-false}, proofs.StreamLemmas.{greatest-push, later}}
 use Rattle.abs_time.{specs.Placing.IsSmall, specs.Floors.{orders_markers, moved_floor}, proofs.Floors.{moves_by, moved_floor-push}}
@@ -13,9 +12,7 @@ on_true mode top e on is = on (rw (moves_by mode e) is)
 
 greatest-step : (mode : Mode) (before : List Event) (e : Event) → (IsTrue (moves_floor (orders_markers mode) e) → greatest mode before ≤ e.time)
     → greatest mode (before ++ e ∷ []) ≡ (if moves_floor (orders_markers mode) e then e.time else greatest mode before)
-greatest-step mode before e on =
-    greatest-push mode before e ∙ greatest-on_time mode (greatest mode before) e (on_true mode (greatest mode before) e on)
-    ∙ ap (λ b. if b then e.time else greatest mode before) (sym (moves_by mode e))
+greatest-step mode before e on = search (rules, arith, greatest-push, greatest-on_time, on_true, moves_by)
 
 greatest-line : (mode : Mode) (before es : List Event) → InOrder (orders_markers mode) (greatest mode before) es → greatest mode (before ++ es) ≡ floor_after (orders_markers mode) (greatest mode before) es
 greatest-line mode before [] line = ap (greatest mode) (append-nil before)
@@ -95,17 +92,7 @@ places-at low f (suc n) i lt all =
 module _ (mode : Mode) (low : ℕ) (from old new : Settle) (came went : List Event) (e : Event) (l : LetsGo mode low from old came went) where
   module _ (went' : List Event) (on : is_ordered mode e ≡ true) (small : IsSmall mode e) (place : next_place new ≡ e.place + 1) (reach : reach_of new ≡ reach_of old) (unpopped : was_popped new ≡ false) where
     lets_none : went' ≡ went ++ [] → All (CanWait mode) (kept_back new) → length (kept_back new) ≤ length (kept_back old) + 1 → last_time new ≡ last_time old → LetsGo mode low from new (came ++ e ∷ []) went'
-    lets_none outs fit few same =
-        let still : went' ≡ went = outs ∙ append-nil went in
-        record {
-          line = rw (still, same) l.line;
-          fit = fit;
-          reach = reach ∙ l.reach;
-          unpopped = unpopped;
-          behind = omega (arith, place, place-push low came e);
-          few = omega (arith, l.few, length-append came (e ∷ []), ap length still);
-          count = omega (arith, l.count, length-append came (e ∷ []), ap length still, few);
-        }
+    lets_none outs fit few same = search (rules, arith, append-nil, place-push, length-append)
 
     lets_some : (x : Event) → went' ≡ went ++ x ∷ [] → CanWait mode x → All (CanWait mode) (kept_back new) → length (kept_back new) ≤ length (kept_back old) → last_time new ≡ x.time → last_time old ≤ x.time
         → LetsGo mode low from new (came ++ e ∷ []) went'
@@ -126,9 +113,7 @@ module _ (mode : Mode) (low : ℕ) (from old new : Settle) (came went : List Eve
         → (late ≡ true → kept_back new ≡ kept_back old) → (late ≡ false → option_to_list o ++ kept_back new ≡ put_in e (kept_back old))
         → IfSome o (λ x. last_time new ≡ x.time) → (o ≡ None → last_time new ≡ last_time old) → IfSome o (λ x. last_time old ≤ x.time)
         → LetsGo mode low from new (came ++ e ∷ []) went'
-    lets_on None true more outs emits left kept time same rises =
-        let is = left refl in
-        lets_none outs (rw is l.fit) (omega (arith, ap length is)) (same refl)
+    lets_on None true more outs emits left kept time same rises = search (rules, arith, lets_none)
     lets_on None false more outs emits left kept time same rises =
         let waits : CanWait mode e = record { small = small; ordered = on } in
         lets_none outs (those_waiting (CanWait mode) None (kept_back old) (kept_back new) e (kept refl) waits l.fit) (omega (arith, count_waiting None (kept_back old) (kept_back new) e (kept refl))) (same refl)
@@ -144,14 +129,11 @@ came_before how words = events (map how.meaning words)
 
 module _ (how : Reading) (old new : Settle) (words : List ℕ) (came went : List Event) (e : Event) (some : how.policy.settle ≢ 0) (d : IsDelivered how old words came went) where
   ordered-more : ordered how.mode (came_before how words ++ (came ++ e ∷ [])) ≡ ordered how.mode (came_before how words ++ came) ++ ordered how.mode (e ∷ [])
-  ordered-more = ap (ordered how.mode) (sym (append_assoc (came_before how words) came (e ∷ []))) ∙ filter-append (λ (x : Event). is_ordered how.mode x) (came_before how words ++ came) (e ∷ [])
+  ordered-more = search (rules, arith, append_assoc, came_before, filter-append)
 
   delivered-more : (went' more : List Event) → went' ≡ went ++ more → delivered_after how.policy.settle how.mode (came_before how words ++ came) (e ∷ []) ≡ on_time more
       → delivered how.policy.settle how.mode (came_before how words ++ (came ++ e ∷ [])) ≡ events_in how words ++ on_time went'
-  delivered-more went' more outs is =
-      ap (delivered how.policy.settle how.mode) (sym (append_assoc (came_before how words) came (e ∷ []))) ∙ delivered-append how.policy.settle how.mode (came_before how words ++ came) (e ∷ [])
-      ∙ ap (λ l. l ++ delivered_after how.policy.settle how.mode (came_before how words ++ came) (e ∷ [])) d.delivers ∙ ap (λ l. (events_in how words ++ on_time went) ++ l) is
-      ∙ on_time-push went more (events_in how words) ∙ ap (λ l. events_in how words ++ on_time l) (sym outs)
+  delivered-more went' more outs is = search (rules, arith, append_assoc, came_before, delivered-append, delivered_after, on_time-push)
 
   pub delivers_on : (went' : List Event) (o : Option Event) (late : Bool) (reach : ℕ) → reach ≡ how.policy.settle → is_ordered how.mode e ≡ true → went' ≡ went ++ option_to_list o
       → is_overtaken how.policy.settle (ordered how.mode (came_before how words ++ came)) e ≡ false → late ≡ is_overtaken reach (ordered how.mode (came_before how words ++ came)) e

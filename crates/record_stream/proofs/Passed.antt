@@ -1,6 +1,5 @@
 -- Events in order behind all that are kept back, and those that are let go with them.
-use Rattle.std.proofs.Common.{◌≡◌, ◌≢◌, ◌+◌, ◌-◌, ◌<◌, ◌≤◌, ℕ, zero, suc, List, [], ◌∷◌, ◌++◌, true, false, cond, drop, length, map, refl, sym, ap, subst, ◌∙◌, append_assoc, append-nil, arith, length-append, if◌then◌else◌}
-use Rattle.std.{specs.List.{All, AllByRecursion}, specs.List.Sorted.IsNonDecreasingBy, proofs.Math.Seq.drop-append_seam, proofs.lemmas.Bool.ne_eqb, proofs.lemmas.List.Elements.{All-tail, All-from_recursion, filter-append, recursion_from_All}}
+use Rattle.std.{proofs.Common.{rules}, proofs.Common.{◌≡◌, ◌≢◌, ◌+◌, ◌-◌, ◌<◌, ◌≤◌, ℕ, suc, List, [], ◌∷◌, ◌++◌, true, false, cond, drop, length, map, refl, sym, ap, subst, ◌∙◌, append_assoc, append-nil, arith, length-append, if◌then◌else◌}, specs.List.{All, AllByRecursion}, specs.List.Sorted.IsNonDecreasingBy, proofs.Math.Seq.drop-append_seam, proofs.lemmas.Bool.ne_eqb, proofs.lemmas.List.Elements.{All-tail, All-from_recursion, filter-append, recursion_from_All}}
 use Rattle.tally_base.{specs.declared.event.Event.Event, specs.declared.header.Mode.Mode, specs.Events.is_ordered, specs.Tally.moves_floor, specs.Columns.rows, specs.Floors.{floor_after, InOrder}, proofs.Lower.order-lower, proofs.Floors.{order-append, order-parts}, proofs.BlockRows.{length-rows, rows-split}}
 use Rattle.ptu_definitions.{specs.Fitting.KindFits, specs.Kept.mark, specs.Prefixes.each_after, specs.Settled.{not_marked, ordered, Rises, settles}, specs.Streams.{Reading, events_in}, specs.Times.events, proofs.DeliveredLaws.{delivered-append, delivered_after}, proofs.SettledLemmas.IsNonDecreasingBy-Rises, proofs.SettlingLemmas.each-weaker}
 use Rattle.abs_time.{specs.Placing.placed_by, specs.Floors.orders_markers, proofs.Floors.moves_by}
@@ -31,7 +30,7 @@ line-on mode t e es on line =
 
 floor-all : (mode : Mode) (t : ℕ) (es : List Event) → AreOrdered mode es → floor_after (orders_markers mode) t es ≡ time_after t es
 floor-all mode t [] all = refl
-floor-all mode t (e ∷ es) all = ap (λ b. floor_after (orders_markers mode) (if b then e.time else t) es) (moves-on mode e all.0) ∙ floor-all mode e.time es all.1
+floor-all mode t (e ∷ es) all = search (rules, arith, mode, moves-on, floor-all mode e.time es all.1)
 
 comes-line : (mode : Mode) (next low t : ℕ) (es : List Event) → next ≤ low + 1 → PlacesRise low es → InOrder (orders_markers mode) t es → AreOrdered mode es → ComesOn next t es
 comes-line mode next low t [] below places line all = tt
@@ -53,15 +52,11 @@ rises-line mode t (e ∷ es) line all = let step = line-on mode t e es all.0 lin
 
 low-rises : (t : ℕ) (es : List Event) → Rises t es → AllByRecursion (λ (x : Event). t ≤ x.time) es
 low-rises t [] up = tt
-low-rises t (e ∷ es) up =
-    let h : t ≤ e.time = up.0 in
-    (h, each-weaker (λ (x : Event). e.time ≤ x.time) (λ (x : Event). t ≤ x.time) es (λ x le. omega (arith, h, le)) (low-rises e.time es up.1))
+low-rises t (e ∷ es) up = search (rules, arith, each-weaker, low-rises e.time es up.1)
 
 wait-line : (mode : Mode) (t : ℕ) (es : List Event) → InOrder (orders_markers mode) t es → AllByRecursion (λ (e : Event). KindFits mode e.kind) es → AreOrdered mode es → AllByRecursion (CanWait mode) es
 wait-line mode t [] line fit all = tt
-wait-line mode t (e ∷ es) line fit all =
-    let step = line-on mode t e es all.0 line in
-    (record { small = record { in_time = line.0; kind = fit.0 }; ordered = all.0 }, wait-line mode e.time es step.1 fit.1 all.1)
+wait-line mode t (e ∷ es) line fit all = search (rules, arith, mode, line, wait-line mode e.time es (line-on mode t e es all.0 line).1 fit.1 all.1)
 
 time-most : (t top : ℕ) (w : List Event) → t ≤ top → AllByRecursion (λ (x : Event). x.time ≤ top) w → time_after t w ≤ top
 time-most t top [] most all = most
@@ -74,8 +69,7 @@ time-push t (x ∷ es) e = time-push x.time es e
 -- Of all that are kept back and all that came, the first go and the last stay.
 pub joins : (w came gone rest front back : List Event) → w ≡ gone ++ rest → came ≡ front ++ back → (0 < length rest → length front ≡ 0) → w ++ came ≡ (gone ++ front) ++ (rest ++ back)
 joins w came gone [] front back held parts one = ap (λ l. l ++ came) (held ∙ append-nil gone) ∙ ap (λ l. gone ++ l) parts ∙ sym (append_assoc gone front back)
-joins w came gone (x ∷ rest) [] back held parts one =
-    ap (λ l. l ++ came) held ∙ ap (λ l. (gone ++ x ∷ rest) ++ l) parts ∙ append_assoc gone (x ∷ rest) back ∙ ap (λ l. l ++ ((x ∷ rest) ++ back)) (sym (append-nil gone))
+joins w came gone (x ∷ rest) [] back held parts one = search (rules, arith, append_assoc, append-nil)
 joins w came gone (x ∷ rest) (y ∷ front) back held parts one = let h : suc (length front) ≡ 0 = one (omega arith) in absurd (omega (arith, h))
 
 pub rows-parts : (f : ℕ → Event) (from n : ℕ) → from ≤ n → rows f n ≡ rows f from ++ drop from (rows f n)
@@ -87,12 +81,10 @@ rows-parts f from n within =
 
 pub block-joins : (f : ℕ → Event) (from n : ℕ) (w gone rest went stay : List Event) → w ≡ gone ++ rest → went ≡ gone ++ rows f from → stay ≡ rest ++ drop from (rows f n) → from ≤ n → (0 < length rest → from ≡ 0)
     → w ++ rows f n ≡ went ++ stay
-block-joins f from n w gone rest went stay held goes stays within one =
-    rw (goes, stays) (joins w (rows f n) gone rest (rows f from) (drop from (rows f n)) held (rows-parts f from n within) (λ many. length-rows f from ∙ one many))
+block-joins f from n w gone rest went stay held goes stays within one = search (rules, arith, joins, rows-parts, length-rows)
 
 pub time-rows : (t : ℕ) (f : ℕ → Event) (n : ℕ) → 0 < n → time_after t (rows f n) ≡ (f (n - 1)).time
-time-rows t f zero some = absurd (omega (arith, some))
-time-rows t f (suc n) some = let e : suc n - 1 ≡ n = omega arith in rw e (time-push t (rows f n) (f n))
+time-rows t f n some = search (rules, arith, some, time-push)
 
 pub next-behind : (next place : ℕ) (es : List Event) → 0 < length es → next_after next es ≡ place_after place es + 1
 next-behind next place [] some = absurd (omega (arith, some))
@@ -100,8 +92,7 @@ next-behind next place (e ∷ []) some = refl
 next-behind next place (e ∷ x ∷ es) some = next-behind (e.place + 1) e.place (x ∷ es) (omega arith)
 
 pub place-rows : (place : ℕ) (f : ℕ → Event) (n : ℕ) → 0 < n → place_after place (rows f n) ≡ (f (n - 1)).place
-place-rows place f zero some = absurd (omega (arith, some))
-place-rows place f (suc n) some = let e : suc n - 1 ≡ n = omega arith in rw e (place-push place (rows f n) (f n))
+place-rows place f n some = search (rules, arith, some, place-push)
 
 module _ (walk : Walk) (from : Settle) (came went stay : List Event) (settles : (how_of walk).policy.settle ≢ 0) (keeps : IsKeeping walk from) (is_full : IsFull walk from) (next : ComesNext walk came)
     (joined : kept_back from ++ came ≡ went ++ stay) where
@@ -158,10 +149,7 @@ module _ (walk : Walk) (from : Settle) (came went stay : List Event) (settles : 
   are_ordered es can = each-weaker (CanWait mode) (λ (e : Event). is_ordered mode e ≡ true) es (λ x c. c.ordered) can
 
   held-last : floor_after (orders_markers mode) (last_time from) (kept_back from) ≤ top
-  held-last =
-      let t = floor-all mode (last_time from) (kept_back from) (are_ordered (kept_back from) (recursion_from_All (CanWait mode) (kept_back from) waits)) in
-      let most = time-most (last_time from) top (kept_back from) low-top (recursion_from_All (λ (x : Event). x.time ≤ top) (kept_back from) below) in
-      omega (arith, t, most)
+  held-last = search (rules, arith, floor-all, mode, are_ordered, recursion_from_All, waits, time-most, low-top, below)
 
   whole : InOrder (orders_markers mode) (last_time from) went × InOrder (orders_markers mode) (floor_after (orders_markers mode) (last_time from) went) stay
   whole =

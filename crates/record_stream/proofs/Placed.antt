@@ -1,8 +1,7 @@
 -- What the clock's answer says of a word: its refusal and its event.
-use Rattle.std.proofs.Common.{◌≡◌, ◌≢◌, ◌+◌, ◌<◌, ℕ, List, [], ◌∷◌, Bool, true, false, cond, None, Some, Ok, Err, length, map, refl, sym, ap, ◌∙◌, ◌⊎◌, ⊎_elim, arith, nat_le, ◌&&◌, ◌==◌, if◌then◌else◌}
-use Rattle.std.{specs.declared.option.Option.Option, specs.declared.result.Result.Result, proofs.lemmas.Bool.ne_eqb, proofs.lemmas.Bool.Decides.nat_tests}
-use Rattle.tally_base.{specs.declared.event.Event.Event, specs.declared.fault.Fault.Fault, specs.declared.fault.Fault.TheVariants.{RecordLimit, ReservedRecord, BackwardTime, TimeLimit}, specs.declared.header.Mode.Mode, specs.Events.{is_ordered, stops_late, stops_reserved}}
-use Rattle.ptu_definitions.{specs.declared.records.Raw.Raw, specs.declared.records.Raw.TheVariants.{Photon, Marker, Wrap, Reserved}, specs.Kinds.is_reserved, specs.Times.{event_after, events, passes}, specs.Kept.{is_late, greatest, Marked}, specs.Settled.{is_late_by, ordered, settles}, specs.Streams.{Reading, refusal, late_refusal}, proofs.DeliveredLaws.{delivered_after, delivered_after-ordered, delivered_after-unordered, is_late_by-0, is_late-by}, proofs.StreamLemmas.fresh}
+use Rattle.std.{proofs.Common.{rules}, proofs.Common.{◌≡◌, ◌≢◌, ◌+◌, ◌<◌, ℕ, List, [], ◌∷◌, Bool, true, false, cond, None, Some, Ok, Err, length, map, refl, sym, ap, ◌∙◌, ◌⊎◌, ⊎_elim, arith, ◌&&◌, ◌==◌, if◌then◌else◌}, specs.declared.option.Option.Option, specs.declared.result.Result.Result, proofs.lemmas.Bool.ne_eqb}
+use Rattle.tally_base.{specs.declared.event.Event.Event, specs.declared.fault.Fault.Fault, specs.declared.fault.Fault.TheVariants.{RecordLimit, ReservedRecord, BackwardTime}, specs.declared.header.Mode.Mode, specs.Events.{is_ordered, stops_late, stops_reserved}}
+use Rattle.ptu_definitions.{specs.declared.records.Raw.Raw, specs.declared.records.Raw.TheVariants.{Photon, Marker, Wrap, Reserved}, specs.Kinds.is_reserved, specs.Times.{event_after, events}, specs.Kept.{is_late, greatest, Marked}, specs.Settled.{is_late_by, ordered}, specs.Streams.{Reading, refusal, late_refusal}, proofs.DeliveredLaws.{delivered_after, delivered_after-ordered, delivered_after-unordered, is_late_by-0, is_late-by}, proofs.StreamLemmas.fresh}
 use Rattle.abs_time.{specs.declared.clock.Placed.Placed, specs.declared.clock.Placed.TheVariants.Event as InOrder, specs.declared.clock.Placed.TheVariants.Late, specs.declared.clock.Placed.TheVariants.Wrap as WrapPlaced, specs.declared.clock.Placed.TheVariants.Reserved as ReservedPlaced, specs.Placing.place_answer}
 use Rattle.record_stream.{specs.Keeping.{tells, refused_for}, specs.Recorded.refused_late}
 
@@ -36,54 +35,42 @@ IsSo mode before ReservedPlaced = Unit {0}
 
 pub refusal-limit : (how : Reading) (ws : List ℕ) (w n : ℕ) → n ≡ length (map how.meaning ws) → n ≡ how.policy.records → refusal how ws w ≡ Some (RecordLimit how.policy.records)
 unfolding refusal
-refusal-limit how ws w n is full =
-    let e : nat_le how.policy.records (length (map how.meaning ws)) ≡ true = grind (arith, nat_tests) in
-    rw e refl
+refusal-limit how ws w n is full = search (rules, arith)
 
 pub refusal-reserved : (how : Reading) (ws : List ℕ) (w n : ℕ) (raw : Raw) → n ≡ length (map how.meaning ws) → n < how.policy.records → raw ≡ how.meaning w → (is_reserved raw && stops_reserved how.policy.reserved) ≡ true
     → refusal how ws w ≡ Some (ReservedRecord (n + 1) w)
 unfolding refusal
-refusal-reserved how ws w n raw is room means stop =
-    let e : nat_le how.policy.records (length (map how.meaning ws)) ≡ false = grind (arith, nat_tests) in
-    rw (e, ← means, stop, is) refl
+refusal-reserved how ws w n raw is room means stop = search (rules, arith)
 
 passing-ok : (b : Bool) (fault : Fault) (q p : Placed) (late : Option Fault) → ◌≡◌ {A = Result Placed Fault} (if b then Err fault else Ok q) (Ok p) → (if b then Some fault else late) ≡ late
-passing-ok true fault q p late h = cc
-passing-ok false fault q p late h = refl
+passing-ok b fault q p late h = search (rules, arith)
 
 passing-err : (b : Bool) (fault other : Fault) (q : Placed) (late : Option Fault) → ◌≡◌ {A = Result Placed Fault} (if b then Err fault else Ok q) (Err other) → (if b then Some fault else late) ≡ Some other
-passing-err true fault other q late h = let e : fault ≡ other = cc in rw e refl
-passing-err false fault other q late h = cc
+passing-err b fault other q late h = search (rules, arith)
 
 -- the refusal of a word by the clock's answer
 pub refusal-ok : (how : Reading) (ws : List ℕ) (w n : ℕ) (raw : Raw) (p : Placed) → n ≡ length (map how.meaning ws) → n < how.policy.records → raw ≡ how.meaning w → (is_reserved raw && stops_reserved how.policy.reserved) ≡ false
     → place_answer how.mode (map how.meaning ws) raw ≡ Ok p → refusal how ws w ≡ refused_late how (map how.meaning ws) (how.meaning w)
 unfolding refusal place_answer
-refusal-ok how ws w n raw p is room means go answer =
-    let e : nat_le how.policy.records (length (map how.meaning ws)) ≡ false = grind (arith, nat_tests) in
-    rw (e, ← means, go) (passing-ok (passes (map how.meaning ws) raw) (TimeLimit (length (map how.meaning ws) + 1)) _ p (refused_late how (map how.meaning ws) raw) answer)
+refusal-ok how ws w n raw p is room means go answer = search (rules, arith, passing-ok)
 
 pub refusal-err : (how : Reading) (ws : List ℕ) (w n : ℕ) (raw : Raw) (fault : Fault) → n ≡ length (map how.meaning ws) → n < how.policy.records → raw ≡ how.meaning w → (is_reserved raw && stops_reserved how.policy.reserved) ≡ false
     → place_answer how.mode (map how.meaning ws) raw ≡ Err fault → refusal how ws w ≡ Some fault
 unfolding refusal place_answer
-refusal-err how ws w n raw fault is room means go answer =
-    let e : nat_le how.policy.records (length (map how.meaning ws)) ≡ false = grind (arith, nat_tests) in
-    rw (e, ← means, go) (passing-err (passes (map how.meaning ws) raw) (TimeLimit (length (map how.meaning ws) + 1)) fault _ (refused_late how (map how.meaning ws) raw) answer)
+refusal-err how ws w n raw fault is room means go answer = search (rules, arith, passing-err)
 
 -- what is known of a placed record by the definitions
 abbrev Comes : Mode → List Event → List Event → Placed → Type 0
 Comes mode before es p = (es ≡ event_in p) × IsSo mode before p
 
 comes-event : (b : Bool) (mode : Mode) (before : List Event) (e : Event) → is_late mode before e ≡ b → Comes mode before (e ∷ []) (if b then Late e (greatest mode before) else InOrder e)
-comes-event true mode before e is = (refl, (is, refl))
-comes-event false mode before e is = (refl, is)
+comes-event b mode before e is = search (rules, arith)
 
 comes-ok : (mode : Mode) (before es : List Event) (q p : Placed) → Comes mode before es q → ◌≡◌ {A = Result Placed Fault} (Ok q) (Ok p) → Comes mode before es p
 comes-ok mode before es q p h same = let e : q ≡ p = cc in rw e at h
 
 comes-wrap : (b : Bool) (fault : Fault) (mode : Mode) (before : List Event) (p : Placed) → ◌≡◌ {A = Result Placed Fault} (if b then Err fault else Ok WrapPlaced) (Ok p) → Comes mode before [] p
-comes-wrap true fault mode before p h = cc
-comes-wrap false fault mode before p h = comes-ok mode before [] WrapPlaced p (refl, tt) h
+comes-wrap b fault mode before p h = search (rules, arith, comes-ok)
 
 pub comes : (mode : Mode) (before : List Raw) (raw : Raw) (p : Placed) → place_answer mode before raw ≡ Ok p → (event_after before raw ≡ event_in p) × IsSo mode (events before) p
 unfolding place_answer
@@ -102,16 +89,13 @@ late_if how b e top = if stops_late how.policy.order then (if b then Some (Backw
 -- Where no event is put in its place.
 refused-so : (how : Reading) (before : List Event) (p : Placed) → how.policy.settle ≡ 0 → IsSo how.mode before p
     → (if stops_late how.policy.order then late_refusal how.policy.settle how.mode before (event_in p) else None) ≡ refused_by how p
-refused-so how before (InOrder e) zero so = rw zero (ap (λ b. late_if how b e (greatest how.mode before)) (is_late_by-0 how.mode before e ∙ so) ∙ nothing (stops_late how.policy.order))
-refused-so how before (Late e top) zero so = rw zero (ap (λ b. late_if how b e (greatest how.mode before)) (is_late_by-0 how.mode before e ∙ so.0) ∙ ap (λ t. late_if how true e t) (sym so.1))
+refused-so how before (InOrder e) zero so = search (rules, arith, late_if, is_late_by-0)
+refused-so how before (Late e top) zero so = search (rules, arith, late_if, is_late_by-0)
 refused-so how before WrapPlaced zero so = nothing (stops_late how.policy.order)
 refused-so how before ReservedPlaced zero so = nothing (stops_late how.policy.order)
 
 fresh-so : (how : Reading) (before : List Event) (p : Placed) → how.policy.settle ≡ 0 → IsSo how.mode before p → delivered_after how.policy.settle how.mode before (event_in p) ≡ marks_of p
-fresh-so how before (InOrder e) zero so = rw zero (ap (λ b. (e, b) ∷ []) so)
-fresh-so how before (Late e top) zero so = rw zero (ap (λ b. (e, b) ∷ []) so.0)
-fresh-so how before WrapPlaced zero so = rw zero refl
-fresh-so how before ReservedPlaced zero so = rw zero refl
+fresh-so how before p h1 so = search (rules, arith)
 
 pub refused-plain : (how : Reading) (before : List Raw) (raw : Raw) (p : Placed) → how.policy.settle ≡ 0 → place_answer how.mode before raw ≡ Ok p → refused_late how before raw ≡ refused_by how p
 refused-plain how before raw p zero answer =
@@ -170,8 +154,7 @@ refused-placed how before raw p e answer is =
     ap (λ es. if stops_late how.policy.order then late_refusal how.policy.settle how.mode (events before) es else None) (c.0 ∙ is) ∙ by_top how (events before) p e is c.1
 
 tells-pick : (k : ℕ) (mode : Mode) (before : List Event) (e : Event) (b : Bool) → (k == 0) ≡ false → is_ordered mode e ≡ b → delivered_after k mode before (e ∷ []) ≡ tells k mode (ordered mode before) e
-tells-pick k mode before e true some is = delivered_after-ordered k mode before e some is ∙ sym (ap (λ b. cond b (settles k (ordered mode before) e) []) is)
-tells-pick k mode before e false some is = delivered_after-unordered k mode before e some is ∙ sym (ap (λ b. cond b (settles k (ordered mode before) e) []) is)
+tells-pick k mode before e b some is = search (rules, arith, delivered_after-ordered, delivered_after-unordered)
 
 pub fresh-placed : (how : Reading) (ws : List ℕ) (raw : Raw) (p : Placed) (e : Event) → how.policy.settle ≢ 0 → place_answer how.mode (map how.meaning ws) raw ≡ Ok p → event_in p ≡ e ∷ [] → fresh how ws raw ≡ tells how.policy.settle how.mode (ordered how.mode (events (map how.meaning ws))) e
 fresh-placed how ws raw p e some answer is =

@@ -1,6 +1,5 @@
 -- The events that are kept back, given one after another at the end.
-use Rattle.std.proofs.Common.{◌≡◌, ◌+◌, ◌≤◌, ℕ, suc, List, [], ◌∷◌, ◌++◌, Bool, true, false, cond, Ok, Err, OnErr, IfErr, length, map, refl, sym, ap, subst, ◌∙◌, append_assoc, append-nil, arith, length-append, ◌==◌}
-use Rattle.std.{specs.List.All, specs.declared.result.Result.Result, proofs.lemmas.Bool.eqb-true, proofs.lemmas.List.{map-append, length-map}, proofs.lemmas.List.Elements.All-tail}
+use Rattle.std.{proofs.Common.{rules}, proofs.Common.{◌≡◌, ◌+◌, ◌≤◌, ℕ, suc, List, [], ◌∷◌, ◌++◌, Bool, true, false, cond, Ok, Err, OnErr, IfErr, length, map, refl, sym, ap, subst, ◌∙◌, append_assoc, append-nil, arith, length-append, ◌==◌}, specs.List.All, specs.declared.result.Result.Result, proofs.lemmas.Bool.eqb-true, proofs.lemmas.List.{map-append, length-map}, proofs.lemmas.List.Elements.All-tail}
 use Rattle.tally_base.{specs.declared.event.Event.Event, specs.declared.fault.Fault.Fault, specs.declared.fault.Fault.TheVariants.WriteFault, specs.FaultCounts.{FailsOnce, Rose}}
 use Rattle.ptu_definitions.{specs.Kept.Marked, specs.Settled.{delivered_last, in_time, last_of, marked_as, ordered}, specs.Streams.{Reading, last_in}, specs.Times.events, proofs.DeliveredLaws.delivered_last-0, proofs.SettlingLemmas.waits-is}
 use Rattle.settle.{specs.Standing.{kept_back, reach_of, was_popped}, specs.declared.settle.Settle.Settle}
@@ -15,20 +14,7 @@ parts_one all front left rest e is first = is ∙ ap (λ l. front ++ l) first �
 
 module _ {T : Type 0} (g : Ghosts T) (walk : Walk) (start : T) (all : List Event) where
   pub gave_none : (last : ℕ) → given_by walk + length all ≤ records_of walk → Follows g (how_of walk).mode (given_by walk) last start → All (CanWait (how_of walk).mode) all → g.same start start → GaveFirst g walk start all walk start all last
-  gave_none last room follows fit same = record {
-    front = [];
-    adds = refl;
-    follows = λ s l got. rw append-nil got;
-    summary = refl;
-    same_how = refl;
-    room = room;
-    few = follows.few;
-    mode_is = follows.mode_is;
-    fit = fit;
-    low = follows.before;
-    kept = refl;
-    same = same;
-  }
+  gave_none last room follows fit same = search (rules, arith, append-nil)
 
   pub broke_one : {X : Type 0} (r : Result X Fault) (now : Walk) (taker new : T) (left rest : List Event) (last : ℕ) (e : Event) → GaveFirst g walk start all now taker left last → left ≡ e ∷ rest
       → OnErr r ((s : T) (l : Marked) → g.got s taker l → g.broke s new (l ++ (e, false) ∷ [])) → IfErr r (λ fault. fault ≡ WriteFault) → FailsOnce (g.faults taker) (g.faults new) r
@@ -78,11 +64,7 @@ rest_pick how settle words true is reach still come =
     nothing : (l : List Event) → length l ≤ 0 → l ≡ []
     nothing [] h = refl
     nothing (x ∷ l) h = absurd (omega arith)
-rest_pick how settle words false is reach still come =
-    let h = (come (some-settle how.policy.settle is)).settled in
-    let es : List Event = ordered how.mode (events (map how.meaning words)) in
-    let waits : last_of (reach_of settle) (in_time (reach_of settle) es) ≡ kept_back settle = waits-is settle.reach es _ settle.waiting.items settle.last (h.unpopped still) settle.few h.joined in
-    ap (marked_as false) (sym waits ∙ ap (λ k. last_of k (in_time k es)) reach)
+rest_pick how settle words false is reach still come = search (rules, arith, some-settle, waits-is)
 
 pub rest-is : (how : Reading) (settle : Settle) (words : List ℕ) → reach_of settle ≡ how.policy.settle → was_popped settle ≡ false → Settles how settle words → marked_as false (kept_back settle) ≡ last_in how words
 unfolding delivered_last

@@ -1,6 +1,5 @@
 -- The event of a record, by its code.
-use Rattle.std.proofs.Common.{◌≡◌, ◌+◌, ◌<◌, ◌≤◌, ℕ, List, [], ◌∷◌, Bool, true, false, refl, sym, arith, ⊎_elim, nat_lt, nat_le, ◌==◌, if◌then◌else◌}
-use Rattle.std.{proofs.lemmas.Bool.{cases_lt, leb-true}, proofs.lemmas.Bool.Decides.nat_tests}
+use Rattle.std.{proofs.Common.{rules}, proofs.Common.{◌≡◌, ◌+◌, ℕ, List, [], ◌∷◌, Bool, true, false, refl, arith, nat_lt, nat_le, ◌==◌, if◌then◌else◌}, proofs.lemmas.Bool.{cases_lt, leb-true}}
 use Rattle.tally_base.{specs.declared.event.Event.Event, specs.declared.header.Mode.Mode, specs.declared.header.Mode.TheVariants.{T2, T3}, specs.Columns.event_by}
 use Rattle.ptu_definitions.{specs.declared.records.Raw.Raw, specs.declared.records.Raw.TheVariants.{Wrap, Reserved}, specs.Settled.ordered, specs.Times.event_of}
 use Rattle.record_layout.{specs.declared.row.Row.Row, specs.Rowed.raw_of}
@@ -16,111 +15,22 @@ module _ (place base : ℕ) (row : Row) where
 
   -- the event in its row, if it is one
   pub event-row : event_of place base (raw_of row) ≡ (if nat_lt row.code 512 then event_by place row.code row.dtime (base + row.time) ∷ [] else [])
-  event-row =
-      ⊎_elim
-      (λ (photon : row.code < 256).
-      let a : nat_lt row.code 256 ≡ true = grind (arith, nat_tests, photon) in
-      let b : nat_lt row.code 512 ≡ true = grind (arith, nat_tests, photon) in
-      rw (a, b) refl)
-      (λ (other : 256 ≤ row.code).
-      let a : nat_lt row.code 256 ≡ false = grind (arith, nat_tests, other) in
-      ⊎_elim
-      (λ (marker : row.code < 512).
-      let b : nat_lt row.code 512 ≡ true = grind (arith, nat_tests, marker) in
-      rw (a, b) refl)
-      (λ (none : 512 ≤ row.code).
-      let b : nat_lt row.code 512 ≡ false = grind (arith, nat_tests, none) in
-      rw (a, b) (skipped Reserved))
-      (cases_lt row.code 512))
-      (cases_lt row.code 256)
+  event-row = search (rules, arith, cases_lt)
 
   -- the greatest time with it
   pub greatest-row : (mode : Mode) (top : ℕ) → greatest_with mode top (event_of place base (raw_of row)) ≡ greatest_with_row (ordered_below mode) top base row
-  greatest-row T2 top =
-      rw event-row (⊎_elim
-      (λ (photon : row.code < 256).
-      let a : nat_lt row.code 256 ≡ true = grind (arith, nat_tests, photon) in
-      let b : nat_lt row.code 512 ≡ true = grind (arith, nat_tests, photon) in
-      rw (a, b) refl)
-      (λ (other : 256 ≤ row.code).
-      let a : nat_lt row.code 256 ≡ false = grind (arith, nat_tests, other) in
-      ⊎_elim
-      (λ (marker : row.code < 512).
-      let b : nat_lt row.code 512 ≡ true = grind (arith, nat_tests, marker) in
-      rw (a, b) refl)
-      (λ (none : 512 ≤ row.code).
-      let b : nat_lt row.code 512 ≡ false = grind (arith, nat_tests, none) in
-      rw (a, b) refl)
-      (cases_lt row.code 512))
-      (cases_lt row.code 256))
-  greatest-row T3 top =
-      rw event-row (⊎_elim
-      (λ (some : row.code < 512).
-      let b : nat_lt row.code 512 ≡ true = grind (arith, nat_tests, some) in
-      rw b refl)
-      (λ (none : 512 ≤ row.code).
-      let b : nat_lt row.code 512 ≡ false = grind (arith, nat_tests, none) in
-      rw b refl)
-      (cases_lt row.code 512))
+  greatest-row T2 top = search (rules, arith, event-row, cases_lt)
+  greatest-row T3 top = search (rules, arith, event-row, cases_lt)
 
   -- those in order alone
   ordered-row : (mode : Mode) → ordered mode (event_of place base (raw_of row)) ≡ event_below (ordered_below mode) place base row
-  ordered-row T2 =
-      rw event-row (⊎_elim
-      (λ (photon : row.code < 256).
-      let a : nat_lt row.code 256 ≡ true = grind (arith, nat_tests, photon) in
-      let b : nat_lt row.code 512 ≡ true = grind (arith, nat_tests, photon) in
-      rw (a, b) refl)
-      (λ (other : 256 ≤ row.code).
-      let a : nat_lt row.code 256 ≡ false = grind (arith, nat_tests, other) in
-      ⊎_elim
-      (λ (marker : row.code < 512).
-      let b : nat_lt row.code 512 ≡ true = grind (arith, nat_tests, marker) in
-      rw (a, b) refl)
-      (λ (none : 512 ≤ row.code).
-      let b : nat_lt row.code 512 ≡ false = grind (arith, nat_tests, none) in
-      rw (a, b) refl)
-      (cases_lt row.code 512))
-      (cases_lt row.code 256))
-  ordered-row T3 =
-      rw event-row (⊎_elim
-      (λ (some : row.code < 512).
-      let b : nat_lt row.code 512 ≡ true = grind (arith, nat_tests, some) in
-      rw b refl)
-      (λ (none : 512 ≤ row.code).
-      let b : nat_lt row.code 512 ≡ false = grind (arith, nat_tests, none) in
-      rw b refl)
-      (cases_lt row.code 512))
+  ordered-row T2 = search (rules, arith, event-row, cases_lt)
+  ordered-row T3 = search (rules, arith, event-row, cases_lt)
 
   pub chosen-row : (only : Bool) (mode : Mode) → event_below (gathered_below only mode) place base row ≡ chosen only mode (event_of place base (raw_of row))
-  chosen-row false mode = sym event-row
-  chosen-row true mode = sym (ordered-row mode)
+  chosen-row only mode = search (rules, arith, event-row, ordered-row)
 
   -- It is not late where the greatest time does not fall.
   pub on_time-row : (mode : Mode) (top : ℕ) → nat_le top (greatest_with_row (ordered_below mode) top base row) ≡ true → IsOnTime mode top (event_of place base (raw_of row))
-  on_time-row T2 top on =
-      rw event-row (⊎_elim
-      (λ (photon : row.code < 256).
-      let a : nat_lt row.code 256 ≡ true = grind (arith, nat_tests, photon) in
-      let b : nat_lt row.code 512 ≡ true = grind (arith, nat_tests, photon) in
-      rw (a, b) (λ _. leb-true _ _ (rw a at on)))
-      (λ (other : 256 ≤ row.code).
-      let a : nat_lt row.code 256 ≡ false = grind (arith, nat_tests, other) in
-      ⊎_elim
-      (λ (marker : row.code < 512).
-      let b : nat_lt row.code 512 ≡ true = grind (arith, nat_tests, marker) in
-      rw (a, b) (λ is. cc))
-      (λ (none : 512 ≤ row.code).
-      let b : nat_lt row.code 512 ≡ false = grind (arith, nat_tests, none) in
-      rw (a, b) tt)
-      (cases_lt row.code 512))
-      (cases_lt row.code 256))
-  on_time-row T3 top on =
-      rw event-row (⊎_elim
-      (λ (some : row.code < 512).
-      let b : nat_lt row.code 512 ≡ true = grind (arith, nat_tests, some) in
-      rw b (λ _. leb-true _ _ (rw b at on)))
-      (λ (none : 512 ≤ row.code).
-      let b : nat_lt row.code 512 ≡ false = grind (arith, nat_tests, none) in
-      rw b tt)
-      (cases_lt row.code 512))
+  on_time-row T2 top on = search (rules, arith, event-row, leb-true, cases_lt)
+  on_time-row T3 top on = search (rules, arith, event-row, leb-true, cases_lt)

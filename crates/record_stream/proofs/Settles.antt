@@ -1,6 +1,5 @@
 -- One event more where events are put in their places.
-use Rattle.std.proofs.Common.{◌≡◌, ◌+◌, ◌<◌, ◌≤◌, ℕ, suc, List, [], ◌∷◌, ◌++◌, Bool, true, false, cond, None, Some, Ok, Err, OnOk, OnErr, IfErr, length, map, max, refl, sym, ap, subst, ◌∙◌, inr, append-nil, add-zero, arith, ◌&&◌, not, is_some, IsTrue, if◌then◌else◌}
-use Rattle.std.{specs.List.All, specs.Option.option_to_list, specs.declared.option.Option.Option, specs.declared.result.Result.Result, proofs.lemmas.List.map-append, proofs.lemmas.List.Elements.{filter-append, All-tail, All-from_recursion, recursion_from_All}}
+use Rattle.std.{proofs.Common.{rules}, proofs.Common.{◌≡◌, ◌+◌, ◌<◌, ◌≤◌, ℕ, suc, List, [], ◌∷◌, ◌++◌, Bool, true, false, cond, None, Some, Ok, Err, OnOk, OnErr, IfErr, length, map, max, refl, sym, ap, subst, ◌∙◌, inr, append-nil, add-zero, arith, ◌&&◌, not, is_some, IsTrue, if◌then◌else◌}, specs.List.All, specs.Option.option_to_list, specs.declared.option.Option.Option, specs.declared.result.Result.Result, proofs.lemmas.List.map-append, proofs.lemmas.List.Elements.{filter-append, All-tail, All-from_recursion, recursion_from_All}}
 use Rattle.tally_base.{specs.declared.event.Event.Event, specs.declared.fault.Fault.Fault, specs.declared.fault.Fault.TheVariants.{BackwardTime, WriteFault}, specs.declared.header.Mode.Mode, specs.Events.{is_ordered, stops_late}, specs.FaultCounts.FailsOnce}
 use Rattle.ptu_definitions.{specs.Kept.{Marked, floor_of}, specs.Settled.{is_overtaken, ordered, settles, put_in, not_marked}, specs.Streams.{Reading, events_in}, specs.Times.{event_after, events}, proofs.DeliveredLaws.not_marked-append, proofs.SettledLemmas.length-put_in, proofs.SettlingLemmas.each-put_in, proofs.StreamLemmas.{events-push, events_in-push, fresh}}
 use Rattle.abs_time.{specs.Placing.mode_of as clock_mode, specs.Placing.placed_by, specs.Floors.moved_floor, proofs.Floors.moved_floor-push}
@@ -33,48 +32,33 @@ none_if true = refl
 none_if false = refl
 
 and_false : (a b : Bool) → b ≡ false → (a && b) ≡ false
-and_false true b is = is
-and_false false b is = refl
+and_false a b is = search (rules, arith)
 
 pub unrefused-off : (how : Reading) (before : List Event) (e : Event) (top : ℕ) → is_ordered how.mode e ≡ false → refused_for how before e top ≡ None
 unrefused-off how before e top off = ap (λ b. late_if how (b && is_overtaken how.policy.settle before e) e top) off ∙ none_if (stops_late how.policy.order)
 
 pub unrefused-early : (how : Reading) (reach : ℕ) (before : List Event) (e : Event) (top : ℕ) (late : Bool) → reach ≡ how.policy.settle → late ≡ is_overtaken reach before e → late ≡ false → refused_for how before e top ≡ None
-unrefused-early how reach before e top late same is early =
-    let off : is_overtaken how.policy.settle before e ≡ false = ap (λ k. is_overtaken k before e) (sym same) ∙ sym is ∙ early in
-    ap (λ b. late_if how b e top) (and_false (is_ordered how.mode e) (is_overtaken how.policy.settle before e) off) ∙ none_if (stops_late how.policy.order)
+unrefused-early how reach before e top late same is early = search (rules, arith, late_if, and_false)
 
 pub unrefused-passed : (how : Reading) (before : List Event) (e : Event) (top : ℕ) → stops_late how.policy.order ≡ false → refused_for how before e top ≡ None
-unrefused-passed how before e top passes = ap (λ s. if s then (if is_ordered how.mode e && is_overtaken how.policy.settle before e then Some (BackwardTime e.place e.time top) else None) else None) passes
+unrefused-passed how before e top passes = search (rules, arith)
 
 pub refused-stopped : (how : Reading) (reach : ℕ) (before : List Event) (e : Event) (top : ℕ) (late : Bool) → reach ≡ how.policy.settle → is_ordered how.mode e ≡ true → late ≡ is_overtaken reach before e → late ≡ true → stops_late how.policy.order ≡ true
     → refused_for how before e top ≡ Some (BackwardTime e.place e.time top)
-refused-stopped how reach before e top late same on is sure stops =
-    let over : is_overtaken how.policy.settle before e ≡ true = ap (λ k. is_overtaken k before e) (sym same) ∙ sym is ∙ sure in
-    ap (λ s. if s then (if is_ordered how.mode e && is_overtaken how.policy.settle before e then Some (BackwardTime e.place e.time top) else None) else None) stops
-    ∙ ap (λ b. if b then Some (BackwardTime e.place e.time top) else None) (ap (λ b. b && is_overtaken how.policy.settle before e) on ∙ over)
+refused-stopped how reach before e top late same on is sure stops = search (rules, arith)
 
 -- The greatest time of what was given.
 pub floor-late : (mode : Mode) (floor : ℕ) (e : Event) → moved_floor mode floor e true ≡ floor
-floor-late mode floor e = by_case (is_ordered mode e)
-  where
-    by_case : (b : Bool) → (if b && not true then e.time else floor) ≡ floor
-    by_case true = refl
-    by_case false = refl
+floor-late mode floor e = search (rules, arith)
 
 pub floor-most : (mode : Mode) (floor last : ℕ) (e : Event) → floor ≤ last → e.time ≤ last → moved_floor mode floor e false ≤ last
-floor-most mode floor last e low time = by_case (is_ordered mode e)
-  where
-    by_case : (b : Bool) → (if b && not false then e.time else floor) ≤ last
-    by_case true = time
-    by_case false = low
+floor-most mode floor last e low time = search (rules, arith)
 
 pub floor-on : (mode : Mode) (floor : ℕ) (e : Event) → is_ordered mode e ≡ true → moved_floor mode floor e false ≡ e.time
 floor-on mode floor e on = ap (λ b. if b && not false then e.time else floor) on
 
 pub late-order : (b : Bool) (P : Type 0) → IsTrue (b && not true) → P
-late-order true P is = cc
-late-order false P is = cc
+late-order b P is = search (rules, arith)
 
 greatest-push : (mode : Mode) (l : Marked) (e : Event) (late : Bool) (last now : ℕ) → now ≡ moved_floor mode last e late → (IsTrue (is_ordered mode e && not late) → last ≤ e.time) → last ≡ floor_of mode l → now ≡ floor_of mode (l ++ (e, late) ∷ [])
 greatest-push mode l e late last now moved in_order is =
@@ -84,13 +68,7 @@ greatest-push mode l e late last now moved in_order is =
 -- What waits then.
 pub kept_on : (old new : Walk) (from now : Settle) → IsKeeping old from → how_of new ≡ how_of old → reach_of now ≡ reach_of from → was_popped now ≡ false → All (CanWait (how_of old).mode) (kept_back now)
     → next_place now ≤ placed_by (clock_in new) + 1 → given_by new + length (kept_back now) ≤ records_of new → IsKeeping new now
-kept_on old new from now keeps same_how same_reach unpopped fit behind room = record {
-  reach = same_reach ∙ keeps.reach ∙ sym (ap (λ (h : Reading). h.policy.settle) same_how);
-  unpopped = unpopped;
-  fit = subst (λ m. All (CanWait m) (kept_back now)) (sym (ap (λ (h : Reading). h.mode) same_how)) fit;
-  behind = λ some. behind;
-  room = room;
-}
+kept_on old new from now keeps same_how same_reach unpopped fit behind room = search (rules, arith)
 
 put_in-all : (P : Event → Type 0) (o : Option Event) (w new : List Event) (e : Event) → option_to_list o ++ new ≡ put_in e w → P e → All P w → All P (option_to_list o ++ new)
 put_in-all P o w new e is p all =
@@ -119,15 +97,7 @@ module _ {T : Type 0} (g : Ghosts T) where
   -- an event that adds nothing
   pub told_none : (how : Reading) (walk : Walk) (from settle : Settle) (t : T) (before given all : List Event) (e : Event) (top : ℕ) → refused_for how before e top ≡ None → tells how.policy.settle how.mode before e ≡ []
       → ordered how.mode (e ∷ []) ≡ all → HasSettled settle (before ++ all) (given ++ []) → last_time settle ≡ last_time from → Told g how walk walk from settle t t before given e top
-  told_none how walk from settle t before given all e top none is all_is settled same = record {
-    unrefused = none;
-    settled = subst (λ m. HasSettled settle (before ++ ordered how.mode (e ∷ [])) (given ++ not_marked m)) (sym is) (subst (λ p. HasSettled settle (before ++ p) (given ++ [])) (sym all_is) settled);
-    greatest = λ l low. same ∙ low ∙ ap (floor_of how.mode) (sym (ap (λ m. l ++ m) is ∙ append-nil l));
-    got = λ start l got. subst (λ m. g.got start t m) (sym (ap (λ m. l ++ m) is ∙ append-nil l)) got;
-    summary = ap (λ m. with_marks (summary_in walk) m) (sym is);
-    counted = sym (ap (λ m. given_by walk + length m) is ∙ add-zero (given_by walk));
-    kept = refl;
-  }
+  told_none how walk from settle t before given all e top none is all_is settled same = search (rules, arith, append-nil, add-zero)
 
   -- an event that adds one, which was given or broke the taker
   pub tells_one : {X : Type 0} (r : Result X Fault) (old new : Walk) (from settle : Settle) (t now : T) (before given : List Event) (e x : Event) (late : Bool) (top : ℕ) → refused_for (how_of old) before e top ≡ None
@@ -177,19 +147,8 @@ come_event how settle settle' ws w e come is adds settled moves =
     }
 
 pub come_none : (how : Reading) (settle : Settle) (ws : List ℕ) (w : ℕ) → HasCome how settle ws → event_after (map how.meaning ws) (how.meaning w) ≡ [] → fresh how ws (how.meaning w) ≡ [] → HasCome how settle (ws ++ w ∷ [])
-come_none how settle ws w come is adds =
-    let delivers : events_in how (ws ++ w ∷ []) ≡ events_in how ws = events_in-push how ws w ∙ ap (λ l. events_in how ws ++ l) adds ∙ append-nil (events_in how ws) in
-    let came : events (map how.meaning (ws ++ w ∷ [])) ≡ events (map how.meaning ws) =
-    ap events (map-append how.meaning ws (w ∷ [])) ∙ events-push (map how.meaning ws) (how.meaning w) ∙ ap (λ l. events (map how.meaning ws) ++ l) is ∙ append-nil (events (map how.meaning ws)) in
-    record {
-      settled = subst (λ p. HasSettled settle (ordered how.mode p) (not_marked (events_in how (ws ++ w ∷ [])))) (sym came) (subst (λ l. HasSettled settle (ordered how.mode (events (map how.meaning ws))) (not_marked l)) (sym delivers) come.settled);
-      greatest = come.greatest ∙ ap (floor_of how.mode) (sym delivers);
-    }
+come_none how settle ws w come is adds = search (rules, arith, events_in-push, append-nil, map-append, events-push)
 
 -- What a push lets go.
 pub none_late : (o : Option Event) (late more : Bool) → is_some o ≡ (not late && more) → late ≡ true → o ≡ None
-none_late None late more is sure = refl
-none_late (Some x) late more is sure = let h : true ≡ (not late && more) = is in let off : (not late && more) ≡ false = ap (λ b. not b && more) sure in cc
-
-pub some_early : (o : Option Event) (x : Event) → o ≡ Some x → option_to_list o ≡ x ∷ []
-some_early o x is = ap option_to_list is
+none_late o late more is sure = search (rules, arith)

@@ -1,6 +1,5 @@
 -- One word more.
-use Rattle.std.proofs.Common.{◌≡◌, ◌+◌, ◌<◌, ℕ, List, [], ◌∷◌, ◌++◌, Bool, false, None, Some, Ok, Err, OnOk, OnErr, IfOk, IfErr, length, map, refl, sym, ap, subst, ◌∙◌, inl, inr, ⊎_elim, append-nil, arith, length-append, ◌&&◌}
-use Rattle.std.{specs.declared.result.Result.Result, proofs.lemmas.List.map-append}
+use Rattle.std.{proofs.Common.{rules}, proofs.Common.{◌≡◌, ◌+◌, ◌<◌, ℕ, List, [], ◌∷◌, ◌++◌, Bool, false, None, Some, Ok, Err, OnOk, OnErr, IfOk, IfErr, length, map, refl, sym, ap, subst, ◌∙◌, inr, ⊎_elim, append-nil, arith, length-append, ◌&&◌}, specs.declared.result.Result.Result, proofs.lemmas.List.map-append}
 use Rattle.tally_base.{specs.declared.event.Event.Event, specs.declared.fault.Fault.Fault, specs.declared.fault.Fault.TheVariants.WriteFault, specs.FaultCounts.FailsOnce, specs.Events.stops_reserved}
 use Rattle.ptu_definitions.{specs.declared.records.Summary.Summary, specs.declared.records.Raw.Raw, specs.Kept.Marked, specs.Streams.{Reading, refusal, refusals, record_refusal, given}, proofs.StreamLemmas.{fresh, events_in-push, clear-push, refused-push, given-clear, given-refused}, specs.Kinds.is_reserved}
 use Rattle.abs_time.{specs.declared.clock.Clock.Clock, specs.declared.clock.Placed.Placed, specs.Placing.{HasPlaced, place_answer}}
@@ -14,8 +13,7 @@ records-is how clock sum count ws h = ap (λ (s : Summary). s.records) h.summary
 -- what the clock's answer says of a word
 pub word_refused : (how : Reading) (ws : List ℕ) (w n : ℕ) (raw : Raw) (r : Result Placed Fault) → n ≡ length (map how.meaning ws) → n < how.policy.records → raw ≡ how.meaning w → (is_reserved raw && stops_reserved how.policy.reserved) ≡ false
     → r ≡ place_answer how.mode (map how.meaning ws) raw → IfErr r (λ fault. refusal how ws w ≡ Some fault)
-word_refused how ws w n raw (Ok p) is room means go answers = tt
-word_refused how ws w n raw (Err fault) is room means go answers = refusal-err how ws w n raw fault is room means go (sym answers)
+word_refused how ws w n raw r is room means go answers = search (rules, arith, refusal-err)
 
 pub word_placed : (old new : Walk) (ws : List ℕ) (w n : ℕ) (raw : Raw) (r : Result Placed Fault) → n ≡ length (map (how_of old).meaning ws) → n < (how_of old).policy.records → raw ≡ (how_of old).meaning w → (is_reserved raw && stops_reserved (how_of old).policy.reserved) ≡ false
     → r ≡ place_answer (how_of old).mode (map (how_of old).meaning ws) raw → OnOk r (HasPlaced (clock_in new) (map (how_of old).meaning ws ++ raw ∷ [])) → summary_in new ≡ with_raw (summary_in old) raw → IfOk r (IsPlaced old new ws w)
@@ -47,19 +45,17 @@ placed_at how how' clock clock' clock'' sum sum1 sum' count count' ws w marks sa
 module _ {T : Type 0} (g : Ghosts T) where
   -- a word that is refused
   pub refused_fed : (X : Type 0) (how : Reading) (t : T) (ws : List ℕ) (w : ℕ) (fault : Fault) → refusals how ws ≡ [] → refusal how ws w ≡ Some fault → Fed g {X = X} how t t ws (ws ++ w ∷ []) (Err fault)
-  refused_fed X how t ws w fault clear some =
-      inl (refused-push how ws w fault clear some, record { more = []; adds = given-refused how ws w fault clear some ∙ sym (given-clear how ws clear) ∙ sym (append-nil (given how ws)); follows = λ start l got. rw append-nil got; kept = refl })
+  refused_fed X how t ws w fault clear some = search (rules, arith, refused-push, given-refused, given-clear, append-nil)
 
   given-more : (how : Reading) (ws : List ℕ) (w : ℕ) (marks : Marked) → refusals how ws ≡ [] → refusal how ws w ≡ None → fresh how ws (how.meaning w) ≡ marks → given how (ws ++ w ∷ []) ≡ given how ws ++ marks
-  given-more how ws w marks clear none is = given-clear how (ws ++ w ∷ []) (clear-push how ws w clear none) ∙ events_in-push how ws w ∙ rw (is, given-clear how ws clear) refl
+  given-more how ws w marks clear none is = search (rules, arith, given-clear, clear-push, events_in-push)
 
   unrefused : (how : Reading) (ws : List ℕ) → refusals how ws ≡ [] → record_refusal how ws ≡ None
   unrefused how ws clear = rw clear refl
 
   -- a word with no event
   pub skipped_fed : {X : Type 0} (how : Reading) (t : T) (ws : List ℕ) (w : ℕ) (x : X) → refusals how ws ≡ [] → refusal how ws w ≡ None → fresh how ws (how.meaning w) ≡ [] → Fed g how t t ws (ws ++ w ∷ []) (Ok x)
-  skipped_fed how t ws w x clear none is =
-      (unrefused how (ws ++ w ∷ []) (clear-push how ws w clear none), record { more = []; adds = given-more how ws w [] clear none is; follows = λ start l got. rw append-nil got; kept = refl })
+  skipped_fed how t ws w x clear none is = search (rules, arith, unrefused, clear-push, given-more, append-nil)
 
   -- a word whose event was given, or broke the taker
   pub give_fed : {X : Type 0} (how : Reading) (walk next : Walk) (old new : T) (ws : List ℕ) (w : ℕ) (e : Event) (late : Bool) (r : Result X Fault) → refusals how ws ≡ [] → refusal how ws w ≡ None

@@ -1,6 +1,5 @@
 -- What the end of a stream does.
-use Rattle.std.specs.Prelude.{ℕ, ◌≡◌, ◌+◌, ◌<◌, ◌≤◌, false, List, [], ◌++◌, length, Result, Ok, Err, ◌⊎◌}
-use Rattle.std.specs.List.{All}
+use Rattle.std.{specs.Prelude.{ℕ, ◌≡◌, ◌+◌, ◌<◌, ◌≤◌, false, List, [], ◌++◌, length, Result, Ok, Err, ◌⊎◌}, specs.List.All}
 use Rattle.tally_base.{specs.declared.event.Event.Event, specs.declared.fault.Fault.Fault, specs.declared.fault.Fault.TheVariants.WriteFault, specs.FaultCounts.Rose}
 use Rattle.ptu_definitions.{specs.declared.records.Summary.Summary, specs.Kept.Marked, specs.Settled.marked_as, specs.Streams.{Reading, last_in, streamed}, specs.Words.{words_of, rest_of}}
 use Rattle.record_stream.{specs.Keeping.CanWait, specs.OneMore.with_marks, specs.Walking.{how_of, given_by, records_of, summary_in}, specs.declared.taker.EventTaker.Ghosts, specs.declared.walk.Walk.Walk}

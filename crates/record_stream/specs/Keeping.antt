@@ -1,6 +1,5 @@
 -- The events that a stream keeps back.
-use Rattle.std.specs.Prelude.{ℕ, ◌≡◌, ◌≢◌, ◌+◌, ◌≤◌, ◌&&◌, true, false, List, [], length, map, None, Some, if◌then◌else◌}
-use Rattle.std.{specs.declared.option.Option.Option, specs.List.All}
+use Rattle.std.{specs.Prelude.{ℕ, ◌≡◌, ◌≢◌, ◌+◌, ◌≤◌, ◌&&◌, true, false, List, [], length, map, None, Some, if◌then◌else◌}, specs.declared.option.Option.Option, specs.List.All}
 use Rattle.tally_base.{specs.declared.event.Event.Event, specs.declared.fault.Fault.Fault, specs.declared.fault.Fault.TheVariants.BackwardTime, specs.declared.header.Mode.Mode, specs.Events.{is_ordered, stops_late}, specs.RecordTypes.mode_of}
 use Rattle.ptu_definitions.{specs.Kept.{Marked, floor_of}, specs.Settled.{is_overtaken, ordered, settles, not_marked}, specs.Streams.{Reading, events_in}, specs.Times.events, specs.declared.records.Summary.Summary}
 use Rattle.abs_time.{specs.Placing.{IsSmall, placed_by}, specs.declared.clock.Clock.Clock}

@@ -1,6 +1,5 @@
 -- A summary with one more record, and with its event.
-use Rattle.std.specs.Prelude.{ℕ, ◌+◌, Bool, true, false, List, [], ◌∷◌, None, Some}
-use Rattle.std.specs.declared.option.Option.{Option}
+use Rattle.std.{specs.Prelude.{ℕ, ◌+◌, Bool, true, false, List, [], ◌∷◌, None, Some}, specs.declared.option.Option.Option}
 use Rattle.tally_base.specs.declared.event.Event.{Event}
 use Rattle.ptu_definitions.{specs.declared.records.Summary.Summary, specs.declared.records.KindCounts.KindCounts, specs.declared.records.Raw.Raw, specs.declared.records.Raw.TheVariants.{Photon, Marker, Wrap, Reserved}, specs.Kept.Marked}
 

@@ -1,6 +1,5 @@
 -- A word whose record was counted and placed.
-use Rattle.std.specs.Prelude.{ℕ, ◌≡◌, ◌+◌, ◌≤◌, List, [], ◌∷◌, ◌++◌, map, None, Ok, if◌then◌else◌}
-use Rattle.std.specs.declared.option.Option.{Option}
+use Rattle.std.{specs.Prelude.{ℕ, ◌≡◌, ◌+◌, ◌≤◌, List, [], ◌∷◌, ◌++◌, map, None, Ok, if◌then◌else◌}, specs.declared.option.Option.Option}
 use Rattle.tally_base.{specs.declared.fault.Fault.Fault, specs.Events.stops_late}
 use Rattle.ptu_definitions.{specs.declared.records.Raw.Raw, specs.Streams.{Reading, refusal, late_refusal}, specs.Times.{event_after, events}}
 use Rattle.abs_time.{specs.declared.clock.Placed.Placed, specs.Placing.{HasPlaced, IsNext, Moves, place_answer, greatest_by, placed_by}}

@@ -1,6 +1,5 @@
 -- The summary that sums stand for.
-use Rattle.std.specs.Prelude.{ℕ, Bool, true, false, None, Some}
-use Rattle.std.specs.declared.option.Option.{Option}
+use Rattle.std.{specs.Prelude.{ℕ, Bool, true, false, None, Some}, specs.declared.option.Option.Option}
 use Rattle.ptu_definitions.specs.declared.records.Summary.{Summary}
 use Rattle.record_stream.specs.declared.count.Sums.{Sums}
 

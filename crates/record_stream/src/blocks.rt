@@ -9,7 +9,8 @@ ghost use Rattle.record_stream.{specs.Blocks.{on_time, BrokeAmong}, specs.Rows.{
 use crate::count::{add_block, stops_reserved};
 use crate::taker::EventTaker;
 use crate::walk::Walk;
-use record_layout::{Columns, RecordLayout, Row};
+use crate::whole::gather_whole;
+use record_layout::{Close, Columns, RecordLayout, Row};
 use tally_base::{BLOCK_SIZE, Block, Fault, Mode, WRAP_LIMIT};
 
 /// The greatest sum of wraps that those of a block of words can't make greater than 2^62.
@@ -58,7 +59,7 @@ impl Ahead {
 
 /// The codes below this one are those of events in order.
 #[inline(always)]
-fn ordered_below(mode: Mode) -> u16
+pub(crate) fn ordered_below(mode: Mode) -> u16
     ensures { result ≡ ordered_below mode }
 {
     match mode {
@@ -69,7 +70,7 @@ fn ordered_below(mode: Mode) -> u16
 
 /// The codes below this one are those of events, or of events in order.
 #[inline(always)]
-fn gathered_below(only_ordered: bool, mode: Mode) -> u16
+pub(crate) fn gathered_below(only_ordered: bool, mode: Mode) -> u16
     ensures { result ≡ gathered_below only_ordered mode }
 {
     if only_ordered {
@@ -83,6 +84,35 @@ fn gathered_below(only_ordered: bool, mode: Mode) -> u16
 /// order alone, where each of them passes. Whether none is late is known at the end.
 #[inline(always)]
 pub(crate) fn gather<R: RecordLayout>(
+    walk: &Walk,
+    words: &[[u8; 4]],
+    columns: &mut Columns,
+    close: &mut Close,
+    only_ordered: bool,
+    block: &mut Block,
+) -> Ahead
+    requires meaning { R.meaning ≡ (how_of walk.now).meaning }
+    requires rows { HasRows R.meaning R.UNIT columns.old words.now }
+    requires few { length words.now ≤ BLOCK_SIZE }
+    requires passes { LetsPass walk.now R.meaning words.now }
+    ensures gathers { Gathers walk.now words.now only_ordered result.in_order result.base
+        result.greatest (written block.new result.len) }
+    ensures few { result.len ≤ length words.now }
+    ensures blank { IsBlank block.new }
+{
+    if words.len() != BLOCK_SIZE || walk.clock.greatest() >= 1 << 63 {
+        return gather_each::<R>(walk, words, columns, only_ordered, block);
+    }
+    let ahead = gather_whole::<R>(walk, words, columns, close, only_ordered, block);
+    if ahead.in_order {
+        return ahead;
+    }
+    gather_each::<R>(walk, words, columns, only_ordered, block)
+}
+
+/// The same, one record after the other.
+#[inline(never)]
+fn gather_each<R: RecordLayout>(
     walk: &Walk,
     words: &[[u8; 4]],
     columns: &Columns,
@@ -115,12 +145,14 @@ pub(crate) fn gather<R: RecordLayout>(
     ahead
 }
 
-/// Takes at most as many words as a block has places, with columns for their records and a block for their events.
+/// Takes at most as many words as a block has places, with columns for their records, room for
+/// those that are events, and a block for these.
 #[inline(always)]
 fn take_block<R: RecordLayout, S: EventTaker>(
     walk: &mut Walk,
     words: &[[u8; 4]],
     columns: &mut Columns,
+    close: &mut Close,
     block: &mut Block,
     taker: &mut S,
 ) -> Result<(), Fault>
@@ -143,7 +175,7 @@ fn take_block<R: RecordLayout, S: EventTaker>(
     if stops || !room || walk.clock.base() > EARLY_ENOUGH {
         return walk.words::<R, S>(words, taker);
     }
-    let ahead = gather::<R>(walk, words, columns, false, block);
+    let ahead = gather::<R>(walk, words, columns, close, false, block);
     if !ahead.in_order {
         return walk.words::<R, S>(words, taker);
     }
@@ -179,12 +211,13 @@ pub(crate) fn take_words<R: RecordLayout, S: EventTaker>(
         return walk.words::<R, S>(words, taker);
     }
     let mut columns = Columns::new();
+    let mut close = Close::new();
     let mut block = Block::new();
     let mut rest = words;
     'many: while rest.len() > BLOCK_SIZE {
         let (front, back) = rest.split_at(BLOCK_SIZE);
-        take_block::<R, S>(walk, front, &mut columns, &mut block, taker)?;
+        take_block::<R, S>(walk, front, &mut columns, &mut close, &mut block, taker)?;
         rest = back;
     }
-    take_block::<R, S>(walk, rest, &mut columns, &mut block, taker)
+    take_block::<R, S>(walk, rest, &mut columns, &mut close, &mut block, taker)
 }

@@ -1,6 +1,5 @@
 // What the events of a block let go, where events are put in their places.
-ghost use Rattle.std.specs.Prelude.{◌≡◌, ◌≢◌, ◌+◌, ◌-◌, ◌<◌, ◌≤◌, ◌++◌, List, ℕ, true, length, take, drop};
-ghost use Rattle.std.specs.Option.{option_to_list};
+ghost use Rattle.std.{specs.Prelude.{◌≡◌, ◌≢◌, ◌+◌, ◌-◌, ◌<◌, ◌≤◌, ◌++◌, List, ℕ, true, length, take, drop}, specs.Option.{option_to_list}};
 ghost use Rattle.abs_time.specs.Placing.{placed_by};
 ghost use Rattle.tally_base.specs.Columns.{count, sorted, gathered};
 ghost use Rattle.record_stream.{specs.Keeping.IsKeeping, specs.LettingGo.{ComesNext, IsFull, LetsGo, IsDelivered}, specs.Settling.IsSettledBehind, specs.Walking.{how_of, clock_in}};

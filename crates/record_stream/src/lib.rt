@@ -11,6 +11,7 @@ mod settled_blocks;
 mod stream;
 mod taker;
 mod walk;
+mod whole;
 
 pub use ptu_definitions::Summary;
 pub use stream::RecordStream;

@@ -1,6 +1,5 @@
 // The words of a piece in blocks, where events are put in their places.
-ghost use Rattle.std.specs.Prelude.{◌≡◌, ◌≢◌, ◌+◌, ◌<◌, ◌≤◌, ◌++◌, [], List, ℕ, false, length, OnOk};
-ghost use Rattle.std.specs.Option.{option_to_list};
+ghost use Rattle.std.{specs.Prelude.{◌≡◌, ◌≢◌, ◌+◌, ◌<◌, ◌≤◌, ◌++◌, [], List, ℕ, false, length, OnOk}, specs.Option.{option_to_list}};
 ghost use Rattle.tally_base.{specs.declared.event.Event.Event, specs.declared.fault.Fault.TheVariants.WriteFault, specs.FaultCounts.FailsOnce, specs.Columns.{count, sorted, gathered, written}, specs.Floors.InOrder};
 ghost use Rattle.ptu_definitions.specs.Fours.{numbers};
 ghost use Rattle.abs_time.{specs.Placing.placed_by, specs.Floors.orders_markers};
@@ -14,7 +13,7 @@ use crate::settled::settle_words;
 use crate::taker::EventTaker;
 use crate::walk::Walk;
 use arrayvec::ArrayVec;
-use record_layout::{Columns, RecordLayout};
+use record_layout::{Close, Columns, RecordLayout};
 use settle::Settle;
 use tally_base::{BLOCK_SIZE, Block, Event, Fault};
 
@@ -23,6 +22,8 @@ use tally_base::{BLOCK_SIZE, Block, Event, Fault};
 struct Room {
     /// Their records.
     columns: Columns,
+    /// Those of them that are events in order.
+    close: Close,
     /// Their events in order.
     block: Block,
     /// Those that are let go with them.
@@ -35,6 +36,7 @@ impl Room {
     fn new() -> Room {
         Room {
             columns: Columns::new(),
+            close: Close::new(),
             block: Block::new(),
             out: Block::new(),
             stay: ArrayVec::new(),
@@ -70,7 +72,14 @@ fn settle_block<R: RecordLayout, S: EventTaker>(
     if stops || !fits || walk.clock.base() > EARLY_ENOUGH {
         return settle_words::<R, S>(walk, settle, words, taker);
     }
-    let ahead = gather::<R>(walk, words, &room.columns, true, &mut room.block);
+    let ahead = gather::<R>(
+        walk,
+        words,
+        &mut room.columns,
+        &mut room.close,
+        true,
+        &mut room.block,
+    );
     if !ahead.in_order {
         return settle_words::<R, S>(walk, settle, words, taker);
     }

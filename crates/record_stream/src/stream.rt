@@ -1,8 +1,7 @@
 // A stream of records that comes in pieces.
-ghost use Rattle.std.specs.Prelude.{◌≡◌, ◌+◌, ◌*◌, ◌<◌, ◌≤◌, ◌++◌, ◌∷◌, [], List, ℕ, length, None, Some, OnOk, OnErr, IfErr, ◌≢◌};
+ghost use Rattle.std.{specs.Prelude.{◌≡◌, ◌+◌, ◌*◌, ◌<◌, ◌≤◌, ◌++◌, ◌∷◌, [], List, ℕ, length, None, Some, OnOk, OnErr, IfErr, ◌≢◌}, proofs.Props.{props}};
 ghost use Rattle.record_stream.specs.Keeping.{IsKeeping};
 ghost use Rattle.abs_time.proofs.Props.{kind_fits-prop};
-ghost use Rattle.std.proofs.Props.{props};
 ghost use Rattle.tally_base.specs.Limits.{record_limit};
 
 use crate::blocks::take_words;

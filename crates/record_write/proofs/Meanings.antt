@@ -1,6 +1,5 @@
 -- What the words of photons mean, and how the wraps before them add up.
-use Rattle.std.proofs.Common.{◌≡◌, ◌+◌, ◌-◌, ◌*◌, ◌/◌, ◌%◌, ◌^◌, ◌<◌, ◌≤◌, ℕ, zero, suc, false, refl, arith, ◌==◌}
-use Rattle.std.{proofs.lemmas.Bool.ne_eqb, proofs.lemmas.Bool.Decides.nat_tests}
+use Rattle.std.{proofs.Common.{◌≡◌, ◌+◌, ◌-◌, ◌*◌, ◌/◌, ◌%◌, ◌^◌, ◌<◌, ◌≤◌, ℕ, zero, suc, false, refl, arith, ◌==◌}, proofs.lemmas.Bool.ne_eqb, proofs.lemmas.Bool.Decides.nat_tests}
 use Rattle.tally_base.{specs.declared.event.EventKind.TheVariants.Photon as PhotonEvent, specs.declared.header.Mode.Mode, specs.declared.header.Mode.TheVariants.{T2, T3}}
 use Rattle.ptu_definitions.{specs.declared.records.Raw.TheVariants.{Photon, Wrap}, specs.Fitting.KindFits, specs.Layouts.{hydra_t2, hydra_t3, bits}}
 use Rattle.record_write.specs.Picked.{unit_of, wrap_word, photon_word, meaning_in, is_too_late}

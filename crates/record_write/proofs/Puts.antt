@@ -1,6 +1,5 @@
 -- Words that are put into a block one after another.
-use Rattle.std.proofs.Common.{◌≡◌, ◌≢◌, ◌+◌, ◌-◌, ◌/◌, ◌%◌, ◌<◌, ℕ, false, List, [], ◌∷◌, ◌++◌, replicate, refl, sym, ap, subst, ◌∙◌, append_assoc, append-nil, arith, ◌==◌}
-use Rattle.std.{specs.declared.option.Option.Option, proofs.lemmas.List.{replicate_more, replicate-append-replicate}, proofs.lemmas.Bool.ne_eqb}
+use Rattle.std.{proofs.Common.{◌≡◌, ◌≢◌, ◌+◌, ◌-◌, ◌/◌, ◌%◌, ◌<◌, ℕ, false, List, [], ◌∷◌, ◌++◌, replicate, refl, sym, ap, subst, ◌∙◌, append_assoc, append-nil, arith, ◌==◌}, specs.declared.option.Option.Option, proofs.lemmas.List.{replicate_more, replicate-append-replicate}, proofs.lemmas.Bool.ne_eqb}
 use Rattle.tally_base.{specs.declared.event.Event.Event, specs.declared.event.EventKind.TheVariants.Photon, specs.declared.header.Mode.Mode}
 use Rattle.bench_io.{specs.Sinks.{AppendsShort, PassesOn}, proofs.Bytes.{PassesOn-held, PassesOn-trans, AppendsShort-passed, AppendsShort-more, AppendsShort-same, AppendsShort-flushed}}
 use Rattle.ptu_definitions.proofs.PrefixLemmas.{last_after-push}

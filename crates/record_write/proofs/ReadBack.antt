@@ -1,6 +1,5 @@
 -- Photons are read back from their words.
-use Rattle.std.proofs.Common.{◌≡◌, ◌∙◌, ◌+◌, ◌*◌, ◌/◌, ◌%◌, ◌^◌, ◌<◌, ◌≤◌, ℕ, Bool, true, false, None, Some, List, [], ◌∷◌, ◌++◌, length, map, refl, ap, arith, nat_lt, nat_le, ◌&&◌, not, if◌then◌else◌, subst, append_assoc, append-nil}
-use Rattle.std.{specs.declared.option.Option.Option, specs.List.{AllByRecursion, filter}, proofs.lemmas.List.{length-map, length_push, map_push, map-append}, proofs.lemmas.List.Sums.sum_by-append, proofs.lemmas.List.Elements.recursion_from_All, proofs.lemmas.Bool.Decides.nat_tests}
+use Rattle.std.{proofs.Common.{◌≡◌, ◌∙◌, ◌+◌, ◌*◌, ◌/◌, ◌%◌, ◌^◌, ◌<◌, ◌≤◌, ℕ, Bool, true, false, None, Some, List, [], ◌∷◌, ◌++◌, length, map, refl, ap, arith, nat_lt, nat_le, ◌&&◌, not, if◌then◌else◌, subst, append_assoc, append-nil}, specs.declared.option.Option.Option, specs.List.{AllByRecursion, filter}, proofs.lemmas.List.{length-map, length_push, map_push, map-append}, proofs.lemmas.List.Sums.sum_by-append, proofs.lemmas.List.Elements.recursion_from_All, proofs.lemmas.Bool.Decides.nat_tests}
 use Rattle.tally_base.{specs.declared.event.Event.Event, specs.declared.event.EventKind.TheVariants.Photon as PhotonEvent, specs.declared.event.Policy.Policy, specs.declared.fault.Fault.Fault, specs.declared.fault.Fault.TheVariants.{ReservedRecord, TimeLimit}, specs.declared.header.Mode.Mode, specs.declared.header.Mode.TheVariants.{T2, T3}, specs.Events.{is_ordered, stops_late}, specs.Limits.wrap_limit}
 use Rattle.ptu_definitions.{specs.declared.records.Raw.TheVariants.Photon, specs.Kept.{mark, marked, kept, is_late, greatest, ordered_time}, specs.Prefixes.{each_after, listed}, specs.Settled.{Rises, delivered}, specs.Streams.{Reading, late_refusal, refusal, refusals, record_refusal, given}, specs.Times.{amount, base, event_after, events}, proofs.DeliveredLaws.is_late_by-0, proofs.Firsts.given-all, proofs.SettledLemmas.Rises-IsNonDecreasingBy, proofs.StreamLemmas.{later, greatest-push}}
 use Rattle.short_file.{specs.TimedEvents.{Timed, timed}, proofs.WordBytes.IsWord}

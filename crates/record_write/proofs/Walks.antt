@@ -1,6 +1,5 @@
 -- An induction over the words of photons: wrap by wrap, and photon by photon.
-use Rattle.std.proofs.Common.{◌≡◌, ◌+◌, ◌-◌, ◌*◌, ◌/◌, ◌%◌, ◌^◌, ◌<◌, ◌≤◌, ℕ, zero, suc, Bool, true, false, List, [], ◌∷◌, ◌++◌, length, map, replicate, refl, ap, ◌∙◌, arith, append_assoc, append-nil, ◌==◌, if◌then◌else◌}
-use Rattle.std.{specs.List.AllByRecursion, proofs.lemmas.Nat.mod_below, proofs.lemmas.Bool.eqb-true, proofs.lemmas.List.map_push, proofs.lemmas.List.Sums.sum_by_push}
+use Rattle.std.{proofs.Common.{◌≡◌, ◌+◌, ◌-◌, ◌*◌, ◌/◌, ◌%◌, ◌^◌, ◌<◌, ◌≤◌, ℕ, zero, suc, Bool, true, false, List, [], ◌∷◌, ◌++◌, length, map, replicate, refl, ap, ◌∙◌, arith, append_assoc, append-nil, ◌==◌, if◌then◌else◌}, specs.List.AllByRecursion, proofs.lemmas.Nat.mod_below, proofs.lemmas.Bool.eqb-true, proofs.lemmas.List.map_push, proofs.lemmas.List.Sums.sum_by_push}
 use Rattle.tally_base.{specs.declared.event.Event.Event, specs.declared.event.EventKind.EventKind, specs.declared.event.EventKind.TheVariants.Photon as PhotonEvent, specs.declared.event.EventKind.TheVariants.Marker as MarkerEvent, specs.declared.header.Mode.Mode, specs.declared.header.Mode.TheVariants.{T2, T3}, specs.Events.is_photon_kind}
 use Rattle.ptu_definitions.{specs.declared.records.Raw.Raw, specs.declared.records.Raw.TheVariants.{Photon, Wrap}, specs.Fitting.KindFits, specs.Kept.{greatest, ordered_time}, specs.Prefixes.each_after, specs.Settled.Rises, specs.Times.{amount, base, events}, proofs.PrefixLemmas.last_after-push, proofs.StreamLemmas.{events-push, greatest-push}}
 use Rattle.record_write.{specs.Picked.{unit_of, wrap_word, wraps, photon_word, own_word, time_or_none, last_time, photon_words, is_too_late, IsPhotonOf, meaning_in}, proofs.Meanings.{wrap-meaning, photon-meaning, units-lead, unit-time, unit-in-time, unit-some}}

@@ -1,8 +1,6 @@
 -- What a call says of the words that it puts into a block or writes.
-use Rattle.std.specs.Prelude.{ℕ, ◌≡◌, ◌≤◌, ◌⊎◌, Err, List, [], ◌++◌, OnOk, IfErr}
-use Rattle.std.{specs.declared.option.Option.Option, specs.declared.result.Result.Result}
+use Rattle.std.{specs.Prelude.{ℕ, ◌≡◌, ◌≤◌, ◌⊎◌, Err, List, [], ◌++◌, OnOk, IfErr}, specs.declared.option.Option.Option, specs.declared.result.Result.Result, specs.Io.KnownBytes.{Appends}}
 use Rattle.tally_base.{specs.declared.fault.Fault.Fault, specs.declared.fault.Fault.TheVariants.{PickTime, WriteFault}, specs.FaultCounts.Rose}
-use Rattle.std.specs.Io.KnownBytes.{Appends}
 use Rattle.bench_io.specs.Sinks.{AppendsShort, PassesOn}
 use Rattle.short_file.specs.ShortFiles.{bytes_in}
 

@@ -1,6 +1,5 @@
 // The law of written photons, as the contract of a function that does nothing.
-ghost use Rattle.std.specs.Prelude.{◌≡◌, List, Ok, map};
-ghost use Rattle.std.specs.List.{All};
+ghost use Rattle.std.{specs.Prelude.{◌≡◌, List, Ok, map}, specs.List.{All}};
 ghost use Rattle.tally_base.{specs.declared.event.Event.Event, specs.declared.event.Policy.Policy, specs.declared.header.Mode.Mode};
 ghost use Rattle.ptu_definitions.{specs.Headers.header_answer, specs.Kept.kept, specs.Words.words_of};
 ghost use Rattle.short_file.{specs.ShortFiles.{bytes_in, short_fields}, specs.TimedEvents.timed};

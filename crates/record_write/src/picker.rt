@@ -1,6 +1,5 @@
 // Writes photons one after another.
-ghost use Rattle.std.specs.Prelude.{◌≡◌, ◌≤◌, ◌↔◌, ◌++◌, ◌∷◌, [], List, Err, true, false, OnOk, OnErr, IfErr};
-ghost use Rattle.std.specs.Io.KnownBytes.{Appends};
+ghost use Rattle.std.{specs.Prelude.{◌≡◌, ◌≤◌, ◌↔◌, ◌++◌, ◌∷◌, [], List, Err, true, false, OnOk, OnErr, IfErr}, specs.Io.KnownBytes.{Appends}};
 ghost use Rattle.tally_base.{specs.declared.event.Event.Event, specs.declared.fault.Fault.TheVariants.{PickTime, WriteFault}, specs.Events.is_photon, specs.FaultCounts.FailsOnce};
 ghost use Rattle.bench_io.specs.Sinks.{AppendsShort};
 ghost use Rattle.ptu_definitions.specs.Fitting.{KindFits};

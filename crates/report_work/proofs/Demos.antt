@@ -1,6 +1,5 @@
 -- What `demo` leaves.
-use Rattle.std.proofs.Common.{◌≡◌, ◌≤◌, ◌++◌, ℕ, List, None, Some, Ok, Err, true, refl, sym, ap, subst, ◌∙◌, inl, inr, arith, rules, ◌≢◌, ◌⊎◌, Result, IsErrAnd, IfErr}
-use Rattle.std.{specs.declared.option.Option.Option, proofs.lemmas.Result.IfErr-weaker}
+use Rattle.std.{proofs.Common.{◌≡◌, ◌≤◌, ◌++◌, ℕ, List, None, Some, Ok, Err, true, refl, sym, ap, subst, ◌∙◌, inl, inr, arith, rules, ◌≢◌, ◌⊎◌, Result, IsErrAnd, IfErr}, specs.declared.option.Option.Option, proofs.lemmas.Result.IfErr-weaker}
 use Rattle.tally_base.{specs.declared.fault.Fault.Fault, specs.declared.fault.Fault.TheVariants.OutOfMemory, specs.declared.slot.Slot.TheVariants.Data, specs.declared.header.Mode.TheVariants.T2, specs.declared.header.RecordType.TheVariants.HydraHarp2T2, specs.Faults.{is_outside, fault_in}, specs.RecordTypes.mode_of, proofs.Reasons.HasReason-follows}
 use Rattle.bench_io.{specs.Given.{Given, no_bytes, Consumes, MayFollow}, specs.Inputs.InputState, proofs.Bytes.Appends-same}
 use Rattle.ptu_definitions.{specs.Headers.header_answer, specs.Words.words_of, specs.Streams.{record_refusal, streamed, summary}}

@@ -1,6 +1,5 @@
 -- What an engine of a plan counted is the report.
-use Rattle.std.proofs.Common.{◌≡◌, ◌∙◌, ℕ, List, [], ◌++◌, Some, Ok, Err, refl, sym, ap, inl, inr, Result, OnOk, OnErr, IfErr}
-use Rattle.std.{specs.declared.option.Option.Option, specs.Io.KnownBytes.Appends}
+use Rattle.std.{proofs.Common.{◌≡◌, ◌∙◌, ℕ, List, [], ◌++◌, Some, Ok, Err, refl, sym, ap, inl, inr, Result, OnOk, OnErr, IfErr}, specs.declared.option.Option.Option, specs.Io.KnownBytes.Appends}
 use Rattle.tally_base.{specs.declared.fault.Fault.Fault, specs.declared.fault.Fault.TheVariants.WriteFault, specs.declared.header.Header.Header, specs.RecordTypes.mode_of, specs.Faults.fault_in, specs.FaultCounts.FailsOnce}
 use Rattle.bench_io.{specs.Sinks.AppendsShort, proofs.Bytes.{Appends-nil, Keeps-from_none}}
 use Rattle.told_text.proofs.Texts.{WroteText-none}

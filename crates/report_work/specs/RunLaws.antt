@@ -1,14 +1,13 @@
 -- What holds of the report of bytes that grow.
-use Rattle.std.proofs.Common.{◌≡◌, ◌∙◌, ℕ, List, [], ◌++◌, None, Some, Ok, Err, refl, sym, ap, Result}
-use Rattle.std.specs.declared.option.Option.{Option}
+use Rattle.std.{proofs.Common.{◌≡◌, ◌∙◌, ℕ, List, [], ◌++◌, None, Some, Ok, Err, refl, sym, ap, Result}, specs.declared.option.Option.Option}
 use Rattle.tally_base.{specs.declared.fault.Fault.Fault, specs.declared.header.Header.Header, specs.RecordTypes.mode_of, specs.Faults.{is_outside, fault_in}}
 use Rattle.bench_io.specs.Sinks.{AppendsShort}
-use Rattle.ptu_definitions.{specs.declared.records.Summary.Summary, specs.Headers.header_answer, specs.Streams.{record_refusal, streamed}, specs.Words.words_of, proofs.Firsts.record_refusal-inside}
+use Rattle.ptu_definitions.{specs.declared.records.Summary.Summary, specs.Headers.header_answer, specs.Streams.{record_refusal, streamed}, specs.Words.words_of, proofs.Firsts.{record_refusal-inside, streamed-inside}}
 use Rattle.plan_text.{specs.Plan.PlanView, specs.Fits.fits}
-use Rattle.record_stream.proofs.Lasts.{streamed-shown}
+use Rattle.record_stream.proofs.Lasts.{streamed-shown, streamed-clear}
 use Rattle.tally_engine.{specs.declared.engine.Engine.Engine, specs.Engine.header_of}
 use Rattle.gate_plan.specs.Plans.{reading_by}
-use Rattle.command_work.{specs.Outcomes.{Outcome, MayChange}, specs.Behaviours.{AtEnd, ForTables}, specs.Endings.{Cuts, WantsBehind}, specs.Tellings.{IsText, Suits, headed_end, headed_text, HeadedGoes, unless_declined}, proofs.TellingLaws.{AppendsShort-none, fits-law}, proofs.Streams.{streamed-clear, streamed-inside, streamed-open}}
+use Rattle.command_work.{specs.Outcomes.{Outcome, MayChange}, specs.Behaviours.{AtEnd, ForTables}, specs.Endings.{Cuts, WantsBehind}, specs.Tellings.{IsText, Suits, headed_end, headed_text, HeadedGoes, unless_declined}, proofs.TellingLaws.{AppendsShort-none, fits-law}, proofs.Streams.streamed-open}
 use Rattle.report_work.{specs.Reports.{report_of, if_fits, report_behind, file_report, report_outcome, reporting}, specs.RunPieces.{reports, reports_by, MayWant, CountsBy}}
 
 module _ (plan : PlanView) (header : Header) (bytes : List ℕ) where

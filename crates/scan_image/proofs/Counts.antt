@@ -1,6 +1,5 @@
 -- One more event, and the counts of an image.
-use Rattle.std.proofs.Common.{◌≡◌, ◌∙◌, ℕ, ◌+◌, Bool, false, ◌&&◌, cond, [], ◌∷◌, ◌++◌, ap, arith, Option}
-use Rattle.std.{specs.List.cons_option, proofs.lemmas.List.append-nil, proofs.lemmas.List.Elements.filter_map-append}
+use Rattle.std.{proofs.Common.{◌≡◌, ◌∙◌, ℕ, ◌+◌, Bool, false, ◌&&◌, cond, [], ◌∷◌, ◌++◌, ap, arith, Option}, specs.List.cons_option, proofs.lemmas.List.append-nil, proofs.lemmas.List.Elements.filter_map-append}
 use Rattle.tally_base.{specs.declared.event.Event.Event, specs.declared.event.EventKind.TheVariants.{Photon, Marker}, specs.Events.is_in, specs.Settings.ImageView, specs.Tally.History}
 use Rattle.tcspc_hist.specs.HistogramCounts.{dtime_passes}
 use Rattle.marker_map.{specs.Marks.mark, specs.Places.place_of}

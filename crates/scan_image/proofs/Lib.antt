@@ -3,4 +3,3 @@ pub mod Cells
 pub mod Counts
 pub mod Totals
 pub mod Steps
-pub mod Later

@@ -1,6 +1,5 @@
 -- One event more, and the counts and lines behind it.
-use Rattle.std.proofs.Common.{◌≡◌, ℕ, ◌≤◌, Bool, true, false, ◌&&◌, cond, List, [], ◌∷◌, ◌++◌, ap, sym, subst, refl, arith, Option, if◌then◌else◌}
-use Rattle.std.proofs.Math.Path.{fun_ext}
+use Rattle.std.{proofs.Common.{◌≡◌, ℕ, ◌≤◌, Bool, true, false, ◌&&◌, cond, List, [], ◌∷◌, ◌++◌, ap, sym, subst, refl, arith, Option, if◌then◌else◌}, proofs.Math.Path.fun_ext}
 use Rattle.tally_base.{specs.declared.event.Event.Event, specs.declared.event.EventKind.TheVariants.{Photon, Marker}, specs.Events.is_in, specs.Settings.ImageView, specs.Tally.History}
 use Rattle.marker_map.{specs.declared.lines.Lines.Lines, specs.Lines.Saw, specs.Marks.{Mark, mark}, specs.Places.place_of}
 use Rattle.scan_image.{specs.Behind.IsBehind, specs.Counted.{HowMany, with_photon}, specs.ImageCounts.{markers, count_met}, proofs.Counts.{markers-marker, markers-photon, met-photon, met-marker}}

@@ -1,51 +1,9 @@
 -- Each photon of the group counts once.
-use Rattle.std.proofs.Common.{◌≡◌, ◌∙◌, ℕ, zero, suc, ◌+◌, ◌-◌, ◌/◌, ◌<◌, ◌≤◌, Bool, true, false, ◌&&◌, cond, eqb, ltb, List, [], ◌∷◌, ◌++◌, refl, ap, sym, subst, append_assoc, arith, None, Some, is_none, sum_by, option_and_then}
-use Rattle.std.{specs.declared.option.Option.Option, specs.List.range_with_len, proofs.lemmas.Grind.common_steps, proofs.lemmas.List.append-nil, proofs.lemmas.List.Sums.{sum_by-cons, sum_by_push}}
-use Rattle.tally_base.{specs.declared.event.Event.Event, specs.declared.event.EventKind.EventKind, specs.declared.event.EventKind.TheVariants.{Photon, Marker}, specs.Events.{is_photon, is_photon_kind, is_in}, specs.Settings.ImageView, specs.Tally.History}
+use Rattle.std.{proofs.Common.{◌≡◌, ◌∙◌, ℕ, ◌+◌, ◌-◌, ◌/◌, ◌<◌, Bool, true, false, ◌&&◌, cond, eqb, ltb, List, [], ◌∷◌, ◌++◌, refl, ap, sym, subst, append_assoc, arith, None, Some, is_none, sum_by, option_and_then}, specs.declared.option.Option.Option, specs.List.range_with_len, proofs.lemmas.Grind.common_steps, proofs.lemmas.List.append-nil, proofs.lemmas.List.Sums.sum_by_push}
+use Rattle.tally_base.{proofs.Sums.{sum_same, sum_plus, sum_none, in_range}, specs.declared.event.Event.Event, specs.declared.event.EventKind.EventKind, specs.declared.event.EventKind.TheVariants.{Photon, Marker}, specs.Events.{is_photon, is_photon_kind, is_in}, specs.Settings.ImageView, specs.Tally.History}
 use Rattle.marker_map.{specs.Marks.Mark, specs.Places.{line_of, row_of, column_in, runs_back, within, place_of}}
-use Rattle.scan_image.{specs.ImageCounts.{markers, is_at, in_cell, count_outside}, specs.Totals.{in_all_cells, photons_of_group}, specs.Pushed.one_if, proofs.Counts.{met-photon, met-marker}}
-
-pub sum-agree : (f g : ℕ → ℕ) → ((i : ℕ) → f i ≡ g i) → (xs : List ℕ) → sum_by f xs ≡ sum_by g xs
-sum-agree f g same [] = refl
-sum-agree f g same (x ∷ xs) =
-    let more = sum-agree f g same xs in
-    omega (arith, more, same x, sum_by-cons f x xs, sum_by-cons g x xs)
-
-pub sum-plus : (f g : ℕ → ℕ) (xs : List ℕ) → sum_by (λ i. f i + g i) xs ≡ sum_by f xs + sum_by g xs
-sum-plus f g [] = refl
-sum-plus f g (x ∷ xs) =
-    let more = sum-plus f g xs in
-    omega (arith, more, sum_by-cons (λ i. f i + g i) x xs, sum_by-cons f x xs, sum_by-cons g x xs)
-
-pub sum-none : (xs : List ℕ) → sum_by (λ i. 0) xs ≡ 0
-sum-none [] = refl
-sum-none (x ∷ xs) =
-    let more = sum-none xs in
-    omega (arith, more, sum_by-cons (λ i. 0) x xs)
-
-below-range : (a start n count : ℕ) → a < start → sum_by (λ i. cond (eqb a i) count 0) (range_with_len start n) ≡ 0
-below-range a start zero count below = refl
-below-range a start (suc n) count below =
-    let more = below-range a (start + 1) n count (omega arith) in
-    let here : cond (eqb a start) count 0 ≡ 0 = grind (arith, common_steps) in
-    omega (arith, more, here, sum_by-cons (λ i. cond (eqb a i) count 0) start (range_with_len (start + 1) n))
-
-met : (a start n count : ℕ) (first : Bool) → eqb a start ≡ first → start ≤ a → (start + 1 ≤ a → sum_by (λ i. cond (eqb a i) count 0) (range_with_len (start + 1) n) ≡ count) → sum_by (λ i. cond (eqb a i) count 0) (range_with_len start (suc n)) ≡ count
-met a start n count true is low behind =
-    let equal : a ≡ start = grind (arith, common_steps) in
-    let more = below-range a (start + 1) n count (omega arith) in
-    let here : cond (eqb a start) count 0 ≡ count = ap (λ b. cond b count 0) is in
-    omega (arith, more, here, sum_by-cons (λ i. cond (eqb a i) count 0) start (range_with_len (start + 1) n))
-met a start n count false is low behind =
-    let above : start + 1 ≤ a = grind (arith, common_steps) in
-    let more = behind above in
-    let here : cond (eqb a start) count 0 ≡ 0 = ap (λ b. cond b count 0) is in
-    omega (arith, more, here, sum_by-cons (λ i. cond (eqb a i) count 0) start (range_with_len (start + 1) n))
-
--- A number of the range is met once.
-pub in-range : (a start n count : ℕ) → start ≤ a → a < start + n → sum_by (λ i. cond (eqb a i) count 0) (range_with_len start n) ≡ count
-in-range a start zero count low high = absurd (omega arith)
-in-range a start (suc n) count low high = met a start n count (eqb a start) refl low (λ above. in-range a (start + 1) n count above (omega arith))
+use Rattle.tcspc_hist.specs.Totals.{photons_of_group}
+use Rattle.scan_image.{specs.ImageCounts.{markers, is_at, in_cell, count_outside}, specs.Totals.in_all_cells, specs.Pushed.one_if, proofs.Counts.{met-photon, met-marker}}
 
 -- a place is inside the image
 abbrev pub Inside : ImageView → Option (ℕ × ℕ) → Type 0
@@ -73,15 +31,15 @@ abbrev pub over_pixels : ImageView → (ℕ → ℕ → ℕ) → ℕ
 over_pixels set f = sum_by (λ y. sum_by (λ x. f x y) (range_with_len 0 set.width)) (range_with_len 0 set.height)
 
 pub pixels-agree : (set : ImageView) (f g : ℕ → ℕ → ℕ) → ((x y : ℕ) → f x y ≡ g x y) → over_pixels set f ≡ over_pixels set g
-pixels-agree set f g same = sum-agree (λ y. sum_by (λ x. f x y) (range_with_len 0 set.width)) (λ y. sum_by (λ x. g x y) (range_with_len 0 set.width)) (λ y. sum-agree (λ x. f x y) (λ x. g x y) (λ x. same x y) (range_with_len 0 set.width)) (range_with_len 0 set.height)
+pixels-agree set f g same = sum_same (λ y. sum_by (λ x. f x y) (range_with_len 0 set.width)) (λ y. sum_by (λ x. g x y) (range_with_len 0 set.width)) (λ y. sum_same (λ x. f x y) (λ x. g x y) (λ x. same x y) (range_with_len 0 set.width)) (range_with_len 0 set.height)
 
 pub pixels-plus : (set : ImageView) (f g : ℕ → ℕ → ℕ) → over_pixels set (λ x y. f x y + g x y) ≡ over_pixels set f + over_pixels set g
 pixels-plus set f g =
-    sum-agree (λ y. sum_by (λ x. f x y + g x y) (range_with_len 0 set.width)) (λ y. sum_by (λ x. f x y) (range_with_len 0 set.width) + sum_by (λ x. g x y) (range_with_len 0 set.width)) (λ y. sum-plus (λ x. f x y) (λ x. g x y) (range_with_len 0 set.width)) (range_with_len 0 set.height)
-    ∙ sum-plus (λ y. sum_by (λ x. f x y) (range_with_len 0 set.width)) (λ y. sum_by (λ x. g x y) (range_with_len 0 set.width)) (range_with_len 0 set.height)
+    sum_same (λ y. sum_by (λ x. f x y + g x y) (range_with_len 0 set.width)) (λ y. sum_by (λ x. f x y) (range_with_len 0 set.width) + sum_by (λ x. g x y) (range_with_len 0 set.width)) (λ y. sum_plus (λ x. f x y) (λ x. g x y) (range_with_len 0 set.width)) (range_with_len 0 set.height)
+    ∙ sum_plus (λ y. sum_by (λ x. f x y) (range_with_len 0 set.width)) (λ y. sum_by (λ x. g x y) (range_with_len 0 set.width)) (range_with_len 0 set.height)
 
 pub pixels-none : (set : ImageView) → over_pixels set (λ x y. 0) ≡ 0
-pixels-none set = sum-agree (λ y. sum_by (λ x. 0) (range_with_len 0 set.width)) (λ y. 0) (λ y. sum-none (range_with_len 0 set.width)) (range_with_len 0 set.height) ∙ sum-none (range_with_len 0 set.height)
+pixels-none set = sum_same (λ y. sum_by (λ x. 0) (range_with_len 0 set.width)) (λ y. 0) (λ y. sum_none (range_with_len 0 set.width)) (range_with_len 0 set.height) ∙ sum_none (range_with_len 0 set.height)
 
 both : (a b : Bool) (n : ℕ) → cond (a && b) n 0 ≡ cond a (cond b n 0) 0
 both true b n = refl
@@ -91,10 +49,10 @@ both false b n = refl
 pub met-count : (set : ImageView) (place : ℕ × ℕ) (n : ℕ) → Inside set (Some place) → over_pixels set (λ x y. cond (is_at x y (Some place)) n 0) ≡ n
 met-count set place n inside =
     let row : (y : ℕ) → sum_by (λ x. cond (is_at x y (Some place)) n 0) (range_with_len 0 set.width) ≡ cond (eqb place.1 y) n 0 =
-    λ y. sum-agree (λ x. cond (is_at x y (Some place)) n 0) (λ x. cond (eqb place.0 x) (cond (eqb place.1 y) n 0) 0) (λ x. both (eqb place.0 x) (eqb place.1 y) n) (range_with_len 0 set.width)
-    ∙ in-range place.0 0 set.width (cond (eqb place.1 y) n 0) (omega arith) (omega (arith, inside.0)) in
-    sum-agree (λ y. sum_by (λ x. cond (is_at x y (Some place)) n 0) (range_with_len 0 set.width)) (λ y. cond (eqb place.1 y) n 0) row (range_with_len 0 set.height)
-    ∙ in-range place.1 0 set.height n (omega arith) (omega (arith, inside.1))
+    λ y. sum_same (λ x. cond (is_at x y (Some place)) n 0) (λ x. cond (eqb place.0 x) (cond (eqb place.1 y) n 0) 0) (λ x. both (eqb place.0 x) (eqb place.1 y) n) (range_with_len 0 set.width)
+    ∙ in_range place.0 0 set.width (cond (eqb place.1 y) n 0) (omega arith) (omega (arith, inside.0)) in
+    sum_same (λ y. sum_by (λ x. cond (is_at x y (Some place)) n 0) (range_with_len 0 set.width)) (λ y. cond (eqb place.1 y) n 0) row (range_with_len 0 set.height)
+    ∙ in_range place.1 0 set.height n (omega arith) (omega (arith, inside.1))
 
 pub cells-more : (set : ImageView) (h later : History) (more : ℕ → ℕ → ℕ) → ((x y : ℕ) → in_cell set x y later ≡ in_cell set x y h + more x y) → in_all_cells set later ≡ in_all_cells set h + over_pixels set more
 cells-more set h later more is = pixels-agree set (λ x y. in_cell set x y later) (λ x y. in_cell set x y h + more x y) is ∙ pixels-plus set (λ x y. in_cell set x y h) more
@@ -106,7 +64,7 @@ met-once set (Some place) n inside = omega (arith, met-count set place n inside)
 
 -- what is to be shown of the events
 abbrev pub Total : ImageView → History → Type 0
-Total set h = in_all_cells set h + count_outside set h ≡ photons_of_group set h
+Total set h = in_all_cells set h + count_outside set h ≡ photons_of_group set.group h
 
 total-push : (set : ImageView) (h : History) (x : Event × ℕ) (kind : EventKind) → x.0.kind ≡ kind → Total set h → Total set (h ++ x ∷ [])
 total-push set h x (Photon input dtime) kind so_far =

@@ -1,6 +1,5 @@
 -- The counts of an image over the events that it is given.
-use Rattle.std.specs.Prelude.{ℕ, Bool, false, ◌&&◌, ◌==◌, List, Option, None, Some, is_none, length, take, count_by, filter_map}
-use Rattle.std.{specs.List.{range_with_len, slice_get}, specs.Option.option_map_or}
+use Rattle.std.{specs.Prelude.{ℕ, Bool, false, ◌&&◌, ◌==◌, List, Option, None, Some, is_none, length, take, count_by, filter_map}, specs.List.{range_with_len, slice_get}, specs.Option.option_map_or}
 use Rattle.tally_base.{specs.declared.event.Event.Event, specs.declared.event.EventKind.EventKind, specs.declared.event.EventKind.TheVariants.{Photon, Marker}, specs.Events.is_in, specs.Settings.ImageView, specs.Tally.History}
 use Rattle.tcspc_hist.specs.HistogramCounts.{dtime_passes}
 use Rattle.marker_map.{specs.Marks.{Mark, mark}, specs.Places.place_of}

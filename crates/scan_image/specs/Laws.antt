@@ -1,6 +1,5 @@
 -- What holds of every image.
-use Rattle.std.specs.Prelude.{◌≡◌, ℕ, ◌≤◌, ◌+◌, Bool, true, false, [], ◌∷◌, ◌++◌, Option, length}
-use Rattle.std.proofs.{Common.{rules, ◌∙◌, sym, ap, subst, cond}, Math.Path.fun_ext, lemmas.List.Elements.filter_map-append}
+use Rattle.std.{specs.Prelude.{◌≡◌, ℕ, ◌≤◌, ◌+◌, Bool, true, false, [], ◌∷◌, ◌++◌, Option, length}, proofs.Common.{rules, ◌∙◌, sym, ap, subst, cond}, proofs.Math.Path.fun_ext, proofs.lemmas.List.Elements.filter_map-append}
 use Rattle.tally_base.{specs.declared.event.Event.Event, specs.Events.{is_photon, is_in}, specs.Settings.{ImageView, entries}, specs.Tally.{History, greatest_time}, proofs.Markers.{same_length, same_greatest}}
 use Rattle.tcspc_hist.specs.Laws.{no_dtime}
 use Rattle.marker_map.{specs.declared.lines.Lines.Lines, specs.Lines.Saw, specs.Places.place_of}

@@ -1,6 +1,5 @@
 -- A count that sees the events before each event, and one more event.
-use Rattle.std.proofs.Common.{◌≡◌, ◌∙◌, ℕ, zero, suc, ◌+◌, ◌<◌, ◌≤◌, Bool, false, cond, List, [], ◌∷◌, ◌++◌, length, take, refl, ap, arith, length-append, Some, sum_by}
-use Rattle.std.{specs.List.{range_with_len, slice_get}, specs.Option.option_map_or, proofs.Math.Seq.take-append_seam, proofs.lemmas.List.take-append-le, proofs.lemmas.List.Sums.sum_by-cons}
+use Rattle.std.{proofs.Common.{◌≡◌, ◌∙◌, ℕ, zero, suc, ◌+◌, ◌<◌, ◌≤◌, Bool, false, cond, List, [], ◌∷◌, ◌++◌, length, take, refl, ap, arith, length-append, Some, sum_by}, specs.List.{range_with_len, slice_get}, specs.Option.option_map_or, proofs.Math.Seq.take-append_seam, proofs.lemmas.List.take-append-le, proofs.lemmas.List.Sums.sum_by-cons}
 use Rattle.tally_base.{specs.declared.event.Event.Event, specs.Tally.History}
 use Rattle.scan_image.specs.ImageCounts.{count_behind}
 

@@ -1,6 +1,5 @@
 -- One event more.
-use Rattle.std.proofs.Common.{◌≡◌, ◌+◌, ◌-◌, ◌<◌, ◌≤◌, ℕ, suc, Some, get_or, List, [], ◌∷◌, ◌++◌, Bool, true, false, cond, length, refl, sym, ap, subst, ◌∙◌, append-nil, arith, nat_lt, slice_get}
-use Rattle.std.{specs.List.{All, AllByRecursion, AllWithin, remove}, proofs.lemmas.List.Elements.{All-from_recursion, recursion_from_All}, specs.List.Sorted.IsNonDecreasingBy, proofs.lemmas.List.get_or_default, proofs.lemmas.Bool.{ltb-true, ltb-false}}
+use Rattle.std.{proofs.Common.{◌≡◌, ◌+◌, ◌-◌, ◌<◌, ◌≤◌, ℕ, suc, Some, get_or, List, [], ◌∷◌, ◌++◌, Bool, true, false, cond, length, refl, sym, ap, subst, ◌∙◌, append-nil, arith, nat_lt, slice_get}, specs.List.{All, AllByRecursion, AllWithin, remove}, proofs.lemmas.List.Elements.{All-from_recursion, recursion_from_All}, specs.List.Sorted.IsNonDecreasingBy, proofs.lemmas.List.get_or_default, proofs.lemmas.Bool.{ltb-true, ltb-false}}
 use Rattle.tally_base.specs.declared.event.Event.{Event}
 use Rattle.ptu_definitions.{specs.Settled.{is_overtaken, not_overtaken, put_in, in_time, settles}, specs.Settling.IsOpen, proofs.SettledLemmas.{length-put_in, put_in-rising}, proofs.SettlingLemmas.{each-put_in, each-weaker, is_late, is_not_late, joined-late, joined-put, joined-give, open-none, open-late, open-wait, open-emit, settled-is, settles-late, settles-more}}
 use Rattle.settle.{specs.Settling.{Precedes, IsInOrder}, specs.Standing.IsSettled}
@@ -118,9 +117,6 @@ all_before xs at t z up pos within last = λ k d low high.
 -- Nothing that waits is before the last event emitted or popped.
 pub low-put_in : (t : ℕ) (e : Event) (xs new : List Event) → t ≤ e.time → new ≡ put_in e xs → All (λ (x : Event). t ≤ x.time) xs → All (λ (x : Event). t ≤ x.time) new
 low-put_in t e xs new h is all = rw is (All-from_recursion (λ (x : Event). t ≤ x.time) (put_in e xs) (each-put_in (λ (x : Event). t ≤ x.time) e xs h (recursion_from_All (λ (x : Event). t ≤ x.time) xs all)))
-
-pub low-first : (t : ℕ) (e : Event) (xs : List Event) (x : Event) (rest : List Event) → t ≤ e.time → x ∷ rest ≡ put_in e xs → All (λ (x : Event). t ≤ x.time) xs → t ≤ x.time
-low-first t e xs x rest h is all = low-put_in t e xs (x ∷ rest) h is all 0 x (omega arith)
 
 pub low-rest : (e : Event) (xs : List Event) (x : Event) (rest : List Event) → IsNonDecreasingBy (λ (x : Event). x.time) xs → x ∷ rest ≡ put_in e xs → All (λ (y : Event). x.time ≤ y.time) rest
 low-rest e xs x rest up is =

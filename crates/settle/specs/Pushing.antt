@@ -1,6 +1,5 @@
 -- What a push of an event does.
-use Rattle.std.specs.Prelude.{ℕ, ◌+◌, ◌≡◌, ◌≤◌, ◌++◌, ◌&&◌, not, nat_lt, true, false, None, IfSome, is_some, List, [], ◌∷◌, length}
-use Rattle.std.{specs.declared.option.Option.Option, specs.Option.option_to_list, specs.List.AllByRecursion}
+use Rattle.std.{specs.Prelude.{ℕ, ◌+◌, ◌≡◌, ◌≤◌, ◌++◌, ◌&&◌, not, nat_lt, true, false, None, IfSome, is_some, List, [], ◌∷◌, length}, specs.declared.option.Option.Option, specs.Option.option_to_list, specs.List.AllByRecursion}
 use Rattle.tally_base.specs.declared.event.Event.{Event}
 use Rattle.ptu_definitions.specs.Settled.{is_overtaken, put_in, settles}
 use Rattle.settle.{specs.Settling.{Precedes, told}, specs.Standing.{HasSettled, kept_back, next_place, last_time, reach_of, was_popped}, specs.declared.settle.{Settle.Settle, Settled.Settled}}

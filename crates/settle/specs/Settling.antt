@@ -1,6 +1,5 @@
 -- The order of the events that are kept back.
-use Rattle.std.specs.Prelude.{◌≡◌, ◌<◌, ◌≤◌, Bool, true, false, List, [], ◌∷◌}
-use Rattle.std.{specs.declared.option.Option.Option, specs.Option.option_to_list, specs.List.AllByRecursion}
+use Rattle.std.{specs.Prelude.{◌≡◌, ◌<◌, ◌≤◌, Bool, true, false, List, [], ◌∷◌}, specs.declared.option.Option.Option, specs.Option.option_to_list, specs.List.AllByRecursion}
 use Rattle.tally_base.specs.declared.event.Event.{Event}
 use Rattle.ptu_definitions.{specs.Kept.Marked, specs.Settled.marked_as}
 

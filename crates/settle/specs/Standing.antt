@@ -1,7 +1,5 @@
 -- What a value that settles events stands for.
-use Rattle.std.specs.Prelude.{ℕ, ◌+◌, ◌≡◌, ◌<◌, ◌++◌, Bool, false, None, Some, List}
-use Rattle.std.specs.declared.option.Option.{Option}
-use Rattle.std.specs.List.{AllByRecursion}
+use Rattle.std.{specs.Prelude.{ℕ, ◌+◌, ◌≡◌, ◌<◌, ◌++◌, Bool, false, None, Some, List}, specs.declared.option.Option.Option, specs.List.AllByRecursion}
 use Rattle.tally_base.specs.declared.event.Event.{Event}
 use Rattle.ptu_definitions.{specs.Settled.in_time, specs.Settling.IsOpen}
 use Rattle.settle.{specs.Settling.IsInOrder, specs.declared.settle.Settle.Settle}

@@ -1,6 +1,5 @@
 -- The header of a short file is read.
-use Rattle.std.proofs.Common.{◌≡◌, ◌+◌, ℕ, List, [], ◌∷◌, ◌++◌, Ok, length, take, refl, sym, ap, ◌∙◌, codes}
-use Rattle.std.proofs.Math.Seq.{take-append-add}
+use Rattle.std.{proofs.Common.{◌≡◌, ◌+◌, ℕ, List, [], ◌∷◌, ◌++◌, Ok, length, take, refl, sym, ap, ◌∙◌, codes}, proofs.Math.Seq.take-append-add}
 use Rattle.tally_base.{specs.declared.header.Mode.Mode, specs.declared.header.Mode.TheVariants.{T2, T3}, specs.RecordTypes.{code_of, type_with}}
 use Rattle.ptu_definitions.{specs.TagFields.{name_in, code_in, value_in, has_body, is_known}, specs.TagList.{Item, IsHeader}, specs.Fields.{int8, value_under, found_in, header_of}, specs.Endings.Whole, specs.Headers.{header_answer, head_of, answer_as}, proofs.Sound.one_answer}
 use Rattle.short_file.specs.ShortFiles.{short_type, tag_bytes, empty8, short_header, short_fields}

@@ -1,6 +1,5 @@
 -- The bytes of words are read back.
-use Rattle.std.proofs.Common.{◌≡◌, ◌*◌, ◌/◌, ◌%◌, ◌^◌, ◌<◌, ℕ, List, [], ◌∷◌, ◌++◌, length, refl, ap, sym, ◌∙◌, arith, append_assoc}
-use Rattle.std.{specs.List.AllByRecursion, specs.Int.{to_le_bytes, w32}}
+use Rattle.std.{proofs.Common.{◌≡◌, ◌*◌, ◌/◌, ◌%◌, ◌^◌, ◌<◌, ℕ, List, [], ◌∷◌, ◌++◌, length, refl, ap, sym, ◌∙◌, arith, append_assoc}, specs.List.AllByRecursion, specs.Int.{to_le_bytes, w32}}
 use Rattle.ptu_definitions.specs.Words.{word_of, words_of, rest_of}
 use Rattle.short_file.specs.ShortFiles.{bytes_in}
 

@@ -1,6 +1,5 @@
 -- A file of a header of two tags and of words.
-use Rattle.std.specs.Prelude.{ℕ, ◌-◌, List, [], ◌∷◌, ◌++◌, None, length, codes, replicate}
-use Rattle.std.specs.Int.{to_le_bytes, w32, w64}
+use Rattle.std.{specs.Prelude.{ℕ, ◌-◌, List, [], ◌∷◌, ◌++◌, None, length, codes, replicate}, specs.Int.{to_le_bytes, w32, w64}}
 use Rattle.tally_base.{specs.declared.header.Header.Header, specs.declared.header.Mode.Mode, specs.declared.header.Mode.TheVariants.{T2, T3}, specs.declared.header.RecordType.RecordType, specs.declared.header.RecordType.TheVariants.{HydraHarp2T2, HydraHarp2T3}, specs.RecordTypes.code_of}
 use Rattle.ptu_definitions.specs.Fields.{int8}
 

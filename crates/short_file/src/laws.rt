@@ -1,6 +1,5 @@
 // Laws of short files, each as the contract of a function that does nothing.
-ghost use Rattle.std.specs.Prelude.{◌≡◌, ◌+◌, ◌*◌, ◌<◌, ◌^◌, ℕ, List, [], Ok, length};
-ghost use Rattle.std.specs.List.{All};
+ghost use Rattle.std.{specs.Prelude.{◌≡◌, ◌+◌, ◌*◌, ◌<◌, ◌^◌, ℕ, List, [], Ok, length}, specs.List.{All}};
 ghost use Rattle.tally_base.specs.declared.header.Mode.{Mode};
 ghost use Rattle.ptu_definitions.{specs.Headers.header_answer, specs.Words.{words_of, rest_of}};
 ghost use Rattle.short_file.specs.ShortFiles.{bytes_in, short_fields, short_file};

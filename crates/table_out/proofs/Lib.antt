@@ -1,4 +1,3 @@
 pub mod Putting
 pub mod Tables
-pub mod Reports
 pub mod ReportRows

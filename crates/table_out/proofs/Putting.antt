@@ -1,6 +1,5 @@
 -- More text is put behind a text, whatever the tables stand for.
-use Rattle.std.proofs.Common.{◌≡◌, ℕ, zero, suc, ◌+◌, ◌-◌, ◌<◌, List, [], ◌++◌, refl, sym, ap, ◌∙◌, append_assoc, append-nil, arith}
-use Rattle.std.specs.declared.option.Option.{Option}
+use Rattle.std.{proofs.Common.{◌≡◌, ℕ, zero, suc, ◌+◌, ◌-◌, ◌<◌, List, [], ◌++◌, refl, sym, ap, ◌∙◌, append_assoc, append-nil, arith}, specs.declared.option.Option.Option}
 use Rattle.bench_io.{specs.Sinks.{AppendsShort, PassesOn}, proofs.Bytes.{PassesOn-held, PassesOn-trans, AppendsShort-passed, AppendsShort-more, AppendsShort-same}}
 use Rattle.table_out.{specs.Printed.{texts, texts_of}, specs.Puts.{PutsText, CutsText}}
 
@@ -40,13 +39,6 @@ module _ {A : Type 0} (holds : A → Type 0) where
   cuts-front text whole a b held begins cut h is =
       let more = begins h in
       AppendsShort-same a b _ _ (append_assoc held (text h) more.0 ∙ ap (λ l. held ++ l) (sym more.1)) (AppendsShort-more a b (held ++ text h) more.0 (cut h is))
-
-  -- a text that is the same, whatever they stand for
-  pub puts-same : (text same : A → List ℕ) (a b : Option (List ℕ)) (held now : List ℕ) → ((h : A) → holds h → text h ≡ same h) → PutsText holds text a b held now → PutsText holds same a b held now
-  puts-same text same a b held now eq put h is = rw (← eq h is) (put h is)
-
-  pub cuts-same : (text same : A → List ℕ) (a b : Option (List ℕ)) (held : List ℕ) → ((h : A) → holds h → text h ≡ same h) → CutsText holds text a b held → CutsText holds same a b held
-  cuts-same text same a b held eq cut h is = rw (← eq h is) (cut h is)
 
   -- the text of one place more is put
   pub puts-next : (text : ℕ → A → List ℕ) (n : ℕ) (a b c : Option (List ℕ)) (held mid now : List ℕ) → PutsText holds (texts_of text n) a b held mid → PutsText holds (text n) b c mid now → PutsText holds (texts_of text (n + 1)) a c held now

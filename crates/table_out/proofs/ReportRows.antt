@@ -1,6 +1,5 @@
 -- Reports of known runs.
-use Rattle.std.proofs.Common.{◌≡◌, ℕ, List, [], ◌∷◌, ◌++◌, None, Some, refl, pos, codes, false}
-use Rattle.std.specs.Fmt.{digits}
+use Rattle.std.{proofs.Common.{◌≡◌, ℕ, List, [], ◌∷◌, ◌++◌, None, Some, refl, pos, codes, false}, specs.Fmt.digits}
 use Rattle.tally_base.{specs.declared.event.Event.Event, specs.declared.event.EventKind.TheVariants.{Photon, Marker}, specs.declared.header.Header.Header, specs.declared.header.RecordType.TheVariants.HydraHarp2T3, specs.Hexadecimal.hexadecimal, specs.Settings.PartSettings, specs.Settings.PartSettings.{HistSettings, TraceSettings, StartStopSettings, CoincidenceSettings, ImageSettings, CorrelationSettings, CubeSettings, FoldSettings}, specs.Tally.History}
 use Rattle.ptu_definitions.specs.declared.records.Summary.{Summary}
 use Rattle.table_out.{specs.Report.{head_text, parts_text, report, with_events}, specs.Histogram.histogram_printed, specs.Trace.trace_printed, specs.StartStop.startstop_printed, specs.Coincidence.coincidence_printed, specs.Image.image_printed, specs.Cube.cube_printed, specs.Fold.fold_printed, specs.Correlation.correlation_printed}

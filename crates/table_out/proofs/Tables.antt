@@ -1,6 +1,5 @@
 -- Tables by their kinds, and one behind the other.
-use Rattle.std.proofs.Common.{◌≡◌, ℕ, zero, suc, ◌+◌, ◌<◌, ◌≤◌, List, [], ◌∷◌, ◌++◌, take, drop, get_or, length, refl, sym, ap, subst, ◌∙◌, take-append-drop, arith, Bool, count_by, cond, fold}
-use Rattle.std.{specs.declared.option.Option.Option, proofs.lemmas.List.{take_all, take_more}, proofs.lemmas.List.Elements.{All-head, All-tail}}
+use Rattle.std.{proofs.Common.{◌≡◌, ℕ, zero, suc, ◌+◌, ◌<◌, ◌≤◌, List, [], ◌∷◌, ◌++◌, take, drop, get_or, length, refl, sym, ap, subst, ◌∙◌, take-append-drop, arith, Bool, count_by, cond, fold}, specs.declared.option.Option.Option, proofs.lemmas.List.{take_all, take_more}, proofs.lemmas.List.Elements.{All-head, All-tail}}
 use Rattle.tally_base.{specs.Settings.PartSettings, specs.Tally.History}
 use Rattle.ptu_definitions.{specs.Prefixes.each_after, proofs.PrefixLemmas.{each-push, each_after-append}}
 use Rattle.plan_parts.{specs.contracts.part.PartTally.TheImpl.ghosts, specs.declared.part.Part.Part, specs.Parts.{settings_in, AllHold}}

@@ -1,6 +1,5 @@
 -- What is put into a block of a text that depends on the events of a table, or of tables.
-use Rattle.std.specs.Prelude.{ℕ, List, ◌++◌}
-use Rattle.std.specs.declared.option.Option.{Option}
+use Rattle.std.{specs.Prelude.{ℕ, List, ◌++◌}, specs.declared.option.Option.Option}
 use Rattle.bench_io.specs.Sinks.{AppendsShort, PassesOn}
 
 -- For everything that the table or the tables may stand for, the text is put behind the bytes that the block held.

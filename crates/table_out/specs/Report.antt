@@ -1,6 +1,5 @@
 -- What the report of a run prints.
-use Rattle.std.specs.Str.{bytes_eq}
-use Rattle.std.specs.Prelude.{ℕ, ◌≡◌, ◌+◌, Bool, List, [], ◌∷◌, ◌++◌, count_by, map, codes, decimal}
+use Rattle.std.{specs.Str.bytes_eq, specs.Prelude.{ℕ, ◌≡◌, ◌+◌, Bool, List, [], ◌∷◌, ◌++◌, count_by, map, codes, decimal}}
 use Rattle.tally_base.{specs.declared.header.Header.Header, specs.RecordTypes.name_of, specs.Settings.PartSettings, specs.Settings.PartSettings.{HistSettings, TraceSettings, StartStopSettings, CoincidenceSettings, ImageSettings, CorrelationSettings, CubeSettings, FoldSettings}, specs.Tally.History}
 use Rattle.ptu_definitions.{specs.declared.records.Summary.Summary, specs.Prefixes.each}
 use Rattle.plan_parts.{specs.declared.part.Part.Part, specs.declared.results.Results.Results, specs.contracts.part.PartTally.TheImpl.ghosts}

@@ -1,10 +1,9 @@
 // A ring whose entries are known, the cells of known additions, and the weights of known entries: the tests of `lag_ring`.
-ghost use Rattle.std.specs.Prelude.{◌≡◌, ◌<◌, IfOk, length};
-ghost use Rattle.std.specs.List.{AllByRecursion};
+ghost use Rattle.std.{specs.Prelude.{◌≡◌, ◌<◌, IfOk, length}, specs.List.{AllByRecursion}};
 
 use crate::given::holds;
 use lag_ring::{
-    Entry, LagRing, PairCells, Side, few_lag_sums, lag_sums, put_weights, total_weight,
+    Entry, LagRing, PairCells, RowCells, Side, few_lag_sums, lag_sums, put_weights, total_weight,
 };
 use std::alloc::Global;
 use std::marker::Brand;
@@ -161,17 +160,37 @@ fn filled<L: Ledger>(alloc: Global, blank: Blank) -> Result<PairCells, Fail>
 }
 
 /// Cells to which rows were added, upwards and downwards.
-fn rowed<L: Ledger>(alloc: Global, blank: Blank) -> Result<PairCells, Fail>
+fn rowed<L: Ledger>(alloc: Global, blank: Blank) -> Result<RowCells, Fail>
     requires name { blank.name ≡ L.name }
     requires parts { blank.parts ≡ L.parts }
     requires some { 0 < blank.parts }
     ensures { IfOk result (λ cells. length cells.cells ≡ 4) }
 {
     let mut steps = Steps::<L>::new(blank);
-    let mut cells = PairCells::open(alloc, 4)?;
+    let mut cells = RowCells::open(alloc, 4)?;
     cells.add_upwards(1, &[3, 40], &mut steps);
     cells.add_downwards(2, &[500, 6000, 70000], &mut steps);
     Ok(cells)
+}
+
+/// A cell whose low part overflowed when a row was added.
+fn carried<L: Ledger>(alloc: Global, blank: Blank) -> Result<RowCells, Fail>
+    requires name { blank.name ≡ L.name }
+    requires parts { blank.parts ≡ L.parts }
+    requires some { 0 < blank.parts }
+    ensures { IfOk result (λ cells. length cells.cells ≡ 1) }
+{
+    let mut steps = Steps::<L>::new(blank);
+    let mut cells = RowCells::open(alloc, 1)?;
+    cells.add(0, (1 << 63) - 1, &mut steps);
+    cells.add_upwards(0, &[7], &mut steps);
+    Ok(cells)
+}
+
+#[test]
+fn parts_are_carried(rt: HostRuntime) -> Result<(), Fail> {
+    let cells = carried::<Brand>(rt.alloc(), Blank::new(1))?;
+    holds(cells.get(0) == (1 << 63) + 6, "carried")
 }
 
 #[test]

@@ -1,6 +1,5 @@
 -- The greatest time of events in order is that of the last.
-use Rattle.std.proofs.Common.{◌≡◌, ◌∙◌, ℕ, zero, suc, ◌≤◌, Bool, true, false, max, [], ◌∷◌, ◌++◌, ap, sym, refl, arith, append-nil, append_assoc, IsTrue, if◌then◌else◌}
-use Rattle.std.proofs.lemmas.List.Sums.{fold-append}
+use Rattle.std.{proofs.Common.{◌≡◌, ◌∙◌, ℕ, zero, suc, ◌≤◌, Bool, true, false, max, [], ◌∷◌, ◌++◌, ap, sym, refl, arith, append-nil, append_assoc, IsTrue, if◌then◌else◌}, proofs.lemmas.List.Sums.fold-append}
 use Rattle.tally_base.{specs.declared.event.Event.Event, specs.Tally.{History, moves_floor, greatest_time}, specs.Columns.{rows, item, gathered, events_in}, specs.declared.block.Block.Block, specs.Floors.{floor_after, InOrder}, proofs.Floors.{floor-push, order-front, order-last}}
 
 later : (b : Bool) (floor time : ℕ) → (IsTrue b → floor ≤ time) → (if b then max floor time else floor) ≡ (if b then time else floor)

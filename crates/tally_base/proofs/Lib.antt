@@ -1,9 +1,7 @@
-pub mod Digits
 pub mod Reasons
 pub mod Rows
 pub mod Shares
 pub mod BlockRows
-pub mod Copied
 pub mod Floors
 pub mod Props
 pub mod Greatest
@@ -11,5 +9,5 @@ pub mod Back
 pub mod Slices
 pub mod Sorted
 pub mod Lower
-pub mod One
 pub mod Markers
+pub mod Sums

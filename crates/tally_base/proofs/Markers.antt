@@ -1,6 +1,5 @@
 -- The groups that come with a marker count for nothing.
-use Rattle.std.proofs.Common.{◌≡◌, ◌∙◌, ℕ, Bool, false, cond, [], ◌∷◌, ◌++◌, length, filter, append-nil, length-append, ap, sym, refl, arith}
-use Rattle.std.{specs.List.count_by, proofs.lemmas.List.Sums.sum_by_push, proofs.lemmas.List.Elements.filter-append}
+use Rattle.std.{proofs.Common.{◌≡◌, ◌∙◌, ℕ, Bool, false, cond, [], ◌∷◌, ◌++◌, length, filter, append-nil, length-append, ap, sym, refl, arith}, specs.List.count_by, proofs.lemmas.List.Sums.sum_by_push, proofs.lemmas.List.Elements.filter-append}
 use Rattle.tally_base.{specs.declared.event.Event.Event, specs.Events.is_photon, specs.Tally.{History, greatest_time}, proofs.Greatest.greatest-push}
 
 pub same_length : (h : History) (e : Event) (groups : ℕ) → length (h ++ (e, 0) ∷ []) ≡ length (h ++ (e, groups) ∷ [])

@@ -1,6 +1,5 @@
 -- That events are in order is a proposition.
-use Rattle.std.proofs.Common.{ℕ, Bool, List, [], ◌∷◌, if◌then◌else◌}
-use Rattle.std.proofs.Props.{props}
+use Rattle.std.{proofs.Common.{ℕ, Bool, List, [], ◌∷◌, if◌then◌else◌}, proofs.Props.props}
 use Rattle.tally_base.{specs.declared.event.Event.Event, specs.Tally.moves_floor, specs.Floors.InOrder}
 
 pub in_order-prop : (strict : Bool) (floor : ℕ) (es : List Event) → IsProp (InOrder strict floor es)

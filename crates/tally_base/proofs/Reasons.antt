@@ -19,15 +19,6 @@ HasReason-follows o r o' r' w m w' m' WriteFault f g p q h = p h
 HasReason-follows o r o' r' w m w' m' OutOfMemory f g p q h = q h
 HasReason-follows o r o' r' w m w' m' _ f g p q h = tt
 
--- a fault from outside has a cause
-pub HasReason-outside : (opening reading : Slot → Type 0) (writing memory : Type 0) (fault : Fault) → is_outside fault ≡ true → ((slot : Slot) → opening slot → ⊥) → ((slot : Slot) → reading slot → ⊥) → (writing → ⊥) → (memory → ⊥)
-    → HasReason opening reading writing memory fault → ⊥
-HasReason-outside o r w m (OpenFault slot) e no_o no_r no_w no_m h = no_o slot h
-HasReason-outside o r w m (ReadFault slot) e no_o no_r no_w no_m h = no_r slot h
-HasReason-outside o r w m WriteFault e no_o no_r no_w no_m h = no_w h
-HasReason-outside o r w m OutOfMemory e no_o no_r no_w no_m h = no_m h
-HasReason-outside o r w m _ e no_o no_r no_w no_m h = cc
-
 -- the reason of a read, with what is known of each fault from outside
 pub HasReason-with : (opening reading : Slot → Type 0) (writing memory more : Type 0) (fault : Fault) → (is_outside fault ≡ true → more) → HasReason opening reading writing memory fault → HasReason opening (λ slot. reading slot × more) writing memory fault
 HasReason-with o r w m more (OpenFault slot) known h = h

@@ -1,6 +1,5 @@
 -- The definitions at known values.
-use Rattle.std.{proofs.lemmas.Bool.Decides.nat_tests, specs.Fmt.digits}
-use Rattle.std.proofs.Common.{◌≡◌, ℕ, arith, None, Some, length, refl, ap, codes, ℤ, pos, negsuc}
+use Rattle.std.{proofs.lemmas.Bool.Decides.nat_tests, specs.Fmt.digits, proofs.Common.{◌≡◌, ℕ, arith, None, Some, length, refl, ap, codes, ℤ, pos, negsuc}}
 use Rattle.tally_base.{specs.declared.header.Mode.TheVariants.{T2, T3}, specs.declared.header.RecordType.RecordType, specs.declared.header.RecordType.TheVariants.{PicoHarpT2, PicoHarpT3, HydraHarpT2, HydraHarpT3, HydraHarp2T2, HydraHarp2T3, TimeHarp260NT2, TimeHarp260NT3, TimeHarp260PT2, TimeHarp260PT3, MultiHarpT2, MultiHarpT3}, specs.declared.part.PartKind.TheVariants.{Gate, Shift, Coincidence}, specs.declared.slot.Slot.TheVariants.{Plan, Data}, specs.declared.fault.Fault.TheVariants.{Usage, OpenFault, ReadFault, PlanRule, PlanMode, TruncatedHeader, TagType, TagLength, UnknownRecordType, TruncatedRecord, ReservedRecord, BackwardTime, RecordLimit, TimeLimit, NoGroup, PickTime}, specs.Faults.line_of, specs.Hexadecimal.hexadecimal, specs.RecordTypes.{code_of, type_of, type_with}}
 
 pub row-usage : line_of Usage ≡ codes "ptu: bad command line\n"

@@ -1,6 +1,5 @@
 -- A quotient is a product by a rounded share.
-use Rattle.std.proofs.Common.{◌≡◌, ℕ, ◌+◌, ◌*◌, ◌/◌, ◌%◌, ◌<◌, ◌≤◌, arith, sym, ap}
-use Rattle.std.proofs.Math.Nat.{div-eq_of_lt-le, div-add-mod, lt_of_mul-lt-mul_left, mul-le-mul_left, mul-le-mul_right, mul-lt-mul_of_pos_right, lt-mul-div-succ, mul-div-le, mod-lt}
+use Rattle.std.{proofs.Common.{◌≡◌, ℕ, ◌+◌, ◌*◌, ◌/◌, ◌%◌, ◌<◌, ◌≤◌, arith, sym, ap}, proofs.Math.Nat.{div-eq_of_lt-le, div-add-mod, lt_of_mul-lt-mul_left, mul-le-mul_left, mul-le-mul_right, mul-lt-mul_of_pos_right, lt-mul-div-succ, mul-div-le, mod-lt}}
 
 lower : (m w n q r a : ℕ) → w * q + r ≡ m → r ≤ w → w * a ≤ n → a * m ≤ n * (q + 1)
 lower m w n q r a parts small below =

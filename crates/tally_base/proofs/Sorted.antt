@@ -1,6 +1,5 @@
 -- Markers are in no group.
-use Rattle.std.proofs.Common.{◌≡◌, ◌∙◌, ℕ, ◌+◌, ◌-◌, ◌<◌, ◌≤◌, Bool, true, false, ◌&&◌, List, length, get_or, set, ap, refl, arith, ◌⊎◌, ⊎_elim, nat_lt, ◌==◌, slice_index}
-use Rattle.std.{proofs.lemmas.Grind.common_steps, proofs.lemmas.Bool.Decides.nat_tests, proofs.lemmas.List.get_or-set_same, proofs.lemmas.Nat.Bits.bit_at-zero}
+use Rattle.std.{proofs.Common.{◌≡◌, ◌∙◌, ℕ, ◌+◌, ◌-◌, ◌<◌, ◌≤◌, Bool, true, false, ◌&&◌, List, length, get_or, set, ap, refl, arith, ◌⊎◌, ⊎_elim, nat_lt, ◌==◌, slice_index}, proofs.lemmas.Grind.common_steps, proofs.lemmas.Bool.Decides.nat_tests, proofs.lemmas.List.get_or-set_same, proofs.lemmas.Nat.Bits.bit_at-zero}
 use Rattle.tally_base.{specs.Events.is_in, specs.Codes.{code_in, InNoGroup}}
 
 in_none : (group : ℕ) → is_in 0 group ≡ false

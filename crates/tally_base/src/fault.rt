@@ -1,5 +1,5 @@
 // The faults of the program, each with its exit status and its line.
-ghost use Rattle.std.specs.Prelude.{◌≡◌, ◌+◌, ◌≤◌, ◌++◌, length, decimal};
+ghost use Rattle.std.specs.Prelude.{◌≡◌, ◌+◌, ◌≤◌, ◌++◌, length, codes, decimal};
 ghost use Rattle.arrayvec.specs.ArrayVec.{array_vec_len};
 ghost use Rattle.tally_base.specs.Faults.{status_of, reason_of, line_of, kind_name, mode_name, slot_name};
 
@@ -182,17 +182,10 @@ fn put_reason(into: &mut ArrayVec<u8, 96>, fault: &Fault)
             put_backward(into, *place, *before, *time);
         }
         Fault::RecordLimit { limit } => put_around(into, b"more than ", *limit, b" records"),
-        Fault::TimeLimit { place } => {
-            put_around(into, b"record ", *place, b" passes the greatest time");
-        }
+        Fault::TimeLimit { place } => put_record(into, *place, b" passes the greatest time"),
         Fault::NoTrace => put_text(into, b"plan has no trace"),
-        Fault::NoGroup { group } => {
-            put_text(into, b"plan has no group ");
-            put_decimal(into, *group);
-        }
-        Fault::PickTime { place } => {
-            put_around(into, b"record ", *place, b" is too late to write");
-        }
+        Fault::NoGroup { group } => put_around(into, b"plan has no group ", *group, b""),
+        Fault::PickTime { place } => put_record(into, *place, b" is too late to write"),
     }
 }
 
@@ -216,6 +209,16 @@ fn put_around(into: &mut ArrayVec<u8, 96>, before: &[u8], number: u64, behind: &
     put_text(into, before);
     put_decimal(into, number);
     put_text(into, behind);
+}
+
+/// Appends the number of a record with a text behind it.
+fn put_record(into: &mut ArrayVec<u8, 96>, place: u64, behind: &[u8])
+    requires { array_vec_len into.old + 27 + length behind.now ≤ 96 }
+    ensures items { into.new.items ≡ into.old.items ++
+        (codes "record " ++ decimal place ++ behind.now) }
+    ensures len { array_vec_len into.new ≤ array_vec_len into.old + 27 + length behind.now }
+{
+    put_around(into, b"record ", place, behind);
 }
 
 fn put_plan_rule(into: &mut ArrayVec<u8, 96>, rule: u8, index: u16)

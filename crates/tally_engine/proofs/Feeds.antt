@@ -1,6 +1,5 @@
 -- What the words of a piece give to the tables.
-use Rattle.std.proofs.Common.{◌≡◌, ◌≢◌, ℕ, false, List, [], ◌++◌, map, None, Some, Ok, Err, IfErr, OnOk, refl, sym, ap, subst, ◌∙◌, inl, inr, ⊎_elim, arith}
-use Rattle.std.{specs.declared.option.Option.Option, specs.declared.result.Result.Result}
+use Rattle.std.{proofs.Common.{◌≡◌, ◌≢◌, ℕ, false, List, [], ◌++◌, map, None, Some, Ok, Err, IfErr, OnOk, refl, sym, ap, subst, ◌∙◌, inl, inr, ⊎_elim, arith}, specs.declared.option.Option.Option, specs.declared.result.Result.Result}
 use Rattle.tally_base.{specs.declared.fault.Fault.Fault, specs.declared.fault.Fault.TheVariants.WriteFault, specs.FaultCounts.Rose, specs.Tally.History, specs.Faults.{fault_in, is_outside}}
 use Rattle.ptu_definitions.{specs.declared.records.Summary.Summary, specs.Kept.Marked, specs.Times.events, specs.Streams.{Reading, record_refusal, given, last_in}, specs.Words.words_of, proofs.StreamLemmas.given-clear, proofs.DeliveredLaws.delivered-settled, specs.Settled.not_marked}
 use Rattle.abs_time.specs.declared.clock.Clock.{Clock}

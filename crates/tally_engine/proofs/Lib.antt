@@ -2,4 +2,3 @@ pub mod Feeds
 pub mod Slices
 pub mod Refusals
 pub mod Opens
-pub mod Behind

@@ -1,6 +1,5 @@
 -- An engine of no bytes.
-use Rattle.std.proofs.Common.{◌≡◌, ◌≤◌, ◌+◌, ◌*◌, ℕ, List, [], rules, ◌∙◌, None, Some, length, ap, arith, sum_by}
-use Rattle.std.specs.declared.option.Option.{Option}
+use Rattle.std.{proofs.Common.{◌≡◌, ◌≤◌, ◌+◌, ◌*◌, ℕ, List, [], rules, ◌∙◌, None, Some, length, ap, arith, sum_by}, specs.declared.option.Option.Option}
 use Rattle.tally_base.{specs.declared.fault.Fault.Fault, specs.Settings.entries}
 use Rattle.ptu_definitions.{specs.declared.records.Summary.Summary, specs.Streams.Reading, specs.Words.words_of}
 use Rattle.record_stream.{proofs.Summaries.so_far-records, specs.Standing.Stands}

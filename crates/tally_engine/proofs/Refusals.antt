@@ -1,6 +1,5 @@
 -- What a stream refused, before and behind a piece.
-use Rattle.std.proofs.Common.{◌≡◌, ◌≢◌, true, false, None, Some, Ok, Err, OnOk, refl, sym, ap, ◌∙◌, IfErr}
-use Rattle.std.{specs.declared.option.Option.Option, specs.declared.result.Result.Result}
+use Rattle.std.{proofs.Common.{◌≡◌, ◌≢◌, true, false, None, Some, Ok, Err, OnOk, refl, sym, ap, ◌∙◌, IfErr}, specs.declared.option.Option.Option, specs.declared.result.Result.Result}
 use Rattle.tally_base.{specs.declared.fault.Fault.Fault, specs.declared.fault.Fault.TheVariants.WriteFault, specs.Faults.{is_outside, fault_in}}
 
 -- what holds behind a piece that was taken

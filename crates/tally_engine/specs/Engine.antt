@@ -1,6 +1,5 @@
 -- What an engine stands for.
-use Rattle.std.specs.Prelude.{◌≡◌, ◌<◌, ℕ, All, ◌+◌, List, length, sum_by, None, Result, Ok, Err, ◌⊎◌}
-use Rattle.std.specs.declared.option.Option.{Option}
+use Rattle.std.{specs.Prelude.{◌≡◌, ◌<◌, ℕ, All, ◌+◌, List, length, sum_by, None, Result, Ok, Err, ◌⊎◌}, specs.declared.option.Option.Option}
 use Rattle.tally_base.{specs.declared.fault.Fault.Fault, specs.declared.header.Header.Header, specs.declared.header.Mode.Mode, specs.Settings.{PartSettings, entries}, specs.declared.fault.Fault.TheVariants.OutOfMemory}
 use Rattle.ptu_definitions.{specs.Streams.{Reading, streamed}, specs.Words.words_of}
 use Rattle.record_stream.specs.Standing.{how_of, refused_with, carried_by, kept_back_by, bytes_in, HasStreamed}

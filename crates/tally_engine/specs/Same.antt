@@ -1,6 +1,5 @@
 -- What giving events to tables leaves as it is.
-use Rattle.std.specs.Prelude.{◌≡◌, ℕ, ◌<◌, List, length, slice_index_or, refl}
-use Rattle.std.proofs.Common.{◌∙◌}
+use Rattle.std.{specs.Prelude.{◌≡◌, ℕ, ◌<◌, List, length, slice_index_or, refl}, proofs.Common.◌∙◌}
 use Rattle.tally_base.specs.declared.tally.Tally.{Ghosts}
 
 module _ {T : Type 0} (g : Ghosts T) where

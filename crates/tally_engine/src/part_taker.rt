@@ -1,11 +1,10 @@
 // The taker of a stream's events that gives them to every table.
-ghost use Rattle.std.specs.Prelude.{◌≡◌, ℕ, ◌+◌, ◌*◌, ◌<◌, ◌≤◌, [], List, All, length, false, None, OnOk, IfErr};
+ghost use Rattle.std.{specs.Prelude.{◌≡◌, ℕ, ◌+◌, ◌*◌, ◌<◌, ◌≤◌, [], List, All, length, false, None, OnOk, IfErr}, proofs.Props.{props}};
 ghost use Rattle.record_stream.specs.Standing.{how_of, given_by, greatest_of, refused_with, bytes_in, HasStreamed};
 ghost use Rattle.tally_base.{specs.Faults.{fault_in, is_outside}, specs.Limits.record_limit, specs.Columns.{sorted, gathered}, proofs.Props.in_order-prop};
 ghost use Rattle.tally_engine.{specs.Pieces.{Ends, AnswersPiece, StaysSame, TablesFollow}, specs.Same.SameTables};
 ghost use Rattle.fed_parts.{specs.Ahead.{taken_with, floor_with}, specs.Taker.{Standing, Waits}};
 ghost use Rattle.gate_plan.specs.Groups.{sorting_of};
-ghost use Rattle.std.proofs.Props.{props};
 
 use fed_parts::{Reached, flush_waiting, gather, give_behind};
 use gate_plan::Gates;

@@ -1,8 +1,7 @@
 -- What a block of events does to the photons of the two groups.
-use Rattle.std.proofs.Common.{◌≡◌, ℕ, zero, suc, ◌+◌, ◌<◌, ◌≤◌, Bool, true, false, ◌&&◌, ◌||◌, cond, ltb, List, [], ◌∷◌, ◌++◌, length, map, take, refl, sym, ap, ◌∙◌, append-nil, arith, length-append, zero-add, slice_set, nat_lt}
+use Rattle.std.{proofs.Common.{◌≡◌, ℕ, zero, suc, ◌+◌, ◌<◌, ◌≤◌, Bool, true, false, ◌&&◌, ◌||◌, cond, ltb, List, [], ◌∷◌, ◌++◌, length, map, take, refl, sym, ap, ◌∙◌, append-nil, arith, length-append, zero-add, slice_set, nat_lt, rules}, specs.List.AllByRecursion, proofs.lemmas.Bool.false≢true, proofs.lemmas.Grind.common_steps, proofs.lemmas.List.{map-append, take_more_set}, proofs.lemmas.List.Elements.filter-append}
 use mir.Val.{bool_byte}
-use Rattle.std.{specs.List.AllByRecursion, proofs.lemmas.Bool.false≢true, proofs.lemmas.Grind.common_steps, proofs.lemmas.List.{map-append, take_more_set}, proofs.lemmas.List.Elements.filter-append}
-use Rattle.tally_base.{specs.declared.settings.CorrelationSet.CorrelationSet, specs.Events.{is_photon, is_in}, specs.Settings.{CorrelationView, correlation_view}, specs.Tally.{History, greatest_time}, specs.Limits.record_limit, specs.declared.block.Block.Block, specs.Columns.{rows, item, event_at, code_at, groups_at, gathered, events_in}, specs.Floors.{floor_after, InOrder}, proofs.Back.moves_row, proofs.Greatest.greatest-rows, proofs.Floors.{order-front, order-last}, proofs.BlockRows.length-rows}
+use Rattle.tally_base.{specs.declared.settings.CorrelationSet.CorrelationSet, specs.Events.{is_photon, is_in}, specs.Settings.{CorrelationView, correlation_view}, specs.Tally.{History, greatest_time}, specs.Limits.record_limit, specs.declared.block.Block.Block, specs.Columns.{rows, event_at, code_at, groups_at, gathered, events_in}, specs.Floors.{floor_after, InOrder}, proofs.Back.moves_row, proofs.Greatest.greatest-rows, proofs.Floors.{order-front, order-last}, proofs.BlockRows.length-rows}
 use Rattle.lag_ring.specs.declared.ring.Entry.{Entry}
 use Rattle.tau_cascade.{specs.declared.level.Level.Level, specs.Correlation.{Given, bin, in_first, in_second, photons_of}, specs.StandsFor.StandsFor, specs.Levels.{IsBin, Chain}, specs.Bins.{raised, bin_of, photon_bins, Come, CanCome, CanGiveBlock}, proofs.Follows.{come_push, raised-none}, proofs.Gives.{bin-zero, none_before, mine-photon, few_photons}}
 
@@ -24,27 +23,15 @@ module _ (set : CorrelationView) where
   photons-more es x = filter-append mine es (x ∷ [])
 
   photon_bins-push : (es : History) (x : Given) → photon_bins set (es ++ x ∷ []) ≡ photon_bins set es ++ cond (mine x) (bin_of set x ∷ []) []
-  photon_bins-push es x =
-      ap (map (bin_of set)) (photons-more es x)
-      ∙ elim (mine x) as (λ b. map (bin_of set) (photons_of set es ++ cond b (x ∷ []) []) ≡ photon_bins set es ++ cond b (bin_of set x ∷ []) []) [ true ↦ map-append (bin_of set) (photons_of set es) (x ∷ []) | false ↦ map-append (bin_of set) (photons_of set es) [] ]
+  photon_bins-push es x = search (rules, arith, photons-more, mine, map-append)
 
   -- one event more is gathered
   pub gather_step : (bins : List Entry) (count a b : ℕ) (es : History) (x : Given) → count < length bins → take count bins ≡ photon_bins set es → a ≡ cond (in_first set x) 1 0 → b ≡ cond (in_second set x) 1 0
       → take (count + cond (mine x) 1 0) (slice_set bins count (record { index = x.0.time; a = a; b = b })) ≡ photon_bins set (es ++ x ∷ [])
-  gather_step bins count a b es x inside so_far is_a is_b =
-      rw (photon_bins-push es x, is_a, is_b)
-      (elim (mine x) as (λ m. take (count + cond m 1 0) (slice_set bins count (bin_of set x)) ≡ photon_bins set es ++ cond m (bin_of set x ∷ []) []) [
-        | true ↦ take_more_set bins count (bin_of set x) inside ∙ ap (λ ys. ys ++ bin_of set x ∷ []) so_far
-        | false ↦ (let kept : take (count + 0) (slice_set bins count (bin_of set x)) ≡ take count bins = grind (arith, common_steps) in kept ∙ so_far ∙ sym (append-nil (photon_bins set es)))
-      ])
+  gather_step bins count a b es x inside so_far is_a is_b = grind (arith, common_steps, photon_bins-push, mine, take_more_set, append-nil)
 
   bin_is : (x : Given) → IsBin set 0 (bin_of set x) (x ∷ [])
-  bin_is x = record {
-    some = omega arith;
-    here = (bin-zero x, tt);
-    a = sym (zero-add (cond (in_first set x) 1 0));
-    b = sym (zero-add (cond (in_second set x) 1 0));
-  }
+  bin_is x = search (rules, arith, bin-zero, zero-add)
 
   -- events in order come one after the other
   pub come_rows : (h : History) (f : ℕ → Given) (n : ℕ) → InOrder false (greatest_time false h) (rows (λ i. (f i).0) n) → Come set 0 (photons_of set h) (photon_bins set (rows f n)) (photons_of set (rows f n))
@@ -70,11 +57,7 @@ module _ (set : CorrelationView) where
 
 -- the photons of a block may come to the levels
 pub block_comes : (set : CorrelationView) (ls : List Level) (b : Block) (h : History) → CanGiveBlock set ls b h → CanCome set 0 ls (map (raised 0) (photon_bins set (events_in b))) (photons_of set h) (photons_of set (events_in b))
-block_comes set ls b h can = record {
-  few = omega (arith, can.few, few_photons set h, few_photons set (events_in b));
-  chain = can.chain;
-  come = rw (raised-none (photon_bins set (events_in b))) (come_rows set h (item b) b.len can.order);
-}
+block_comes set ls b h can = search (rules, arith, few_photons, raised-none, come_rows)
 
 pub photons-append : (set : CorrelationView) (h es : History) → photons_of set (h ++ es) ≡ photons_of set h ++ photons_of set es
 photons-append set h es = filter-append (λ y. in_first set y || in_second set y) h es
@@ -82,25 +65,14 @@ photons-append set h es = filter-append (λ y. in_first set y || in_second set y
 -- what a correlation that isn't closed may be given
 pub may_give_block : (closed : Bool) → closed ≡ false → (set : CorrelationSet) (ls : List Level) (count time : ℕ) (h : History) (b : Block) → StandsFor closed set ls count time h → count + length (gathered b) ≤ record_limit → InOrder false time (gathered b) → CanGiveBlock (correlation_view set) ls b h
 may_give_block true still set ls count time h b is few order = absurd (false≢true (sym still))
-may_give_block false still set ls count time h b is few order = record {
-  few = omega (arith, few, is.taken, length-rows (item b) b.len, length-rows (event_at b) b.len);
-  chain = is.through;
-  order = rw (← is.floor) order;
-}
+may_give_block false still set ls count time h b is few order = search (rules, arith, length-rows)
 
 -- what it stands for then
 pub block_counts : (closed : Bool) → closed ≡ false → (set : CorrelationSet) (ls ls' : List Level) (count time : ℕ) (h : History) (b : Block) → StandsFor closed set ls count time h → InOrder false time (gathered b)
     → Chain (correlation_view set) 0 ls' (photons_of (correlation_view set) (h ++ events_in b)) → StandsFor closed set ls' (count + b.len) (floor_after false time (gathered b)) (h ++ events_in b)
 block_counts true still set ls ls' count time h b is order through = absurd (false≢true (sym still))
-block_counts false still set ls ls' count time h b is order through = record {
-  taken = omega (arith, is.taken, length-append h (events_in b), length-rows (item b) b.len);
-  floor = ap (λ n. floor_after false n (gathered b)) is.floor ∙ sym (greatest-rows false h (item b) b.len (rw (← is.floor) order));
-  through = through;
-}
+block_counts false still set ls ls' count time h b is order through = search (rules, arith, length-append, length-rows, greatest-rows)
 
 -- a photon of either group has some weight
 pub some_weight : (a b : ℕ) (x y : Bool) → a ≡ cond x 1 0 → b ≡ cond y 1 0 → (n : ℕ) → n ≡ bool_byte (ltb 0 (a + b)) → n ≡ cond (x || y) 1 0
-some_weight a b true true is_a is_b n is = is ∙ rw (is_a, is_b) refl
-some_weight a b true false is_a is_b n is = is ∙ rw (is_a, is_b) refl
-some_weight a b false true is_a is_b n is = is ∙ rw (is_a, is_b) refl
-some_weight a b false false is_a is_b n is = is ∙ rw (is_a, is_b) refl
+some_weight a b x y is_a is_b n is = search (rules, arith)

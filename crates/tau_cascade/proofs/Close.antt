@@ -1,6 +1,5 @@
 -- Bins that are laid close together.
-use Rattle.std.proofs.Common.{◌≡◌, ◌∙◌, ℕ, zero, suc, ◌+◌, ◌-◌, ◌*◌, ◌<◌, ◌≤◌, true, false, eqb, ltb, cond, min, List, [], ◌∷◌, ◌++◌, length, get_or, take, drop, refl, sym, ap, subst, arith, append_assoc}
-use Rattle.std.{specs.List.{sum_by, AllByRecursion}, proofs.Math.Nat.{mul-le-mul, mul-le-mul_left}, proofs.lemmas.Bool.Decides.nat_tests, proofs.lemmas.List.{take-append-drop, length-drop, length-take-le, drop_more}, proofs.lemmas.List.Sums.{sum_by-append, sum_by_push}}
+use Rattle.std.{proofs.Common.{◌≡◌, ◌∙◌, ℕ, zero, suc, ◌+◌, ◌-◌, ◌*◌, ◌<◌, ◌≤◌, true, false, eqb, ltb, cond, min, List, [], ◌∷◌, ◌++◌, length, get_or, take, drop, refl, sym, ap, arith, append_assoc, rules}, specs.List.{sum_by, AllByRecursion}, proofs.Math.Nat.{mul-le-mul, mul-le-mul_left}, proofs.lemmas.Bool.Decides.nat_tests, proofs.lemmas.List.{take-append-drop, length-drop, length-take-le, drop_more}, proofs.lemmas.List.Sums.{sum_by-append, sum_by_push}}
 use Rattle.lag_ring.{specs.declared.ring.Entry.Entry, specs.declared.window.Side.TheVariants.{First, Second}, specs.Ring.IsRising, specs.Window.{weight_at, product_at}, proofs.Rising.{all_weaker, all_push, rising_front, rising_back}, proofs.Sums.{sum_by-agree, sum_by-same, sum_by-zero}, proofs.Windows.window-before}
 use Rattle.tau_cascade.{specs.Levels.weight_before, specs.Paired.paired, specs.Laid.{laid, laid_pairs, IsBehind, IsLight}, proofs.Nexts.paired-append, proofs.Together.paired-all}
 
@@ -14,23 +13,13 @@ module _ (reach index place i p : ℕ) (front : List Entry) (e : Entry) (next : 
   laid_push = next (e ∷ [])
 
   pub laid_next : (rest : List Entry) → laid reach index place ((front ++ e ∷ []) ++ rest) ≡ laid reach index place (front ++ e ∷ []) ++ laid reach e.index (p + min (e.index - i) reach) rest
-  laid_next rest =
-      let tail : List Entry = laid reach e.index (p + min (e.index - i) reach) rest in
-      let one : List Entry = laid_at (p + min (e.index - i) reach) e ∷ [] in
-      ap (laid reach index place) (append_assoc front (e ∷ []) rest)
-      ∙ next (e ∷ rest)
-      ∙ sym (append_assoc (laid reach index place front) one tail)
-      ∙ ap (λ ys. ys ++ tail) (sym laid_push)
+  laid_next rest = search (rules, arith, laid_at, append_assoc, front, laid_push)
 
   pub weight_next : (q : ℕ) → weight_at First 32 0 q (laid reach index place (front ++ e ∷ [])) ≡ weight_at First 32 0 q (laid reach index place front) + cond (eqb (p + min (e.index - i) reach + 32) q) e.a 0
-  weight_next q =
-      let same : 0 + q ≡ q = omega arith in
-      rw laid_push (sum_by_push (λ (f : Entry). cond (eqb (f.index + 32) (0 + q)) f.a 0) (laid reach index place front) (laid_at (p + min (e.index - i) reach) e) ∙ ap (λ n. weight_at First 32 0 q (laid reach index place front) + cond (eqb (p + min (e.index - i) reach + 32) n) e.a 0) same)
+  weight_next q = search (rules, arith, laid_push, sum_by_push, front, laid_at)
 
   pub sums_next : (window : List ℕ) (from : ℕ) → sum_by (product_at Second window 0 from) (laid reach index place (front ++ e ∷ [])) ≡ sum_by (product_at Second window 0 from) (laid reach index place front) + get_or window (p + min (e.index - i) reach + from) 0 * e.b
-  sums_next window from =
-      let same : p + min (e.index - i) reach - 0 ≡ p + min (e.index - i) reach = omega arith in
-      rw laid_push (sum_by_push (product_at Second window 0 from) (laid reach index place front) (laid_at (p + min (e.index - i) reach) e) ∙ ap (λ n. sum_by (product_at Second window 0 from) (laid reach index place front) + get_or window (n + from) 0 * e.b) same)
+  sums_next window from = search (rules, arith, laid_push, sum_by_push, front, laid_at)
 
 -- a bin is laid at most so far behind
 pub laid_upto : (reach index place : ℕ) (es : List Entry) (most : ℕ) → place + reach * length es ≤ most → AllByRecursion (λ e. e.index ≤ most) (laid reach index place es)
@@ -72,9 +61,7 @@ module _ (reach index place : ℕ) (before beside : List Entry) (alike : Alike r
       ∙ sum_by-same (λ (f : Entry). cond (eqb (f.index + m) place) f.a 0) (λ (f : Entry). cond (eqb (f.index + k) there) f.a 0) beside (λ f. ap (λ b. cond b f.a 0) (let t : eqb (f.index + m) place ≡ eqb (f.index + k) there = (let d : there ≡ place + (e.index - index) = omega (arith, few, close) in grind (arith, nat_tests)) in t))
 
   far : (k : ℕ) → k < reach → k < e.index - index → weight_before k e.index before ≡ weight_before k there beside
-  far k few out =
-      sum_by-zero (λ f. f.index ≤ index) (λ (f : Entry). cond (eqb (f.index + k) e.index) f.a 0) before alike.upto (λ f under. let not : eqb (f.index + k) e.index ≡ false = grind arith in rw not refl)
-      ∙ sym (sum_by-zero (λ f. f.index ≤ place) (λ (f : Entry). cond (eqb (f.index + k) there) f.a 0) beside alike.laid_upto (λ f under. let d : place + k < there = omega (arith, few, out) in let not : eqb (f.index + k) there ≡ false = grind arith in rw not refl))
+  far k few out = search (rules, arith, sum_by-zero)
 
   pub as_far : (k : ℕ) → k < reach → weight_before k e.index before ≡ weight_before k there beside
   as_far k few = (elim (ltb k (e.index - index)) as (λ b. ltb k (e.index - index) ≡ b → weight_before k e.index before ≡ weight_before k there beside) [
@@ -103,14 +90,7 @@ paired_alike reach index place k before beside (e ∷ es) few alike up rising =
 
 pub paired_laid : (reach index place k : ℕ) (es : List Entry) → k < reach → IsRising es → paired k [] es ≡ paired k [] (laid reach index place es)
 paired_laid reach index place k [] few rising = refl
-paired_laid reach index place k (e ∷ es) few rising =
-    let there : ℕ = place + min (e.index - index) reach in
-    let alike : Alike reach e.index there (e ∷ []) (laid_at there e ∷ []) = record {
-      upto = (omega arith, tt);
-      laid_upto = (omega arith, tt);
-      same = λ m small. let test : eqb (e.index + m) e.index ≡ eqb (there + m) there = grind (arith, nat_tests) in ap (λ b. 0 + cond b e.a 0) test;
-    } in
-    ap (λ n. 0 * e.b + n) (paired_alike reach e.index there k (e ∷ []) (laid_at there e ∷ []) es few alike rising.0 rising.1)
+paired_laid reach index place k (e ∷ es) few rising = search (rules, arith, laid_at, laid_upto, paired_alike)
 
 -- the same from a bin on
 module _ (reach i p start : ℕ) (list : List Entry) (rising : IsRising list) (next : (rest : List Entry) → laid reach 0 0 (take start list ++ rest) ≡ laid reach 0 0 (take start list) ++ laid reach i p rest) where
@@ -126,10 +106,7 @@ module _ (reach i p start : ℕ) (list : List Entry) (rising : IsRising list) (n
   pub paired_parts : (k : ℕ) → k < reach → paired k (take start list) (drop start list) ≡ paired k (laid reach 0 0 (take start list)) (laid reach i p (drop start list))
   paired_parts k few =
       let whole = paired_laid reach 0 0 k list few rising in
-      let first = paired_laid reach 0 0 k (take start list) few (rising_front (take start list) (drop start list) (rw (take-append-drop start list) rising)) in
-      let split : paired k [] list ≡ paired k [] (take start list) + paired k (take start list) (drop start list) = ap (paired k []) (sym (take-append-drop start list)) ∙ paired-append k [] (take start list) (drop start list) in
-      let other : paired k [] (laid reach 0 0 list) ≡ paired k [] front + paired k front back = ap (paired k []) (sym both) ∙ paired-append k [] front back in
-      omega (arith, whole, first, split, other)
+      search (rules, arith, paired_laid, rising_front, take-append-drop, paired-append, front, back, both)
 
   -- and what stands in the window are the pairs
   pub laid-paired : (window : List ℕ) → 0 < reach → length window ≡ 1408 → p + reach * length (drop start list) + 32 < 1408
@@ -151,32 +128,15 @@ is_light_at most (e ∷ es) (suc i) none inside light = is_light_at most es i no
 
 -- where a bin is laid there is room behind it
 pub room_at : (reach i n place now from' count room : ℕ) → i < n → now ≤ place + reach * i → place + reach * n + from' + count ≤ room → now + reach + from' + count ≤ room
-room_at reach i n place now from' count room inside upto within =
-    let most : reach * (i + 1) ≤ reach * n = mul-le-mul_left reach (omega (arith, inside)) in
-    let ring : reach * (i + 1) ≡ reach * i + reach = grind arith in
-    omega (arith, most, ring, upto, within)
+room_at reach i n place now from' count room inside upto within = search (rules, arith, mul-le-mul_left)
 
 -- all bins of a list have room
 pub all_room : (lags start : ℕ) (list : List Entry) (place : ℕ) → lags ≤ 16 → start ≤ length list → length list ≤ 80 → place ≤ 0 + (lags + 1) * length (take start list) → place + (lags + 1) * length (drop start list) + 32 < 1408
-all_room lags start list place few inside short upto =
-    let front : length (take start list) ≡ start = length-take-le start list inside in
-    let back : length (drop start list) ≡ length list - start = length-drop start list in
-    let reach : lags + 1 ≤ 17 = omega (arith, few) in
-    let most : (lags + 1) * length list ≤ 17 * 80 = mul-le-mul reach short in
-    let parts : length list ≡ start + (length list - start) = omega (arith, inside) in
-    let split : (lags + 1) * length list ≡ (lags + 1) * start + (lags + 1) * (length list - start) = grind (arith, parts) in
-    let near : place ≤ (lags + 1) * length (take start list) = omega (arith, upto) in
-    let under : place ≤ (lags + 1) * start = (rw front at near) in
-    rw back (omega (arith, most, split, under))
+all_room lags start list place few inside short upto = search (rules, arith, length-take-le, length-drop, mul-le-mul)
 
 -- the first bins have room
 pub front_room : (lags start : ℕ) (list : List Entry) → lags ≤ 16 → start ≤ length list → length list ≤ 80 → 0 + (lags + 1) * length (take start list) + 32 < 1408
-front_room lags start list few inside short =
-    let front : length (take start list) ≡ start = length-take-le start list inside in
-    let reach : lags + 1 ≤ 17 = omega (arith, few) in
-    let under : start ≤ 80 = omega (arith, inside, short) in
-    let most : (lags + 1) * start ≤ 17 * 80 = mul-le-mul reach under in
-    rw front (omega (arith, most))
+front_room lags start list few inside short = search (rules, arith, length-take-le, mul-le-mul)
 
 from_zero : (es : List Entry) → AllByRecursion (λ e. 0 ≤ e.index) es
 from_zero [] = tt
@@ -191,10 +151,7 @@ behind_front start list rising = (rising_front (take start list) (drop start lis
 
 -- bins behind one are behind its index
 pub behind_next : (index : ℕ) (front : List Entry) (e : Entry) (rest : List Entry) → IsBehind index ((front ++ e ∷ []) ++ rest) → IsBehind e.index rest
-behind_next index front e rest behind =
-    let whole : IsRising (front ++ e ∷ rest) = subst IsRising (append_assoc front (e ∷ []) rest) behind.0 in
-    let back : IsRising (e ∷ rest) = rising_back front (e ∷ rest) whole in
-    (back.1, all_weaker (λ f. e.index < f.index) (λ f. e.index ≤ f.index) (λ f up. omega (arith, up)) rest back.0)
+behind_next index front e rest behind = search (rules, arith, front, append_assoc, rising_back, all_weaker)
 
 -- a list in two parts
 pub behind_whole : (index i : ℕ) (list : List Entry) → IsBehind index list → IsBehind index (take i list ++ drop i list)

@@ -1,6 +1,5 @@
 -- What closing a bin does to the ring of a level.
-use Rattle.std.proofs.Common.{◌≡◌, ℕ, ◌+◌, ◌-◌, ◌<◌, ◌≤◌, Bool, false, refl, sym, leb, List, [], ◌∷◌, ◌++◌, length, arith}
-use Rattle.std.specs.List.{filter, AllByRecursion}
+use Rattle.std.{proofs.Common.{◌≡◌, ℕ, ◌+◌, ◌-◌, ◌<◌, ◌≤◌, Bool, false, refl, sym, leb, List, [], ◌∷◌, ◌++◌, length, arith}, specs.List.{filter, AllByRecursion}}
 use Rattle.tally_base.{specs.Settings.CorrelationView, specs.Tally.History}
 use Rattle.lag_ring.{specs.declared.ring.Entry.Entry, specs.Ring.{Ring, ring, IsRising}, proofs.Kept.{room_after, kept_after}, proofs.Lists.all_filter, proofs.Rising.{all_weaker, rising_push}}
 use Rattle.tau_cascade.{specs.Correlation.{bin, in_first, in_second}, specs.Levels.{RingIs, CanClose}}

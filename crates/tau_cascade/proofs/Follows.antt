@@ -1,6 +1,5 @@
 -- Bins that come to a level, and what they are merged into.
-use Rattle.std.proofs.Common.{◌≡◌, ◌≢◌, ℕ, suc, ◌+◌, ◌/◌, ◌^◌, ◌<◌, ◌≤◌, Bool, true, false, not, cond, eqb, Option, None, Some, List, [], ◌∷◌, ◌++◌, length, map, take, drop, get_or, refl, sym, ap, ◌∙◌, append_assoc, append-nil, arith, slice_set}
-use Rattle.std.{specs.List.{sum_by, count_by, AllByRecursion}, proofs.Math.Nat.{div-div-eq-div-mul, div-one}, proofs.lemmas.Grind.common_steps, proofs.lemmas.List.{take_more_set, drop_more, drop-set-add, length-drop}, proofs.lemmas.List.Sums.{sum_by-cons, sum_by-append}}
+use Rattle.std.{proofs.Common.{◌≡◌, ◌≢◌, ℕ, suc, ◌+◌, ◌/◌, ◌^◌, ◌<◌, ◌≤◌, Bool, true, false, not, cond, eqb, Option, List, [], ◌∷◌, ◌++◌, length, map, take, drop, get_or, refl, sym, ap, ◌∙◌, append_assoc, append-nil, arith, slice_set, rules}, specs.List.{sum_by, count_by, AllByRecursion}, proofs.Math.Nat.{div-div-eq-div-mul, div-one}, proofs.lemmas.Grind.common_steps, proofs.lemmas.List.{take_more_set, drop_more, drop-set-add, length-drop}, proofs.lemmas.List.Sums.{sum_by-cons, sum_by-append}}
 use mir.Val.{bool_byte}
 use Rattle.tally_base.{specs.Settings.CorrelationView, specs.Tally.History}
 use Rattle.lag_ring.{specs.declared.ring.Entry.Entry, proofs.Lists.{all_back, all_join, of_some}, proofs.Rising.all_weaker}
@@ -18,12 +17,9 @@ module _ (set : CorrelationView) (level : ℕ) where
   -- where nothing that came is behind an index that the last bin hasn't, all is before it
   pub is_after : (e : Entry) (n : ℕ) (closed open' : History) → IsBin set level e open' → AllByRecursion (λ x. bin level x < e.index) closed → AllByRecursion (λ x. bin level x ≤ n) (closed ++ open') → e.index ≢ n → AllByRecursion (λ x. bin level x < n) (closed ++ open')
   is_after e n closed open' is before after other =
-      let back = all_back (λ x. bin level x ≤ n) closed open' after in
-      let upto : e.index ≤ n = of_some (bin level) e.index (λ m. m ≤ n) open' is.some is.here back in
+      let upto : e.index ≤ n = of_some (bin level) e.index (λ m. m ≤ n) open' is.some is.here (all_back (λ x. bin level x ≤ n) closed open' after) in
       let below : e.index < n = omega arith in
-      all_join (λ x. bin level x < n) closed open'
-      (all_weaker (λ x. bin level x < e.index) (λ x. bin level x < n) (λ x under. omega arith) closed before)
-      (all_weaker (λ x. bin level x ≡ e.index) (λ x. bin level x < n) (λ x here. omega arith) open' is.here)
+      search (rules, arith, all_join, all_weaker)
 
   -- the bins that an open one and those that come are merged into
   pub merged_follow : (e : Entry) (es : List Entry) (closed open' xs : History) → IsBin set level e open' → AllByRecursion (λ x. bin level x < e.index) closed → Come set level (closed ++ open') es xs → Follow set level closed (merged e es) (open' ++ xs)
@@ -58,11 +54,7 @@ module _ (set : CorrelationView) (level : ℕ) where
 
   -- the same where there may be no open bin
   pub onto_follow : (o : Option Entry) (es : List Entry) (closed open' xs : History) → 0 < length es → OpenIs set level o closed open' → Come set level (closed ++ open') es xs → Follow set level closed (merged_onto o es) (open' ++ xs)
-  onto_follow None [] closed open' xs some is come = absurd (omega arith)
-  onto_follow None (e ∷ es) closed open' xs some is come =
-      let first : Come set level [] (e ∷ es) xs = (rw (is.0, is.1) at come) in
-      rw (is.0, is.1) (first_follow e es xs first)
-  onto_follow (Some e) es closed open' xs some is come = merged_follow e es closed open' xs is.0 is.1 come
+  onto_follow o es closed open' xs some is come = search (rules, arith, first_follow, merged_follow)
 
   -- bins that follow one another have the weights of their photons
   pub first_weights : (es : List Entry) (closed xs : History) → Follow set level closed es xs → sum_by (λ e. e.a) es ≡ count_by (in_first set) xs
@@ -76,25 +68,11 @@ module _ (set : CorrelationView) (level : ℕ) where
   -- closed bins may come to the next level
   pub goes_up : (es : List Entry) (closed xs : History) → Follow set level closed es xs → Come set (suc level) closed (map (raised 1) es) xs
   goes_up [] closed xs follow = follow
-  goes_up (e ∷ es) closed xs follow = (
-    follow.0,
-    follow.1,
-    follow.2,
-    record {
-      some = follow.3.some;
-      here = all_weaker (λ x. bin level x ≡ e.index) (λ x. bin (suc level) x ≡ e.index / 2) (λ x here. bin-suc level x ∙ ap (λ n. n / 2) here) follow.0 follow.3.here;
-      a = follow.3.a;
-      b = follow.3.b;
-    },
-    all_weaker (λ x. bin level x < e.index) (λ x. bin (suc level) x ≤ e.index / 2) (λ x before. rw (bin-suc level x) (grind arith)) closed follow.4,
-    goes_up es (closed ++ follow.0) follow.1 follow.5,
-  )
+  goes_up (e ∷ es) closed xs follow = search (rules, arith, all_weaker, bin-suc, goes_up es (closed ++ follow.0) follow.1 follow.5)
 
   -- one bin more comes
   pub come_push : (es : List Entry) (e : Entry) (came xs run : History) → Come set level came es xs → IsBin set level e run → AllByRecursion (λ x. bin level x ≤ e.index) (came ++ xs) → Come set level came (es ++ e ∷ []) (xs ++ run)
-  come_push [] e came xs run come is after =
-      let before : AllByRecursion (λ x. bin level x ≤ e.index) came = (rw (come, append-nil) at after) in
-      (run, [], rw (come, append-nil) refl, is, before, refl)
+  come_push [] e came xs run come is after = search (rules, arith, append-nil)
   come_push (f ∷ es) e came xs run come is after =
       let later : AllByRecursion (λ x. bin level x ≤ e.index) ((came ++ come.0) ++ come.1) = rw (append_assoc came come.0 come.1, ← come.2) after in
       (come.0, come.1 ++ run, rw come.2 (append_assoc come.0 come.1 run), come.3, come.4, come_push es e (came ++ come.0) come.1 run come.5 is later)
@@ -103,7 +81,7 @@ module _ (set : CorrelationView) (level : ℕ) where
 pub merge_step : (closed : List Entry) (count : ℕ) (open' x : Entry) (rest : List Entry) → count < length closed → (same : Bool) → eqb open'.index x.index ≡ same
     → take (count + cond same 0 1) (slice_set closed count open') ++ merged (cond same (both_of open' x) x) rest ≡ take count closed ++ merged open' (x ∷ rest)
 merge_step closed count open' x rest inside true is = rw is (ap (λ ys. ys ++ merged (both_of open' x) rest) (grind (arith, common_steps)))
-merge_step closed count open' x rest inside false is = rw (is, take_more_set closed count open' inside) (append_assoc (take count closed) (open' ∷ []) (merged x rest))
+merge_step closed count open' x rest inside false is = search (rules, arith, take_more_set, append_assoc)
 
 -- the first weight is within that of the merged ones
 pub head_first : (e : Entry) (es : List Entry) → e.a ≤ sum_by (λ f. f.a) (merged e es)
@@ -116,20 +94,10 @@ head_second e (f ∷ fs) = elim (eqb e.index f.index) as (λ b. e.b ≤ sum_by (
 
 -- two bins that are merged fit
 pub both_first : (front : List Entry) (e x : Entry) (rest whole : List Entry) → front ++ merged e (x ∷ rest) ≡ whole → e.index ≡ x.index → e.a + x.a ≤ sum_by (λ f. f.a) whole
-both_first front e x rest whole is same =
-    let one : eqb e.index x.index ≡ true = grind arith in
-    let joins : merged e (x ∷ rest) ≡ merged (both_of e x) rest = rw one refl in
-    let all : sum_by (λ f. f.a) front + sum_by (λ f. f.a) (merged (both_of e x) rest) ≡ sum_by (λ f. f.a) whole = sym (sum_by-append (λ (f : Entry). f.a) front (merged (both_of e x) rest)) ∙ ap (sum_by (λ (f : Entry). f.a)) (ap (λ ys. front ++ ys) (sym joins) ∙ is) in
-    let head = head_first (both_of e x) rest in
-    omega arith
+both_first front e x rest whole is same = search (rules, arith, sum_by-append, head_first)
 
 pub both_second : (front : List Entry) (e x : Entry) (rest whole : List Entry) → front ++ merged e (x ∷ rest) ≡ whole → e.index ≡ x.index → e.b + x.b ≤ sum_by (λ f. f.b) whole
-both_second front e x rest whole is same =
-    let one : eqb e.index x.index ≡ true = grind arith in
-    let joins : merged e (x ∷ rest) ≡ merged (both_of e x) rest = rw one refl in
-    let all : sum_by (λ f. f.b) front + sum_by (λ f. f.b) (merged (both_of e x) rest) ≡ sum_by (λ f. f.b) whole = sym (sum_by-append (λ (f : Entry). f.b) front (merged (both_of e x) rest)) ∙ ap (sum_by (λ (f : Entry). f.b)) (ap (λ ys. front ++ ys) (sym joins) ∙ is) in
-    let head = head_second (both_of e x) rest in
-    omega arith
+both_second front e x rest whole is same = search (rules, arith, sum_by-append, head_second)
 
 -- the bins that are left, from one on
 pub rest_at : (levels : ℕ) (came : List Entry) (i : ℕ) (none : Entry) → i < length came → map (raised levels) (drop i came) ≡ raised levels (get_or came i none) ∷ map (raised levels) (drop (i + 1) came)
@@ -152,12 +120,10 @@ module _ (levels : ℕ) (came closed : List Entry) (i count : ℕ) (open' next n
 -- the open bin, by its three numbers
 pub joined_is : (index a b a' b' : ℕ) (next : Entry) (same : Bool) → eqb index next.index ≡ same → a' ≡ cond (not same) next.a (a + next.a) → b' ≡ cond (not same) next.b (b + next.b)
     → record { index = next.index; a = a'; b = b' } ≡ cond same (both_of (record { index = index; a = a; b = b }) next) next
-joined_is index a b a' b' next true is is_a is_b = let one : index ≡ next.index = grind arith in rw (is_a, is_b, one) refl
-joined_is index a b a' b' next false is is_a is_b = rw (is_a, is_b) refl
+joined_is index a b a' b' next same is is_a is_b = search (rules, arith)
 
 pub byte_small : (b : Bool) → bool_byte b ≤ 1
-byte_small true = omega arith
-byte_small false = omega arith
+byte_small b = search (rules, arith)
 
 -- one bin more is merged
 pub merge_more : (levels : ℕ) (came list : List Entry) (start i count index a b a' b' more : ℕ) (none : Entry) (whole : List Entry) → i < length came → start + count < length list

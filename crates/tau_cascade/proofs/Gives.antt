@@ -1,6 +1,5 @@
 -- What an event does to the photons of the two groups.
-use Rattle.std.proofs.Common.{◌≡◌, ℕ, ◌≤◌, max, Bool, true, false, ◌&&◌, ◌||◌, cond, List, [], ◌∷◌, length, fold, refl, sym, arith}
-use Rattle.std.{specs.List.AllByRecursion, proofs.Math.Nat.div-one, proofs.lemmas.Bool.false≢true, proofs.lemmas.List.Sums.{length-filter, count_by-le-length}}
+use Rattle.std.{proofs.Common.{◌≡◌, ℕ, ◌≤◌, max, Bool, true, false, ◌&&◌, ◌||◌, cond, List, [], ◌∷◌, length, fold, refl, arith, rules}, specs.List.AllByRecursion, proofs.Math.Nat.div-one, proofs.lemmas.Bool.false≢true, proofs.lemmas.List.Sums.{length-filter, count_by-le-length}}
 use Rattle.tally_base.{specs.declared.settings.CorrelationSet.CorrelationSet, specs.Events.{is_photon, is_in}, specs.Settings.{CorrelationView, correlation_view}, specs.Tally.{History, moves_floor, greatest_time}, specs.Limits.record_limit}
 use Rattle.lag_ring.{proofs.Lists.{all_both, all_filter, all_passed}, proofs.Rising.all_weaker}
 use Rattle.tau_cascade.{specs.declared.level.Level.Level, specs.Correlation.{Given, bin, in_first, in_second, photons_of}, specs.StandsFor.StandsFor, specs.Levels.{CanEnd, Complete}}
@@ -10,7 +9,7 @@ later t x = cond (moves_floor false x.0) (max t x.0.time) t
 
 from_start : (t : ℕ) (h : History) → t ≤ fold later t h
 from_start t [] = omega arith
-from_start t (x ∷ h) = let rest = from_start (later t x) h in elim (is_photon x.0) as (λ b. (cond b (max t x.0.time) t ≤ fold later (cond b (max t x.0.time) t) h) → t ≤ fold later (cond b (max t x.0.time) t) h) [ true ↦ λ r. omega arith | false ↦ λ r. r ] rest
+from_start t (x ∷ h) = search (rules, arith, from_start (later t x) h)
 
 later_than : (t : ℕ) (x : Given) (h : History) → is_photon x.0 ≡ true → later t x ≤ fold later (later t x) h → x.0.time ≤ fold later (later t x) h
 later_than t x h is rest = let now : later t x ≡ max t x.0.time = rw is refl in omega (arith, now)
@@ -21,8 +20,7 @@ in_time t [] = tt
 in_time t (x ∷ h) = (λ is. let rest = from_start (later t x) h in later_than t x h is rest, in_time (later t x) h)
 
 pub mine-photon : (p a b : Bool) → ((p && a) || (p && b)) ≡ true → p ≡ true
-mine-photon true a b is = refl
-mine-photon false a b is = is
+mine-photon p a b is = search (rules, arith)
 
 -- the photons of either group are no later than an event that may be given
 none_after : (set : CorrelationView) (h : History) (time : ℕ) → greatest_time false h ≤ time → AllByRecursion (λ x. x.0.time ≤ time) (photons_of set h)
@@ -40,12 +38,11 @@ bin-zero x = div-one x.0.time
 
 -- the same of the bins of the first level
 pub none_before : (set : CorrelationView) (h : History) (time : ℕ) → greatest_time false h ≤ time → AllByRecursion (λ x. bin 0 x ≤ time) (photons_of set h)
-none_before set h time after = all_weaker (λ x. x.0.time ≤ time) (λ x. bin 0 x ≤ time) (λ x upto. rw (bin-zero x) upto) (photons_of set h) (none_after set h time after)
+none_before set h time after = search (rules, arith, all_weaker, bin-zero, none_after)
 
 -- it may be closed
 pub may_end : (closed : Bool) → closed ≡ false → (set : CorrelationSet) (ls : List Level) (count time : ℕ) (h : History) → StandsFor closed set ls count time h → count ≤ record_limit → CanEnd (correlation_view set) 0 ls (photons_of (correlation_view set) h)
-may_end true still set ls count time h is few = absurd (false≢true (sym still))
-may_end false still set ls count time h is few = record { few = omega (arith, is.taken, few_photons (correlation_view set) h); chain = is.through }
+may_end closed still set ls count time h is few = search (rules, arith, false≢true, few_photons)
 
 pub end_counts : (closed : Bool) → closed ≡ false → (set : CorrelationSet) (ls ls' : List Level) (count time : ℕ) (h : History) → StandsFor closed set ls count time h → Complete (correlation_view set) 0 ls' (photons_of (correlation_view set) h) → StandsFor true set ls' count time h
 end_counts closed still set ls ls' count time h is through = record { taken = is.taken; floor = is.floor; through = through }

@@ -1,6 +1,5 @@
 -- What the ring of a level keeps once some bins are closed.
-use Rattle.std.proofs.Common.{◌≡◌, ℕ, ◌+◌, ◌-◌, ◌<◌, ◌≤◌, Bool, true, false, cond, leb, None, Some, List, [], ◌∷◌, ◌++◌, length, take, drop, get_or, slice_get, refl, sym, ap, ◌∙◌, append_assoc, append-nil, subst, arith}
-use Rattle.std.{specs.List.{filter, AllByRecursion, AllByRecursion-prop}, proofs.Props.props, proofs.lemmas.Bool.false≢true, proofs.lemmas.List.{drop_more, take_more, take-append-drop}, proofs.lemmas.List.Elements.filter-append}
+use Rattle.std.{proofs.Common.{◌≡◌, ℕ, ◌+◌, ◌-◌, ◌<◌, ◌≤◌, Bool, true, false, leb, Some, List, [], ◌∷◌, ◌++◌, length, take, drop, get_or, slice_get, refl, sym, ap, ◌∙◌, append_assoc, append-nil, subst, arith, rules}, specs.List.{filter, AllByRecursion, AllByRecursion-prop}, proofs.Props.props, proofs.lemmas.Bool.false≢true, proofs.lemmas.List.{drop_more, take_more, take-append-drop}, proofs.lemmas.List.Elements.filter-append}
 use Rattle.tally_base.{specs.Settings.CorrelationView, specs.Tally.History}
 use Rattle.lag_ring.{specs.declared.ring.Entry.Entry, specs.Ring.{Ring, ring, IsRising}, proofs.Lists.{all_back, all_filter}, proofs.Rising.{all_push, all_weaker, filter_passed}}
 use Rattle.tau_cascade.{specs.Correlation.bin, specs.Levels.{IsBin, RingIs}, specs.Bins.Follow, proofs.Closes.{filter_none, ring_after}}
@@ -8,13 +7,12 @@ use Rattle.tau_cascade.{specs.Correlation.bin, specs.Levels.{IsBin, RingIs}, spe
 pub rising-prop : (es : List Entry) → IsProp (IsRising es)
 rising-prop [] = hlevel props
 rising-prop (e ∷ es) =
-    let rest = rising-prop es in
     let first = AllByRecursion-prop (λ (f : Entry). e.index < f.index) (λ f. hlevel props) es in
-    hlevel (props, first, rest)
+    hlevel (props, first, rising-prop es)
 
 pub rising_filter : (p : Entry → Bool) (es : List Entry) → IsRising es → IsRising (filter p es)
 rising_filter p [] rising = tt
-rising_filter p (e ∷ es) rising = elim (p e) as (λ b. IsRising (cond b (e ∷ filter p es) (filter p es))) [ true ↦ (all_filter (λ f. e.index < f.index) p es rising.0, rising_filter p es rising.1) | false ↦ rising_filter p es rising.1 ]
+rising_filter p (e ∷ es) rising = search (rules, arith, all_filter, rising_filter p es rising.1)
 
 -- those before an entry are below it
 pub all_below : (es fs : List Entry) (e : Entry) → IsRising (es ++ e ∷ fs) → AllByRecursion (λ f. f.index < e.index) es
@@ -24,17 +22,10 @@ all_below (x ∷ es) fs e rising = ((all_back (λ f. x.index < f.index) es (e �
 -- a weaker test first leaves out nothing that the stronger one keeps
 filter_again : (p q : Entry → Bool) → ((x : Entry) → p x ≡ true → q x ≡ true) → (xs : List Entry) → filter p (filter q xs) ≡ filter p xs
 filter_again p q stronger [] = refl
-filter_again p q stronger (x ∷ xs) = (elim (q x) as (λ b. q x ≡ b → filter p (cond b (x ∷ filter q xs) (filter q xs)) ≡ filter p (x ∷ xs)) [
-  | true ↦ λ yes. rw (filter_again p q stronger xs) refl
-  | false ↦ λ no. (elim (p x) as (λ b. p x ≡ b → filter p (filter q xs) ≡ cond b (x ∷ filter p xs) (filter p xs)) [ true ↦ λ is. absurd (false≢true (sym no ∙ stronger x is)) | false ↦ λ is. filter_again p q stronger xs ]) refl
-]) refl
+filter_again p q stronger (x ∷ xs) = search (rules, arith, false≢true, filter_again p q stronger xs)
 
 keep_more : (p q : Entry → Bool) → ((x : Entry) → p x ≡ true → q x ≡ true) → (es fs : List Entry) (e : Entry) → filter p ((filter q es ++ e ∷ []) ++ fs) ≡ filter p (es ++ e ∷ fs)
-keep_more p q stronger es fs e =
-    filter-append p (filter q es ++ e ∷ []) fs
-    ∙ ap (λ ys. ys ++ filter p fs) (filter-append p (filter q es) (e ∷ []) ∙ ap (λ ys. ys ++ filter p (e ∷ [])) (filter_again p q stronger es) ∙ sym (filter-append p es (e ∷ [])))
-    ∙ sym (filter-append p (es ++ e ∷ []) fs)
-    ∙ ap (filter p) (append_assoc es (e ∷ []) fs)
+keep_more p q stronger es fs e = search (rules, arith, filter-append, filter_again, append_assoc)
 
 -- the last of some entries
 abbrev pub last_of : Entry → List Entry → Entry
@@ -48,10 +39,6 @@ read_last e (f ∷ fs) = read_last f fs
 read_end : (e : Entry) (es : List Entry) → slice_get (e ∷ es) (length (e ∷ es) - 1) ≡ Some (last_of e es)
 read_end e es = let count : length (e ∷ es) - 1 ≡ length es = omega arith in rw count (read_last e es)
 
-pub none_last : (es : List Entry) → slice_get es (length es - 1) ≡ None → es ≡ []
-none_last [] read = refl
-none_last (e ∷ es) read = let some = read_end e es in cc
-
 upto_last : (e : Entry) (es : List Entry) → IsRising (e ∷ es) → e.index ≤ (last_of e es).index
 upto_last e [] rising = omega arith
 upto_last e (f ∷ fs) rising = omega (arith, rising.0.0, upto_last f fs rising.1)
@@ -61,21 +48,16 @@ module _ (set : CorrelationView) (level : ℕ) (some : 0 < set.lags) where
   from_last last f = leb (last.index - (set.lags - 1)) f.index
 
   ring_one : (e : Entry) (r : Ring) (closed run : History) → RingIs set level r closed → IsBin set level e run → AllByRecursion (λ x. bin level x < e.index) closed → RingIs set level (ring (filter (from_last e) r.entries ++ e ∷ []) r.reach) (closed ++ run)
-  ring_one e r closed run was is before = ring_after set level r e closed run some (record { was = was; is_bin = is; before = before }) (filter (from_last e) r.entries) refl (rising_filter (from_last e) r.entries was.rising)
+  ring_one e r closed run was is before = search (rules, arith, ring_after, from_last, rising_filter)
 
   -- the ring keeps those bins that the last one reaches
   pub ring_all : (e : Entry) (es : List Entry) (r : Ring) (closed xs : History) → RingIs set level r closed → Follow set level closed (e ∷ es) xs → IsRising (e ∷ es) → RingIs set level (ring (filter (from_last (last_of e es)) (r.entries ++ e ∷ es)) r.reach) (closed ++ xs)
-  ring_all e [] r closed xs was follow rising =
-      let own : from_last e e ≡ true = grind arith in
-      let kept : filter (from_last e) (r.entries ++ e ∷ []) ≡ filter (from_last e) r.entries ++ e ∷ [] = filter-append (from_last e) r.entries (e ∷ []) ∙ rw own refl in
-      let photons : xs ≡ follow.0 = follow.2 ∙ rw (follow.5, append-nil) refl in
-      rw (kept, photons) (ring_one e r closed follow.0 was follow.3 follow.4)
+  ring_all e [] r closed xs was follow rising = search (rules, arith, from_last, filter-append, append-nil, ring_one)
   ring_all e (f ∷ fs) r closed xs was follow rising =
       let one = ring_one e r closed follow.0 was follow.3 follow.4 in
       let rest = ring_all f fs (ring (filter (from_last e) r.entries ++ e ∷ []) r.reach) (closed ++ follow.0) follow.1 one follow.5 rising.1 in
       let upto : e.index ≤ (last_of f fs).index = upto_last e (f ∷ fs) rising in
-      let same = keep_more (from_last (last_of f fs)) (from_last e) (λ x is. grind arith) r.entries (f ∷ fs) e in
-      rw (follow.2, ← append_assoc closed follow.0 follow.1, ← same) rest
+      search (rules, arith, from_last, last_of, keep_more, append_assoc)
 
   -- the same by what the last is read to be
   pub ring_last : (es : List Entry) (last : Entry) → slice_get es (length es - 1) ≡ Some last → (r : Ring) (closed xs : History) → RingIs set level r closed → Follow set level closed es xs → IsRising es → RingIs set level (ring (filter (from_last last) (r.entries ++ es)) r.reach) (closed ++ xs)
@@ -87,10 +69,7 @@ module _ (set : CorrelationView) (level : ℕ) (some : 0 < set.lags) where
 
 -- the entries and the bins before one rise up to it
 pub split_at : (front bins : List Entry) (i : ℕ) (none : Entry) → i < length bins → front ++ bins ≡ (front ++ take i bins) ++ get_or bins i none ∷ drop (i + 1) bins
-split_at front bins i none inside =
-    let rest : drop i bins ≡ get_or bins i none ∷ drop (i + 1) bins = drop_more bins i none inside in
-    let whole : take i bins ++ (get_or bins i none ∷ drop (i + 1) bins) ≡ bins = rw (← rest) (take-append-drop i bins) in
-    sym (append_assoc front (take i bins) (get_or bins i none ∷ drop (i + 1) bins) ∙ ap (λ ys. front ++ ys) whole)
+split_at front bins i none inside = search (rules, arith, drop_more, take-append-drop, append_assoc)
 
 -- what is kept of entries and of bins behind them, of which those before a place go
 pub kept_is : (before start : ℕ) (front bins : List Entry) → AllByRecursion (λ e. e.index < before) (take start bins) → AllByRecursion (λ e. before ≤ e.index) (drop start bins) → filter (λ e. leb before e.index) (front ++ bins) ≡ filter (λ e. leb before e.index) front ++ drop start bins
@@ -105,15 +84,11 @@ kept_is before start front bins left kept =
 pub kept_below : (front bins : List Entry) (i : ℕ) (none : Entry) → i < length bins → IsRising (front ++ bins) → AllByRecursion (λ f. f.index < (get_or bins i none).index) (front ++ take i bins)
 kept_below front bins i none inside rising =
     let split = split_at front bins i none inside in
-    let all : IsRising ((front ++ take i bins) ++ get_or bins i none ∷ drop (i + 1) bins) = rw (← split) rising in
-    all_below (front ++ take i bins) (drop (i + 1) bins) (get_or bins i none) all
+    search (rules, arith, all_below)
 
 -- from one bin on, all are kept
 pub kept_from : (before start : ℕ) (bins : List Entry) (none : Entry) → 0 < start → start ≤ length bins → before ≤ (get_or bins (start - 1) none).index → AllByRecursion (λ e. before ≤ e.index) (drop start bins) → AllByRecursion (λ e. before ≤ e.index) (drop (start - 1) bins)
-kept_from before start bins none some inside here kept =
-    let one : start - 1 + 1 ≡ start = omega arith in
-    let rest : drop (start - 1) bins ≡ get_or bins (start - 1) none ∷ drop start bins = drop_more bins (start - 1) none (omega arith) ∙ ap (λ n. get_or bins (start - 1) none ∷ drop n bins) one in
-    rw rest (here, kept)
+kept_from before start bins none some inside here kept = search (rules, arith, drop_more)
 
 -- where one is before an index, so are those before it
 pub left_behind : (before start : ℕ) (bins : List Entry) (none : Entry) → 0 < start → start ≤ length bins → IsRising bins → (get_or bins (start - 1) none).index < before → AllByRecursion (λ e. e.index < before) (take start bins)

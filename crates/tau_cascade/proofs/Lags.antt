@@ -1,6 +1,5 @@
 -- How many entries stand at the lags of a level.
-use Rattle.std.proofs.Common.{◌≡◌, ℕ, ◌-◌, ◌<◌, ◌≤◌, Bool, ◌&&◌, ltb, leb, List, cond, ap, arith}
-use Rattle.std.{specs.List.{count_by, AllByRecursion}, proofs.lemmas.Grind.common_steps}
+use Rattle.std.{proofs.Common.{◌≡◌, ℕ, ◌-◌, ◌<◌, ◌≤◌, Bool, ◌&&◌, ltb, leb, List, cond, ap, arith, rules}, specs.List.{count_by, AllByRecursion}, proofs.lemmas.Grind.common_steps}
 use Rattle.lag_ring.{specs.declared.ring.Entry.Entry, specs.Ring.IsRising, proofs.Between.{between, count-between}, proofs.Sums.sum_by-agree}
 use Rattle.tau_cascade.specs.Levels.{entries_at_lags}
 
@@ -15,5 +14,4 @@ pub few_at_lags : (es : List Entry) (skipped lags index : ℕ) → IsRising es �
 few_at_lags es skipped lags index rising below =
     let same : entries_at_lags skipped lags index es ≡ count_by (between (index - lags) (index - skipped)) es =
     sum_by-agree (λ e. e.index < index) (λ e. cond (at_lags skipped lags index e) 1 0) (λ e. cond (between (index - lags) (index - skipped) e) 1 0) es below (λ e before. ap (λ b. cond b 1 0) (same-test skipped lags index e.index before)) in
-    let few : count_by (between (index - lags) (index - skipped)) es ≤ (index - skipped) - (index - lags) = count-between es (index - lags) (index - skipped) rising in
-    omega arith
+    search (rules, arith, between, count-between)

@@ -5,7 +5,6 @@ pub mod Closes
 pub mod Distinct
 pub mod Pairs
 pub mod Puts
-pub mod Carries
 pub mod Follows
 pub mod Paired
 pub mod Keeping
@@ -17,10 +16,8 @@ pub mod Blocks
 pub mod Takes
 pub mod Spaced
 pub mod Passes
-pub mod Opened
 pub mod Gives
 pub mod Slices
 pub mod Shown
-pub mod Opens
 pub mod Work
 pub mod SettingsRead

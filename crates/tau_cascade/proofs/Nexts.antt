@@ -1,30 +1,19 @@
 -- The pairs of one bin more with the ring and the bins before it.
-use Rattle.std.proofs.Common.{◌≡◌, ℕ, ◌+◌, ◌-◌, ◌*◌, ◌<◌, ◌≤◌, cond, eqb, List, [], ◌∷◌, ◌++◌, length, get_or, take, drop, refl, sym, ap, ◌∙◌, append_assoc, append-nil, subst, arith}
-use Rattle.std.{specs.List.AllByRecursion, proofs.lemmas.List.{take_more, take-append-drop, take-take, drop-take, drop-append-le, drop_all, length-take-le}, proofs.lemmas.List.Sums.sum_by-append}
+use Rattle.std.{proofs.Common.{◌≡◌, ℕ, ◌+◌, ◌-◌, ◌*◌, ◌<◌, ◌≤◌, cond, eqb, List, [], ◌∷◌, ◌++◌, length, get_or, take, drop, refl, ap, ◌∙◌, append_assoc, append-nil, subst, arith, rules}, specs.List.AllByRecursion, proofs.lemmas.List.{take_more, take-append-drop, take-take, drop-take, drop-append-le, drop_all, length-take-le}, proofs.lemmas.List.Sums.sum_by-append, proofs.lemmas.Grind.common_steps}
 use Rattle.lag_ring.{specs.declared.ring.Entry.Entry, specs.Ring.IsRising, proofs.Lists.all_back, proofs.Rising.{all_weaker, rising_front, rising_back}}
 use Rattle.tau_cascade.{specs.Levels.{weight_before, entries_at_lags}, specs.Paired.paired, proofs.Keeping.{all_below, split_at}, proofs.Lags.few_at_lags, proofs.Visits.none_at_lag}
 
 -- what two lists add
 pub paired-append : (lag : ℕ) (before es fs : List Entry) → paired lag before (es ++ fs) ≡ paired lag before es + paired lag (before ++ es) fs
 paired-append lag before [] fs = rw (append-nil before) (omega arith)
-paired-append lag before (e ∷ es) fs =
-    let rest = paired-append lag (before ++ e ∷ []) es fs in
-    let same : (before ++ e ∷ []) ++ es ≡ before ++ e ∷ es = append_assoc before (e ∷ []) es in
-    let here : paired lag (before ++ e ∷ []) (es ++ fs) ≡ paired lag (before ++ e ∷ []) es + paired lag (before ++ e ∷ es) fs = (rw same at rest) in
-    omega (arith, here)
+paired-append lag before (e ∷ es) fs = search (rules, arith, e, append_assoc, paired-append lag (before ++ e ∷ []) es fs)
 
 take_both : (es : List Entry) (from n : ℕ) → take (from + n) es ≡ take from es ++ take n (drop from es)
-take_both es from n =
-    let front : take from (take (from + n) es) ≡ take from es = take-take from (from + n) es (omega arith) in
-    let back : drop from (take (from + n) es) ≡ take n (drop from es) = drop-take from n es in
-    let both : take from (take (from + n) es) ++ drop from (take (from + n) es) ≡ take (from + n) es = take-append-drop from (take (from + n) es) in
-    sym both ∙ rw (front, back) refl
+take_both es from n = cc (take-take from (from + n) es (omega arith), drop-take from n es, take-append-drop from (take (from + n) es))
 
 -- the entries before a place, parted at an earlier one
 pub take_parts : (es : List Entry) (from at : ℕ) → from ≤ at → take at es ≡ take from es ++ take (at - from) (drop from es)
-take_parts es from at within =
-    let whole : from + (at - from) ≡ at = omega arith in
-    subst (λ m. take m es ≡ take from es ++ take (at - from) (drop from es)) whole (take_both es from (at - from))
+take_parts es from at within = subst (λ m. take m es ≡ take from es ++ take (at - from) (drop from es)) (omega arith) (take_both es from (at - from))
 
 -- the bin at a place of a list, and those from an earlier place on that are near
 module _ (list : List Entry) (from at' lags : ℕ) (none : Entry) (inside : at' < length list) (within : from ≤ at') (rising : IsRising list) where
@@ -58,42 +47,32 @@ module _ (list : List Entry) (from at' lags : ℕ) (none : Entry) (inside : at' 
 
   module _ (start : ℕ) (behind : start ≤ at') where
     front-more : drop start (take (at' + 1) list) ≡ drop start (take at' list) ++ e ∷ []
-    front-more =
-        let long : length (take at' list) ≡ at' = length-take-le at' list (omega arith) in
-        ap (drop start) (take_more list at' none inside) ∙ drop-append-le start (take at' list) (e ∷ []) (omega arith)
+    front-more = grind (arith, common_steps, length-take-le, take_more, drop-append-le, e)
 
     whole : take start list ++ drop start (take at' list) ≡ take at' list
-    whole =
-        let front : take start (take at' list) ≡ take start list = take-take start at' list behind in
-        let both : take start (take at' list) ++ drop start (take at' list) ≡ take at' list = take-append-drop start (take at' list) in
-        rw front at both
+    whole = cc (take-take start at' list behind, take-append-drop start (take at' list))
 
     -- what the bin adds is among what all add
     pub paired_part : (k : ℕ) → paired k (take start list) (drop start (take (at' + 1) list)) ≤ paired k (take start list) (drop start list)
     paired_part k =
-        let long : length (take (at' + 1) list) ≡ at' + 1 = length-take-le (at' + 1) list (omega arith) in
         let all : take (at' + 1) list ++ drop (at' + 1) list ≡ list = take-append-drop (at' + 1) list in
-        let rest : drop start list ≡ drop start (take (at' + 1) list) ++ drop (at' + 1) list = ap (drop start) (sym all) ∙ drop-append-le start (take (at' + 1) list) (drop (at' + 1) list) (omega arith) in
-        omega (arith, ap (paired k (take start list)) rest, paired-append k (take start list) (drop start (take (at' + 1) list)) (drop (at' + 1) list))
+        search (rules, arith, drop-append-le, paired-append)
 
     module _ (far : AllByRecursion (λ f. f.index + lags < e.index) (take from list)) where
       weight_next : (k : ℕ) → k ≤ lags → weight_before k e.index (take start list ++ drop start (take at' list)) ≡ weight_before k e.index near
       weight_next k few =
           let part : weight_before k e.index (take at' list) ≡ weight_before k e.index (take from list) + weight_before k e.index near = ap (weight_before k e.index) parts ∙ sum_by-append (λ f. cond (eqb (f.index + k) e.index) f.a 0) (take from list) near in
-          let no : weight_before k e.index (take from list) ≡ 0 = none_at_lag (take from list) lags e.index k far few in
-          rw whole (omega (arith, part, no))
+          rw whole (omega (arith, part, none_at_lag (take from list) lags e.index k far few))
 
       pub paired_next : (k : ℕ) → k ≤ lags → paired k (take start list) (drop start (take (at' + 1) list)) ≡ paired k (take start list) (drop start (take at' list)) + weight_before k e.index near * e.b
       paired_next k few =
           let push : paired k (take start list) (drop start (take (at' + 1) list)) ≡ paired k (take start list) (drop start (take at' list)) + paired k (take start list ++ drop start (take at' list)) (e ∷ []) = ap (paired k (take start list)) front-more ∙ paired-append k (take start list) (drop start (take at' list)) (e ∷ []) in
-          let one : paired k (take start list ++ drop start (take at' list)) (e ∷ []) ≡ weight_before k e.index near * e.b + 0 = ap (λ w. w * e.b + 0) (weight_next k few) in
-          omega (arith, push, one)
+          omega (arith, push, ap (λ w. w * e.b + 0) (weight_next k few))
 
   -- what is behind the reach stays there
   pub far_next : AllByRecursion (λ f. f.index + lags < e.index) (take from list) → (n : ℕ) → AllByRecursion (λ f. f.index < n) (take (at' + 1) list) → AllByRecursion (λ f. f.index + lags < n) (take from list)
   far_next far n all =
-      let up : AllByRecursion (λ f. f.index < n) (take at' list ++ e ∷ []) = rw (← take_more list at' none inside) all in
-      let here : e.index < n = (all_back (λ f. f.index < n) (take at' list) (e ∷ []) up).0 in
+      let here : e.index < n = (all_back (λ f. f.index < n) (take at' list) (e ∷ []) (rw (← take_more list at' none inside) all)).0 in
       all_weaker (λ f. f.index + lags < e.index) (λ f. f.index + lags < n) (λ f under. omega arith) (take from list) far
 
 -- before the first bin nothing is added
@@ -102,6 +81,4 @@ none_paired k start list inside = rw (drop_all start (take start list) (omega (a
 
 -- one bin more has room among the additions
 pub added_next : (lags skipped start i before now few : ℕ) → start ≤ i → now ≤ before + (lags - skipped) * (i - start) → few ≤ lags - skipped → now + few ≤ before + (lags - skipped) * (i + 1 - start)
-added_next lags skipped start i before now few behind so_far some =
-    let one : i + 1 - start ≡ (i - start) + 1 = omega arith in
-    rw one (omega (arith, so_far, some))
+added_next lags skipped start i before now few behind so_far some = search (rules, arith)

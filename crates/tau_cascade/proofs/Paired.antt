@@ -1,6 +1,5 @@
 -- What bins add to the cells, and what they stand for.
-use Rattle.std.proofs.Common.{◌≡◌, ℕ, ◌+◌, ◌-◌, ◌*◌, ◌^◌, ◌<◌, ◌≤◌, true, false, ◌&&◌, cond, eqb, List, [], ◌∷◌, ◌++◌, length, get_or, refl, sym, ◌∙◌, append_assoc, append-nil, subst, arith, length-append}
-use Rattle.std.{specs.List.{sum_by, count_by, AllByRecursion}, proofs.Math.Nat.mul-le-mul, proofs.lemmas.List.Sums.{sum_by-append, sum_by_push}}
+use Rattle.std.{proofs.Common.{◌≡◌, ℕ, ◌+◌, ◌-◌, ◌*◌, ◌^◌, ◌<◌, ◌≤◌, true, false, ◌&&◌, cond, eqb, List, [], ◌∷◌, ◌++◌, length, get_or, refl, sym, ◌∙◌, append_assoc, append-nil, subst, arith, length-append, rules}, specs.List.{sum_by, count_by, AllByRecursion}, proofs.Math.Nat.mul-le-mul, proofs.lemmas.List.Sums.{sum_by-append, sum_by_push}}
 use Rattle.tally_base.{specs.Settings.CorrelationView, specs.Tally.History, specs.Limits.record_limit}
 use Rattle.lag_ring.{specs.declared.ring.Entry.Entry, specs.Cells.{Cells, added_at}, specs.Ring.{Ring, IsRising}, proofs.Lists.{all_front, all_back, of_some}, proofs.Rising.{all_weaker, all_push, rising_push}, proofs.Sums.{pairs-append, sum_by-agree, sum_by-same, sum_by-zero}}
 use Rattle.tau_cascade.{specs.Correlation.{bin, in_first, in_second, correlation, skipped_lags, lag_count}, specs.Work.occupied, specs.Levels.{IsBin, RingIs, CellsAre, weight_before}, specs.Paired.paired, specs.Bins.{Follow, CanShutAll}, proofs.Pairs.{correlation-le, occupied-more}}
@@ -46,8 +45,7 @@ module _ (set : CorrelationView) (level : ℕ) where
   occupied_all [] closed xs follow = rw (follow, append-nil) (omega arith)
   occupied_all (e ∷ es) closed xs follow =
       let one = occupied-more set level closed follow.0 e.index follow.4 follow.3.some follow.3.here in
-      let rest = occupied_all es (closed ++ follow.0) follow.1 follow.5 in
-      rw (follow.2, ← append_assoc closed follow.0 follow.1) (omega (arith, rest, one))
+      search (rules, arith, append_assoc, occupied_all es (closed ++ follow.0) follow.1 follow.5)
 
   -- the bins rise behind those before them
   pub rising_all : (before es : List Entry) (closed xs : History) → IsRising before → ((n : ℕ) → AllByRecursion (λ x. bin level x < n) closed → AllByRecursion (λ f. f.index < n) before) → Follow set level closed es xs → IsRising (before ++ es)
@@ -70,9 +68,8 @@ module _ (set : CorrelationView) (level : ℕ) where
     pub all_fit : (p : ℕ) → p < set.lags - skipped → get_or cells.cells p 0 + paired (p + skipped + 1) r.entries es ≤ 2 ^ 80
     all_fit p inside =
         let all : length (closed ++ xs) ≤ record_limit = rw (length-append closed xs) can.few in
-        let square : length (closed ++ xs) * length (closed ++ xs) ≤ record_limit * record_limit = mul-le-mul all all in
         let most = correlation-le set level (p + skipped + 1) (closed ++ xs) in
-        omega (arith, all_more p inside, most, square)
+        omega (arith, all_more p inside, most, mul-le-mul all all)
 
     work_all : cells.added + (set.lags - skipped) * length es ≤ lag_count set level * occupied level (closed ++ xs)
     work_all = rw (is_skipped, occupied_all es closed xs can.bins) (let was = can.cells.work in grind arith)

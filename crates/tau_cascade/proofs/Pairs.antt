@@ -1,13 +1,12 @@
 -- What the pairs of a bin with the ring do to the cells of a level.
-use Rattle.std.proofs.Common.{◌≡◌, ℕ, ◌+◌, ◌*◌, ◌<◌, ◌≤◌, ◌++◌, length, map, get_or, ap, ◌∙◌}
-use Rattle.std.{specs.List.{count_by, AllByRecursion}, proofs.lemmas.List.{length-map, map-append}, proofs.lemmas.List.Sums.{sum_by-le, count_by-le-length}}
+use Rattle.std.{proofs.Common.{◌≡◌, ℕ, ◌+◌, ◌*◌, ◌<◌, ◌≤◌, ◌++◌, length, map, ap, ◌∙◌, arith, rules}, specs.List.{AllByRecursion}, proofs.lemmas.List.{length-map, map-append}, proofs.lemmas.List.Sums.{sum_by-le, count_by-le-length}}
 use Rattle.tally_base.{specs.Settings.CorrelationView, specs.Tally.History}
 use Rattle.lag_ring.proofs.Lists.{all_map}
-use Rattle.tau_cascade.{specs.Correlation.{bin, is_pair, correlation}, specs.Work.{distinct, occupied}, proofs.Distinct.{distinct-late}}
+use Rattle.tau_cascade.{specs.Correlation.{bin, correlation}, specs.Work.{distinct, occupied}, proofs.Distinct.{distinct-late}}
 
 -- there are no more pairs than places squared
 pub correlation-le : (set : CorrelationView) (level k : ℕ) (h : History) → correlation set level k h ≤ length h * length h
-correlation-le set level k h = sum_by-le (λ x. count_by (is_pair set level k x) h) (length h) h (λ i d inside. count_by-le-length (is_pair set level k (get_or h i d)) h)
+correlation-le set level k h = search (rules, arith, sum_by-le, count_by-le-length)
 
 module _ (set : CorrelationView) (level : ℕ) where
   -- one bin more is occupied

@@ -1,6 +1,5 @@
 -- Bins that pass a level with no pair.
-use Rattle.std.proofs.Common.{◌≡◌, ℕ, suc, ◌+◌, ◌-◌, ◌*◌, ◌/◌, ◌^◌, ◌<◌, ◌≤◌, Some, List, [], ◌∷◌, ◌++◌, length, map, take, drop, set, get_or, refl, sym, ap, ◌∙◌, subst, arith}
-use Rattle.std.{specs.List.AllByRecursion, proofs.Math.Nat.{div-le_self}, proofs.lemmas.Nat.{shl-shr, shr-shr}, proofs.lemmas.List.{take_more, take-take, map_push, get_or-drop, get_or-take, get_or-map, drop-set, drop_more, length-map, length-drop, length-set, length-take-le}}
+use Rattle.std.{proofs.Common.{◌≡◌, ℕ, suc, ◌+◌, ◌-◌, ◌*◌, ◌/◌, ◌^◌, ◌<◌, ◌≤◌, Some, List, [], ◌∷◌, ◌++◌, length, map, take, drop, set, get_or, refl, sym, ap, ◌∙◌, subst, arith, rules}, specs.List.AllByRecursion, proofs.Math.Nat.{div-le_self}, proofs.lemmas.Nat.{shl-shr, shr-shr}, proofs.lemmas.List.{take_more, take-take, map_push, get_or-drop, get_or-take, get_or-map, drop-set, drop_more, length-map, length-drop, length-set, length-take-le}}
 use Rattle.tally_base.{specs.Settings.CorrelationView, specs.Tally.History}
 use Rattle.lag_ring.{specs.declared.ring.Entry.Entry, specs.Ring.ring, proofs.Rising.all_weaker}
 use Rattle.tau_cascade.{specs.declared.level.Level.Level, specs.Correlation.{bin, skipped_lags}, specs.Levels.IsBin, specs.Bins.{raised, lowered, merged_onto, stretch, IsSpaced, Follow, CanTake, Took}, proofs.Keeping.last_of, proofs.Paired.cells_all, proofs.Spaced.{merged-apart, spaced_front, spaced_behind, spaced_nearer, spaced_take, all_take, spaced-raised, paired-far, all_behind, ring_far}, proofs.Takes.{parts, may_shut, took}}
@@ -45,19 +44,15 @@ module _ (bins : List Entry) (from count up : ℕ) (o none : Entry) (place : 0 <
       rw rest (subst (λ n. take n (lowered up o ∷ drop from bins) ≡ lowered up o ∷ take (count - 1) (drop from bins)) next refl)
 
   pub stretch-shift : stretch (from - 1) count up written ≡ o ∷ map (raised up) (take (count - 1) (drop from bins))
-  stretch-shift =
-      let same : raised up (lowered up o) ≡ o = rw (shl-shr o.index up) refl in
-      ap (map (raised up)) behind-first ∙ rw same refl
+  stretch-shift = search (rules, arith, shl-shr, behind-first)
 
   stretch-last : stretch from count up bins ≡ map (raised up) (take (count - 1) (drop from bins)) ++ raised up (get_or bins (from + count - 1) none) ∷ []
   stretch-last =
-      let one : count - 1 + 1 ≡ count = omega arith in
       let long : count - 1 < length (drop from bins) = omega (arith, length-drop from bins) in
       let more : take (count - 1 + 1) (drop from bins) ≡ take (count - 1) (drop from bins) ++ get_or (drop from bins) (count - 1) none ∷ [] = take_more (drop from bins) (count - 1) none long in
       let there : from + (count - 1) ≡ from + count - 1 = omega arith in
       let read : get_or (drop from bins) (count - 1) none ≡ get_or bins (from + count - 1) none = get_or-drop from bins (count - 1) none ∙ ap (λ n. get_or bins n none) there in
-      let all : take count (drop from bins) ≡ take (count - 1) (drop from bins) ++ get_or bins (from + count - 1) none ∷ [] = rw (← read) (subst (λ n. take n (drop from bins) ≡ take (count - 1) (drop from bins) ++ get_or (drop from bins) (count - 1) none ∷ []) one more) in
-      ap (map (raised up)) all ∙ map_push (raised up) (take (count - 1) (drop from bins)) (get_or bins (from + count - 1) none)
+      search (rules, arith, map_push)
 
   -- what is closed, and the bin that is open then
   pub moved_on : (o ∷ map (raised up) (take (count - 1) (drop from bins))) ++ raised up (get_or bins (from + count - 1) none) ∷ [] ≡ o ∷ stretch from count up bins
@@ -81,10 +76,7 @@ module _ (bins : List Entry) (from count up : ℕ) (o none : Entry) (place : 0 <
       last_read o ss ∙ ap (λ n. get_or (o ∷ ss) n none) size ∙ ap (λ ys. get_or ys (count - 1) none) (sym stretch-shift) ∙ read
 
   first_bin : take count (drop from bins) ≡ get_or bins from none ∷ take (count - 1) (drop (from + 1) bins)
-  first_bin =
-      let next : suc (count - 1) ≡ count = omega arith in
-      let rest : drop from bins ≡ get_or bins from none ∷ drop (from + 1) bins = drop_more bins from none (omega arith) in
-      rw rest (subst (λ n. take n (get_or bins from none ∷ drop (from + 1) bins) ≡ get_or bins from none ∷ take (count - 1) (drop (from + 1) bins)) next refl)
+  first_bin = search (rules, arith, drop_more)
 
   module _ (apart : ℕ) (spaced : IsSpaced apart (take count (drop from bins))) where
     -- the open bin and those that come are out of reach of one another
@@ -93,8 +85,7 @@ module _ (bins : List Entry) (from count up : ℕ) (o none : Entry) (place : 0 <
         let own : IsSpaced apart (get_or bins from none ∷ take (count - 1) (drop (from + 1) bins)) = subst (λ ys. IsSpaced apart ys) first_bin spaced in
         let above = spaced_nearer (apart / 2 ^ up) (lags + 1) (map (raised up) (get_or bins from none ∷ take (count - 1) (drop (from + 1) bins))) (omega arith) (spaced-raised apart up (get_or bins from none ∷ take (count - 1) (drop (from + 1) bins)) own) in
         let all = spaced_behind (lags + 1) o.index (raised up (get_or bins from none)) (map (raised up) (take (count - 1) (drop (from + 1) bins))) (omega arith) above in
-        let both : IsSpaced (lags + 1) (o ∷ map (raised up) (get_or bins from none ∷ take (count - 1) (drop (from + 1) bins))) = (all, above) in
-        subst (λ ys. IsSpaced (lags + 1) (o ∷ map (raised up) ys)) (sym first_bin) both
+        search (rules, arith, first_bin)
 
     -- and as they stand in the list
     pub next_spaced : (near : ℕ) → near ≤ apart → o.index * 2 ^ up + near ≤ (get_or bins from none).index → IsSpaced near (take count (drop (from - 1) written))
@@ -105,8 +96,7 @@ module _ (bins : List Entry) (from count up : ℕ) (o none : Entry) (place : 0 <
         let front : take (count - 1) (take count (drop from bins)) ≡ take (count - 1) (drop from bins) = take-take (count - 1) count (drop from bins) (omega arith) in
         let above : AllByRecursion (λ f. o.index * 2 ^ up + near ≤ f.index) (take count (drop from bins)) = subst (λ ys. AllByRecursion (λ f. o.index * 2 ^ up + near ≤ f.index) ys) (sym first_bin) all in
         let part : AllByRecursion (λ f. o.index * 2 ^ up + near ≤ f.index) (take (count - 1) (drop from bins)) = subst (λ ys. AllByRecursion (λ f. o.index * 2 ^ up + near ≤ f.index) ys) front (all_take (λ f. o.index * 2 ^ up + near ≤ f.index) (count - 1) (take count (drop from bins)) above) in
-        let rest : IsSpaced near (take (count - 1) (drop from bins)) = subst (λ ys. IsSpaced near ys) front (spaced_take near (count - 1) (take count (drop from bins)) whole) in
-        subst (λ ys. IsSpaced near ys) (sym behind-first) (part, rest)
+        search (rules, arith, spaced_take, behind-first)
 
 -- a bin some levels up, and one level more
 pub raised-again : (up : ℕ) (es : List Entry) → map (raised 1) (map (raised up) es) ≡ map (raised (up + 1)) es

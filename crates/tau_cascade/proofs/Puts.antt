@@ -1,6 +1,5 @@
 -- Bins of one index, and the open bin that is closed in the end.
-use Rattle.std.proofs.Common.{◌≡◌, ℕ, ◌+◌, ◌<◌, Some, [], ◌∷◌, ◌++◌, append-nil, refl, sym, arith, length-append}
-use Rattle.std.{specs.List.AllByRecursion, proofs.lemmas.List.Sums.sum_by-append}
+use Rattle.std.{proofs.Common.{◌≡◌, ℕ, ◌+◌, ◌<◌, Some, [], ◌∷◌, ◌++◌, append-nil, sym, arith, length-append, rules}, specs.List.AllByRecursion, proofs.lemmas.List.Sums.sum_by-append}
 use Rattle.tally_base.{specs.Settings.CorrelationView, specs.Tally.History}
 use Rattle.lag_ring.{specs.declared.ring.Entry.Entry, proofs.Lists.all_join}
 use Rattle.tau_cascade.{specs.declared.level.Level.Level, specs.Correlation.bin, specs.Levels.{IsBin, CanFinish}, specs.Bins.CanShutAll}
@@ -22,9 +21,4 @@ module _ (set : CorrelationView) (level : ℕ) where
 
     -- it may be closed
     pub finish_shut : CanShutAll set level l.ring l.cells (e ∷ []) closed open'
-    finish_shut = record {
-      few = can.few;
-      ring = can.was.ring;
-      cells = can.was.cells;
-      bins = (open', [], sym (append-nil open'), finish_open.0, finish_open.1, refl);
-    }
+    finish_shut = search (rules, arith, append-nil)

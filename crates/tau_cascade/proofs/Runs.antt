@@ -1,6 +1,5 @@
 -- Runs of bins, one window after the other.
-use Rattle.std.proofs.Common.{◌≡◌, ◌∙◌, ℕ, ◌+◌, ◌-◌, ◌*◌, ◌<◌, ◌≤◌, cond, eqb, List, [], ◌∷◌, ◌++◌, length, get_or, take, drop, refl, ap, append_assoc, arith}
-use Rattle.std.{specs.List.AllByRecursion, proofs.lemmas.List.{take-append-drop, take-take, drop-take, drop-append-le, drop-drop, length-take-le, length-drop}, proofs.lemmas.List.Sums.sum_by-append}
+use Rattle.std.{proofs.Common.{◌≡◌, ◌∙◌, ℕ, ◌+◌, ◌-◌, ◌*◌, ◌<◌, ◌≤◌, cond, eqb, List, [], ◌∷◌, ◌++◌, length, get_or, take, drop, refl, ap, append_assoc, arith, rules}, specs.List.AllByRecursion, proofs.lemmas.List.{take-append-drop, take-take, drop-take, drop-append-le, drop-drop, length-take-le, length-drop}, proofs.lemmas.List.Sums.sum_by-append}
 use Rattle.lag_ring.{specs.declared.ring.Entry.Entry, specs.Ring.IsRising, proofs.Lists.all_front, proofs.Rising.{all_weaker, rising_front}}
 use Rattle.tau_cascade.{specs.Levels.weight_before, specs.Paired.paired, proofs.Nexts.{paired-append, take_parts, paired_part}, proofs.Together.from_first, proofs.Visits.{none_at_lag, rising_drop}}
 
@@ -11,9 +10,7 @@ paired_far k lags index far near (e ∷ es) few out from =
     let further : AllByRecursion (λ f. f.index + lags < e.index) far = all_weaker (λ f. f.index + lags < index) (λ f. f.index + lags < e.index) (λ f under. omega (arith, from.0)) far out in
     let no : weight_before k e.index far ≡ 0 = none_at_lag far lags e.index k further few in
     let both : weight_before k e.index (far ++ near) ≡ weight_before k e.index far + weight_before k e.index near = sum_by-append (λ f. cond (eqb (f.index + k) e.index) f.a 0) far near in
-    let here : weight_before k e.index (far ++ near) ≡ weight_before k e.index near = omega (arith, no, both) in
-    let rest : paired k ((far ++ near) ++ e ∷ []) es ≡ paired k (near ++ e ∷ []) es = ap (λ ys. paired k ys es) (append_assoc far near (e ∷ [])) ∙ paired_far k lags index far (near ++ e ∷ []) es few out from.1 in
-    rw (here, rest) refl
+    search (rules, arith, near, append_assoc, paired_far k lags index far (near ++ e ∷ []) es few out from.1)
 
 -- the bins of a list from one place to another, behind those from a place on that are near
 module _ (list : List Entry) (from at' end' lags : ℕ) (none : Entry) (within : from ≤ at') (more : at' < end') (inside : end' ≤ length list) (rising : IsRising list) where
@@ -38,9 +35,7 @@ module _ (list : List Entry) (from at' end' lags : ℕ) (none : Entry) (within :
   run_back : drop (at' - from) run ≡ here
   run_back =
       let parts : (at' - from) + (end' - at') ≡ end' - from = omega arith in
-      let place : from + (at' - from) ≡ at' = omega arith in
-      let cut : drop (at' - from) (take ((at' - from) + (end' - at')) (drop from list)) ≡ take (end' - at') (drop (at' - from) (drop from list)) = drop-take (at' - from) (end' - at') (drop from list) in
-      (rw parts at cut) ∙ ap (take (end' - at')) (drop-drop (at' - from) from list ∙ ap (λ m. drop m list) place)
+      search (rules, arith, drop-take, drop-drop)
 
   from_here : AllByRecursion (λ e. (get_or list at' none).index ≤ e.index) here
   from_here = all_front (λ e. (get_or list at' none).index ≤ e.index) here (drop (end' - at') (drop at' list)) (rw (take-append-drop (end' - at') (drop at' list)) (from_first list at' none (omega arith) rising))
@@ -61,12 +56,8 @@ module _ (list : List Entry) (from at' end' lags : ℕ) (none : Entry) (within :
 
     -- and it is among what all add
     pub paired_upto : (k : ℕ) → paired k (take start list) (drop start (take end' list)) ≤ paired k (take start list) (drop start list)
-    paired_upto k =
-        let one : end' - 1 + 1 ≡ end' = omega arith in
-        (rw one at (paired_part list from (end' - 1) lags none (omega arith) (omega arith) rising start (omega arith) k))
+    paired_upto k = search (rules, arith, paired_part)
 
 -- the additions of a run more
 pub runs_added : (n start at' end' before now few : ℕ) → start ≤ at' → at' ≤ end' → now ≤ before + n * (at' - start) → few ≤ n * (end' - at') → now + few ≤ before + n * (end' - start)
-runs_added n start at' end' before now few behind more so_far some =
-    let both : end' - start ≡ (at' - start) + (end' - at') = omega arith in
-    rw both (omega (arith, so_far, some))
+runs_added n start at' end' before now few behind more so_far some = search (rules, arith)

@@ -1,6 +1,5 @@
 -- What a level shows.
-use Rattle.std.proofs.Common.{◌≡◌, ℕ, suc, zero, ◌+◌, ◌-◌, ◌<◌, ◌≤◌, Bool, true, false, ◌&&◌, ◌||◌, eqb, cond, List, [], ◌∷◌, length, get_or, refl, sym, ◌∙◌, zero-add, add-zero, arith, None, Some}
-use Rattle.std.{specs.List.{sum_by, count_by, slice_get}, specs.declared.option.Option.Option, specs.Option.option_map, proofs.lemmas.Bool.false≢true, proofs.lemmas.List.Sums.sum_by-cons}
+use Rattle.std.{proofs.Common.{◌≡◌, ℕ, suc, zero, ◌+◌, ◌-◌, ◌<◌, ◌≤◌, Bool, true, false, ◌&&◌, ◌||◌, eqb, cond, List, [], ◌∷◌, length, get_or, refl, sym, ◌∙◌, zero-add, add-zero, arith, None, Some, rules}, specs.List.{sum_by, count_by, slice_get}, specs.declared.option.Option.Option, specs.Option.option_map, proofs.lemmas.Bool.false≢true, proofs.lemmas.List.Sums.sum_by-cons}
 use Rattle.tally_base.{specs.declared.settings.CorrelationSet.CorrelationSet, specs.Settings.{CorrelationView, correlation_view}, specs.Tally.History}
 use Rattle.lag_ring.{specs.Cells.Cells, specs.Ring.Ring, proofs.Sums.{sum_by-same, sum_by-filter}}
 use Rattle.tau_cascade.{specs.declared.level.Level.Level, specs.Correlation.{Given, bin, in_first, in_second, is_pair, correlation, skipped_lags, lag_count, photons_of}, specs.StandsFor.StandsFor, specs.Levels.{RingIs, CellsAre, Chain, Complete}}
@@ -47,10 +46,7 @@ open_level set level (x ∷ ls) came is (suc i) l read =
 done_level : (set : CorrelationView) (level : ℕ) (ls : List Level) (came : History) → Complete set level ls came → (i : ℕ) (l : Level) → slice_get ls i ≡ Some l → Reads set (level + i) l came
 done_level set level [] came is i l read = cc
 done_level set level (x ∷ ls) came is zero l read = let same : x ≡ l = cc in rw (add-zero, ← same) (record { ring = is.0.ring; cells = is.0.cells })
-done_level set level (x ∷ ls) came is (suc i) l read =
-    let next : suc level + i ≡ level + suc i = omega arith in
-    let rest = done_level set (suc level) ls came is.1 i l read in
-    (rw next at rest)
+done_level set level (x ∷ ls) came is (suc i) l read = search (rules, arith, done_level set (suc level) ls came is.1 i l read)
 
 pub any_level : (closed : Bool) (set : CorrelationSet) (ls : List Level) (count time : ℕ) (h : History) → StandsFor closed set ls count time h → (i : ℕ) (l : Level) → slice_get ls i ≡ Some l → (came : History) × Reads (correlation_view set) i l came
 any_level true set ls count time h is i l read = (photons_of (correlation_view set) h, (rw zero-add at (done_level (correlation_view set) 0 ls (photons_of (correlation_view set) h) is.through i l read)))
@@ -84,14 +80,8 @@ shown_cells closed shut set ls count time h is i cs read =
     rw (← found.2) (closed_cells closed shut set ls count time h is i found.0 found.1)
 
 pub shown_ring : (closed : Bool) (set : CorrelationSet) (ls : List Level) (count time : ℕ) (h : History) → StandsFor closed set ls count time h → (i : ℕ) (r : Ring) → option_map (λ (l : Level). l.ring) (slice_get ls i) ≡ Some r → length r.entries ≤ set.lags
-shown_ring closed set ls count time h is i r read =
-    let found = read_of ls i (λ (l : Level). l.ring) r read in
-    rw (← found.2) (level_ring closed set ls count time h is i found.0 found.1)
+shown_ring closed set ls count time h is i r read = search (rules, arith, level_ring)
 
 -- a cell at a lag of the level
 pub cell_is : (set : CorrelationView) (level lag skipped : ℕ) (cs : Cells) (h : History) → CellsAre set level cs (photons_of set h) → skipped ≡ skipped_lags set level → skipped_lags set level < lag → lag ≤ set.lags → get_or cs.cells (lag - skipped - 1) 0 ≡ correlation set level lag h
-cell_is set level lag skipped cs h is same above within =
-    let p : ℕ = lag - skipped_lags set level - 1 in
-    let inside : p < lag_count set level = omega arith in
-    let back : p + skipped_lags set level + 1 ≡ lag = omega arith in
-    rw same (is.pairs p inside ∙ rw back (correlation-photons set level lag h))
+cell_is set level lag skipped cs h is same above within = search (rules, arith, correlation-photons)

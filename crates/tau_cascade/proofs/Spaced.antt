@@ -1,6 +1,5 @@
 -- Bins that are further apart than the lags.
-use Rattle.std.proofs.Common.{◌≡◌, ℕ, zero, suc, ◌+◌, ◌-◌, ◌/◌, ◌^◌, ◌<◌, ◌≤◌, false, eqb, List, [], ◌∷◌, ◌++◌, length, map, take, get_or, subst, refl, ap, ◌∙◌, append_assoc, append-nil, arith}
-use Rattle.std.{specs.List.AllByRecursion, proofs.Math.Nat.div-mul-le_self, proofs.lemmas.Nat.{le-div, pow_pos}, proofs.lemmas.List.take_more}
+use Rattle.std.{proofs.Common.{◌≡◌, ℕ, zero, suc, ◌+◌, ◌-◌, ◌/◌, ◌^◌, ◌<◌, ◌≤◌, List, [], ◌∷◌, ◌++◌, length, map, take, get_or, subst, refl, append_assoc, append-nil, arith, rules}, specs.List.AllByRecursion, proofs.Math.Nat.div-mul-le_self, proofs.lemmas.Nat.{le-div, pow_pos}, proofs.lemmas.List.take_more, proofs.lemmas.Grind.common_steps}
 use Rattle.tally_base.{specs.Settings.CorrelationView, specs.Tally.History}
 use Rattle.lag_ring.{specs.declared.ring.Entry.Entry, specs.Ring.{Ring, ring}, proofs.Lists.{all_map, all_both, all_front, all_back}, proofs.Rising.{all_weaker, all_push}}
 use Rattle.tau_cascade.{specs.Levels.{RingIs, weight_before}, specs.Paired.paired, specs.Bins.{raised, merged, Follow, IsSpaced}, proofs.Closes.ring_begun, proofs.Keeping.last_of, proofs.Visits.none_at_lag}
@@ -11,22 +10,16 @@ shares i d j n some apart = le-div (i / n + d / n) j n some (omega (arith, apart
 
 pub spaced-raised : (d up : ℕ) (es : List Entry) → IsSpaced d es → IsSpaced (d / 2 ^ up) (map (raised up) es)
 spaced-raised d up [] spaced = tt
-spaced-raised d up (e ∷ es) spaced = (
-  all_map (λ f. e.index / 2 ^ up + d / 2 ^ up ≤ f.index) (raised up) es (all_weaker (λ f. e.index + d ≤ f.index) (λ f. e.index / 2 ^ up + d / 2 ^ up ≤ f.index / 2 ^ up) (λ f apart. shares e.index d f.index (2 ^ up) (pow_pos up) apart) es spaced.0),
-  spaced-raised d up es spaced.1,
-)
+spaced-raised d up (e ∷ es) spaced = grind (arith, common_steps, all_map, all_weaker, shares, pow_pos, spaced-raised d up es spaced.1)
 
 pub spaced_nearer : (d near : ℕ) (es : List Entry) → near ≤ d → IsSpaced d es → IsSpaced near es
 spaced_nearer d near [] less spaced = tt
-spaced_nearer d near (e ∷ es) less spaced = (all_weaker (λ f. e.index + d ≤ f.index) (λ f. e.index + near ≤ f.index) (λ f apart. omega arith) es spaced.0, spaced_nearer d near es less spaced.1)
+spaced_nearer d near (e ∷ es) less spaced = search (rules, arith, all_weaker, spaced_nearer d near es less spaced.1)
 
 -- bins that are apart are not merged
 pub merged-apart : (d : ℕ) (e : Entry) (es : List Entry) → 0 < d → IsSpaced d (e ∷ es) → merged e es ≡ e ∷ es
 merged-apart d e [] some spaced = refl
-merged-apart d e (f ∷ fs) some spaced =
-    let up : e.index + d ≤ f.index = spaced.0.0 in
-    let other : eqb e.index f.index ≡ false = grind arith in
-    rw other (ap (λ ys. e ∷ ys) (merged-apart d f fs some spaced.1))
+merged-apart d e (f ∷ fs) some spaced = search (rules, arith, merged-apart d f fs some spaced.1)
 
 -- the same behind an index before them
 pub spaced_behind : (d i : ℕ) (e : Entry) (es : List Entry) → i + d ≤ e.index → IsSpaced d (e ∷ es) → AllByRecursion (λ f. i + d ≤ f.index) (e ∷ es)
@@ -55,8 +48,7 @@ spaced_push d [] f spaced all = (tt, tt)
 spaced_push d (e ∷ es) f spaced all = (all_push (λ g. e.index + d ≤ g.index) es f spaced.0 all.0, spaced_push d es f spaced.1 all.1)
 
 pub spaced_one : (d : ℕ) (es : List Entry) → IsSpaced d (take 1 es)
-spaced_one d [] = tt
-spaced_one d (e ∷ es) = (tt, tt)
+spaced_one d es = search (rules, arith)
 
 -- one bin more
 pub spaced_more : (d near at' : ℕ) (bins : List Entry) (none : Entry) → 0 < at' → at' < length bins → (0 < d → IsSpaced d (take at' bins)) → near ≤ d → near ≤ (get_or bins at' none).index - (get_or bins (at' - 1) none).index → 0 < near → IsSpaced near (take (at' + 1) bins)
@@ -83,15 +75,12 @@ paired-far lags k few before (e ∷ es) far spaced =
 
 -- what is out of reach of an index is out of reach of bins that are not before it
 pub all_behind : (lags i : ℕ) (before es : List Entry) → AllByRecursion (λ f. f.index + lags < i) before → AllByRecursion (λ e. i ≤ e.index) es → AllByRecursion (λ e. AllByRecursion (λ f. f.index + lags < e.index) before) es
-all_behind lags i before es far from = all_weaker (λ e. i ≤ e.index) (λ e. AllByRecursion (λ f. f.index + lags < e.index) before) (λ e up. all_weaker (λ f. f.index + lags < i) (λ f. f.index + lags < e.index) (λ f under. omega arith) before far) es from
+all_behind lags i before es far from = search (rules, arith, all_weaker)
 
 -- the ring begins anew with each, and in the end has the last alone
 pub ring_far : (set : CorrelationView) (level : ℕ) → 0 < set.lags → (e : Entry) (es : List Entry) (r : Ring) (closed xs : History) → RingIs set level r closed → Follow set level closed (e ∷ es) xs → AllByRecursion (λ f. f.index + set.lags < e.index) r.entries → IsSpaced (set.lags + 1) (e ∷ es) → RingIs set level (ring (last_of e es ∷ []) r.reach) (closed ++ xs)
-ring_far set level some e [] r closed xs was follow far spaced =
-    let photons : xs ≡ follow.0 = follow.2 ∙ rw (follow.5, append-nil) refl in
-    rw photons (ring_begun set level r e closed follow.0 some far (record { was = was; is_bin = follow.3; before = follow.4 }))
+ring_far set level some e [] r closed xs was follow far spaced = search (rules, arith, append-nil, ring_begun)
 ring_far set level some e (f ∷ fs) r closed xs was follow far spaced =
     let one = ring_begun set level r e closed follow.0 some far (record { was = was; is_bin = follow.3; before = follow.4 }) in
-    let up : e.index + (set.lags + 1) ≤ f.index = spaced.0.0 in
     let near : e.index + set.lags < f.index = omega arith in
     rw (follow.2, ← append_assoc closed follow.0 follow.1) (ring_far set level some f fs (ring (e ∷ []) r.reach) (closed ++ follow.0) follow.1 one follow.5 (near, tt) spaced.1)

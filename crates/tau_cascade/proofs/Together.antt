@@ -1,14 +1,11 @@
 -- Pairs of dense bins, lag by lag.
-use Rattle.std.proofs.Common.{◌≡◌, ◌∙◌, ℕ, zero, suc, ◌+◌, ◌-◌, ◌*◌, ◌^◌, ◌<◌, ◌≤◌, true, false, ltb, eqb, cond, List, [], ◌∷◌, ◌++◌, length, get_or, take, drop, refl, sym, ap, subst, arith, append_assoc}
-use Rattle.std.{specs.List.{sum_by, filter, AllByRecursion}, proofs.Math.Nat.mul-le-mul_left, proofs.lemmas.Bool.Decides.nat_tests, proofs.lemmas.List.{take-append-drop, take_more, take_all, drop_more, length-drop}, proofs.lemmas.List.Sums.{sum_by-cons, sum_by-append, sum_by-le-sum_by}}
+use Rattle.std.{proofs.Common.{◌≡◌, ◌∙◌, ℕ, ◌+◌, ◌-◌, ◌*◌, ◌^◌, ◌<◌, ◌≤◌, true, false, ltb, List, [], ◌∷◌, ◌++◌, length, get_or, take, drop, refl, sym, ap, arith, append_assoc, rules}, specs.List.{sum_by, filter, AllByRecursion}, proofs.Math.Nat.mul-le-mul_left, proofs.lemmas.Bool.Decides.nat_tests, proofs.lemmas.List.{take-append-drop, take_more, take_all, drop_more, length-drop}, proofs.lemmas.List.Sums.{sum_by-cons, sum_by-append, sum_by-le-sum_by}}
 use Rattle.lag_ring.{specs.declared.ring.Entry.Entry, specs.declared.window.Side.TheVariants.{First, Second}, specs.Cells.{Cells, added_at}, specs.Ring.IsRising, specs.Window.{weight_of, weight_at}, proofs.Lists.{all_back, all_both}, proofs.Rising.{all_weaker, all_push, rising_back}, proofs.Sums.{sum_by-same, sum_by-agree, sum_by-filter, sum_by-zero}, proofs.Windows.{window-before, part-le}}
 use Rattle.tau_cascade.{specs.Levels.weight_before, specs.Paired.paired, specs.Dense.{window_pairs, FitsWindow, AddsOnce}, proofs.Nexts.below_bins, proofs.Visits.rising_drop}
 
 -- bins that aren't before an index count nowhere
 before_only : (k index : ℕ) (es fs : List Entry) → 0 < k → AllByRecursion (λ f. index ≤ f.index) fs → weight_before k index (es ++ fs) ≡ weight_before k index es
-before_only k index es fs some after =
-    let none : weight_before k index fs ≡ 0 = sum_by-zero (λ f. index ≤ f.index) (λ f. cond (eqb (f.index + k) index) f.a 0) fs after (λ f upto. let not : eqb (f.index + k) index ≡ false = grind arith in rw not refl) in
-    omega (arith, sum_by-append (λ f. cond (eqb (f.index + k) index) f.a 0) es fs, none)
+before_only k index es fs some after = search (rules, arith, sum_by-zero, sum_by-append)
 
 -- what bins add, where all bins of a list stand before them
 pub paired-all : (k : ℕ) (all before es : List Entry) → 0 < k → before ++ es ≡ all → IsRising all → paired k before es ≡ sum_by (λ e. weight_before k e.index all * e.b) es
@@ -22,13 +19,7 @@ paired-all k all before (e ∷ es) some is rising =
 
 -- bins without photons of the second group count nowhere
 counted : (f : Entry → ℕ) (es : List Entry) → sum_by (λ e. f e * e.b) (filter (λ e. ltb 0 e.b) es) ≡ sum_by (λ e. f e * e.b) es
-counted f es =
-    sum_by-filter (λ e. ltb 0 e.b) (λ e. f e * e.b) es
-    ∙ sum_by-same (λ e. cond (ltb 0 e.b) (f e * e.b) 0) (λ e. f e * e.b) es (λ e. some-or-none (f e) e.b)
-  where
-    some-or-none : (n w : ℕ) → cond (ltb 0 w) (n * w) 0 ≡ n * w
-    some-or-none n zero = omega arith
-    some-or-none n (suc w) = let some : ltb 0 (suc w) ≡ true = grind (arith, nat_tests) in rw some refl
+counted f es = search (rules, arith, sum_by-filter, sum_by-same)
 
 -- the pairs of a window are those with the bins in it
 pub window-paired-all : (lags low start k : ℕ) (window : List ℕ) (list : List Entry) → 0 < k → k ≤ 192 → length window ≡ 1024 → IsRising list → FitsWindow lags low list (drop start list)
@@ -48,7 +39,7 @@ window-paired lags low start k window list some upto long rising fits has =
 
 -- bins with photons of the second group have no more of them than all
 pub few_counted : (es : List Entry) → sum_by (weight_of Second) (filter (λ e. ltb 0 e.b) es) ≤ sum_by (weight_of Second) es
-few_counted es = rw (sum_by-filter (λ e. ltb 0 e.b) (weight_of Second) es) (sum_by-le-sum_by (λ e. cond (ltb 0 e.b) (weight_of Second e) 0) (weight_of Second) es (λ e. part-le (ltb 0 e.b) (weight_of Second e)))
+few_counted es = search (rules, arith, sum_by-filter, sum_by-le-sum_by, part-le)
 
 -- no bin is behind the last
 to_last : (list : List Entry) (none : Entry) → 0 < length list → IsRising list → AllByRecursion (λ e. e.index ≤ (get_or list (length list - 1) none).index) list
@@ -58,16 +49,13 @@ to_last list none some rising =
     let inside : n < length list = omega (arith, some) in
     let below = below_bins list 0 n 0 none inside (omega arith) rising in
     let all : AllByRecursion (λ e. e.index ≤ last.index) (take n list ++ last ∷ []) = all_push (λ e. e.index ≤ last.index) (take n list) last (all_weaker (λ e. e.index < last.index) (λ e. e.index ≤ last.index) (λ e under. omega arith) (take n list) below) (omega arith) in
-    let whole : take n list ++ last ∷ [] ≡ list = sym (take_more list n none inside) ∙ take_all (n + 1) list (omega (arith, some)) in
-    subst (λ es. AllByRecursion (λ e. e.index ≤ last.index) es) whole all
+    search (rules, arith, take_more, take_all)
 
 -- none from one on is before it
 pub from_first : (list : List Entry) (start : ℕ) (none : Entry) → start < length list → IsRising list → AllByRecursion (λ e. (get_or list start none).index ≤ e.index) (drop start list)
 from_first list start none inside rising =
-    let first : Entry = get_or list start none in
-    let split : drop start list ≡ first ∷ drop (start + 1) list = drop_more list start none inside in
-    let later : IsRising (first ∷ drop (start + 1) list) = (rw split at (rising_drop list start rising)) in
-    rw split (omega arith, all_weaker (λ e. first.index < e.index) (λ e. first.index ≤ e.index) (λ e up. omega arith) (drop (start + 1) list) later.0)
+    let split : drop start list ≡ (get_or list start none) ∷ drop (start + 1) list = drop_more list start none inside in
+    search (rules, arith, rising_drop, all_weaker)
 
 -- where the first and the last of the later bins have their places, all have
 module _ (list : List Entry) (start low last : ℕ) (none : Entry) (inside : start < length list) (rising : IsRising list) (is_low : low ≡ (get_or list start none).index) (is_last : last ≡ (get_or list (length list - 1) none).index) where
@@ -99,10 +87,7 @@ strip_more at' count n skipped old cells new f so_far left before here p within 
 
 -- the additions of all lags at once are within those of one bin after the other
 pub once_each : (lags skipped start : ℕ) (list : List Entry) → 0 < length (drop start list) → lags - skipped ≤ (lags - skipped) * (length list - start)
-once_each lags skipped start list some =
-    let bins : 1 ≤ length list - start = omega (arith, some, length-drop start list) in
-    let product : (lags - skipped) * 1 ≤ (lags - skipped) * (length list - start) = mul-le-mul_left (lags - skipped) bins in
-    omega (arith, product)
+once_each lags skipped start list some = search (rules, arith, length-drop, mul-le-mul_left)
 
 -- cells behind those that were added to are added to
 pub once_more : (at i mid n : ℕ) → mid ≡ at + i → (a b c : Cells) → AddsOnce at i a b → AddsOnce mid n b c → AddsOnce at (i + n) a c

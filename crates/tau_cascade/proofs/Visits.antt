@@ -1,6 +1,5 @@
 -- One entry more in the loop over entries.
-use Rattle.std.proofs.Common.{length, sym, ◌≡◌, ℕ, zero, suc, [], ◌∷◌, drop, refl, ◌+◌, ◌-◌, ◌*◌, ◌<◌, ◌≤◌, true, false, ◌&&◌, eqb, ltb, leb, List, get_or, take, cond, arith}
-use Rattle.std.{specs.List.{sum_by, count_by, AllByRecursion}, proofs.Math.Nat.mul-le-mul_right, proofs.lemmas.Grind.common_steps, proofs.lemmas.List.drop_more, proofs.lemmas.List.Elements.All-from_recursion, proofs.lemmas.List.Sums.{sum_by-le-sum_by, sum_by_more, sum_by_more_le, sum_by-take-le, sum_by-take-drop}}
+use Rattle.std.{proofs.Common.{length, ◌≡◌, ℕ, zero, suc, [], ◌∷◌, drop, refl, ◌+◌, ◌-◌, ◌*◌, ◌<◌, ◌≤◌, true, false, ◌&&◌, eqb, ltb, leb, List, get_or, take, cond, arith, rules}, specs.List.{sum_by, count_by, AllByRecursion}, proofs.Math.Nat.mul-le-mul_right, proofs.lemmas.Grind.common_steps, proofs.lemmas.List.drop_more, proofs.lemmas.List.Elements.All-from_recursion, proofs.lemmas.List.Sums.{sum_by-le-sum_by, sum_by_more, sum_by_more_le, sum_by-take-le, sum_by-take-drop}}
 use Rattle.lag_ring.{specs.declared.ring.Entry.Entry, specs.Ring.IsRising, proofs.Rising.all_weaker, proofs.Between.{between, count-between}, proofs.Sums.sum_by-zero}
 use Rattle.tau_cascade.{specs.Levels.{weight_before, entries_at_lags}, proofs.Lags.at_lags}
 
@@ -16,8 +15,7 @@ pub once_before : (es : List Entry) (i k n : ℕ) → IsRising es → entries_be
 once_before es i k n rising =
     let few = sum_by-take-le (λ (f : Entry). cond (eqb (f.index + k) n) 1 0) es i in
     let one = count-between es (n - k) (n - k + 1) rising in
-    let among : entries_before k n es ≤ count_by (between (n - k) (n - k + 1)) es = sum_by-le-sum_by (λ (f : Entry). cond (eqb (f.index + k) n) 1 0) (λ (f : Entry). cond (between (n - k) (n - k + 1) f) 1 0) es (λ f. grind (arith, common_steps)) in
-    omega (arith, few, one, among)
+    search (rules, arith, between, sum_by-le-sum_by)
 
 -- e is the entry at place i
 module _ (es : List Entry) (i : ℕ) (none : Entry) (inside : i < length es) where
@@ -36,11 +34,7 @@ module _ (es : List Entry) (i : ℕ) (none : Entry) (inside : i < length es) whe
   pub once_more : (k n : ℕ) → AllByRecursion (λ f. f.index < n) es → entries_before k n (take i es) + cond (eqb k (n - e.index)) 1 0 ≡ entries_before k n (take (i + 1) es)
   once_more k n below =
       let before = All-from_recursion (λ f. f.index < n) es below i none inside in
-      let same : eqb k (n - e.index) ≡ eqb (e.index + k) n = grind (arith, common_steps) in
-      rw same (sym (sum_by_more (λ f. cond (eqb (f.index + k) n) 1 0) es i none inside))
-
-  pub is_before : (n : ℕ) → AllByRecursion (λ f. f.index < n) es → e.index < n
-  is_before n all = All-from_recursion (λ f. f.index < n) es all i none inside
+      search (rules, arith, sum_by_more)
 
   -- the sum of the cell so far and the entry's pairs is within that of all entries
   pub pairs_fit : (old cells : List ℕ) (skipped lags n w most : ℕ) → AllByRecursion (λ f. f.index < n) es
@@ -48,7 +42,6 @@ module _ (es : List Entry) (i : ℕ) (none : Entry) (inside : i < length es) whe
       → ((p : ℕ) → p < lags - skipped → get_or old p 0 + weight_before (p + skipped + 1) n es * w ≤ most)
       → skipped < n - e.index → n - e.index ≤ lags → get_or cells (n - e.index - skipped - 1) 0 + e.a * w ≤ most
   pairs_fit old cells skipped lags n w most below so_far fits above within =
-      let before = is_before n below in
       let p : ℕ = n - e.index - skipped - 1 in
       let at_level : p < lags - skipped = omega arith in
       let at_n : eqb (e.index + (p + skipped + 1)) n ≡ true = grind arith in
@@ -61,7 +54,6 @@ module _ (es : List Entry) (i : ℕ) (none : Entry) (inside : i < length es) whe
       → ((p : ℕ) → p < lags - skipped → get_or new p 0 ≡ get_or cells p 0 + cond (eqb (p + skipped + 1) (n - e.index)) (e.a * w) 0)
       → (p : ℕ) → p < lags - skipped → get_or new p 0 ≡ get_or old p 0 + weight_before (p + skipped + 1) n (take (i + 1) es) * w
   cells_more old cells new skipped lags n w below so_far step p at_level =
-      let before = is_before n below in
       let same : eqb (p + skipped + 1) (n - e.index) ≡ eqb (e.index + (p + skipped + 1)) n = grind (arith, common_steps) in
       rw (step p at_level, so_far p at_level, weight_more (p + skipped + 1) n, same)
       (elim (eqb (e.index + (p + skipped + 1)) n) as (λ b. get_or old p 0 + weight_before (p + skipped + 1) n (take i es) * w + cond b (e.a * w) 0 ≡ get_or old p 0 + (weight_before (p + skipped + 1) n (take i es) + cond b e.a 0) * w) [ true ↦ omega arith | false ↦ omega arith ])
@@ -79,9 +71,8 @@ rest_near es i none inside rising skipped n near k above =
     let later : IsRising (e ∷ drop (i + 1) es) = (rw split at (rising_drop es i rising)) in
     let all : AllByRecursion (λ f. n ≤ f.index + skipped) (drop i es) = rw split (omega arith, all_weaker (λ f. e.index < f.index) (λ f. n ≤ f.index + skipped) (λ f up. omega arith) (drop (i + 1) es) later.0) in
     let zeros : sum_by (λ f. cond (eqb (f.index + k) n) f.a 0) (drop i es) ≡ 0 = sum_by-zero (λ f. n ≤ f.index + skipped) (λ f. cond (eqb (f.index + k) n) f.a 0) (drop i es) all (λ f close. let not : eqb (f.index + k) n ≡ false = grind arith in rw not refl) in
-    let both = sum_by-take-drop (λ f. cond (eqb (f.index + k) n) f.a 0) es i in
-    omega (arith, both, zeros)
+    search (rules, arith, sum_by-take-drop)
 
 -- where each entry stands before the index by more than the lags, none stands at one
 pub none_at_lag : (es : List Entry) (lags n k : ℕ) → AllByRecursion (λ f. f.index + lags < n) es → k ≤ lags → weight_before k n es ≡ 0
-none_at_lag es lags n k far few = sum_by-zero (λ f. f.index + lags < n) (λ f. cond (eqb (f.index + k) n) f.a 0) es far (λ f before. let not : eqb (f.index + k) n ≡ false = grind arith in rw not refl)
+none_at_lag es lags n k far few = search (rules, arith, sum_by-zero)

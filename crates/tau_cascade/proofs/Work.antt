@@ -1,6 +1,5 @@
 -- A level's additions are at most its lags times its occupied bins, and those at a lag at most its occupied bins.
-use Rattle.std.proofs.Common.{rules, ◌≡◌, ℕ, zero, suc, ◌+◌, ◌*◌, ◌%◌, ◌<◌, ◌≤◌, take, slice_get, Bool, true, false, List, [], ◌∷◌, ◌++◌, length, map, sym, ap, ◌∙◌, refl, append_assoc, append-nil, zero-add, add-zero, Some, subst, arith}
-use Rattle.std.{proofs.Math.Nat.mul-le-mul_left, specs.Option.{option_map, option_map_or}, proofs.lemmas.Grind.common_steps, proofs.lemmas.List.{map-append, take_all}, proofs.lemmas.List.Sums.sum_by-cons}
+use Rattle.std.{proofs.Common.{rules, ◌≡◌, ℕ, zero, suc, ◌+◌, ◌*◌, ◌%◌, ◌<◌, ◌≤◌, take, slice_get, Bool, true, false, List, [], ◌∷◌, ◌++◌, length, map, sym, ap, ◌∙◌, refl, append_assoc, append-nil, zero-add, add-zero, Some, subst, arith}, proofs.Math.Nat.mul-le-mul_left, specs.Option.{option_map, option_map_or}, proofs.lemmas.Grind.common_steps, proofs.lemmas.List.{map-append, take_all}, proofs.lemmas.List.Sums.sum_by-cons}
 use Rattle.tally_base.{specs.declared.settings.CorrelationSet.CorrelationSet, specs.Settings.{CorrelationView, correlation_view}, specs.Tally.History}
 use Rattle.tau_cascade.{specs.declared.level.Level.Level, specs.declared.cascade.Cascade.Cascade, specs.Cascade.{Holds, set_of, spent_by, added_below}, specs.StandsFor.{StandsFor, WentThrough}, specs.Correlation.{bin, lag_count, photons_of}, specs.Work.{occupied, IsWithinLevelWork, lags_at, work_from, work}, specs.Levels.{Chain, Complete, CellsAre, spent}, proofs.Distinct.distinct-le-append}
 
@@ -13,8 +12,7 @@ even_lags set level even = grind (arith, common_steps)
 one_level : (set : CorrelationView) (level : ℕ) (l : Level) (all front back : History) → all ≡ front ++ back → CellsAre set level l.cells front → IsWithinLevelWork set level l.cells all
 one_level set level l all front back same cells =
     let fewer = occupied-le level all front back same in
-    let product : lag_count set level * occupied level front ≤ lag_count set level * occupied level all = mul-le-mul_left (lag_count set level) fewer in
-    record { all = omega (arith, cells.work, product); each = λ p. omega (arith, cells.each p, fewer) }
+    record { all = omega (arith, cells.work, mul-le-mul_left (lag_count set level) fewer); each = λ p. omega (arith, cells.each p, fewer) }
 
 level_work : (set : CorrelationView) (level : ℕ) (l : Level) (all : History) → set.lags % 2 ≡ 0 → IsWithinLevelWork set level l.cells all → l.cells.added ≤ lags_at set level * occupied level all
 level_work set level l all even is = rw (← even_lags set level even) is.all
@@ -39,18 +37,14 @@ open_within set level (x ∷ ls) all came later same chain zero l read =
 open_within set level (x ∷ ls) all came later same chain (suc i) l read =
     let split : all ≡ chain.0 ++ (chain.1 ++ later) = same ∙ ap (λ xs. xs ++ later) chain.2 ∙ append_assoc chain.0 chain.1 later in
     let next : suc level + i ≡ level + suc i = omega arith in
-    let rest = open_within set (suc level) ls all chain.0 (chain.1 ++ later) split chain.4 i l read in
-    (rw next at rest)
+    (rw next at (open_within set (suc level) ls all chain.0 (chain.1 ++ later) split chain.4 i l read))
 
 shut_within : (set : CorrelationView) (level : ℕ) (ls : List Level) (all : History) → Complete set level ls all → (i : ℕ) (l : Level) → slice_get ls i ≡ Some l → IsWithinLevelWork set (level + i) l.cells all
 shut_within set level [] all is i l read = cc
 shut_within set level (x ∷ ls) all is zero l read =
     let here : x ≡ l = cc in
     rw (add-zero, ← here) (one_level set level x all all [] (sym (append-nil all)) is.0.cells)
-shut_within set level (x ∷ ls) all is (suc i) l read =
-    let next : suc level + i ≡ level + suc i = omega arith in
-    let rest = shut_within set (suc level) ls all is.1 i l read in
-    (rw next at rest)
+shut_within set level (x ∷ ls) all is (suc i) l read = search (rules, arith, shut_within set (suc level) ls all is.1 i l read)
 
 -- each level's additions are within its own work
 pub level_within : (closed : Bool) (set : CorrelationView) (ls : List Level) (xs : History) → WentThrough closed set ls xs → (i : ℕ) (l : Level) → slice_get ls i ≡ Some l → IsWithinLevelWork set i l.cells xs
@@ -62,17 +56,13 @@ pub spent_within : (closed : Bool) (set : CorrelationSet) (ls : List Level) (cou
 spent_within false set ls count time h sized is =
     let view : CorrelationView = correlation_view set in
     subst (λ n. spent ls ≤ work_from view 0 n (photons_of view h)) sized (open_work view set.even_lags 0 ls (photons_of view h) (photons_of view h) [] (sym (append-nil (photons_of view h))) is.through)
-spent_within true set ls count time h sized is =
-    let view : CorrelationView = correlation_view set in
-    subst (λ n. spent ls ≤ work_from view 0 n (photons_of view h)) sized (shut_work view set.even_lags 0 ls (photons_of view h) is.through)
+spent_within true set ls count time h sized is = search (rules, arith, shut_work)
 
 -- one level more
 level_more : (ls : List Level) (n : ℕ) → n < length ls → spent (take (suc n) ls) ≡ spent (take n ls) + option_map_or (λ c. c.added) (option_map (λ (l : Level). l.cells) (slice_get ls n)) 0
 level_more [] n inside = absurd (omega arith)
 level_more (l ∷ ls) zero inside = omega (arith, sum_by-cons (λ (x : Level). x.cells.added) l [])
-level_more (l ∷ ls) (suc n) inside =
-    let rest = level_more ls n (omega arith) in
-    omega (arith, rest, sum_by-cons (λ (x : Level). x.cells.added) l (take (suc n) ls), sum_by-cons (λ (x : Level). x.cells.added) l (take n ls))
+level_more (l ∷ ls) (suc n) inside = search (rules, arith, sum_by-cons, level_more ls n (omega arith))
 
 lent : (t : Cascade) (n : ℕ) → n ≤ length t.levels.items → spent (take n t.levels.items) ≡ added_below t n
 lent t zero inside = refl
@@ -80,11 +70,7 @@ lent t (suc n) inside = omega (arith, level_more t.levels.items n (omega arith),
 
 -- what was spent is what made the cells that the levels lend
 pub all_lent : (t : Cascade) (n : ℕ) → n ≡ length t.levels.items → spent_by t ≡ added_below t n
-all_lent t n all =
-    let whole : take n t.levels.items ≡ t.levels.items = take_all n t.levels.items (omega arith) in
-    sym (ap spent whole) ∙ lent t n (omega arith)
+all_lent t n all = cc (take_all n t.levels.items (omega arith), lent t n (omega arith))
 
 pub work_within : (t : Cascade) (h : History) → Holds t h → spent_by t ≤ work (correlation_view (set_of t)) h
-work_within t h is =
-    let sized : length t.levels.items ≡ t.set.levels = search rules in
-    spent_within t.closed t.set t.levels.items t.taken t.floor h sized is
+work_within t h is = search (rules, arith, spent_within)

@@ -1,6 +1,5 @@
 -- What a correlation shows.
-use Rattle.std.specs.Prelude.{ℕ, ◌+◌, zero, suc, Option, slice_get}
-use Rattle.std.specs.Option.{option_map, option_map_or}
+use Rattle.std.{specs.Prelude.{ℕ, ◌+◌, zero, suc, Option, slice_get}, specs.Option.{option_map, option_map_or}}
 use Rattle.tally_base.{specs.declared.settings.CorrelationSet.CorrelationSet, specs.Settings.{PartSettings, correlation_view}, specs.Settings.PartSettings.CorrelationSettings, specs.Tally.History}
 use Rattle.lag_ring.{specs.declared.ring.Entry.Entry, specs.Cells.Cells, specs.Ring.Ring}
 use Rattle.tau_cascade.{specs.declared.cascade.Cascade.Cascade, specs.StandsFor.StandsFor, specs.Levels.spent}

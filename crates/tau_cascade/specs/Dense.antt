@@ -1,6 +1,5 @@
 -- Pairs of bins with what stands in a window.
-use Rattle.std.specs.Prelude.{ℕ, ◌≡◌, ◌+◌, ◌-◌, ◌^◌, ◌<◌, ◌≤◌, List, length, slice_index, sum_by}
-use Rattle.std.specs.List.{AllByRecursion}
+use Rattle.std.{specs.Prelude.{ℕ, ◌≡◌, ◌+◌, ◌-◌, ◌^◌, ◌<◌, ◌≤◌, List, length, slice_index, sum_by}, specs.List.{AllByRecursion}}
 use Rattle.lag_ring.{specs.declared.ring.Entry.Entry, specs.declared.window.Side.TheVariants.{First, Second}, specs.Ring.IsRising, specs.Cells.{Cells, added_at}, specs.Window.{weight_of, product_at}}
 
 -- the second weights of later bins times what stands so many lags before each in a window of 192 lags

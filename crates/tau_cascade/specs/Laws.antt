@@ -1,7 +1,5 @@
 -- What holds of every correlation.
-use Rattle.std.proofs.Common.{◌≡◌, ℕ, suc, ◌+◌, ◌-◌, ◌*◌, ◌/◌, ◌%◌, ◌≤◌, Bool, true, false, cond, List, [], ◌∷◌, ◌++◌, ◌&&◌, ◌||◌, ◌∙◌, ap, subst, length, arith, rules}
-use Rattle.std.specs.Prelude.{is_some}
-use Rattle.std.{specs.List.sum_by, proofs.Math.Logic.∥∥₁_elim, proofs.Props.props, proofs.lemmas.List.Sums.sum_by-cons}
+use Rattle.std.{proofs.Common.{◌≡◌, ℕ, suc, ◌+◌, ◌-◌, ◌*◌, ◌/◌, ◌%◌, ◌≤◌, Bool, true, false, cond, List, [], ◌∷◌, ◌++◌, ◌&&◌, ◌||◌, ◌∙◌, ap, subst, length, arith, rules}, specs.Prelude.{is_some}, specs.List.sum_by, proofs.Math.Logic.∥∥₁_elim, proofs.Props.props, proofs.lemmas.List.Sums.sum_by-cons}
 use Rattle.tally_base.{specs.declared.event.Event.Event, specs.Events.{is_photon, is_in}, specs.declared.settings.CorrelationSet.CorrelationSet, specs.Settings.{CorrelationView, correlation_view, entries}, specs.Tally.{History, greatest_time}, proofs.Markers.{same_length, same_greatest, same_filter}}
 use Rattle.tau_cascade.{specs.declared.cascade.Cascade.Cascade, specs.declared.level.Level.Level, specs.Cascade.{Holds, settings}, specs.Correlation.{in_first, in_second, lag_count, photons_of}, specs.StandsFor.{WentThrough, entries_of}, specs.Levels.{Chain, Complete, RingIs, CellsAre}}
 

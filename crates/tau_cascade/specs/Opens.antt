@@ -1,6 +1,5 @@
 -- Which bins are open, from the events alone.
-use Rattle.std.specs.Prelude.{ℕ, ◌/◌, zero, suc, max, Bool, true, false, ◌&&◌, ◌==◌, nat_lt, Option, None, Some, unwrap_or, List, [], ◌∷◌, map, filter, count_by}
-use Rattle.std.specs.Option.{option_map, option_and_then, option_map_or}
+use Rattle.std.{specs.Prelude.{ℕ, ◌/◌, zero, suc, max, Bool, true, false, ◌&&◌, ◌==◌, nat_lt, Option, None, Some, unwrap_or, List, [], ◌∷◌, map, filter, count_by}, specs.Option.{option_map, option_and_then, option_map_or}}
 use Rattle.tally_base.{specs.Settings.CorrelationView, specs.Tally.History}
 use Rattle.lag_ring.specs.declared.ring.Entry.{Entry}
 use Rattle.tau_cascade.specs.Correlation.{Given, bin, in_first, in_second, photons_of}

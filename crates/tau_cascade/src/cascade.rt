@@ -30,8 +30,7 @@ pub struct Cascade {
 }
 
 impl Cascade {
-    ghost use Rattle.std.specs.Prelude.{◌≡◌, ◌+◌, ◌-◌, ◌<◌, ◌≤◌, ◌++◌, true, IfOk, None, Some, length, slice_index};
-    ghost use Rattle.std.specs.Option.{ForSome, option_map};
+    ghost use Rattle.std.{specs.Prelude.{◌≡◌, ◌+◌, ◌-◌, ◌<◌, ◌≤◌, ◌++◌, true, IfOk, None, Some, length, slice_index}, specs.Option.{ForSome, option_map}};
     ghost use Rattle.tally_base.{specs.Settings.PartSettings.CorrelationSettings, specs.Columns.{events_in, IsSorted}};
     ghost use Rattle.tau_cascade.{specs.Cascade.{Holds, cells_at, ring_at, open_at, set_of, spent_by, added_below}, specs.Correlation.{correlation, lag_count, skipped_lags, photons_of}, specs.Opens.open_bin, specs.Work.{work, IsWithinLevelWork}};
 

@@ -1,6 +1,5 @@
 // Pairs of dense bins, lag by lag.
-ghost use Rattle.std.specs.Prelude.{◌≡◌, ◌≢◌, ℕ, ◌+◌, ◌-◌, ◌^◌, ◌<◌, ◌≤◌, IfSome, IsTrue, filter, length, nat_lt, slice_index, sum_by, take, drop};
-ghost use Rattle.std.specs.List.{AllByRecursion};
+ghost use Rattle.std.{specs.Prelude.{◌≡◌, ◌≢◌, ℕ, ◌+◌, ◌-◌, ◌^◌, ◌<◌, ◌≤◌, IfSome, IsTrue, filter, length, nat_lt, slice_index, sum_by, take, drop}, specs.List.{AllByRecursion}};
 ghost use Rattle.lag_ring.{specs.Ring.IsRising, specs.declared.window.Side.TheVariants.{First, Second}, specs.Window.{weight_of, ServesLater}, specs.Cells.Spends};
 ghost use Rattle.tau_cascade.{specs.Paired.{paired, AddsAtMost}, specs.Dense.{window_pairs, FitsWindow, SameOutside, AddsOnce, EndsFrom}};
 

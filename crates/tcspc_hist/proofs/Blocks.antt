@@ -1,6 +1,5 @@
 -- The counts over the rows of a block.
-use Rattle.std.proofs.Common.{◌≡◌, ◌∙◌, ℕ, ◌+◌, ◌≤◌, Bool, true, false, ◌&&◌, cond, ◌++◌, ap, refl, arith, nat_lt, if◌then◌else◌}
-use Rattle.std.proofs.lemmas.List.Sums.{sum_by-append, sum_by_push}
+use Rattle.std.{proofs.Common.{◌≡◌, ◌∙◌, ℕ, ◌+◌, ◌≤◌, Bool, true, false, ◌&&◌, cond, ◌++◌, ap, refl, arith, nat_lt, if◌then◌else◌}, proofs.lemmas.List.Sums.{sum_by-append, sum_by_push}}
 use Rattle.tally_base.{specs.declared.event.Event.Event, specs.declared.event.EventKind.TheVariants.{Photon, Marker}, specs.Events.is_in, specs.Settings.HistView, specs.Tally.History, specs.Columns.{rows, item, code_at, dtime_at, groups_at}, specs.declared.block.Block.Block, proofs.BlockRows.more_rows}
 use Rattle.tcspc_hist.specs.HistogramCounts.{count_dtimes, dtime_passes}
 

@@ -1,6 +1,5 @@
 -- What holds of every histogram.
-use Rattle.std.specs.Prelude.{◌≡◌, ℕ, ◌≤◌, ◌+◌, ◌/◌, Bool, true, false, ◌&&◌, ◌==◌, nat_le, [], ◌∷◌, ◌++◌, length}
-use Rattle.std.proofs.Common.{rules, ◌∙◌, refl}
+use Rattle.std.{specs.Prelude.{◌≡◌, ℕ, ◌≤◌, ◌+◌, ◌/◌, Bool, true, false, ◌&&◌, ◌==◌, nat_le, [], ◌∷◌, ◌++◌, length}, proofs.Common.{rules, ◌∙◌, refl}}
 use Rattle.tally_base.{specs.declared.event.Event.Event, specs.declared.event.EventKind.EventKind, specs.declared.event.EventKind.TheVariants.{Photon, Marker}, specs.Events.{is_photon, is_photon_kind, is_in}, specs.Settings.{entries, hist_view}, specs.Tally.{History, greatest_time}, proofs.Markers.{same_length, same_greatest, same_count}}
 use Rattle.tcspc_hist.{specs.declared.hist.Hist.Hist, specs.HistogramCounts.{count_dtimes, dtime_passes}, specs.Hist.{Holds, settings}}
 

@@ -6,5 +6,5 @@ ghost use Rattle.tcspc_hist.{specs.HistogramCounts.count_over, specs.Totals.{in_
 /// Each photon of the group counts once, in a bin or past the last.
 pub fn each_photon_counts_once()
     ensures { (set : HistView) (h : History)
-        → in_all_bins set h + count_over set h ≡ photons_of_group set h }
+        → in_all_bins set h + count_over set h ≡ photons_of_group set.group h }
 {}

@@ -1,6 +1,5 @@
 -- A text that grows by several calls.
-use Rattle.std.proofs.Common.{◌≡◌, ◌∙◌, ℕ, List, [], ◌++◌, refl, sym, ap, subst, append_assoc, append-nil}
-use Rattle.std.specs.declared.option.Option.{Option}
+use Rattle.std.{proofs.Common.{◌≡◌, ◌∙◌, ℕ, List, [], ◌++◌, refl, sym, ap, subst, append_assoc, append-nil}, specs.declared.option.Option.Option}
 use Rattle.bench_io.proofs.Bytes.{Appends-nil, Appends-trans, AppendsShort-behind, AppendsShort-more}
 use Rattle.tally_base.specs.FaultCounts.{Rose}
 use Rattle.told_text.specs.Texts.{WroteText, CutText}

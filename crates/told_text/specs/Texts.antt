@@ -1,6 +1,5 @@
 -- What was written of a text that has grown.
-use Rattle.std.specs.Prelude.{ℕ, ◌≡◌, ◌⊎◌, List, ◌++◌, None, Some, Result, Ok, Err}
-use Rattle.std.{specs.declared.option.Option.Option, specs.Io.KnownBytes.Appends}
+use Rattle.std.{specs.Prelude.{ℕ, ◌≡◌, ◌⊎◌, List, ◌++◌, None, Some, Result, Ok, Err}, specs.declared.option.Option.Option, specs.Io.KnownBytes.Appends}
 use Rattle.tally_base.{specs.declared.fault.Fault.Fault, specs.declared.fault.Fault.TheVariants.WriteFault, specs.FaultCounts.Rose}
 use Rattle.bench_io.specs.Sinks.{AppendsShort}
 

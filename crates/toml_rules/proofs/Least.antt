@@ -1,6 +1,5 @@
 -- The first broken rule that is met is the least, and under it the least index.
-use Rattle.std.proofs.Common.{◌≡◌, sym, ap, refl, ◌∙◌, ℕ, ◌+◌, ◌<◌, ◌≤◌, Bool, true, false, List, [], ◌∷◌, ◌++◌, ◌⊎◌, inl, inr, ⊎_elim, Result, Ok, Err, arith, rules}
-use Rattle.std.proofs.lemmas.Result.{IfErr-at_err}
+use Rattle.std.{proofs.Common.{◌≡◌, sym, ap, refl, ◌∙◌, ℕ, ◌+◌, ◌<◌, ◌≤◌, Bool, true, false, List, [], ◌∷◌, ◌++◌, ◌⊎◌, inl, inr, ⊎_elim, Result, Ok, Err, arith, rules}, proofs.lemmas.Result.IfErr-at_err}
 use Rattle.tally_base.{specs.declared.fault.Fault.Fault, specs.declared.fault.Fault.TheVariants.PlanRule, specs.Faults.is_outside}
 use Rattle.toml_rules.specs.Rules.{Rule, BreaksAt, BreaksFirst, IsBroken, IsLeast, Names, AllHold, RiseFrom, or_next, held_from, kept, all_kept}
 

@@ -1,7 +1,6 @@
 -- One event more for a trace, and a block of them.
-use Rattle.std.proofs.Common.{◌≡◌, ◌∙◌, ◌+◌, ◌≤◌, ℕ, List, [], ◌∷◌, ◌++◌, Bool, true, false, refl, ap, map, append_assoc, append-nil, arith, length, length-append, ◌&&◌, not, IsTrue, if◌then◌else◌}
-use Rattle.std.{proofs.lemmas.List.length-map, specs.declared.option.Option.Option}
-use Rattle.tally_base.{specs.declared.event.Event.Event, specs.declared.event.EventKind.EventKind, specs.declared.event.EventKind.TheVariants.{Photon, Marker}, specs.declared.header.Mode.Mode, specs.declared.header.Mode.TheVariants.{T2, T3}, specs.Events.{is_photon, is_photon_kind, is_ordered}, specs.Tally.History, specs.Floors.{floor_after, InOrder}, proofs.Lower.order-looser}
+use Rattle.std.{proofs.Common.{◌≡◌, ◌∙◌, ◌+◌, ◌≤◌, ℕ, List, [], ◌∷◌, ◌++◌, true, false, refl, ap, map, append_assoc, append-nil, arith, length, length-append, ◌&&◌, not, IsTrue, if◌then◌else◌, rules}, proofs.lemmas.List.length-map, specs.declared.option.Option.Option}
+use Rattle.tally_base.{specs.declared.event.Event.Event, specs.declared.event.EventKind.EventKind, specs.declared.header.Mode.Mode, specs.declared.header.Mode.TheVariants.{T2, T3}, specs.Events.{is_photon, is_photon_kind, is_ordered}, specs.Tally.History, specs.Floors.{floor_after, InOrder}, proofs.Lower.order-looser}
 use Rattle.bench_io.{specs.Sinks.{AppendsShort, PassesOn}, proofs.Bytes.{PassesOn-trans, AppendsShort-passed}}
 use Rattle.ptu_definitions.{specs.Kept.Marked, specs.Settled.not_marked, proofs.DeliveredLaws.{not_marked-append, not_marked-false}}
 use Rattle.abs_time.{specs.Floors.orders_markers, proofs.Floors.moved_floor-push}
@@ -11,50 +10,23 @@ use Rattle.long_trace.{specs.declared.trace.LongTrace.LongTrace, specs.LongTrace
 use Rattle.trace_work.specs.TraceLines.{Traced, TracedShort}
 
 photon_kind : (by : Sorting) (kind : EventKind) → is_photon_kind (shifted_kind by kind) ≡ is_photon_kind kind
-photon_kind by (Photon input dtime) = refl
-photon_kind by (Marker bits) = refl
-
--- a shifted photon is a photon
-pub photon-shifted : (by : Sorting) (e : Event) → is_photon (shifted by e) ≡ is_photon e
-photon-shifted by e = photon_kind by e.kind
-
--- what a stream says of the order of its events is enough for a trace
-pub photon-in_order : (mode : Mode) (e : Event) (floor low : ℕ) → low ≤ floor → (IsTrue (is_ordered mode e && not false) → floor ≤ e.time) → IsTrue (is_photon e) → low ≤ e.time
-photon-in_order mode e floor low below order is = let later : floor ≤ e.time = order (by mode) in omega (arith, below, later)
-  where
-    by : (mode : Mode) → IsTrue (is_ordered mode e && not false)
-    by T2 = rw is refl
-    by T3 = refl
+photon_kind by kind = search (rules, arith)
 
 -- the floor of the trace stays below that of the stream
 pub floor-below : (mode : Mode) (e : Event) (floor low : ℕ) → low ≤ floor → (IsTrue (is_ordered mode e && not false) → floor ≤ e.time) → (if is_photon e then e.time else low) ≤ (if is_ordered mode e && not false then e.time else floor)
-floor-below T2 e floor low below order = by (is_photon e)
-  where
-    by : (b : Bool) → (if b then e.time else low) ≤ (if b && not false then e.time else floor)
-    by true = omega arith
-    by false = below
-floor-below T3 e floor low below order = let later : floor ≤ e.time = order refl in by (is_photon e)
-  where
-    by : (b : Bool) → (if b then e.time else low) ≤ e.time
-    by true = omega arith
-    by false = let later : floor ≤ e.time = order refl in omega (arith, below, later)
+floor-below T2 e floor low below order = search (rules, arith)
+floor-below T3 e floor low below order = search (rules, arith)
 
 pub floor-late : (mode : Mode) (e : Event) (floor : ℕ) → (if is_ordered mode e && not true then e.time else floor) ≡ floor
-floor-late mode e floor = by (is_ordered mode e)
-  where
-    by : (b : Bool) → (if b && not true then e.time else floor) ≡ floor
-    by true = refl
-    by false = refl
+floor-late mode e floor = search (rules, arith)
 
 -- the same of a block of them that are shifted
 pub block-in_order : (mode : Mode) (by : Sorting) (low floor : ℕ) (es es' : List Event) → low ≤ floor → InOrder (orders_markers mode) floor es → es' ≡ map (shifted by) es → InOrder false low es'
-block-in_order mode by low floor es es' below order is =
-    rw is (order-shifted false by low es (order-looser (orders_markers mode) false low floor es (λ (q : false ≡ true). cc) below order).0)
+block-in_order mode by low floor es es' below order is = search (rules, arith, order-shifted, order-looser)
 
 pub block-below : (mode : Mode) (by : Sorting) (low floor : ℕ) (es es' : List Event) → low ≤ floor → InOrder (orders_markers mode) floor es → es' ≡ map (shifted by) es
     → floor_after false low es' ≤ floor_after (orders_markers mode) floor es
-block-below mode by low floor es es' below order is =
-    rw (is, floor-shifted false by low es) (order-looser (orders_markers mode) false low floor es (λ (q : false ≡ true). cc) below order).1
+block-below mode by low floor es es' below order is = search (rules, arith, floor-shifted, order-looser)
 
 pub block-length : (by : Sorting) (es es' : List Event) → es' ≡ map (shifted by) es → length es' ≡ length es
 block-length by es es' is = ap length is ∙ length-shifted
@@ -69,7 +41,7 @@ with-one : (by : Sorting) (l : Marked) (e : Event) → with_groups by (not_marke
 with-one by l e = ap (with_groups by) (not_marked-append l ((e, false) ∷ [])) ∙ with_groups-more by (not_marked l) (e ∷ [])
 
 with-block : (by : Sorting) (l : Marked) (es : List Event) → with_groups by (not_marked (l ++ on_time es)) ≡ with_groups by (not_marked l) ++ with_groups by es
-with-block by l es = ap (with_groups by) (not_marked-append l (on_time es) ∙ ap (λ m. not_marked l ++ m) (not_marked-false es)) ∙ with_groups-more by (not_marked l) es
+with-block by l es = search (rules, arith, not_marked-append, not_marked-false, with_groups-more)
 
 module _ (start old : LongTrace) (by by' : Sorting) (mode mode' : Mode) (taken taken' floor floor' faults faults' : ℕ) (a b : Option (List ℕ)) (held held' : List ℕ) (l : Marked) where
   abbrev So_far : Type 0
@@ -77,20 +49,7 @@ module _ (start old : LongTrace) (by by' : Sorting) (mode mode' : Mode) (taken t
 
   -- a late event is passed over
   pub Traced-late : (e : Event) → So_far → Traced start old by by' mode mode' taken (taken' + 1) floor (if is_ordered mode' e && not true then e.time else floor') faults faults' a b held held' (l ++ (e, true) ∷ [])
-  Traced-late e h = record {
-    same_sorting = h.same_sorting;
-    same_mode = h.same_mode;
-    counted = omega (arith, h.counted, length-append l ((e, true) ∷ []));
-    moved = rw h.same_mode (moved_floor-push mode floor floor' l e true h.moved (λ (late : IsTrue (is_ordered mode e && not true)). absurd (never (is_ordered mode e) late)));
-    kept = h.kept;
-    lines = h.lines;
-    given = rw (with-late by l e) h.given;
-    text = h.text;
-  }
-    where
-      never : (b : Bool) → IsTrue (b && not true) → ⊥
-      never true is = cc
-      never false is = cc
+  Traced-late e h = search (rules, arith, length-append, moved_floor-push, with-late)
 
   module _ (now : LongTrace) (c : Option (List ℕ)) (held'' : List ℕ) where
     -- a sink that fails

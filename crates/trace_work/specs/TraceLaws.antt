@@ -1,12 +1,12 @@
 -- What holds of the trace of bytes that grow.
 use Rattle.std.proofs.Common.{◌≡◌, ◌∙◌, ℕ, List, None, Some, Ok, Err, refl, sym, ap, Result}
 use Rattle.tally_base.{specs.declared.fault.Fault.Fault, specs.declared.settings.TraceSet.TraceSet, specs.declared.header.Header.Header, specs.RecordTypes.mode_of, specs.Settings.trace_view, specs.Faults.fault_in}
-use Rattle.ptu_definitions.{specs.Headers.header_answer, specs.Words.words_of, specs.Streams.{Reading, record_refusal}, proofs.Firsts.record_refusal-inside}
+use Rattle.ptu_definitions.{specs.Headers.header_answer, specs.Words.words_of, specs.Streams.{Reading, record_refusal}, proofs.Firsts.{record_refusal-inside, streamed-inside}}
 use Rattle.plan_text.{specs.Plan.PlanView, specs.Fits.fits}
 use Rattle.gate_plan.{specs.Shifting.{Sorting, sorting}, specs.Plans.reading_by}
-use Rattle.record_stream.{specs.declared.stream.RecordStream.RecordStream, specs.Standing.how_of}
+use Rattle.record_stream.{specs.declared.stream.RecordStream.RecordStream, specs.Standing.how_of, proofs.Lasts.streamed-clear}
 use Rattle.long_trace.specs.declared.trace.LongTrace.{LongTrace}
-use Rattle.command_work.{specs.Outcomes.MayChange, specs.Behaviours.AsItReads, specs.Works.WantsNone, specs.Tellings.{IsText, Suits, headed_end, headed_text, HeadedGoes, unless_declined}, proofs.TellingLaws.fits-law, proofs.Streams.{streamed-clear, streamed-inside, streamed-open}}
+use Rattle.command_work.{specs.Outcomes.MayChange, specs.Behaviours.AsItReads, specs.Works.WantsNone, specs.Tellings.{IsText, Suits, headed_end, headed_text, HeadedGoes, unless_declined}, proofs.TellingLaws.fits-law, proofs.Streams.streamed-open}
 use Rattle.trace_work.{specs.TraceOutcomes.{trace_of, words_traced, records_traced, traced_if_fits, traced_behind, open_if_fits, open_behind, trace_so_far, tracing}, specs.TracePieces.{traces, traces_by, HasTraced}, specs.TraceTexts.{text-front, refused-ends, ends-fault}}
 
 pub traces-law : (set : TraceSet) (by : Sorting) (how : Reading) → IsText (traces (trace_view set) by how)

@@ -1,6 +1,5 @@
 -- The photons that a trace is given come in the order of their times.
-use Rattle.std.proofs.Common.{◌≡◌, ◌∙◌, ◌≤◌, ℕ, Bool, true, false, cond, List, [], ◌∷◌, ◌++◌, max, map, refl, sym, ap, arith, IsTrue, ◌&&◌, ◌==◌, not, nat_lt, filter, if◌then◌else◌}
-use Rattle.std.proofs.lemmas.Bool.Decides.{nat_tests}
+use Rattle.std.{proofs.Common.{◌≡◌, ◌∙◌, ◌≤◌, ℕ, Bool, true, false, cond, List, [], ◌∷◌, ◌++◌, max, map, refl, sym, ap, arith, IsTrue, ◌&&◌, ◌==◌, not, nat_lt, filter, if◌then◌else◌}, proofs.lemmas.Bool.Decides.nat_tests}
 use Rattle.tally_base.{specs.declared.event.Event.Event, specs.declared.event.EventKind.EventKind, specs.declared.event.EventKind.TheVariants.{Photon, Marker}, specs.declared.header.Mode.Mode, specs.declared.header.Mode.TheVariants.{T2, T3}, specs.Events.{is_photon, is_photon_kind, is_ordered}}
 use Rattle.ptu_definitions.{specs.Prefixes.each_after, specs.Kept.{mark, marked, kept, is_late, greatest, ordered_time}, specs.Settled.{in_time, not_overtaken, kept_by, not_marked, ordered, Rises}, proofs.SettledLaws.Rises-put_all, proofs.StreamLemmas.{later, greatest-push}}
 use Rattle.gate_plan.{specs.Shifting.{Sorting, shifted_kind}, specs.Histories.with_groups}

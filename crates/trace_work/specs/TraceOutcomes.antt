@@ -1,6 +1,5 @@
 -- What `trace` ends with over the bytes of a file.
-use Rattle.std.specs.Prelude.{ℕ, ◌≡◌, List, [], ◌∷◌, None, Some, Result, Ok, Err}
-use Rattle.std.specs.declared.option.Option.{Option}
+use Rattle.std.{specs.Prelude.{ℕ, ◌≡◌, List, [], ◌∷◌, None, Some, Result, Ok, Err}, specs.declared.option.Option.Option}
 use Rattle.tally_base.{specs.declared.fault.Fault.Fault, specs.declared.fault.Fault.TheVariants.NoTrace, specs.declared.header.Header.Header, specs.RecordTypes.mode_of, specs.Settings.{PartSettings, TraceView}, specs.Settings.PartSettings.TraceSettings, specs.Tally.History}
 use Rattle.ptu_definitions.{specs.declared.records.Summary.Summary, specs.Headers.header_answer, specs.Words.words_of, specs.Streams.{Reading, unrefused_after, streamed}}
 use Rattle.plan_text.{specs.Plan.{PlanView, parts_of}, specs.Fits.fits}

@@ -1,6 +1,5 @@
 -- What the trace of words writes that come behind others.
-use Rattle.std.specs.Prelude.{ℕ, ◌≡◌, ◌⊎◌, ◌≤◌, List, ◌++◌, OnOk, true, false, None, Some, Result, Ok, Err}
-use Rattle.std.specs.Io.KnownBytes.{Appends, Keeps}
+use Rattle.std.{specs.Prelude.{ℕ, ◌≡◌, ◌⊎◌, ◌≤◌, List, ◌++◌, OnOk, true, false, None, Some, Result, Ok, Err}, specs.Io.KnownBytes.{Appends, Keeps}}
 use Rattle.tally_base.{specs.declared.fault.Fault.Fault, specs.declared.fault.Fault.TheVariants.WriteFault, specs.FaultCounts.Rose, specs.Faults.{is_outside, fault_in}, specs.Settings.{TraceView, trace_view}, specs.declared.header.Header.Header, specs.RecordTypes.mode_of}
 use Rattle.bench_io.{specs.Sinks.AppendsShort, specs.declared.sink.Sink.Ghosts}
 use Rattle.ptu_definitions.{specs.Words.words_of, specs.Streams.{Reading, record_refusal, streamed}}

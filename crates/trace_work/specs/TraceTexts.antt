@@ -1,6 +1,5 @@
 -- The text of a trace of words, and of more of them.
-use Rattle.std.proofs.Common.{◌≡◌, ◌∙◌, ◌<◌, ℕ, List, [], ◌++◌, None, Some, Ok, Err, map, take, drop, length, refl, sym, ap, subst, append_assoc, append-nil, take-append-drop, Result, ◌-◌}
-use Rattle.std.specs.declared.option.Option.{Option}
+use Rattle.std.{proofs.Common.{◌≡◌, ◌∙◌, ◌<◌, ℕ, List, [], ◌++◌, None, Some, Ok, Err, map, take, drop, length, refl, sym, ap, subst, append_assoc, append-nil, take-append-drop, Result, ◌-◌}, specs.declared.option.Option.Option}
 use Rattle.tally_base.{specs.declared.fault.Fault.Fault, specs.Faults.fault_in, specs.Settings.TraceView}
 use Rattle.ptu_definitions.{specs.declared.records.Summary.Summary, specs.Words.{words_of, rest_of}, specs.Kept.Marked, specs.Settled.{kept_by, not_marked}, specs.Times.events, specs.Streams.{Reading, unrefused_after, record_refusal, given, last_in, streamed}, proofs.DeliveredLaws.{delivered-settled, not_marked-append}, specs.Firsts.IsFirst, proofs.Firsts.{given-all, given-before}, proofs.StreamLemmas.{given-front, given-stays}, proofs.WordsLemmas.words_of-append}
 use Rattle.record_stream.proofs.Lasts.{streamed-shown}

@@ -1,12 +1,12 @@
 // The trace of a plan, written while the file is read.
-ghost use Rattle.std.specs.Prelude.{◌≡◌, ◌<◌, ◌≤◌, ℕ, List, [], true, OnOk, None, Some};
+ghost use Rattle.std.specs.Prelude.{◌≡◌, ◌<◌, ◌≤◌, ℕ, List, true, OnOk, None, Some};
 ghost use Rattle.tally_base.specs.Settings.{trace_view};
 ghost use Rattle.ptu_definitions.{specs.Counted.record_limit};
 ghost use Rattle.plan_text.specs.Reading.{plan_view};
-ghost use Rattle.record_stream.specs.Standing.{how_of, given_by, greatest_of, refused_with, HasStreamed};
+ghost use Rattle.record_stream.{specs.Standing.{how_of, refused_with, HasStreamed}, specs.Pieces.{TakesOn, StaysOpen, Begins}};
 ghost use Rattle.gate_plan.specs.Groups.{sorting_of};
 ghost use Rattle.long_trace.specs.LongTrace.{set_of, taken_of, floor_of, is_going};
-ghost use Rattle.command_work.{specs.StreamPieces.{TakesOn, StaysOpen}, specs.Tellings.WritesEnd};
+ghost use Rattle.command_work.specs.Tellings.{WritesEnd};
 ghost use Rattle.trace_work.{specs.TraceOutcomes.trace_of, specs.TracePieces.{traces, IsBehindStream, TracesBytes, TracesPiece, EndsLines, EndsTrace, both_ended}};
 
 use abs_time::{moved_floor, orders_markers};
@@ -38,8 +38,7 @@ struct TraceLines<'g, 't, 'o, O: Sink> {
 }
 
 impl<'g, 't, 'o, O: Sink> EventTaker for TraceLines<'g, 't, 'o, O> {
-    ghost use Rattle.std.specs.Prelude.{refl};
-    ghost use Rattle.std.proofs.Common.{◌∙◌};
+    ghost use Rattle.std.{specs.Prelude.{refl}, proofs.Common.{◌∙◌}};
     ghost use Rattle.trace_work.specs.TraceLines.{Traced, TracedShort, traced_none};
 
     ghost got = { λ s t l. Traced s.trace.now t.trace.now (sorting_of s.gates.now) (sorting_of t.gates.now)
@@ -103,9 +102,8 @@ fn feed_lines<'g, 't, 'o, O: Sink>(
     piece: &[u8],
     lines: &mut TraceLines<'g, 't, 'o, O>,
 ) -> Result<(), Fault>
-    requires mode { lines.old.mode ≡ (how_of stream.old).mode }
-    requires stands { (lines.old.taken ≡ given_by stream.old) × (lines.old.floor ≡ greatest_of stream.old) }
-    requires empty { lines.old.block ≡ [] }
+    requires begins { Begins stream.old lines.old.mode lines.old.taken lines.old.floor
+        lines.old.block }
     ensures fed { TakesOn stream.old stream.new piece.now }
     ensures writes { TracesPiece O.Sink (sorting_of lines.old.gates.now) stream.old
         lines.old.trace.now lines.new.trace.now piece.now lines.old.out.now lines.new.out.now result }
@@ -159,10 +157,8 @@ fn end_lines<'g, 't, 'o, O: Sink>(
     stream: RecordStream,
     lines: &mut TraceLines<'g, 't, 'o, O>,
 ) -> Result<(), Fault>
-    requires mode { lines.old.mode ≡ (how_of stream).mode }
-    requires stands { (lines.old.taken ≡ given_by stream) × (lines.old.floor ≡ greatest_of stream) }
+    requires begins { Begins stream lines.old.mode lines.old.taken lines.old.floor lines.old.block }
     requires going { refused_with stream ≡ None }
-    requires empty { lines.old.block ≡ [] }
     ensures writes { EndsLines O.Sink (sorting_of lines.old.gates.now) stream
         lines.old.trace.now lines.new.trace.now lines.old.out.now lines.new.out.now result }
     ensures going { is_going lines.new.trace.now ≡ true }

@@ -1,5 +1,4 @@
-use Rattle.std.proofs.Common.{◌++◌, [], append_assoc, arith}
-use Rattle.std.{proofs.Props.props, proofs.Math.Logic.{∥∥₁_map, ∥∥₁_elim}, proofs.lemmas.List.Sums.{sum_by_more, sum_by_more_le}}
+use Rattle.std.{proofs.Common.{◌++◌, [], append_assoc, arith}, proofs.Props.props, proofs.Math.Logic.{∥∥₁_map, ∥∥₁_elim}, proofs.lemmas.List.Sums.{sum_by_more, sum_by_more_le}}
 use Rattle.tally_base.specs.Settings.{coincidence_view}
 use Rattle.coincidence.{specs.declared.pairing.Bin.Bin, specs.Pairing.bin_pairs, proofs.Shut.both_fit, proofs.Together.{next_keep, three_runs}}
 use Rattle.coincidence.proofs.closing.keep_all.Goals as goal

@@ -1,5 +1,4 @@
-use Rattle.std.proofs.Common.{◌≡◌, ℕ, ◌+◌, ◌<◌, ◌≤◌, [], ◌++◌, length, get_or, take, drop}
-use Rattle.std.specs.List.{sum_by}
+use Rattle.std.{proofs.Common.{◌≡◌, ℕ, ◌+◌, ◌<◌, ◌≤◌, [], ◌++◌, length, get_or, take, drop}, specs.List.{sum_by}}
 use Rattle.tally_base.{specs.Settings.{coincidence_view, coincidence_cells}, specs.Tally.History}
 use Rattle.coincidence.{specs.Pairing.bin_pairs, specs.Closing.CanKeepAll}
 use Rattle.coincidence.proofs.closing.keep_all.Given as goal

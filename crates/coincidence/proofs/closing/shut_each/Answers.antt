@@ -1,5 +1,4 @@
-use Rattle.std.proofs.Common.{◌++◌, append_assoc, arith}
-use Rattle.std.proofs.Math.Logic.{∥∥₁_map}
+use Rattle.std.{proofs.Common.{◌++◌, append_assoc, arith}, proofs.Math.Logic.{∥∥₁_map}}
 use Rattle.tally_base.specs.Settings.{coincidence_view}
 use Rattle.coincidence.{specs.declared.pairing.Bin.Bin, proofs.Together.{next_shut, three_runs}}
 use Rattle.coincidence.proofs.closing.shut_each.Goals as goal

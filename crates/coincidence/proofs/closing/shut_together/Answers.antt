@@ -1,26 +1,29 @@
-use Rattle.std.proofs.Common.{arith, ◌∙◌}
-use Rattle.std.{proofs.Props.props, proofs.Math.Logic.{∥∥₁_map, ∥∥₁_elim}}
+use Rattle.std.{proofs.Common.{◌∙◌, ◌++◌, arith}, proofs.Props.props, proofs.Math.Logic.{∥∥₁_map, ∥∥₁_elim}}
 use Rattle.tally_base.specs.Settings.{coincidence_view}
-use Rattle.coincidence.{proofs.Chain.{all_fit, all_cells}, proofs.Together.shut_parts}
+use Rattle.lag_ring.proofs.Spots.{light-at}
+use Rattle.coincidence.{proofs.Chain.{all_fit, all_cells, bins_rising, bins_above}, proofs.Together.shut_parts, proofs.WindowPairs.rising_join}
 use Rattle.coincidence.proofs.closing.shut_together.Goals as goal
+
+pub pair_lags-requires-clause-photons : goal.pair_lags-requires-clause-photons
+pair_lags-requires-clause-photons g c = (
+  c.requires.window.1,
+  λ side top p. ∥∥₁_elim c.requires.stands (hlevel props) (λ w.
+      let set = coincidence_view c.args.set.now in
+      let rising = rising_join c.args.ring.now.entries c.args.later.now c.requires.window.0 (rw c.requires.entries (bins_rising set c.args.bins.now w.0 w.1 w.2.keep.are)) (rw c.requires.entries (bins_above set c.args.ring.now c.args.bins.now w.0 w.1 w.2.keep.were w.2.keep.are)) in
+      light-at side top c.args.low p c.args.most (c.args.ring.now.entries ++ c.args.later.now) rising c.requires.window.1.light),
+)
 
 pub pair_lags-requires-clause-fits : goal.pair_lags-requires-clause-fits
 pair_lags-requires-clause-fits g c = λ at inside. ∥∥₁_elim c.requires.stands (hlevel props) (λ w. omega (arith, all_fit (coincidence_view c.args.set.now) c.args.ring.now c.args.cells.now c.args.bins.now w.0 w.1 w.2 c.args.set.now.some_reach.0 c.requires.window.0 at inside, shut_parts (coincidence_view c.args.set.now) c.args.ring.now c.args.cells.now c.args.bins.now w.0 w.1 w.2 c.args.later.now c.requires.entries at))
-
-pub pair_lags-requires-2-clause-sized : goal.pair_lags-requires-2-clause-sized
-pair_lags-requires-2-clause-sized g c = ∥∥₁_elim c.requires.stands (hlevel props) (λ w. c.pair_lags.ensures.spends.same ∙ w.2.had.count)
-
-pub pair_lags-requires-2-clause-fits : goal.pair_lags-requires-2-clause-fits
-pair_lags-requires-2-clause-fits g c = λ at inside. ∥∥₁_elim c.requires.stands (hlevel props) (λ w. omega (arith, all_fit (coincidence_view c.args.set.now) c.args.ring.now c.args.cells.now c.args.bins.now w.0 w.1 w.2 c.args.set.now.some_reach.0 c.requires.window.0 at inside, shut_parts (coincidence_view c.args.set.now) c.args.ring.now c.args.cells.now c.args.bins.now w.0 w.1 w.2 c.args.later.now c.requires.entries at, c.pair_lags.ensures.cells at inside))
 
 pub keep_all-requires-clause-stands : goal.keep_all-requires-clause-stands
 keep_all-requires-clause-stands g c = ∥∥₁_map c.requires.stands (λ w. (w.0, w.1, w.2.keep))
 
 pub keep_all-requires-clause-sized : goal.keep_all-requires-clause-sized
-keep_all-requires-clause-sized g c = ∥∥₁_elim c.requires.stands (hlevel props) (λ w. c.pair_lags-2.ensures.spends.same ∙ c.pair_lags.ensures.spends.same ∙ w.2.had.count)
+keep_all-requires-clause-sized g c = ∥∥₁_elim c.requires.stands (hlevel props) (λ w. c.pair_lags.ensures.spends.same ∙ w.2.had.count)
 
 pub keep_all-requires-clause-fits : goal.keep_all-requires-clause-fits
-keep_all-requires-clause-fits g c = λ at inside. ∥∥₁_elim c.requires.stands (hlevel props) (λ w. omega (arith, all_fit (coincidence_view c.args.set.now) c.args.ring.now c.args.cells.now c.args.bins.now w.0 w.1 w.2 c.args.set.now.some_reach.0 c.requires.window.0 at inside, shut_parts (coincidence_view c.args.set.now) c.args.ring.now c.args.cells.now c.args.bins.now w.0 w.1 w.2 c.args.later.now c.requires.entries at, c.pair_lags.ensures.cells at inside, c.pair_lags-2.ensures.cells at inside))
+keep_all-requires-clause-fits g c = λ at inside. ∥∥₁_elim c.requires.stands (hlevel props) (λ w. omega (arith, all_fit (coincidence_view c.args.set.now) c.args.ring.now c.args.cells.now c.args.bins.now w.0 w.1 w.2 c.args.set.now.some_reach.0 c.requires.window.0 at inside, shut_parts (coincidence_view c.args.set.now) c.args.ring.now c.args.cells.now c.args.bins.now w.0 w.1 w.2 c.args.later.now c.requires.entries at, c.pair_lags.ensures.cells at inside))
 
 pub returns-clause-ring : goal.returns-clause-ring
 returns-clause-ring g c = λ closed xs can. c.keep_all.ensures.ring closed xs can.keep
@@ -28,6 +31,6 @@ returns-clause-ring g c = λ closed xs can. c.keep_all.ensures.ring closed xs ca
 pub returns-clause-cells : goal.returns-clause-cells
 returns-clause-cells g c = λ closed xs can.
     all_cells (coincidence_view c.args.set.now) c.args.ring.now c.args.cells.now c.args.bins.now closed xs can c.args.set.now.some_reach.0 c.requires.window.0 c.keep_all.new.cells c.requires.some.0
-    (λ at inside. omega (arith, shut_parts (coincidence_view c.args.set.now) c.args.ring.now c.args.cells.now c.args.bins.now closed xs can c.args.later.now c.requires.entries at, c.pair_lags.ensures.cells at inside, c.pair_lags-2.ensures.cells at inside, c.keep_all.ensures.cells at inside))
-    (c.keep_all.ensures.spends.same ∙ c.pair_lags-2.ensures.spends.same ∙ c.pair_lags.ensures.spends.same)
-    (omega (arith, c.pair_lags.ensures.spends.added, c.pair_lags-2.ensures.spends.added, c.keep_all.ensures.spends.added))
+    (λ at inside. omega (arith, shut_parts (coincidence_view c.args.set.now) c.args.ring.now c.args.cells.now c.args.bins.now closed xs can c.args.later.now c.requires.entries at, c.pair_lags.ensures.cells at inside, c.keep_all.ensures.cells at inside))
+    (c.keep_all.ensures.spends.same ∙ c.pair_lags.ensures.spends.same)
+    (omega (arith, c.pair_lags.ensures.spends.added, c.keep_all.ensures.spends.added))

@@ -1,18 +1,15 @@
-use Rattle.std.proofs.Common.{◌≡◌, ◌∙◌, ◌+◌, ◌<◌, ◌++◌, true, false, length, ap, rules, arith, append_assoc, nat_lt}
-use Rattle.std.proofs.lemmas.Bool.Decides.{nat_tests}
+use Rattle.std.{proofs.Common.{◌≡◌, ◌∙◌, ◌+◌, ◌<◌, ◌++◌, true, false, length, ap, rules, arith, append_assoc, nat_lt}, proofs.lemmas.Bool.Decides.{nat_tests}}
 use Rattle.tally_base.{specs.Events.is_in, specs.Settings.startstop_view, specs.Tally.moves_floor, specs.Columns.{item, event_at, rows, code_at, groups_at, time_at}, specs.Floors.floor_after, proofs.Back.moves_row, proofs.BlockRows.more_rows, proofs.Floors.{floor-more, order-at}}
 use Rattle.coincidence.{specs.Starts.since_in, proofs.Blocks.{photon_step, marker_step, in_group, later, kept_floor}, proofs.counting.count_block.Goals.{then-code-lt256, else-code-lt256}}
 use Rattle.coincidence.proofs.counting.count_block.Goals as goal
 
 pub overflow_sub-time : goal.overflow_sub-time
 overflow_sub-time c =
-    let inv = c.loop-at.invariant in
     let b = c.args.block.now in
     let at = c.loop-at.at in
-    let within : at < b.len = search (rules, arith) in
     let photon : nat_lt (code_at b at) 256 ≡ true = grind (arith, nat_tests, c.if-code-lt256.true, c.code.ensures) in
-    let next = order-at false (since_in c.args.start.now) (event_at b) b.len at within c.requires.in_order in
-    rw c.time-time.ensures (omega (arith, inv.begun, next.1 (moves_row false b at ∙ photon)))
+    let next = order-at false (since_in c.args.start.now) (event_at b) b.len at (search (rules, arith)) c.requires.in_order in
+    rw c.time-time.ensures (omega (arith, c.loop-at.invariant.begun, next.1 (moves_row false b at ∙ photon)))
 
 pub loop-at-preserved : goal.loop-at-preserved
 loop-at-preserved c =

@@ -1,6 +1,55 @@
-use Rattle.std.{proofs.Props.props, proofs.Math.Logic.∥∥₁_elim}
-use Rattle.coincidence.proofs.Gathers.{gather_joins, gather_shuts, gather_first, gather_fits}
+use Rattle.std.{proofs.Props.props, proofs.Math.Logic.∥∥₁_elim, proofs.Common.{◌≡◌, ◌≢◌, ◌∙◌, ◌+◌, ◌^◌, ◌<◌, Some, None, ◌&&◌, List, [], ◌∷◌, ◌++◌, length, refl, sym, ap, arith, append-nil, append_assoc, length-append, rules}, specs.List.AllByRecursion, proofs.lemmas.List.Sums.count_by-le-length}
+use Rattle.tally_base.{specs.Settings.CoincidenceView, specs.Tally.History}
+use Rattle.coincidence.{specs.declared.pairing.Bin.Bin, specs.Pairs.{in_first, in_second}, specs.Pairing.{joined, BinIs}, specs.Closing.{BinsAre, Gathered, CanGather}, proofs.Puts.{joined_is, behind_bin}}
 use Rattle.coincidence.proofs.gathering.gather_bin.Goals as goal
+
+-- photons that come behind gathered bins
+module _ (set : CoincidenceView) where
+  -- a bin more behind the others
+  bins_push : (bins : List Bin) (bin : Bin) (closed xs ys : History) → BinsAre set bins closed xs → BinIs set bin ys → AllByRecursion (λ x. x.0.time < bin.weights.index) (closed ++ xs) → BinsAre set (bins ++ bin ∷ []) closed (xs ++ ys)
+  bins_push [] bin closed xs ys are is after = (ys, [], rw are (sym (append-nil ys)), is, (rw (are, append-nil closed) at after), refl)
+  bins_push (b ∷ bins) bin closed xs ys are is after = (
+    are.0,
+    are.1 ++ ys,
+    rw are.2 (append_assoc are.0 are.1 ys),
+    are.3,
+    are.4,
+    bins_push bins bin (closed ++ are.0) are.1 ys are.5 is (rw (append_assoc closed are.0 are.1, ← are.2) after),
+  )
+
+  module _ (last bin : Bin) (bins : List Bin) (closed came xs : History) (can : CanGather set (Some last) bins bin closed came xs) where
+    gather_joins : last.weights.index ≡ bin.weights.index → Gathered set (Some (joined last bin)) bins closed (came ++ xs)
+    gather_joins same =
+        let was = can.was in
+        (was.0, was.1 ++ xs, rw was.2 (append_assoc (closed ++ was.0) was.1 xs), was.3, (joined_is set last bin was.1 xs was.4.0 can.is same, was.4.1))
+
+    gather_shuts : last.weights.index ≢ bin.weights.index → Gathered set (Some bin) (bins ++ last ∷ []) closed (came ++ xs)
+    gather_shuts other =
+        let was = can.was in
+        let all : (closed ++ was.0) ++ was.1 ≡ closed ++ (was.0 ++ was.1) = append_assoc closed was.0 was.1 in
+        let behind : AllByRecursion (λ x. x.0.time < bin.weights.index) ((closed ++ was.0) ++ was.1) = behind_bin set last bin (closed ++ was.0) was.1 was.4.0 was.4.1 (rw was.2 at can.after) other in
+        (was.0 ++ was.1, xs, ap (λ ys. ys ++ xs) (was.2 ∙ all), bins_push bins last closed was.0 was.1 was.3 was.4.0 was.4.1, (can.is, rw all at behind))
+
+  -- the first photons of all are in the open bin
+  gather_first : (bin : Bin) (bins : List Bin) (closed came xs : History) → CanGather set None bins bin closed came xs → Gathered set (Some bin) bins closed (came ++ xs)
+  gather_first bin bins closed came xs can = search (rules, arith, append-nil)
+
+module _ (set : CoincidenceView) (bin : Bin) (bins : List Bin) (closed came xs : History) where
+  -- the open bin can take more photons of its tick
+  gather_fits : (last : Bin) → CanGather set (Some last) bins bin closed came xs → (last.weights.a + bin.weights.a < 2 ^ 64) × (last.weights.b + bin.weights.b < 2 ^ 64) × (last.both + bin.both < 2 ^ 64)
+  gather_fits last can =
+      let was = can.was in
+      let all : length came ≡ length (closed ++ was.0) + length was.1 = ap length was.2 ∙ length-append (closed ++ was.0) was.1 in
+      let a = count_by-le-length (in_first set) was.1 in
+      let b = count_by-le-length (in_second set) was.1 in
+      let both = count_by-le-length (λ x. in_first set x && in_second set x) was.1 in
+      let more_a = count_by-le-length (in_first set) xs in
+      let more_b = count_by-le-length (in_second set) xs in
+      let more_both = count_by-le-length (λ x. in_first set x && in_second set x) xs in (
+        omega (arith, all, can.few, was.4.0.weighs.a, can.is.weighs.a, a, more_a),
+        omega (arith, all, can.few, was.4.0.weighs.b, can.is.weighs.b, b, more_b),
+        omega (arith, all, can.few, was.4.0.both, can.is.both, both, more_both),
+      )
 
 pub with-requires-clause-a : goal.with-requires-clause-a
 with-requires-clause-a c = ∥∥₁_elim c.requires.stands (hlevel props) (λ w. (gather_fits w.0 c.args.bin c.args.bins.now.items w.1 w.2 w.3 c.in-Some.open (rw c.in-Some.is at w.4)).0)

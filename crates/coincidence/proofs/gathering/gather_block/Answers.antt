@@ -1,5 +1,4 @@
-use Rattle.std.proofs.Common.{◌≡◌, ◌<◌, [], ◌∷◌, ◌++◌, append-nil, rules, arith}
-use Rattle.std.proofs.Math.Logic.{∥∥₁_map}
+use Rattle.std.{proofs.Common.{◌≡◌, ◌<◌, [], ◌∷◌, ◌++◌, append-nil, rules, arith}, proofs.Math.Logic.{∥∥₁_map}}
 use Rattle.tally_base.{specs.Settings.coincidence_view, specs.Columns.{item, rows}}
 use Rattle.coincidence.{specs.Pairing.pairing_of, specs.Pairs.photons_of_groups, proofs.GatherRows.{gathered_none, gathered_same, gather_row, gathered_more}, proofs.gathering.gather_block.Goals.{then-first-second, else-first-second}}
 use Rattle.coincidence.proofs.gathering.gather_block.Goals as goal

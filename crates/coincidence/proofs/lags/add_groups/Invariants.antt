@@ -1,5 +1,4 @@
-use Rattle.std.proofs.Common.{◌≡◌, ℕ, ◌+◌, ◌<◌, ◌≤◌, length, get_or}
-use Rattle.std.specs.List.{sum_by, range_with_len}
+use Rattle.std.{proofs.Common.{◌≡◌, ℕ, ◌+◌, ◌<◌, ◌≤◌, length, get_or}, specs.List.{sum_by, range_with_len}}
 use Rattle.tally_base.specs.Settings.{coincidence_view, coincidence_cells}
 use Rattle.coincidence.specs.Closing.{strip_pairs}
 use Rattle.coincidence.proofs.lags.add_groups.Given as goal

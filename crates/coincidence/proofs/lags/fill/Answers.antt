@@ -1,31 +1,53 @@
-use Rattle.std.proofs.Common.{◌<◌, ◌+◌, ◌^◌, ℕ, eqb, cond, length, arith}
-use Rattle.lag_ring.{specs.declared.ring.Entry.Entry, specs.Window.weight_of, proofs.Lists.all_back, proofs.Windows.weight_at-le}
+use Rattle.std.proofs.Common.{◌<◌, ◌+◌, ◌^◌, eqb, cond, length, arith}
+use Rattle.lag_ring.{specs.declared.ring.Entry.Entry, proofs.Lists.all_back}
 use Rattle.coincidence.proofs.WindowPairs.{three-sums}
 use Rattle.coincidence.proofs.lags.fill.Goals as goal
 
-pub put_weights-requires-2-clause-early : goal.put_weights-requires-2-clause-early
-put_weights-requires-2-clause-early c = all_back (λ (e : Entry). e.index + c.from-top.result < 2 ^ 64) c.slices.result.0.now c.slices.result.1.now (rw (c.slices.ensures.entries, c.from-top.ensures) c.requires.early)
+pub put_bytes-requires-clause-fit : goal.put_bytes-requires-clause-fit
+put_bytes-requires-clause-fit c = (
+  λ p at. omega (arith, c.requires.fit.0 p at, three-sums (λ (e : Entry). cond (eqb (e.index + c.args.top) (c.args.low + p)) e.a 0) c.slices.result.0.now c.slices.result.1.now c.args.ring.now.entries c.args.later.now c.slices.ensures.entries),
+  λ p at. omega (arith, c.requires.fit.1 p at, three-sums (λ (e : Entry). cond (eqb (e.index + c.args.top) (c.args.low + p)) e.b 0) c.slices.result.0.now c.slices.result.1.now c.args.ring.now.entries c.args.later.now c.slices.ensures.entries),
+)
 
-pub put_weights-requires-3-clause-early : goal.put_weights-requires-3-clause-early
-put_weights-requires-3-clause-early c = rw c.from-top.ensures c.requires.early_later
+pub put_bytes-requires-2-clause-early : goal.put_bytes-requires-2-clause-early
+put_bytes-requires-2-clause-early c = all_back (λ (e : Entry). e.index + c.args.top < 2 ^ 64) c.slices.result.0.now c.slices.result.1.now (rw c.slices.ensures.entries c.requires.early)
 
-pub put_weights-requires-2-clause-fits : goal.put_weights-requires-2-clause-fits
-put_weights-requires-2-clause-fits c = λ p inside.
-    let at : p < length c.args.window.now = omega (arith, inside, c.put_weights.ensures.same) in
-    omega (arith, c.put_weights.ensures.weights p at, c.requires.empty p at, c.requires.few, weight_at-le c.args.side c.from-top.result c.args.low p c.slices.result.0.now, three-sums (weight_of c.args.side) c.slices.result.0.now c.slices.result.1.now c.args.ring.now.entries c.args.later.now c.slices.ensures.entries)
+pub put_bytes-requires-2-clause-fit : goal.put_bytes-requires-2-clause-fit
+put_bytes-requires-2-clause-fit c =
+    let one = c.put_bytes.ensures in (
+      λ p inside.
+          let at : p < length c.args.firsts.now = omega (arith, inside, one.same.0) in
+          omega (arith, one.have.0 p at, c.requires.fit.0 p at, three-sums (λ (e : Entry). cond (eqb (e.index + c.args.top) (c.args.low + p)) e.a 0) c.slices.result.0.now c.slices.result.1.now c.args.ring.now.entries c.args.later.now c.slices.ensures.entries),
+      λ p inside.
+          let at : p < length c.args.seconds.now = omega (arith, inside, one.same.1, c.requires.sized) in
+          omega (arith, one.have.1 p at, c.requires.fit.1 p at, three-sums (λ (e : Entry). cond (eqb (e.index + c.args.top) (c.args.low + p)) e.b 0) c.slices.result.0.now c.slices.result.1.now c.args.ring.now.entries c.args.later.now c.slices.ensures.entries),
+    )
 
-pub put_weights-requires-3-clause-fits : goal.put_weights-requires-3-clause-fits
-put_weights-requires-3-clause-fits c = λ p inside.
-    let middle : p < length c.put_weights.new.window = omega (arith, inside, c.put_weights-2.ensures.same) in
-    let at : p < length c.args.window.now = omega (arith, middle, c.put_weights.ensures.same) in
-    omega (arith, c.put_weights-2.ensures.weights p middle, c.put_weights.ensures.weights p at, c.requires.empty p at, c.requires.few, weight_at-le c.args.side c.from-top.result c.args.low p c.slices.result.0.now, weight_at-le c.args.side c.from-top.result c.args.low p c.slices.result.1.now, three-sums (weight_of c.args.side) c.slices.result.0.now c.slices.result.1.now c.args.ring.now.entries c.args.later.now c.slices.ensures.entries)
+pub put_bytes-requires-3-clause-fit : goal.put_bytes-requires-3-clause-fit
+put_bytes-requires-3-clause-fit c =
+    let one = c.put_bytes.ensures in
+    let two = c.put_bytes-2.ensures in (
+      λ p inside.
+          let middle : p < length c.put_bytes.new.firsts = omega (arith, inside, two.same.0) in
+          let at : p < length c.args.firsts.now = omega (arith, middle, one.same.0) in
+          omega (arith, two.have.0 p middle, one.have.0 p at, c.requires.fit.0 p at, three-sums (λ (e : Entry). cond (eqb (e.index + c.args.top) (c.args.low + p)) e.a 0) c.slices.result.0.now c.slices.result.1.now c.args.ring.now.entries c.args.later.now c.slices.ensures.entries),
+      λ p inside.
+          let middle : p < length c.put_bytes.new.seconds = omega (arith, inside, two.same.1, one.same.0, one.same.1) in
+          let at : p < length c.args.seconds.now = omega (arith, middle, one.same.1, c.requires.sized) in
+          omega (arith, two.have.1 p middle, one.have.1 p at, c.requires.fit.1 p at, three-sums (λ (e : Entry). cond (eqb (e.index + c.args.top) (c.args.low + p)) e.b 0) c.slices.result.0.now c.slices.result.1.now c.args.ring.now.entries c.args.later.now c.slices.ensures.entries),
+    )
 
-pub returns-clause-weights : goal.returns-clause-weights
-returns-clause-weights c = λ p at.
-    let middle : p < length c.put_weights.new.window = omega (arith, at, c.put_weights.ensures.same) in
-    let last : p < length c.put_weights-2.new.window = omega (arith, middle, c.put_weights-2.ensures.same) in
-    let f : Entry → ℕ = λ e. cond (eqb (e.index + c.args.top) (c.args.low + p)) (weight_of c.args.side e) 0 in
-    let first = rw c.from-top.ensures at (c.put_weights.ensures.weights p at) in
-    let second = rw c.from-top.ensures at (c.put_weights-2.ensures.weights p middle) in
-    let third = rw c.from-top.ensures at (c.put_weights-3.ensures.weights p last) in
-    omega (arith, first, second, third, c.requires.empty p at, three-sums f c.slices.result.0.now c.slices.result.1.now c.args.ring.now.entries c.args.later.now c.slices.ensures.entries)
+pub returns-clause-have : goal.returns-clause-have
+returns-clause-have c =
+    let one = c.put_bytes.ensures in
+    let two = c.put_bytes-2.ensures in
+    let three = c.put_bytes-3.ensures in (
+      λ p at.
+          let middle : p < length c.put_bytes.new.firsts = omega (arith, at, one.same.0) in
+          let last : p < length c.put_bytes-2.new.firsts = omega (arith, middle, two.same.0) in
+          omega (arith, three.have.0 p last, two.have.0 p middle, one.have.0 p at, three-sums (λ (e : Entry). cond (eqb (e.index + c.args.top) (c.args.low + p)) e.a 0) c.slices.result.0.now c.slices.result.1.now c.args.ring.now.entries c.args.later.now c.slices.ensures.entries),
+      λ p at.
+          let middle : p < length c.put_bytes.new.seconds = omega (arith, at, one.same.1, c.requires.sized) in
+          let last : p < length c.put_bytes-2.new.seconds = omega (arith, middle, two.same.1, one.same.0, one.same.1) in
+          omega (arith, three.have.1 p last, two.have.1 p middle, one.have.1 p at, three-sums (λ (e : Entry). cond (eqb (e.index + c.args.top) (c.args.low + p)) e.b 0) c.slices.result.0.now c.slices.result.1.now c.args.ring.now.entries c.args.later.now c.slices.ensures.entries),
+    )

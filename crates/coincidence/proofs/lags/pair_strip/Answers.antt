@@ -1,16 +1,16 @@
-use Rattle.std.proofs.Common.{◌≡◌, ◌<◌, ◌+◌, ◌-◌, ℕ, get_or}
-use Rattle.std.specs.List.{sum_by}
+use Rattle.std.proofs.Common.{◌≤◌, ◌+◌, ◌-◌, length, arith}
 use Rattle.tally_base.specs.Settings.{coincidence_view}
-use Rattle.lag_ring.specs.Window.{product_at}
-use Rattle.coincidence.{specs.Closing.later_side, proofs.WindowPairs.strip-window}
+use Rattle.lag_ring.{proofs.Rising.all_weaker}
+use Rattle.coincidence.{proofs.WindowPairs.strip-window}
 use Rattle.coincidence.proofs.lags.pair_strip.Goals as goal
+
+pub byte_lag_sums-sums-requires-clause-inside : goal.byte_lag_sums-sums-requires-clause-inside
+byte_lag_sums-sums-requires-clause-inside g c = all_weaker (λ s. s + c.args.top ≤ length c.args.window.now) (λ s. s + (c.args.top - 256 - c.args.least) + 256 ≤ length c.args.window.now) (λ s is. omega (arith, is, c.requires.inside.2)) c.args.spots.now c.requires.window.near
 
 pub add_sums-requires-clause-fits : goal.add_sums-requires-clause-fits
 add_sums-requires-clause-fits g c = λ at inside.
-    let sums : (q : ℕ) → q < 64 → get_or c.lag_sums-sums.result q 0 ≡ sum_by (product_at (later_side c.args.direction) c.args.window.now c.args.low (c.args.top - 64 - c.args.least + q)) c.args.later.now = λ q lag. rw c.later_side.ensures at (c.lag_sums-sums.ensures.sums q lag) in
-    rw (strip-window c.args.direction (coincidence_view c.args.set) at c.args.least c.args.count c.args.top c.args.low c.lag_sums-sums.result c.args.window.now c.args.later.now c.requires.inside.0 c.requires.inside.2 sums) (c.requires.fits at inside)
+    rw (strip-window c.args.direction (coincidence_view c.args.set) at c.args.least c.args.count c.args.top c.byte_lag_sums-sums.result c.args.window.now c.args.spots.now c.requires.inside.0 c.requires.inside.2 c.byte_lag_sums-sums.ensures.sums) (c.requires.fits at inside)
 
 pub returns-clause-cells : goal.returns-clause-cells
 returns-clause-cells g c = λ at inside.
-    let sums : (q : ℕ) → q < 64 → get_or c.lag_sums-sums.result q 0 ≡ sum_by (product_at (later_side c.args.direction) c.args.window.now c.args.low (c.args.top - 64 - c.args.least + q)) c.args.later.now = λ q lag. rw c.later_side.ensures at (c.lag_sums-sums.ensures.sums q lag) in
-    rw (strip-window c.args.direction (coincidence_view c.args.set) at c.args.least c.args.count c.args.top c.args.low c.lag_sums-sums.result c.args.window.now c.args.later.now c.requires.inside.0 c.requires.inside.2 sums) at (c.add_sums.ensures.cells at inside)
+    rw (strip-window c.args.direction (coincidence_view c.args.set) at c.args.least c.args.count c.args.top c.byte_lag_sums-sums.result c.args.window.now c.args.spots.now c.requires.inside.0 c.requires.inside.2 c.byte_lag_sums-sums.ensures.sums) at (c.add_sums.ensures.cells at inside)

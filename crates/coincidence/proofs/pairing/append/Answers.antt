@@ -1,5 +1,4 @@
-use Rattle.std.proofs.Common.{◌<◌}
-use Rattle.std.{specs.List.AllByRecursion-prop, proofs.Props.props, proofs.Math.Logic.{∥∥₁_elim, ∥∥₁_map}}
+use Rattle.std.{proofs.Common.{◌<◌, arith, rules}, specs.List.AllByRecursion-prop, proofs.Props.props, proofs.Math.Logic.{∥∥₁_elim, ∥∥₁_map}}
 use Rattle.tally_base.specs.Settings.{coincidence_view}
 use Rattle.lag_ring.specs.declared.ring.Entry.{Entry}
 use Rattle.coincidence.proofs.Shut.{both_fit, before, may_fit, cells_shut}
@@ -15,7 +14,7 @@ pub pair-requires-clause-fits : goal.pair-requires-clause-fits
 pair-requires-clause-fits g c = ∥∥₁_elim c.requires.stands (hlevel props) (λ w. may_fit (coincidence_view c.args.set.now) c.args.ring.now c.args.cells.now c.args.bin.now w.0 w.1 w.2)
 
 pub returns-clause-cells : goal.returns-clause-cells
-returns-clause-cells g c = λ closed xs can. cells_shut (coincidence_view c.args.set.now) c.args.ring.now c.args.cells.now c.args.bin.now closed xs can c.pair.new.cells c.pair.ensures.cells c.pair.ensures.spends.same c.pair.ensures.spends.added
+returns-clause-cells g c = search (rules, arith, cells_shut)
 
 pub keep-requires : goal.keep-requires
 keep-requires g c = record { stands = ∥∥₁_map c.requires.stands (λ w. (w.0, w.1, w.2.keep)) }

@@ -1,5 +1,4 @@
-use Rattle.std.proofs.Common.{arith, ◌≡◌, ◌<◌, ◌≤◌, ◌+◌, ◌-◌, length, ap, leb}
-use Rattle.std.{specs.List.{AllByRecursion, AllByRecursion-prop, filter}, proofs.Props.props, proofs.Math.Logic.∥∥₁_elim}
+use Rattle.std.{proofs.Common.{arith, ◌≡◌, ◌<◌, ◌≤◌, ◌+◌, ◌-◌, length, ap, leb}, specs.List.{AllByRecursion, AllByRecursion-prop, filter}, proofs.Props.props, proofs.Math.Logic.∥∥₁_elim}
 use Rattle.tally_base.specs.Settings.{coincidence_view}
 use Rattle.lag_ring.{specs.declared.ring.Entry.Entry, specs.Ring.Ring, proofs.Lists.all_filter}
 use Rattle.coincidence.proofs.Shut.{before, room_shut, ring_shut}

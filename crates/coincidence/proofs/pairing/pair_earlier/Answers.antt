@@ -4,10 +4,7 @@ use Rattle.coincidence.{specs.Pairing.shifted_by, proofs.Visits.{pairs_near, pai
 use Rattle.coincidence.proofs.pairing.pair_earlier.Goals as goal
 
 pub add_pairs-requires-clause-inside : goal.add_pairs-requires-clause-inside
-add_pairs-requires-clause-inside g c =
-    let near : c.args.index - c.args.earlier.now.index ≤ c.args.set.reach = search rules in
-    let inside = shifted_inside c.args.direction c.args.set.reach (c.args.index - c.args.earlier.now.index) c.args.set.width (search rules) near in
-    rw c.shifted.ensures (omega (arith, inside, c.requires.sized))
+add_pairs-requires-clause-inside g c = search (rules, arith, shifted_inside)
 
 pub add_pairs-requires-clause-sum : goal.add_pairs-requires-clause-sum
 add_pairs-requires-clause-sum g c =
@@ -19,13 +16,7 @@ add_pairs-requires-clause-sum g c =
     rw (c.shifted.ensures, c.weight.ensures) (one_fits _ _ _ at fits)
 
 pub returns-then-is_near-clause-cells : goal.returns-then-is_near-clause-cells
-returns-then-is_near-clause-cells g c = λ at inside.
-    let set = coincidence_view c.args.set in
-    let pairs = pairs_near set c.args.index c.args.earlier.now c.requires.after (search rules) c.args.direction c.args.later at in
-    let added = (rw (c.shifted.ensures, c.weight.ensures) at (c.add_pairs.ensures.cells at (search rules))) in
-    omega (arith, pairs, added)
+returns-then-is_near-clause-cells g c = search (rules, arith, pairs_near)
 
 pub returns-else-is_near-clause-cells : goal.returns-else-is_near-clause-cells
-returns-else-is_near-clause-cells g c = λ at inside.
-    let far : c.args.set.reach < c.args.index - c.args.earlier.now.index = search rules in
-    omega (arith, pairs_far (coincidence_view c.args.set) c.args.index c.args.earlier.now far c.args.direction c.args.later at)
+returns-else-is_near-clause-cells g c = search (rules, arith, pairs_far)

@@ -1,5 +1,4 @@
-use Rattle.std.proofs.Common.{refl}
-use Rattle.std.proofs.Math.Logic.{∥∥₁_map}
+use Rattle.std.{proofs.Common.{refl}, proofs.Math.Logic.{∥∥₁_map}}
 use Rattle.tally_base.specs.Settings.{coincidence_view}
 use Rattle.coincidence.{specs.Pairing.pairing_of, proofs.Puts.{can_shut, joins, moved_on}}
 use Rattle.coincidence.proofs.pairing.put.Goals as goal

@@ -1,5 +1,4 @@
-use Rattle.std.proofs.Common.{◌<◌, [], ◌∷◌, rules, arith}
-use Rattle.std.proofs.Math.Logic.{∥∥₁_map}
+use Rattle.std.{proofs.Common.{◌<◌, [], ◌∷◌, rules, arith}, proofs.Math.Logic.{∥∥₁_map}}
 use Rattle.tally_base.{specs.Settings.coincidence_view, specs.Columns.item}
 use Rattle.coincidence.{specs.Pairing.pairing_of, proofs.Blockwise.{came_same, put_row, came_more}, proofs.taking.take_each.Goals.{then-first-second, else-first-second}}
 use Rattle.coincidence.proofs.taking.take_each.Goals as goal

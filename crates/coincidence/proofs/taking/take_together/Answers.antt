@@ -1,5 +1,4 @@
-use Rattle.std.proofs.Common.{◌++◌}
-use Rattle.std.proofs.Math.Logic.{∥∥₁_map}
+use Rattle.std.{proofs.Common.{◌++◌}, proofs.Math.Logic.{∥∥₁_map}}
 use Rattle.tally_base.specs.Settings.{coincidence_view}
 use Rattle.coincidence.{specs.Closing.CanShutAll, proofs.GatherRows.can_shut_all}
 use Rattle.coincidence.proofs.taking.take_together.Goals as goal

@@ -1,8 +1,7 @@
-use Rattle.std.proofs.Common.{◌≡◌, arith, [], ◌++◌, Ok, Err, take, refl, sym, ap, ◌∙◌, append-nil, inr}
-use Rattle.std.{proofs.lemmas.List.length-take, proofs.lemmas.Slice.between_is}
+use Rattle.std.{proofs.Common.{arith, [], ◌++◌, Ok, Err, take, refl, sym, ap, ◌∙◌, append-nil, inr, rules}, proofs.lemmas.List.length-take, proofs.lemmas.Slice.between_is}
 use Rattle.tally_base.{specs.declared.slot.Slot.TheVariants.Data, proofs.Reasons.HasReason-inside}
 use Rattle.bench_io.{proofs.Givens.{Consumes-nil, Consumes-kept, Consumes-trans}, proofs.States.OnlyReads-refl}
-use Rattle.command_work.{proofs.Pieces.{IsCut-nil, some_used}, specs.Outcomes.IsCut, proofs.Told.{Says-at_end, Says-shown, reads-on, fails-on}, proofs.Few.{stops-unread, stops-piece}, proofs.Once.{Rose-kept, quiet-none, quiet-inside, once-refl, once-read, once-unread}}
+use Rattle.command_work.{proofs.Pieces.{IsCut-nil, some_used}, specs.Outcomes.IsCut, proofs.Told.{Says-shown, reads-on, fails-on}, proofs.Few.{stops-unread, stops-piece}, proofs.Once.{Rose-kept, quiet-none, quiet-inside, once-refl, once-read, once-unread}}
 use Rattle.ptu_definitions.specs.Headers.{header_answer}
 use Rattle.command_work.proofs.data.read_header.Goals as goal
 
@@ -42,16 +41,7 @@ returns-in-Refused-clause-answer g c =
     )
 
 pub returns-then-len-eq0-clause-answer : goal.returns-then-len-eq0-clause-answer
-returns-then-len-eq0-clause-answer g c =
-    let so_far = c.pieces.invariant.taken in
-    let piece = take c.in-Ok.len c.read.new.into in
-    let none : piece ≡ [] = rw c.if-len-eq0.true refl in
-    let all : so_far.0 ++ piece ≡ so_far.0 = ap (λ l. so_far.0 ++ l) none ∙ append-nil so_far.0 in (
-      so_far.0 ++ piece,
-      Consumes-trans _ _ _ so_far.0 piece so_far.1 c.in-Ok.ensures.gives.0,
-      inr (Says-at_end header_answer (so_far.0 ++ piece) _ (Err c.finish.result) (c.in-Ok.ensures.gives.1.1 (inr (c.if-len-eq0.true, omega (arith, c.requires.room, c.pieces.auto.buffer, c.read.auto.into))))
-          (ap header_answer all ∙ c.finish.ensures.answer so_far.0 so_far.2)),
-    )
+returns-then-len-eq0-clause-answer g c = search (rules, arith, append-nil)
 
 pub pieces-init : goal.pieces-init
 pieces-init g c = record { reads = OnlyReads-refl _ _; taken = ([], Consumes-nil _, c.new-reader.ensures.start, IsCut-nil); is_open = c.new-reader.ensures.is_open; unended = record { said_before = λ ended. ended }; once = once-refl _ _ quiet-none }
@@ -80,10 +70,10 @@ returns-in-Refused-clause-stops g c =
     (omega (arith, c.requires.small, c.pieces.auto.buffer, c.read.auto.into)) c.in-Refused.ensures.inside tt
 
 pub returns-in_default-clause-once : goal.returns-in_default-clause-once
-returns-in_default-clause-once g c = once-unread Data _ _ _ c.pieces.invariant.once c.read.ensures.keeps_other c.read.ensures.opens_none c.in_default.ensures.cause.once
+returns-in_default-clause-once g c = search (rules, arith, once-unread)
 
 pub returns-then-len-eq0-clause-once : goal.returns-then-len-eq0-clause-once
-returns-then-len-eq0-clause-once g c = once-read Data _ _ _ _ (quiet-inside c.finish.result c.finish.ensures.inside) c.pieces.invariant.once c.read.ensures.keeps_other c.read.ensures.opens_none c.in-Ok.ensures.cause.kept
+returns-then-len-eq0-clause-once g c = search (rules, arith, once-read, quiet-inside)
 
 pub returns-in-Done-clause-once : goal.returns-in-Done-clause-once
 returns-in-Done-clause-once g c = once-read Data _ _ _ _ quiet-none c.pieces.invariant.once c.read.ensures.keeps_other c.read.ensures.opens_none c.in-Ok.ensures.cause.kept

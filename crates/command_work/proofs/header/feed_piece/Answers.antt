@@ -1,12 +1,10 @@
-use Rattle.std.proofs.Common.{[], ◌++◌, take, drop, ap, sym, ◌∙◌, append-nil, arith}
+use Rattle.std.proofs.Common.{[], ◌++◌, take, drop, ap, sym, ◌∙◌, append-nil, arith, rules}
 use Rattle.ptu_definitions.specs.Headers.{header_answer}
 use Rattle.command_work.proofs.Pieces.{HasRead-further, whole-piece-more}
 use Rattle.command_work.proofs.header.feed_piece.Goals as goal
 
 pub steps-smaller-in-Preamble : goal.steps-smaller-in-Preamble
-steps-smaller-in-Preamble c =
-    let s = c.in-Preamble.ensures.step c.steps.invariant.started.0 c.steps.invariant.started.1 in
-    omega (arith, s.0.0, s.0.1, c.split_at.ensures.back_len, c.steps.invariant.fits)
+steps-smaller-in-Preamble c = search (rules, arith)
 
 pub steps-preserved-in-Preamble : goal.steps-preserved-in-Preamble
 steps-preserved-in-Preamble c =
@@ -20,9 +18,7 @@ steps-preserved-in-Preamble c =
     }
 
 pub steps-smaller-in-Tag : goal.steps-smaller-in-Tag
-steps-smaller-in-Tag c =
-    let s = c.in-Tag.ensures.step c.steps.invariant.started.0 c.steps.invariant.started.1 in
-    omega (arith, s.0.0, s.0.1, c.split_at.ensures.back_len, c.steps.invariant.fits)
+steps-smaller-in-Tag c = search (rules, arith)
 
 pub steps-preserved-in-Tag : goal.steps-preserved-in-Tag
 steps-preserved-in-Tag c =
@@ -36,9 +32,7 @@ steps-preserved-in-Tag c =
     }
 
 pub steps-smaller : goal.steps-smaller
-steps-smaller c =
-    let s = c.in-Body.ensures.step c.steps.invariant.started.0 c.steps.invariant.started.1 in
-    omega (arith, s.0.0, s.0.1, c.split_at.ensures.back_len, c.steps.invariant.fits)
+steps-smaller c = search (rules, arith)
 
 pub steps-preserved : goal.steps-preserved
 steps-preserved c =

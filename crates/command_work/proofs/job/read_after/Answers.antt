@@ -1,5 +1,4 @@
-use Rattle.std.proofs.Common.{[], Ok, Err, sym, append-nil, slice_range}
-use Rattle.std.proofs.lemmas.Result.{err_from_is_err_and}
+use Rattle.std.{proofs.Common.{[], Ok, Err, sym, append-nil, slice_range}, proofs.lemmas.Result.{err_from_is_err_and}}
 use Rattle.command_work.proofs.Fronts.{WritesText-behind, front-fails, open-fails, rest-follows}
 use Rattle.command_work.proofs.job.read_after.Goals as goal
 

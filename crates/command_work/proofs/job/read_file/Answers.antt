@@ -1,7 +1,98 @@
-use Rattle.std.proofs.Common.{arith}
-use Rattle.std.{proofs.lemmas.Result.err_from_is_err_and}
-use Rattle.command_work.{specs.Endings.span, proofs.Headed.{leaves-rest, leaves-unheaded}, proofs.Pieces.few_behind}
+use Rattle.std.{proofs.Common.{arith, ◌≡◌, ◌∙◌, ◌<◌, ℕ, List, [], ◌++◌, None, Some, Ok, Err, refl, sym, ap, subst, inl, inr, ⊎_elim, append_assoc, append-nil, length, ◌⊎◌, true, Result, IsErrAnd, rules}, proofs.lemmas.Result.{err_from_is_err_and, IfErr-weaker}, specs.declared.option.Option.Option}
+use Rattle.tally_base.{specs.declared.fault.Fault.Fault, specs.declared.slot.Slot.TheVariants.Data, specs.declared.header.Header.Header, specs.Faults.{is_outside, fault_in}, proofs.Reasons.{HasReason-follows, HasReason-with}}
+use Rattle.bench_io.{specs.Given.{Given, Consumes}, specs.Inputs.InputState, proofs.Givens.Consumes-trans, proofs.Bytes.AppendsShort-same}
+use Rattle.ptu_definitions.specs.Headers.{header_answer}
+use Rattle.command_work.{specs.Endings.{span, Span}, proofs.Pieces.{few_behind, ShowsHeader}, specs.Told.{Says, SaysNoEnd}, specs.Once.InputsOnce, specs.Outcomes.{Outcome, IsCut}, specs.Behaviours.{piece_limit, Work, Writing}, specs.Works.{AnswersWork, ReadsWork, CutsWork, WantsWork, TakesFew, LeavesWork}, specs.Pieces.{ReadReason, StopsSoon}, specs.Tellings.{Telling, HeadedGoes, Suits}, specs.Rests.{EndsText, ReadsText, CutsText, WantsMemory, ReadsRest}, proofs.Once.{Rose-kept, out-unwritten, once-behind}, proofs.Few.{few-map, few-behind}, proofs.Fronts.still}
 use Rattle.command_work.proofs.job.read_file.Goals as goal
+
+-- a header, and what reading all data after it leaves
+module _ (work : Work) (writing : Writing (List ℕ → List ℕ)) (wanting : List ℕ → Type 0) (tells : Header → Telling) (wants : Header → Type 0) (suits : Suits work writing wanting tells wants) where
+  -- the header is cut
+  cut-goes : (bytes : List ℕ) → IsCut bytes → work.goes_on bytes
+  cut-goes bytes cut = suits.goes bytes (subst (HeadedGoes tells) (sym cut) refl)
+
+  module _ (start : InputState) (at : Span) (front behind : List ℕ) (header : Header) (shows : ShowsHeader front header behind) (took : Consumes (start.given Data) (at.before.given Data) front) where
+    abbrev t : Telling
+    t = tells header
+
+    abbrev all : Span
+    all = record at { before = start }
+
+    taken : (more : List ℕ) → Consumes (at.before.given Data) (at.after.given Data) more → Consumes (start.given Data) (at.after.given Data) (front ++ more)
+    taken more h = Consumes-trans _ _ _ front more took h
+
+    ends-is : (more left : List ℕ) → work.outcome ((front ++ more) ++ left) ≡ t.ends ((behind ++ more) ++ left)
+    ends-is more left = search (rules, arith, append_assoc)
+
+    answers : (r : Result (Unit {0}) Fault) → IsErrAnd r (λ fault. is_outside fault ≡ true) ⊎ EndsText t [] behind (wants header) at (fault_in r) → AnswersWork work (start.given Data) (at.after.given Data) at.old at.new r
+    answers r (inl outside) = inl outside
+    answers r (inr h) = inr (record {
+      taken = front ++ h.taken;
+      consumes = taken h.taken h.consumes;
+      text = h.more;
+      written = h.written;
+      says = record { means = λ left follows. ends-is h.taken left ∙ h.is left follows };
+    })
+
+    goes : (more : List ℕ) → t.refuses (behind ++ more) ≡ None → work.goes_on (front ++ more)
+    goes more none = suits.goes (front ++ more) (subst (HeadedGoes tells) (sym (shows more)) none)
+
+    reads : SaysNoEnd (start.given Data) (at.before.given Data) → ReadsText t [] behind (wants header) at → ReadsWork writing work (start.given Data) (at.after.given Data) at.old at.new
+    reads on h = search (rules, arith, taken)
+
+    cuts : CutsText t [] behind (wants header) at → CutsWork writing work (start.given Data) (at.after.given Data) at.old at.new
+    cuts h = record {
+      taken = front ++ h.taken;
+      consumes = taken h.taken h.consumes;
+      cut = λ left follows.
+          let more = h.cut left follows in
+          suits.cuts _ _ _ (AppendsShort-same _ _ _ _ (sym (ap (λ (o : Outcome). o.text) (ends-is h.taken left) ∙ more.adds)) more.short);
+    }
+
+    wanted : length behind < piece_limit → WantsMemory t [] behind (wants header) at → WantsWork wanting (start.given Data) (at.after.given Data) at.old at.new
+    wanted few h = record {
+      keeps = h.keeps;
+      taken = front;
+      consumes = subst (λ (now : Given). Consumes (start.given Data) now front) (sym h.same) took;
+      wants = suits.wanting front behind header (ap header_answer (sym (append-nil front)) ∙ shows [] ∙ ap (λ l. Ok (header, l)) (append-nil behind)) h.wants few;
+    }
+
+    -- the rest was read
+    leaves-rest : (r : Result (Unit {0}) Fault) → length behind < piece_limit → InputsOnce start at.before None → TakesFew IsCut (start.given Data) (at.before.given Data) → SaysNoEnd (start.given Data) (at.before.given Data) → ReadsRest t [] behind (wants header) at r → LeavesWork writing wanting work all r
+    leaves-rest r small once few on rest = record {
+      answer = answers r rest.answer;
+      reason = IfErr-weaker r _ _
+          (λ fault h.
+          HasReason-follows _ _ _ _ _ _ _ _ fault (λ slot no. no) (λ slot h. (h.0, Rose-kept _ _ _ (once.reads slot) h.1, reads on h.2)) (λ h. (h.0, cuts h.1)) (wanted small) h)
+          rest.reason;
+      once = record { inputs = once-behind _ _ _ _ once rest.once.inputs; out = rest.once.out };
+      few = ⊎_elim
+          (λ (same : at.after.given Data ≡ at.before.given Data). subst (λ (left : Given). TakesFew work.goes_on (start.given Data) left) (sym same) (few-map IsCut work.goes_on _ _ cut-goes few))
+          (λ (h : TakesFew (λ more. t.refuses (behind ++ more) ≡ None) (at.before.given Data) (at.after.given Data)). few-behind _ work.goes_on front _ _ _ took goes h)
+          rest.few;
+    }
+
+  module _ (before after : InputState) (a : Option (List ℕ)) (faults : ℕ) where
+    abbrev unwritten : Span
+    unwritten = record (still after a a faults faults) { before = before }
+
+    unheaded : (front : List ℕ) (fault : Fault) → Consumes (before.given Data) (after.given Data) front → (is_outside fault ≡ true) ⊎ Says header_answer front (after.given Data) (Err fault) → AnswersWork work (before.given Data) (after.given Data) a a (Err fault)
+    unheaded front fault took (inl outside) = inl outside
+    unheaded front fault took (inr says) = search (rules, arith, taken)
+
+    cut-reads : (front : List ℕ) → Consumes (before.given Data) (after.given Data) front → IsCut front → SaysNoEnd (before.given Data) (after.given Data) → ReadsWork writing work (before.given Data) (after.given Data) a a
+    cut-reads front took cut on = search (rules, arith, taken)
+
+    -- there is no header
+    leaves-unheaded : {A : Type 0} (front : List ℕ) (fault : Fault) → Consumes (before.given Data) (after.given Data) front → (is_outside fault ≡ true) ⊎ Says header_answer front (after.given Data) (Err fault) → ReadReason before after fault → InputsOnce before after (Some fault) → StopsSoon {A = A} IsCut (before.given Data) (after.given Data) (Err fault)
+        → LeavesWork writing wanting work unwritten (Err fault)
+    leaves-unheaded front fault took answer reason once stops = record {
+      answer = unheaded front fault took answer;
+      reason = HasReason-follows _ _ _ _ _ _ _ _ fault (λ slot no. no) (λ slot h. (h.0.0, h.0.1, cut-reads h.1.0 h.1.1 h.1.2 h.1.3)) (λ no. absurd no) (λ no. absurd no)
+          (HasReason-with _ _ _ _ _ fault stops.unread reason);
+      once = record { inputs = once; out = out-unwritten _ _ _ fault _ reason };
+      few = few-map IsCut work.goes_on _ _ cut-goes stops.few;
+    }
 
 pub returns-in_err-found-clause-leaves : goal.returns-in_err-found-clause-leaves
 returns-in_err-found-clause-leaves g c =

@@ -1,9 +1,7 @@
-use Rattle.std.proofs.Common.{ℕ, List, subst, ◌≡◌, ◌+◌, rules, None, take, length, arith, refl, sym, ap, ◌∙◌}
-use Rattle.bench_io.specs.Inputs.{IsOpened}
-use Rattle.std.{specs.declared.option.Option.Option, proofs.lemmas.Result.{err_from_is_err_and}, proofs.lemmas.List.length-take-le}
+use Rattle.std.{proofs.Common.{◌+◌, rules, None, take, arith, sym, ap, ◌∙◌}, proofs.lemmas.Result.{err_from_is_err_and}, proofs.lemmas.List.length-take-le}
 use Rattle.tally_base.specs.declared.slot.Slot.TheVariants.{Plan as PlanSlot}
 use Rattle.plan_text.specs.Reading.{text_limit}
-use Rattle.command_work.{proofs.Plans.{uses-read, plan_told, plan-reasons, plan-quiet, ended_short}, proofs.Told.{all-taken, none-ended}, proofs.Once.{Rose-kept, quiet-none, once-refl, once-none, once-behind, once-opened, once-unopened}}
+use Rattle.command_work.{proofs.Plans.{uses-read, plan_told, plan-reasons, plan-quiet, ended_short}, proofs.Told.{all-taken, none-ended}, proofs.Once.{quiet-none, once-refl, once-none, once-behind, once-opened, once-unopened}}
 use Rattle.command_work.proofs.plan.plan_in.Goals as goal
 
 pub returns-in-Err-clause-uses : goal.returns-in-Err-clause-uses
@@ -23,12 +21,7 @@ returns-clause-answer g c =
     c.read_plan.ensures.answer
 
 pub returns-clause-reason : goal.returns-clause-reason
-returns-clause-reason g c =
-    let after = g.I.Inputs.state c.read_text.new.inputs in
-    let took = c.in_ok-len.ensures.filled in
-    let ended = ended_short (text_limit + 1) c.in_ok-len.len c.read_text.new.text (after.given PlanSlot) (Prim.search rules) took.room took.ended in
-    let is_open = ap (λ f. f PlanSlot) c.read_text.ensures.reads.opens_none.opened ∙ c.in-Ok.ensures.opened in
-    plan-reasons _ _ _ after _ _ c.read_plan.result c.in-Ok.ensures.given is_open took.taken ended c.read_plan.ensures.inside c.read_plan.ensures.refused
+returns-clause-reason g c = search (rules, arith, ended_short, plan-reasons)
 
 pub returns-in-Err-clause-takes : goal.returns-in-Err-clause-takes
 returns-in-Err-clause-takes g c = λ opened.
@@ -37,20 +30,10 @@ returns-in-Err-clause-takes g c = λ opened.
     cc
 
 pub returns-in_err-len-clause-takes : goal.returns-in_err-len-clause-takes
-returns-in_err-len-clause-takes g c = λ opened.
-    let h = c.in_err-len.ensures.unread in
-    let size = c.requires.size in
-    let all = all-taken _ _ h.0 c.in-Ok.ensures.given h.1 in
-    rw all (omega (arith, h.2, size))
+returns-in_err-len-clause-takes g c = search (rules, arith, all-taken)
 
 pub returns-clause-takes : goal.returns-clause-takes
-returns-clause-takes g c = λ opened.
-    let text = c.read_text.new.text in
-    let size : length text ≡ text_limit + 1 = Prim.search rules in
-    let room = c.in_ok-len.ensures.filled.room in
-    let short : length (take c.in_ok-len.len text) ≡ c.in_ok-len.len = length-take-le c.in_ok-len.len text room in
-    let all = all-taken _ _ (take c.in_ok-len.len text) c.in-Ok.ensures.given c.in_ok-len.ensures.filled.taken in
-    rw all (omega (arith, size, room, short))
+returns-clause-takes g c = search (rules, arith, length-take-le, all-taken)
 
 pub returns-in-Err-clause-once : goal.returns-in-Err-clause-once
 returns-in-Err-clause-once g c = once-unopened PlanSlot _ _ _ (once-refl _ None quiet-none) c.in-Err.ensures.keeps_other c.open.ensures.reads c.in-Err.ensures.cause.once
@@ -70,19 +53,10 @@ returns-in-Err-clause-names g c = λ opened.
     cc
 
 pub returns-in_err-len-clause-names : goal.returns-in_err-len-clause-names
-returns-in_err-len-clause-names g c = λ opened.
-    subst (λ (told : Option (List ℕ)). IsOpened ((g.I.Inputs.state c.args.inputs.now).contents c.args.name.now) told) (sym (ap (λ f. f PlanSlot) c.read_text.ensures.reads.opens_none.told)) c.in-Ok.ensures.file
+returns-in_err-len-clause-names g c = search (rules, arith)
 
 pub returns-clause-names : goal.returns-clause-names
-returns-clause-names g c = λ opened.
-    subst (λ (told : Option (List ℕ)). IsOpened ((g.I.Inputs.state c.args.inputs.now).contents c.args.name.now) told) (sym (ap (λ f. f PlanSlot) c.read_text.ensures.reads.opens_none.told)) c.in-Ok.ensures.file
+returns-clause-names g c = search (rules, arith)
 
 pub returns-in_err-len-clause-reason : goal.returns-in_err-len-clause-reason
-returns-in_err-len-clause-reason g c =
-    let p = err_from_is_err_and c.from_residual.result c.from_residual.ensures.1 in
-    let h = c.in_err-len.ensures.unread in
-    let size = c.requires.size in
-    let why = c.in_err-len.ensures.reason in
-    let all = all-taken _ _ h.0 c.in-Ok.ensures.given h.1 in
-    let is_open = ap (λ f. f PlanSlot) c.read_text.ensures.reads.opens_none.opened ∙ c.in-Ok.ensures.opened in
-    rw (p.1, p.2, why.0) (refl, is_open, none-ended _ _ c.in-Ok.ensures.given c.in_err-len.ensures.unended, Rose-kept _ _ _ c.open.ensures.reads why.1, rw all (omega (arith, h.2, size)))
+returns-in_err-len-clause-reason g c = search (rules, arith, err_from_is_err_and, all-taken, none-ended)

@@ -1,5 +1,4 @@
-use Rattle.std.proofs.Common.{[], ◌++◌, inr, refl, ◌∙◌, arith, take, append-nil, append_assoc}
-use Rattle.std.proofs.lemmas.Result.{err_from_is_err_and}
+use Rattle.std.{proofs.Common.{[], ◌++◌, inr, refl, ◌∙◌, arith, take, append-nil, append_assoc}, proofs.lemmas.Result.{err_from_is_err_and}}
 use Rattle.bench_io.proofs.States.{OnlyReads-refl, OnlyReads-trans}
 use Rattle.command_work.{proofs.Told.reads-on, proofs.RestEnds.{so-none, so-piece, rest-unread, rest-piece, rest-end}}
 use Rattle.command_work.proofs.reader.read_rest.Goals as goal

@@ -1,8 +1,7 @@
 use Rattle.std.proofs.Common.{◌≡◌, ◌++◌, List, ℕ}
 use Rattle.tally_base.specs.declared.slot.Slot.TheVariants.{Data}
 use Rattle.bench_io.specs.Inputs.{OnlyReads}
-use Rattle.command_work.specs.Endings.{span}
-use Rattle.command_work.proofs.RestEnds.{SoFar}
+use Rattle.command_work.{specs.Endings.{span}, proofs.RestEnds.{SoFar}}
 use Rattle.command_work.proofs.reader.read_rest.Given as goal
 
 -- what the bytes taken add to the text is written

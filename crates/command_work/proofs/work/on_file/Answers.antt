@@ -1,5 +1,4 @@
-use Rattle.std.proofs.Common.{ℕ, List, None, refl, sym, ap, ◌∙◌, subst, inl}
-use Rattle.std.{specs.declared.option.Option.Option, proofs.lemmas.Result.IfErr-weaker}
+use Rattle.std.{proofs.Common.{ℕ, List, None, refl, sym, ap, ◌∙◌, subst, inl}, specs.declared.option.Option.Option, proofs.lemmas.Result.IfErr-weaker}
 use Rattle.tally_base.specs.declared.slot.Slot.TheVariants.{Plan, Data}
 use Rattle.bench_io.{specs.Inputs.IsOpened, proofs.Bytes.{Appends-nil, Keeps-from_none}}
 use Rattle.command_work.{specs.Endings.{Span, HasCauses}, proofs.WorkTold.{told-is-its, file-answers, file-causes, few-told}, proofs.Once.{quiet-none, once-refl, once-behind, once-opened, once-unopened}}

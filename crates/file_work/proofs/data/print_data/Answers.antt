@@ -17,18 +17,7 @@ pieces-init g c = record {
 }
 
 pub returns-in_default-clause-reason : goal.returns-in_default-clause-reason
-returns-in_default-clause-reason g c =
-    let so_far = c.pieces.invariant.taken in (
-      refl,
-      Rose-kept _ _ _ (c.pieces.invariant.once.reads Data) c.in_default.ensures.cause.once,
-      record {
-        taken = so_far.0;
-        consumes = Consumes-kept _ _ _ so_far.0 so_far.1 c.in_default.ensures.gives;
-        written = so_far.3;
-        goes_on = so_far.4;
-        unended = fails-on _ _ _ c.pieces.invariant.unended c.in_default.ensures.gives;
-      },
-    )
+returns-in_default-clause-reason g c = search (rules, arith, fails-on)
 
 pub returns-in-Err-clause-reason : goal.returns-in-Err-clause-reason
 returns-in-Err-clause-reason g c =
@@ -129,7 +118,7 @@ returns-in-Ok-Refused-clause-few g c =
     few-piece IsCut so_far.0 c.in-Ok.len c.read.new.into _ _ (Consumes-trans _ _ _ so_far.0 (take c.in-Ok.len c.read.new.into) so_far.1 c.in-Ok.ensures.gives.0) so_far.4 (let size : length c.read.new.into ≡ 8192 = Prim.search rules in omega (arith, size))
 
 pub returns-in_default-clause-once : goal.returns-in_default-clause-once
-returns-in_default-clause-once g c = record { inputs = once-unread Data _ _ _ c.pieces.invariant.once c.read.ensures.keeps_other c.read.ensures.opens_none c.in_default.ensures.cause.once; out = c.pieces.invariant.kept }
+returns-in_default-clause-once g c = search (rules, arith, once-unread)
 
 pub returns-then-len-eq0-clause-once : goal.returns-then-len-eq0-clause-once
 returns-then-len-eq0-clause-once g c = record { inputs = once-read Data _ _ _ _ (quiet-inside c.finish.result c.finish.ensures.inside) c.pieces.invariant.once c.read.ensures.keeps_other c.read.ensures.opens_none c.in-Ok.ensures.cause.kept; out = out-inside c.finish.result _ _ c.finish.ensures.inside c.pieces.invariant.kept }

@@ -1,5 +1,4 @@
-use Rattle.std.proofs.Common.{◌≡◌, List, ℕ, ◌-◌, ◌^◌, true, None}
-use Rattle.std.specs.Io.KnownBytes.{Appends}
+use Rattle.std.{proofs.Common.{◌≡◌, List, ℕ, ◌-◌, ◌^◌, true, None}, specs.Io.KnownBytes.{Appends}}
 use Rattle.tally_base.specs.declared.slot.Slot.TheVariants.{Data}
 use Rattle.bench_io.{specs.Given.Consumes, specs.Inputs.OnlyReads}
 use Rattle.ptu_header.specs.Reading.{bytes_taken, is_open}

@@ -1,5 +1,4 @@
-use Rattle.std.proofs.Common.{◌∙◌, ◌+◌, ◌*◌, ◌%◌, ◌<◌, slice_index, inl, inr, ap, sym, arith}
-use Rattle.std.{proofs.lemmas.Bool.cases_eq, proofs.lemmas.Nat.{mod-mul-add, row_fits, same_from_place}}
+use Rattle.std.{proofs.Common.{◌∙◌, ◌+◌, ◌*◌, ◌%◌, ◌<◌, slice_index, inl, inr, ap, sym, arith}, proofs.lemmas.Bool.cases_eq, proofs.lemmas.Nat.{mod-mul-add, row_fits, same_from_place}}
 use Rattle.flim_cube.specs.Bytes.{byte_in}
 use Rattle.flim_cube.proofs.spread.put_bytes.Goals as goal
 

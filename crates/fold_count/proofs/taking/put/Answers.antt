@@ -1,26 +1,11 @@
-use Rattle.std.proofs.Common.{◌∙◌, ◌+◌, ◌^◌, ◌<◌, List, [], ◌∷◌, length, sym, ap, refl, bit_or}
-use Rattle.std.proofs.lemmas.Nat.{or_lt}
+use Rattle.std.{proofs.Common.{◌∙◌, ◌+◌, sym, ap, refl, bit_or, arith, rules}, proofs.lemmas.Nat.{or_lt}}
 use Rattle.tally_base.specs.Settings.{fold_view}
 use Rattle.lag_ring.{specs.declared.ring.Entry.Entry, proofs.Lists.all_front, proofs.Rising.all_push}
 use Rattle.fold_count.{specs.Folded.front_of, proofs.Nested.last_of, proofs.Pushed.parted_photon}
 use Rattle.fold_count.proofs.taking.put.Goals as goal
 
 pub returns-clause-sound : goal.returns-clause-sound
-returns-clause-sound c =
-    let n = length (fold_view c.args.set.now).groups in
-    let here = c.open_at-here.result in
-    let is = c.open_at-here.ensures.sound in
-    let entries : List Entry = c.open_at-here.new.ring.entries in
-    let put : Entry = record { index = here.index; a = here.a + 1; b = bit_or here.b c.args.met } in
-    record {
-      sized = is.sized;
-      reach = is.reach;
-      within = is.within;
-      above = is.above;
-      in_time = is.in_time;
-      sets = all_push (λ e. e.b < 2 ^ n) entries put (all_front (λ e. e.b < 2 ^ n) entries (here ∷ []) is.sets) (or_lt n here.b c.args.met (last_of (λ e. e.b < 2 ^ n) entries here is.sets) c.requires.can.inside);
-      nested = is.nested;
-    }
+returns-clause-sound c = search (rules, arith, all_push, all_front, or_lt, last_of)
 
 pub returns-clause-follows : goal.returns-clause-follows
 returns-clause-follows c = λ h x any time met is.

@@ -1,5 +1,4 @@
-use Rattle.std.proofs.Common.{◌≡◌, ◌∙◌, true, false, sym, refl, arith}
-use Rattle.std.specs.List.{list_any}
+use Rattle.std.{proofs.Common.{◌≡◌, ◌∙◌, true, false, sym, refl, arith}, specs.List.list_any}
 use Rattle.tally_base.{specs.Events.{is_photon, is_in}, specs.Settings.fold_view}
 use Rattle.fold_count.{specs.FoldCounts.number_of, specs.Folded.{as_met, front_of}, proofs.Numbers.{none_in, some_in}, proofs.Pushed.{parted_other, any_of_both, none_of_second, none_of_first}}
 use Rattle.fold_count.proofs.taking.put_event.Goals as goal

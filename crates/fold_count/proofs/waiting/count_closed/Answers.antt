@@ -1,10 +1,10 @@
-use Rattle.std.proofs.Common.{◌<◌, ap, arith, length, nat_lt}
+use Rattle.std.proofs.Common.{◌<◌, ap, arith, length, nat_lt, rules}
 use Rattle.lag_ring.{proofs.Lists.{all_front, all_back}, proofs.Rising.{rising_front, rising_back}}
 use Rattle.fold_count.{specs.Folded.photons_in, proofs.Bins.{where_at_most, photons_append}}
 use Rattle.fold_count.proofs.waiting.count_closed.Goals as goal
 
 pub count_front-requires-clause-inside : goal.count_front-requires-clause-inside
-count_front-requires-clause-inside c = all_front (λ e. e.b < length c.args.cells.now) c.slices.result.0.now c.slices.result.1.now (rw c.slices.ensures.entries c.requires.inside)
+count_front-requires-clause-inside c = search (rules, arith, all_front)
 
 pub count_front-requires-2-clause-inside : goal.count_front-requires-2-clause-inside
 count_front-requires-2-clause-inside c = rw c.count_front.ensures.same (all_back (λ e. e.b < length c.args.cells.now) c.slices.result.0.now c.slices.result.1.now (rw c.slices.ensures.entries c.requires.inside))

@@ -1,34 +1,19 @@
-use Rattle.std.proofs.Common.{◌≡◌, ◌∙◌, ◌-◌, ◌<◌, List, length, refl, sym, ap, rules, arith, bit_or, slice_set}
+use Rattle.std.proofs.Common.{◌∙◌, ◌-◌, ◌<◌, List, ap, rules, arith, slice_set}
 use Rattle.lag_ring.{specs.declared.ring.Entry.Entry, specs.Ring.Ring}
-use Rattle.fold_count.{specs.Folded.joined, proofs.Nested.{join, partly_none, partly_next, partly_stop, length-partly, ring_is}}
+use Rattle.fold_count.{proofs.Nested.{join, partly_none, partly_next, partly_stop, length-partly, ring_is}}
 use Rattle.fold_count.proofs.waiting.meet.Goals as goal
 
 pub back-init : goal.back-init
-back-init c = record {
-  few = omega (arith, c.len-at.ensures.len);
-  entries = rw c.len-at.ensures.len (sym (partly_none c.args.groups c.args.ring.now.entries));
-  reach = refl;
-}
+back-init c = search (rules, arith, partly_none)
 
 pub visit-bin-requires : goal.visit-bin-requires
-visit-bin-requires c =
-    let some : 0 < c.back.at = search (rules, arith) in
-    record { inside = omega (arith, ap length c.back.invariant.entries, length-partly c.back.at c.args.groups c.args.ring.now.entries, c.back.invariant.few, some) }
+visit-bin-requires c = search (rules, arith, length-partly)
 
 pub set_b-requires : goal.set_b-requires
-set_b-requires c =
-    let some : 0 < c.back.at = search (rules, arith) in
-    record { inside = omega (arith, ap length c.back.invariant.entries, length-partly c.back.at c.args.groups c.args.ring.now.entries, c.back.invariant.few, some) }
+set_b-requires c = search (rules, arith, length-partly)
 
 pub returns-then-met-bin : goal.returns-then-met-bin
-returns-then-met-bin c =
-    let bins = c.args.ring.now.entries in
-    let groups = c.args.groups in
-    let e = c.visit-bin.result in
-    let some : 0 < c.back.at = search (rules, arith) in
-    let is : bit_or e.b groups ≡ e.b = search rules in
-    let at = rw c.back.invariant.entries at c.visit-bin.ensures.entry in
-    record { met = ring_is c.back.ring (joined groups bins) c.args.ring.now.reach (c.back.invariant.entries ∙ partly_stop c.back.at groups bins e some c.requires.nested at is) c.back.invariant.reach }
+returns-then-met-bin c = search (rules, arith, ring_is, partly_stop)
 
 pub back-preserved : goal.back-preserved
 back-preserved c =

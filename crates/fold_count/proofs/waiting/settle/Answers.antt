@@ -1,5 +1,4 @@
-use Rattle.std.proofs.Common.{◌∙◌, ◌<◌, [], ◌∷◌, filter, length, ap, arith, length-append, nat_lt, nat_le}
-use Rattle.std.proofs.lemmas.List.{length-map}
+use Rattle.std.{proofs.Common.{◌<◌, [], ◌∷◌, filter, length, ap, arith, length-append, nat_lt, nat_le, rules}, proofs.lemmas.List.{length-map}}
 use Rattle.lag_ring.{specs.Ring.ring as ring_of, proofs.Lists.all_front}
 use Rattle.fold_count.{specs.Folded.joined, proofs.Bins.{of_push, of_late, where_at_most, photons_push, photons_kept, kept_short, kept_long, below_kept, few_after, room_left}, proofs.Nested.{join, below_joined, photons_joined, last_of}}
 use Rattle.fold_count.proofs.waiting.settle.Goals as goal
@@ -10,15 +9,10 @@ count_closed-requires-clause-inside c =
     rw c.meet.ensures.met (all_front (λ e. e.b < length c.args.cells.now) (joined bin.b c.args.ring.now.entries) (bin ∷ []) c.requires.held.inside)
 
 pub count_closed-requires-clause-room : goal.count_closed-requires-clause-room
-count_closed-requires-clause-room c =
-    let bin = c.args.bin.now in
-    let bins = c.args.ring.now.entries in
-    rw c.meet.ensures.met (omega (arith, photons_joined bin.b bins, photons_push bins bin, c.requires.room))
+count_closed-requires-clause-room c = search (rules, arith, photons_joined, photons_push)
 
 pub count_bin-requires-clause-inside : goal.count_bin-requires-clause-inside
-count_bin-requires-clause-inside c =
-    let bin = c.args.bin.now in
-    rw c.count_closed.ensures.same (last_of (λ e. e.b < length c.args.cells.now) (joined bin.b c.args.ring.now.entries) bin c.requires.held.inside)
+count_bin-requires-clause-inside c = search (rules, arith, last_of)
 
 pub count_bin-requires-clause-room : goal.count_bin-requires-clause-room
 count_bin-requires-clause-room c =
@@ -42,16 +36,7 @@ push-requires-clause-room c =
     rw (c.retire.ensures.kept, c.meet.ensures.met) (omega (arith, few))
 
 pub returns-then-bin-before-clause-cells : goal.returns-then-bin-before-clause-cells
-returns-then-bin-before-clause-cells c =
-    let bin = c.args.bin.now in
-    let bins = c.args.ring.now.entries in
-    record {
-      each = λ s inside.
-          let counted = rw c.meet.ensures.met at c.count_closed.ensures.cells s inside in
-          let last = c.count_bin.ensures.cells s (rw c.count_closed.ensures.same inside) in
-          omega (arith, counted, last, of_push c.args.before s (joined bin.b bins) bin c.if-bin-before.true);
-      same = c.count_bin.ensures.same ∙ c.count_closed.ensures.same;
-    }
+returns-then-bin-before-clause-cells c = search (rules, arith, of_push)
 
 pub returns-then-bin-before-clause-kept : goal.returns-then-bin-before-clause-kept
 returns-then-bin-before-clause-kept c =
@@ -74,15 +59,7 @@ returns-then-bin-before-clause-sum c =
     rw (c.retire.ensures.kept, c.meet.ensures.met) (omega (arith, c.count_bin.ensures.sum, counted, photons_kept c.args.before (joined bin.b bins), photons_joined bin.b bins, photons_push bins bin))
 
 pub returns-else-bin-before-clause-cells : goal.returns-else-bin-before-clause-cells
-returns-else-bin-before-clause-cells c =
-    let bin = c.args.bin.now in
-    let bins = c.args.ring.now.entries in
-    record {
-      each = λ s inside.
-          let counted = rw c.meet.ensures.met at c.count_closed.ensures.cells s inside in
-          omega (arith, counted, of_late c.args.before s (joined bin.b bins) bin c.if-bin-before.false);
-      same = c.count_closed.ensures.same;
-    }
+returns-else-bin-before-clause-cells c = search (rules, arith, of_late)
 
 pub returns-else-bin-before-clause-kept : goal.returns-else-bin-before-clause-kept
 returns-else-bin-before-clause-kept c =

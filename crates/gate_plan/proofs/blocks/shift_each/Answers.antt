@@ -1,5 +1,5 @@
-use Rattle.std.proofs.Common.{◌≡◌, ◌∙◌, rules, arith, refl, sym, ap, subst, map}
-use Rattle.tally_base.{specs.Codes.kind_of, specs.Columns.{event_at, code_at, rows}}
+use Rattle.std.proofs.Common.{◌≡◌, ◌∙◌, rules, arith, refl, ap}
+use Rattle.tally_base.{specs.Codes.kind_of, specs.Columns.{event_at, code_at}}
 use Rattle.gate_plan.{specs.Groups.sorting_of, specs.Shifting.shifted, proofs.Shifted.{shifted_rows, shifted_more, left_behind}}
 use Rattle.gate_plan.proofs.blocks.shift_each.Goals as goal
 
@@ -22,9 +22,4 @@ loop-at-preserved c =
     }
 
 pub returns-clause-shifted : goal.returns-clause-shifted
-returns-clause-shifted c =
-    let inv = c.loop-at.invariant in
-    let by = sorting_of c.args.gates.now in
-    let old = c.args.block.now in
-    let end : c.loop-at.at ≡ old.len = search (rules, arith) in
-    subst (λ n. rows (event_at c.loop-at.block) n ≡ map (shifted by) (rows (event_at old) old.len)) (sym inv.same_count) (shifted_rows by (event_at c.loop-at.block) (event_at old) old.len (λ i lt. inv.shifted i (rw end lt)))
+returns-clause-shifted c = search (rules, arith, shifted_rows)

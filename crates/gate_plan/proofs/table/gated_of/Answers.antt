@@ -1,5 +1,4 @@
-use Rattle.std.proofs.Common.{◌≡◌, [], arith, length, ap, length-append}
-use Rattle.std.proofs.lemmas.List.Sums.{sum_by_push}
+use Rattle.std.{proofs.Common.{◌≡◌, [], arith, length, ap, length-append}, proofs.lemmas.List.Sums.{sum_by_push}}
 use Rattle.gate_plan.{specs.Parting.{gated_bit, gated_sum}, proofs.Parts.{gated_some, gated_none, none_left}, proofs.AllGates.{gates_some, gates_none}, proofs.table.gated_of.Goals.{then-not-is_empty, else-not-is_empty}}
 use Rattle.gate_plan.proofs.table.gated_of.Goals as goal
 

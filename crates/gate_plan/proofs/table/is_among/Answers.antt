@@ -1,5 +1,4 @@
-use Rattle.std.proofs.Common.{arith}
-use Rattle.std.{proofs.lemmas.Bool.Decides.nat_tests, proofs.lemmas.Nat.Bits.bit_at_above}
+use Rattle.std.{proofs.Common.{arith}, proofs.lemmas.Bool.Decides.nat_tests, proofs.lemmas.Nat.Bits.bit_at_above}
 use Rattle.gate_plan.proofs.table.is_among.Goals as goal
 
 pub returns-else-input-le64 : goal.returns-else-input-le64

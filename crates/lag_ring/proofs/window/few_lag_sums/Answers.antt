@@ -1,5 +1,4 @@
-use Rattle.std.proofs.Common.{◌≡◌, ◌+◌, ◌-◌, ℕ, get_or, arith}
-use Rattle.std.proofs.lemmas.List.{get_or-replicate}
+use Rattle.std.{proofs.Common.{◌≡◌, ◌+◌, ◌-◌, ℕ, get_or, arith}, proofs.lemmas.List.{get_or-replicate}}
 use Rattle.lag_ring.{specs.declared.ring.Entry.Entry, proofs.Windows.{sums_fit, part-at}}
 use Rattle.lag_ring.proofs.window.few_lag_sums.Goals as goal
 

@@ -1,5 +1,4 @@
-use Rattle.std.proofs.Common.{◌≡◌, ℕ, ◌+◌, ◌<◌, get_or, take}
-use Rattle.std.specs.List.{sum_by}
+use Rattle.std.{proofs.Common.{◌≡◌, ℕ, ◌+◌, ◌<◌, get_or, take}, specs.List.{sum_by}}
 use Rattle.lag_ring.specs.Window.{product_at}
 use Rattle.lag_ring.proofs.window.lag_sums.Given as goal
 

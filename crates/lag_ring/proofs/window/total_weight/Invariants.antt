@@ -1,5 +1,4 @@
-use Rattle.std.proofs.Common.{◌≡◌, ◌-◌, ◌^◌, ◌<◌, take}
-use Rattle.std.specs.List.{sum_by}
+use Rattle.std.{proofs.Common.{◌≡◌, ◌-◌, ◌^◌, ◌<◌, take}, specs.List.{sum_by}}
 use Rattle.lag_ring.specs.Window.{weight_of}
 use Rattle.lag_ring.proofs.window.total_weight.Given as goal
 

@@ -1,5 +1,4 @@
-use Rattle.std.proofs.Common.{◌++◌, take, ap, ◌∙◌, rules, arith}
-use Rattle.std.{proofs.lemmas.List.take-append-drop, proofs.lemmas.Slice.take-put_mid}
+use Rattle.std.{proofs.Common.{◌++◌, take, ap, ◌∙◌, rules, arith}, proofs.lemmas.List.take-append-drop, proofs.lemmas.Slice.take-put_mid}
 use Rattle.lane_decode.proofs.BlockLemmas.{eight-more}
 use Rattle.lane_decode.proofs.block.decode_words.Goals as goal
 

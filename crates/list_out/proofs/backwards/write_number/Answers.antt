@@ -1,5 +1,4 @@
-use Rattle.std.proofs.Common.{arith, rules}
-use Rattle.std.proofs.lemmas.Fmt.{length-decimal-le}
+use Rattle.std.{proofs.Common.{arith, rules}, proofs.lemmas.Fmt.{length-decimal-le}}
 use Rattle.list_out.proofs.backwards.write_number.Goals as goal
 
 pub write_digits-requires : goal.write_digits-requires

@@ -1,5 +1,4 @@
-use Rattle.std.proofs.Common.{◌≡◌, ◌<◌, ◌≤◌, append-nil, rules, arith}
-use Rattle.std.proofs.Math.ListN.{drop_of_length-le}
+use Rattle.std.{proofs.Common.{◌≡◌, ◌<◌, ◌≤◌, append-nil, rules, arith}, proofs.Math.ListN.{drop_of_length-le}}
 use Rattle.tally_base.{specs.Columns.{event_at, gathered}, specs.Size.block_size}
 use Rattle.list_out.proofs.BlockTexts.{lines, one-before}
 use Rattle.list_out.proofs.event.write_lines.Goals as goal

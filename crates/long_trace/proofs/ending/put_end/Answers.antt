@@ -1,5 +1,4 @@
-use Rattle.std.proofs.Common.{◌≡◌, ◌∙◌, ◌++◌, [], List, ℕ, ap}
-use Rattle.std.{specs.declared.option.Option.Option, proofs.lemmas.Result.{err_from_is_err_and, on_ok_weaker, on_err_weaker}}
+use Rattle.std.{proofs.Common.{◌≡◌, ◌∙◌, ◌++◌, [], List, ℕ, ap, arith, rules}, specs.declared.option.Option.Option, proofs.lemmas.Result.{err_from_is_err_and, on_ok_weaker, on_err_weaker}}
 use Rattle.bench_io.{specs.Sinks.{AppendsShort, PassesOn}, proofs.Bytes.{PassesOn-trans, Appends-flushed, AppendsShort-flushed, AppendsShort-passed, AppendsShort-more, AppendsShort-same, Appends-same}}
 use Rattle.long_trace.{specs.Texts.{bin_line, frequencies_text, above, before_line, above_line}, proofs.Ends.{end-same, end-front}}
 use Rattle.long_trace.proofs.ending.put_end.Goals as goal
@@ -12,15 +11,7 @@ short-as : (a b : Option (List ℕ)) (held first line : List ℕ) → held ≡ [
 short-as a b held first line none is cut = rw (none, is) at cut
 
 pub returns-in_err-put-clause-short : goal.returns-in_err-put-clause-short
-returns-in_err-put-clause-short g c =
-    let newest = c.args.newest.now in
-    let last = bin_line newest.bin.index newest.count in
-    let before = before_line c.args.before in
-    let e = err_from_is_err_and c.from_residual.result c.from_residual.ensures.1 in
-    rw e.1 (λ all is many.
-    AppendsShort-same _ _ _ _ (end-front last before (frequencies_text all) (above_line (above all)))
-    (AppendsShort-more _ _ (last ++ before) (frequencies_text all ++ above_line (above all))
-    (short-as _ _ c.new-block.result (last ++ before) c.as_slice.result.now c.new-block.ensures (c.as_slice.ensures.value ∙ c.last_lines.ensures) c.in_err-put.ensures.short)))
+returns-in_err-put-clause-short g c = search (rules, arith, err_from_is_err_and, end-front, short-as)
 
 pub returns-in_err-put_frequencies-clause-short : goal.returns-in_err-put_frequencies-clause-short
 returns-in_err-put_frequencies-clause-short g c =

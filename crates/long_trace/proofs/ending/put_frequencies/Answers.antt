@@ -1,5 +1,4 @@
-use Rattle.std.proofs.Common.{◌∙◌, ◌<◌, ap, rules, arith}
-use Rattle.std.proofs.lemmas.Result.{err_from_is_err_and}
+use Rattle.std.{proofs.Common.{◌∙◌, ◌<◌, ap, rules, arith}, proofs.lemmas.Result.err_from_is_err_and}
 use Rattle.long_trace.{specs.Texts.{frequency_limit, frequency_line}, proofs.Ends.{next-put, next-cut, all-put}}
 use Rattle.long_trace.proofs.ending.put_frequencies.Goals as goal
 

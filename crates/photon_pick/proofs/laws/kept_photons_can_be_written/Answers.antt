@@ -1,9 +1,6 @@
+use Rattle.std.proofs.Common.{arith, rules}
 use Rattle.photon_pick.proofs.CanBeWritten.{kept-can, written-can, settled-can}
 use Rattle.photon_pick.proofs.laws.kept_photons_can_be_written.Goals as goal
 
 pub returns : goal.returns
-returns c = λ record_type policy sorting group. record {
-  kept = kept-can record_type policy sorting group;
-  written = written-can record_type policy sorting group;
-  settled = settled-can record_type policy sorting group;
-}
+returns c = search (rules, arith, kept-can, written-can, settled-can)

@@ -1,5 +1,4 @@
-use Rattle.std.proofs.Common.{◌≡◌, ◌∙◌, ℕ, ◌+◌, List, length, None, Some, Ok, Err, OnOk, Result, refl, arith}
-use Rattle.std.{specs.declared.option.Option.Option, proofs.lemmas.Result.on_ok_weaker}
+use Rattle.std.{proofs.Common.{◌≡◌, ℕ, ◌+◌, List, length, None, OnOk, Result, refl, arith, rules}, specs.declared.option.Option.Option, proofs.lemmas.Result.on_ok_weaker}
 use Rattle.tally_base.{specs.declared.fault.Fault.Fault, specs.Faults.fault_in}
 use Rattle.gate_plan.specs.Groups.{sorting_of}
 use Rattle.record_stream.{specs.declared.stream.RecordStream.RecordStream, specs.Standing.{how_of, refused_with, bytes_in}}
@@ -9,29 +8,28 @@ use Rattle.photon_pick.proofs.piece.feed_picks.Goals as goal
 
 goes-on : (old new : RecordStream) (picker : Picker) (piece : List ℕ) (kept : Option Fault) (r : Result (Unit {0}) Fault) → refused_with new ≡ fault_in r
     → OnOk r (bytes_in new ≡ bytes_in old + length piece) → (kept ≡ None → OnOk r (IsNoFurther new picker)) → OnOk (answer_by kept r) (GoesOn old new picker piece)
-goes-on old new picker piece (Some fault) r refused counted behind = tt
-goes-on old new picker piece None (Ok done) refused counted behind = record { unrefused = refused; counted = counted; behind = behind refl }
-goes-on old new picker piece None (Err fault) refused counted behind = tt
+goes-on old new picker piece kept r refused counted behind = search (rules, arith)
 
 pub returns-in-Ok-clause-writes : goal.returns-in-Ok-clause-writes
 returns-in-Ok-clause-writes g c = λ bytes h has.
     let picks = c.args.picks.now in
     rw c.answer.ensures
     (feeds-on _ _ _ (λ (t : Picks g.row.O.Denot g.O.Sink). stand (is_chosen (sorting_of t.gates.now) t.group) t.picker.now t.mode t.taken t.floor (g.O.Sink.faults t.out.now) (g.O.Sink.written t.out.now) t.block t.fault)
-    (is_chosen (sorting_of picks.gates.now) picks.group) (how_of c.args.stream.now) refl c.requires.begins.same_mode c.requires.begins.empty _ _ (took_none _) (λ l is. is) (λ l is. is c.requires.begins.unrefused) _ _ has c.feed-fed.result c.requires.begins.unrefused c.in-Ok.ensures.all c.in-Ok.ensures.cause.kept (c.feed-fed.ensures.fed c.requires.going bytes h))
+    (is_chosen (sorting_of picks.gates.now) picks.group) (how_of c.args.stream.now) refl c.requires.begins.same_mode c.requires.begins.empty _ _ (took_none _) (λ l is. is) (λ l is. is c.requires.unrefused) _ _ has c.feed-fed.result c.requires.unrefused c.in-Ok.ensures.all c.in-Ok.ensures.cause.kept (c.feed-fed.ensures.fed c.requires.going bytes h))
 
 pub returns-in-Err-clause-writes : goal.returns-in-Err-clause-writes
 returns-in-Err-clause-writes g c = λ bytes h has.
     let picks = c.args.picks.now in (
       feeds-cut _ _ _ (λ (t : Picks g.row.O.Denot g.O.Sink). stand (is_chosen (sorting_of t.gates.now) t.group) t.picker.now t.mode t.taken t.floor (g.O.Sink.faults t.out.now) (g.O.Sink.written t.out.now) t.block t.fault)
-          (is_chosen (sorting_of picks.gates.now) picks.group) (how_of c.args.stream.now) refl c.requires.begins.same_mode c.requires.begins.empty _ _ (took_none _) (λ l is. is) (λ l is. is c.requires.begins.unrefused) _ _ has c.feed-fed.result c.in-Err.ensures.short c.in-Err.ensures.cause.once (c.feed-fed.ensures.fed c.requires.going bytes h),
+          (is_chosen (sorting_of picks.gates.now) picks.group) (how_of c.args.stream.now) refl c.requires.begins.same_mode c.requires.begins.empty _ _ (took_none _) (λ l is. is) (λ l is. is c.requires.unrefused) _ _ has c.feed-fed.result c.in-Err.ensures.short c.in-Err.ensures.cause.once (c.feed-fed.ensures.fed c.requires.going bytes h),
       tt,
     )
 
 pub returns-in-Ok-clause-goes_on : goal.returns-in-Ok-clause-goes_on
-returns-in-Ok-clause-goes_on g c =
-    let fed = c.feed-fed in
-    let t = fed.new.taker in
-    rw c.answer.ensures
-    (goes-on _ _ _ _ t.fault fed.result fed.ensures.refused fed.ensures.counted
-    (λ free. on_ok_weaker fed.result (λ f. record { going = t.going free; same_mode = t.of_mode ∙ f.mode_is; before = omega (arith, f.before, t.before) }) fed.ensures.follows))
+returns-in-Ok-clause-goes_on g c = search (rules, arith, goes-on, on_ok_weaker)
+
+pub returns-in-Ok-clause-fed : goal.returns-in-Ok-clause-fed
+returns-in-Ok-clause-fed g c = record { same_how = c.feed-fed.ensures.same_how; taken = c.feed-fed.ensures.taken; limit = c.feed-fed.ensures.limit }
+
+pub returns-in-Err-clause-fed : goal.returns-in-Err-clause-fed
+returns-in-Err-clause-fed g c = record { same_how = c.feed-fed.ensures.same_how; taken = c.feed-fed.ensures.taken; limit = c.feed-fed.ensures.limit }

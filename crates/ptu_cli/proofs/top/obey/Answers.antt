@@ -1,7 +1,6 @@
 use Rattle.std.proofs.Common.{refl}
-use Rattle.ptu_cli.proofs.Asked.{does_as}
+use Rattle.ptu_cli.{proofs.Asked.{does_as}, proofs.Complete.{alone-quiet}}
 use Rattle.command_work.proofs.Once.{once-refl}
-use Rattle.ptu_cli.proofs.Complete.{alone-quiet}
 use Rattle.ptu_cli.proofs.top.obey.Goals as goal
 
 pub returns-in-Count-clause-does : goal.returns-in-Count-clause-does

@@ -1,5 +1,4 @@
-use Rattle.std.proofs.Common.{arith}
-use Rattle.std.proofs.lemmas.List.{length-append}
+use Rattle.std.{proofs.Common.arith, proofs.lemmas.List.length-append}
 use Rattle.tally_base.specs.declared.header.Mode.TheVariants.{T2}
 use Rattle.short_file.{specs.ShortFiles.{short_header, short_file, bytes_in}, proofs.ShortHeaders.{short-answer, size}, proofs.WordBytes.length-bytes_in}
 use Rattle.ptu_made.{specs.Generator.made_words, specs.MadeFile.made_file, proofs.Meanings.{all-made, words-bytes}, proofs.MadeEvents.few-words}

@@ -1,22 +1,12 @@
 use Rattle.std.proofs.Common.{◌≡◌, ◌+◌, ◌++◌, ℕ, true, length, map, refl, ap, sym, subst, inr, ◌∙◌, arith, rules}
 use Rattle.ptu_definitions.{specs.Fours.numbers, specs.Kinds.counts_of}
-use Rattle.abs_time.{specs.Placing.{placed_by, LeadsOn}, specs.Floors.orders_markers}
+use Rattle.abs_time.{specs.Placing.{placed_by, LeadsOn}}
 use Rattle.record_stream.{specs.OneMore.with_block, specs.Blocks.BrokeAmong, specs.Summing.summed, specs.Walking.{how_of, greatest_of, clock_in}, proofs.Gathering.gathers-all, proofs.Given.{ok_of, err_of, block_at, block_fed, block_broke, floors_below}}
 use Rattle.record_stream.proofs.blocks.take_block.Goals as goal
 use Rattle.tally_base.{specs.Columns.{event_at, gathered, written}, proofs.BlockRows.length-rows, proofs.Lower.order-lower}
 
 pub take_block-requires-clause-room : goal.take_block-requires-clause-room
-take_block-requires-clause-room g c =
-    let s = g.S.EventTaker in
-    let walk = c.args.walk.now in
-    let how = how_of walk in
-    let ahead = c.gather-ahead.result in
-    let b = c.gather-ahead.new.block in
-    let es = written b ahead.len in
-    let sure : ahead.in_order ≡ true = search rules in
-    let all = gathers-all c.args.walk.now c.args.words.now ahead.in_order ahead.base ahead.greatest es c.gather-ahead.ensures.gathers sure in
-    let many : length (gathered c.keep.new.self) ≡ ahead.len = ap length c.keep.ensures.kept ∙ length-rows (event_at b) ahead.len in
-    omega (arith, many, c.requires.ready.follows.few, walk.few_given, walk.few, walk.limit, c.gather-ahead.ensures.few, c.kinds-counts.ensures.records, c.if-not-room.false)
+take_block-requires-clause-room g c = search (rules, arith, gathers-all, length-rows)
 
 pub go_on-requires-clause-stands : goal.go_on-requires-clause-stands
 go_on-requires-clause-stands g c =
@@ -28,17 +18,7 @@ go_on-requires-clause-stands g c =
     ∣ (map (how_of walk).meaning (numbers words), subst (λ n. LeadsOn (clock_in walk) n ahead.base ahead.greatest (map (how_of walk).meaning (numbers words))) count leads) ∣₁
 
 pub take_block-requires-clause-in_order : goal.take_block-requires-clause-in_order
-take_block-requires-clause-in_order g c =
-    let s = g.S.EventTaker in
-    let walk = c.args.walk.now in
-    let how = how_of walk in
-    let ahead = c.gather-ahead.result in
-    let b = c.gather-ahead.new.block in
-    let es = written b ahead.len in
-    let sure : ahead.in_order ≡ true = search rules in
-    let all = gathers-all c.args.walk.now c.args.words.now ahead.in_order ahead.base ahead.greatest es c.gather-ahead.ensures.gathers sure in
-    rw (c.keep.ensures.kept, c.requires.ready.follows.mode_is)
-    (order-lower (orders_markers how.mode) (s.floor c.args.taker.now) (greatest_of walk) es c.requires.ready.follows.before all.0.in_order)
+take_block-requires-clause-in_order g c = search (rules, arith, gathers-all, order-lower)
 
 pub returns-then-is_err-clause-fed : goal.returns-then-is_err-clause-fed
 returns-then-is_err-clause-fed g c = λ before h.

@@ -1,5 +1,4 @@
-use Rattle.std.proofs.Common.{◌≡◌, ◌++◌, [], ℕ, List, refl, ap, sym, subst, ◌∙◌, Err, append_assoc, append-nil, arith}
-use Rattle.std.{specs.Int.{from_le_bytes, w32}, proofs.lemmas.List.map-append, proofs.lemmas.Result.err_from_is_err_and}
+use Rattle.std.{proofs.Common.{◌≡◌, ◌++◌, [], ℕ, List, refl, ap, sym, subst, ◌∙◌, Err, append_assoc, append-nil, arith}, specs.Int.{from_le_bytes, w32}, proofs.lemmas.List.map-append, proofs.lemmas.Result.err_from_is_err_and}
 use Rattle.ptu_definitions.{specs.Fours.numbers, specs.Streams.Reading}
 use Rattle.record_stream.{specs.Feeding.{GaveOn, Fed}, specs.Walking.{how_of, IsBehind}, proofs.Feeds.{GaveOn-refl, GaveOn-trans, Fed-trans, Fed-more}}
 use Rattle.record_stream.proofs.blocks.take_words.Goals as goal

@@ -1,5 +1,4 @@
-use Rattle.std.proofs.Common.{◌≡◌, ◌-◌, ◌≤◌, length, get_or, sym, ap, arith}
-use Rattle.std.{proofs.lemmas.Bool.leb-true, proofs.lemmas.Option.get_or_from_slice_get}
+use Rattle.std.{proofs.Common.{◌≡◌, ◌-◌, ◌≤◌, length, get_or, sym, ap, arith}, proofs.lemmas.Bool.leb-true, proofs.lemmas.Option.get_or_from_slice_get}
 use Rattle.tally_base.specs.declared.event.Event.{Event}
 use Rattle.settle.specs.Standing.{kept_back}
 use Rattle.record_stream.proofs.letting_go.is_full.Goals as goal

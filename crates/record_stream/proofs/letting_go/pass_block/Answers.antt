@@ -49,7 +49,7 @@ module _ (b out went : Block) (s : Settle) (len held least : ℕ) (pushed waitin
   }
 
 place_is : (b : Block) (place len : ℕ) (e : Event) → 0 < b.len → len ≡ b.len → e ≡ event_at b (len - 1) → e.place ≡ place_after place (gathered b)
-place_is b place len e some count is = ap (λ (x : Event). x.place) is ∙ sym (place-rows place (event_at b) b.len some ∙ ap (λ n. (event_at b (n - 1)).place) (sym count))
+place_is b place len e some count is = search (rules, arith, place-rows)
 
 pub time-requires : goal.time-requires
 time-requires c =

@@ -4,21 +4,12 @@ use Rattle.ptu_definitions.{specs.Fitting.KindFits, specs.Kept.greatest, specs.S
 use Rattle.abs_time.{specs.Placing.{IsSmall, placed_by}, specs.Floors.orders_markers}
 use Rattle.record_stream.{specs.LettingGo.{LetsGo, IsDelivered}, specs.Walking.{how_of, greatest_of, clock_in}, proofs.Eaches.{all-rows, each-rows}, proofs.LettingGo.{early-row, places-at, lets_on, delivers_on}}
 use Rattle.record_stream.proofs.letting_go.push_block.Goals as goal
-use Rattle.settle.specs.Passing.{place_after}
 
 pub push-settled-requires-clause-behind : goal.push-settled-requires-clause-behind
-push-settled-requires-clause-behind c =
-    let b = c.args.block.now in
-    let low = placed_by (clock_in c.args.walk.now) in
-    let within : c.loop-at.at < b.len = search (rules, arith) in
-    let next : place_after low (rows (event_at b) c.loop-at.at) < c.event.result.place = rw c.event.ensures (places-at low (event_at b) b.len c.loop-at.at within c.requires.comes.places) in
-    omega (arith, c.loop-at.invariant.lets_go.behind, next)
+push-settled-requires-clause-behind c = search (rules, arith, places-at)
 
 pub push_some-requires : goal.push_some-requires
-push_some-requires c =
-    let b = c.args.block.now in
-    let within : c.loop-at.at < b.len = search (rules, arith) in
-    record { room = omega (arith, c.loop-at.invariant.lets_go.few, length-rows (event_at b) c.loop-at.at, within, b.few) }
+push_some-requires c = search (rules, arith, length-rows)
 
 pub loop-at-preserved : goal.loop-at-preserved
 loop-at-preserved c =

@@ -1,5 +1,4 @@
-use Rattle.std.proofs.Common.{◌≡◌, ◌≤◌, Err, arith}
-use Rattle.std.proofs.lemmas.Result.{err_from_is_err_and}
+use Rattle.std.{proofs.Common.{◌≡◌, ◌≤◌, Err, arith}, proofs.lemmas.Result.err_from_is_err_and}
 use Rattle.settle.specs.Standing.{kept_back, last_time}
 use Rattle.record_stream.{specs.Walking.how_of, proofs.Settles.floor-most, proofs.Rests.{gave_none, broke_one, gave_one}}
 use Rattle.record_stream.proofs.settled.give_rest.Goals as goal

@@ -1,16 +1,11 @@
-use Rattle.std.proofs.Common.{arith, ◌∷◌, [], true, false, refl, sym, ◌∙◌, append-nil, inl, ap}
+use Rattle.std.proofs.Common.{arith, ◌∷◌, [], true, false, refl, sym, ◌∙◌, append-nil, inl, ap, rules}
 use Rattle.abs_time.specs.Placing.{placed_by}
 use Rattle.settle.specs.Standing.{kept_back, last_time}
 use Rattle.record_stream.{specs.Keeping.CanWait, specs.Walking.how_of, proofs.Settles.{by_clock, tells-on, tells-off, ordered-on, ordered-off, unrefused-off, unrefused-early, unrefused-passed, refused-stopped, floor-late, floor-on, late-order, kept_on, that_goes, those_waiting, count_going, count_waiting, told_none, tells_one, none_late}}
 use Rattle.record_stream.proofs.settled.settle_event.Goals as goal
 
 pub returns-then-not-is_ordered-clause-answers : goal.returns-then-not-is_ordered-clause-answers
-returns-then-not-is_ordered-clause-answers g c = λ pushed given h.
-    let how = how_of c.args.walk.now in
-    let e = c.args.event in
-    let off = by_clock c.args.walk.now e _ _ false c.is_ordered.ensures c.mode.ensures c.if-not-is_ordered.true in
-    told_none g.S.EventTaker how c.args.walk.now c.args.settle.now c.args.settle.now c.args.taker.now pushed given [] e c.args.before
-    (unrefused-off how pushed e c.args.before off) (tells-off how.policy.settle how.mode pushed e off) (ordered-off how.mode e off) (rw (append-nil, append-nil) h) refl
+returns-then-not-is_ordered-clause-answers g c = search (rules, arith, by_clock, told_none, unrefused-off, tells-off, ordered-off, append-nil)
 
 pub returns-then-stops_late-clause-answers : goal.returns-then-stops_late-clause-answers
 returns-then-stops_late-clause-answers g c = λ pushed given h.

@@ -1,5 +1,4 @@
-use Rattle.std.proofs.Common.{◌++◌, take, ap, ◌∙◌, Err, arith}
-use Rattle.std.proofs.lemmas.Result.{err_from_is_err_and}
+use Rattle.std.{proofs.Common.{◌++◌, take, ap, ◌∙◌, Err, arith}, proofs.lemmas.Result.err_from_is_err_and}
 use Rattle.ptu_definitions.{specs.Fours.numbers, specs.Streams.Reading}
 use Rattle.record_stream.{specs.Feeding.{GaveOn, Fed}, specs.Settling.IsSettledBehind, specs.Walking.how_of, proofs.Feeds.{GaveOn-trans, Fed-trans, Fed-more}, proofs.Fours.{more_at, all_at}}
 use Rattle.record_stream.proofs.settled.settle_words.Goals as goal

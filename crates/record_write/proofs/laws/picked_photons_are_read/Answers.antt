@@ -1,5 +1,4 @@
-use Rattle.std.proofs.Common.{◌≡◌, ◌≤◌, List, false, length, map, None}
-use Rattle.std.proofs.lemmas.List.Elements.{All-from_recursion}
+use Rattle.std.{proofs.Common.{◌≡◌, ◌≤◌, List, false, length, map, None}, proofs.lemmas.List.Elements.{All-from_recursion}}
 use Rattle.tally_base.{specs.declared.event.Event.Event, specs.declared.event.Policy.Policy, specs.declared.header.Mode.Mode, specs.declared.header.Mode.TheVariants.{T2, T3}}
 use Rattle.ptu_definitions.specs.Streams.{reading, record_refusal, given}
 use Rattle.short_file.{specs.ShortFiles.{short_file, short_type, bytes_in}, proofs.ShortHeaders.short-answer, proofs.WordBytes.words_of-bytes_in}

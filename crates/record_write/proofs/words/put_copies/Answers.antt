@@ -1,5 +1,4 @@
-use Rattle.std.proofs.Common.{◌∙◌, refl}
-use Rattle.std.proofs.lemmas.Result.{err_from_is_err_and}
+use Rattle.std.{proofs.Common.{◌∙◌, refl}, proofs.lemmas.Result.{err_from_is_err_and}}
 use Rattle.record_write.proofs.Puts.{puts-none, puts-copy, cuts-copy}
 use Rattle.record_write.proofs.words.put_copies.Goals as goal
 

@@ -1,5 +1,4 @@
-use Rattle.std.proofs.Common.{refl}
-use Rattle.std.proofs.lemmas.Result.{err_from_is_err_and, on_ok_weaker, on_err_weaker}
+use Rattle.std.{proofs.Common.{refl}, proofs.lemmas.Result.{err_from_is_err_and, on_ok_weaker, on_err_weaker}}
 use Rattle.record_write.proofs.Puts.{puts-even, puts-odd, cuts-odd, cuts-wraps}
 use Rattle.record_write.proofs.words.put_wraps.Goals as goal
 

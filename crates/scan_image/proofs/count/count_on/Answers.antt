@@ -1,5 +1,4 @@
-use Rattle.std.proofs.Common.{◌++◌, ◌≡◌, ◌∙◌, ◌<◌, ◌%◌, true, List, cond, sym, ap, subst, rules, arith, append_assoc, nat_lt, if◌then◌else◌}
-use Rattle.std.proofs.lemmas.Bool.Decides.{nat_tests}
+use Rattle.std.{proofs.Common.{◌++◌, ◌≡◌, ◌∙◌, ◌<◌, ◌%◌, true, List, cond, sym, ap, subst, rules, arith, append_assoc, nat_lt, if◌then◌else◌}, proofs.lemmas.Bool.Decides.nat_tests}
 use Rattle.tally_base.{specs.declared.event.EventKind.TheVariants.{Photon, Marker}, specs.Events.is_in, specs.declared.settings.ImageSet.ImageSet, specs.Settings.image_view, specs.Columns.{item, rows, code_at, dtime_at, groups_at, time_at}, proofs.BlockRows.more_rows}
 use Rattle.marker_map.{specs.declared.lines.Lines.Lines, specs.Lines.{Saw, image_of}, specs.Marks.Mark, specs.Places.place_of}
 use Rattle.scan_image.{specs.Behind.{IsBehind, IsStripOf}, specs.Counted.{HowMany, with_photon}, proofs.Steps.{photon_step, only_group, few_more}}

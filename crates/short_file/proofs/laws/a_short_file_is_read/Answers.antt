@@ -1,5 +1,4 @@
-use Rattle.std.proofs.Common.{arith}
-use Rattle.std.{proofs.lemmas.List.length-append, proofs.lemmas.List.Elements.recursion_from_All}
+use Rattle.std.{proofs.Common.arith, proofs.lemmas.List.length-append, proofs.lemmas.List.Elements.recursion_from_All}
 use Rattle.short_file.{specs.ShortFiles.{bytes_in, short_header, short_file}, proofs.ShortHeaders.{short-answer, size}, proofs.WordBytes.{IsWord, words_of-bytes_in, rest_of-bytes_in, length-bytes_in}}
 use Rattle.short_file.proofs.laws.a_short_file_is_read.Goals as goal
 

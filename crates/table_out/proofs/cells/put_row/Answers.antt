@@ -1,5 +1,4 @@
-use Rattle.std.proofs.Common.{rules, ◌≡◌, ◌∙◌}
-use Rattle.std.proofs.lemmas.Result.{err_from_is_err_and}
+use Rattle.std.{proofs.Common.{rules, ◌≡◌, ◌∙◌}, proofs.lemmas.Result.err_from_is_err_and}
 use Rattle.tally_base.specs.Tally.{History}
 use Rattle.table_out.{specs.Report.printed, proofs.Putting.{puts-piece, cuts-piece, puts-next, cuts-next}}
 use Rattle.table_out.proofs.cells.put_row.Goals as goal

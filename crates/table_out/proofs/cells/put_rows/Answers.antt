@@ -1,5 +1,4 @@
-use Rattle.std.proofs.Common.{rules, ◌∙◌, ℕ, List}
-use Rattle.std.proofs.lemmas.Result.{err_from_is_err_and}
+use Rattle.std.{proofs.Common.{rules, ◌∙◌, ℕ, List}, proofs.lemmas.Result.err_from_is_err_and}
 use Rattle.tally_base.specs.Tally.{History}
 use Rattle.table_out.{specs.Printed.texts_of, specs.Report.printed, proofs.Putting.{puts-next, cuts-next}}
 use Rattle.table_out.proofs.cells.put_rows.Goals as goal

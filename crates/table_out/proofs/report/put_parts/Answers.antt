@@ -1,5 +1,4 @@
-use Rattle.std.proofs.Common.{rules, ◌∙◌}
-use Rattle.std.proofs.lemmas.Result.{err_from_is_err_and}
+use Rattle.std.{proofs.Common.{rules, ◌∙◌}, proofs.lemmas.Result.err_from_is_err_and}
 use Rattle.table_out.proofs.Tables.{first_texts-all, puts-part, cuts-part}
 use Rattle.table_out.proofs.report.put_parts.Goals as goal
 

@@ -1,8 +1,14 @@
-use Rattle.std.proofs.Common.{ℕ, List, ◌∙◌}
-use Rattle.std.proofs.lemmas.Result.{err_from_is_err_and, on_ok_weaker, on_err_weaker}
+use Rattle.std.{proofs.Common.{ℕ, List, ◌∙◌, ◌≡◌, ◌++◌, refl}, proofs.lemmas.Result.{err_from_is_err_and, on_ok_weaker, on_err_weaker}}
 use Rattle.bench_io.proofs.Bytes.{Appends-flushed, AppendsShort-flushed}
-use Rattle.table_out.{specs.Report.{Table, EachHolds, head_text, parts_text}, proofs.Putting.{puts-piece, puts-more, cuts-behind}, proofs.Reports.report-text}
+use Rattle.tally_base.specs.declared.header.Header.{Header}
+use Rattle.ptu_definitions.specs.declared.records.Summary.{Summary}
+use Rattle.table_out.{specs.Report.{Table, EachHolds, head_text, parts_text, report}, proofs.Putting.{puts-piece, puts-more, cuts-behind}}
 use Rattle.table_out.proofs.report.put_report.Goals as goal
+
+-- the parts of a report
+report-text : (header : Header) (summary : Summary) (tables : List Table) → report header summary tables ≡ head_text header summary ++ parts_text tables
+unfolding report
+report-text header summary tables = refl
 
 pub returns-in_err-put_parts-clause-short : goal.returns-in_err-put_parts-clause-short
 returns-in_err-put_parts-clause-short g c =

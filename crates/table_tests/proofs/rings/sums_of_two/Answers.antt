@@ -1,5 +1,4 @@
-use Rattle.std.proofs.Common.{◌≡◌, ℕ, ◌<◌, List, [], ◌∷◌, refl, arith}
-use Rattle.std.{specs.List.sum_by, proofs.lemmas.List.get_or-replicate}
+use Rattle.std.{proofs.Common.{◌≡◌, ℕ, ◌<◌, List, [], ◌∷◌, refl, arith}, specs.List.sum_by, proofs.lemmas.List.get_or-replicate}
 use Rattle.lag_ring.{specs.declared.ring.Entry.Entry, specs.declared.window.Side.TheVariants.First, specs.Window.weight_of, proofs.Windows.weight_at-le}
 use Rattle.table_tests.proofs.rings.sums_of_two.Goals as goal
 

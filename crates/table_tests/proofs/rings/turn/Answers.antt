@@ -1,5 +1,4 @@
-use Rattle.std.proofs.Common.{◌+◌, ◌<◌, nat_le, ap, arith}
-use Rattle.std.specs.List.{filter}
+use Rattle.std.{proofs.Common.{◌+◌, ◌<◌, nat_le, ap, arith}, specs.List.{filter}}
 use Rattle.lag_ring.{specs.declared.ring.Entry.Entry, specs.Ring.Ring, proofs.Rising.{all_push, all_weaker}, proofs.Lists.all_filter}
 use Rattle.table_tests.proofs.rings.turn.Goals as goal
 

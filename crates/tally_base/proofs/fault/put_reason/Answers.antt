@@ -1,4 +1,4 @@
-use Rattle.std.proofs.Common.{append_assoc, codes, decimal}
+use Rattle.std.{proofs.Common.{◌∙◌, ◌++◌, ap, codes, decimal}, proofs.lemmas.List.append-nil}
 use Rattle.tally_base.proofs.fault.put_reason.Goals as goal
 
 pub returns-in-ReadFault-clause-items : goal.returns-in-ReadFault-clause-items
@@ -23,4 +23,4 @@ pub returns-in-TruncatedRecord-clause-items : goal.returns-in-TruncatedRecord-cl
 returns-in-TruncatedRecord-clause-items c = rw c.in-TruncatedRecord.is c.put_around-in-TruncatedRecord.ensures.items
 
 pub returns-in-NoGroup-clause-items : goal.returns-in-NoGroup-clause-items
-returns-in-NoGroup-clause-items c = rw (c.in-NoGroup.is, c.put_decimal.ensures.items, c.put_text-in-NoGroup.ensures.items) (append_assoc c.args.into.now.items (codes "plan has no group ") (decimal c.in-NoGroup.group))
+returns-in-NoGroup-clause-items c = rw c.in-NoGroup.is (c.put_around-in-NoGroup.ensures.items ∙ ap (λ xs. c.args.into.now.items ++ (codes "plan has no group " ++ xs)) (append-nil (decimal c.in-NoGroup.group)))

@@ -1,5 +1,4 @@
-use Rattle.std.proofs.Common.{◌≡◌, ◌+◌, ◌/◌, ◌^◌, ◌<◌, ◌≤◌, take, drop, get_or, length, rules, arith, refl, ◌∙◌, slice_set}
-use Rattle.std.proofs.lemmas.List.{take-set-le}
+use Rattle.std.{proofs.Common.{◌≡◌, ◌/◌, ◌^◌, drop, get_or, rules, arith, refl}, proofs.lemmas.List.{take-set-le}}
 use Rattle.lag_ring.specs.declared.ring.Entry.{Entry}
 use Rattle.tau_cascade.proofs.Follows.{fits_first, fits_second, merge_more, byte_small}
 use Rattle.tau_cascade.proofs.bins.merge.Goals as goal
@@ -20,11 +19,4 @@ joined-b-requires c = λ one.
     omega (arith, fits, c.requires.counts.1)
 
 pub loop-bin-preserved : goal.loop-bin-preserved
-loop-bin-preserved c =
-    let inv = c.loop-bin.invariant in
-    let room : c.args.start + c.loop-bin.count < length c.loop-bin.list = search (rules, arith) in
-    record {
-      bins = merge_more c.args.levels c.args.came.now c.loop-bin.list c.args.start c.loop-bin.bin-index c.loop-bin.count c.loop-bin.index c.loop-bin.a c.loop-bin.b _ _ _ none _ c.loop-bin-test.true room inv.bins _ refl c.joined-a.ensures c.joined-b.ensures c.from-count.ensures;
-      before = (let kept : take c.args.start (slice_set c.loop-bin.list (c.args.start + c.loop-bin.count) (record { index = c.loop-bin.index; a = c.loop-bin.a; b = c.loop-bin.b })) ≡ take c.args.start c.loop-bin.list = take-set-le c.args.start c.loop-bin.list (c.args.start + c.loop-bin.count) _ (omega arith) in kept ∙ inv.before);
-      few = (let one : c.from-count.result ≤ 1 = rw c.from-count.ensures (byte_small _) in omega (arith, inv.few, one));
-    }
+loop-bin-preserved c = search (rules, arith, merge_more, none, take-set-le, byte_small)

@@ -1,5 +1,4 @@
-use Rattle.std.proofs.Common.{◌≡◌, ℕ, suc, ◌+◌, ◌-◌, ◌≤◌, take, drop, rules, arith}
-use Rattle.std.{proofs.Math.Logic.∥∥₁_map, proofs.lemmas.List.length-take}
+use Rattle.std.{proofs.Common.{◌≡◌, ℕ, suc, ◌+◌, ◌-◌, ◌≤◌, take, drop, rules, arith}, proofs.Math.Logic.∥∥₁_map, proofs.lemmas.List.length-take}
 use Rattle.tally_base.specs.Settings.{correlation_view}
 use Rattle.lag_ring.specs.declared.ring.Entry.{Entry}
 use Rattle.tau_cascade.{specs.Bins.{stretch, IsSpaced}, proofs.Takes.{can_take, come_on, chain_took}, proofs.Passes.{here_spaced, next_spaced, raised-again, some_apart}}

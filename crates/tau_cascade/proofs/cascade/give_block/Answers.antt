@@ -1,4 +1,4 @@
-use Rattle.std.proofs.Math.Logic.{∥∥₁_map}
+use Rattle.std.{proofs.Common.{arith, rules}, proofs.Math.Logic.{∥∥₁_map}}
 use Rattle.tally_base.{specs.Settings.correlation_view, specs.Columns.events_in}
 use Rattle.tau_cascade.{specs.Correlation.photons_of, proofs.Blocks.{block_comes, photons-append}}
 use Rattle.tau_cascade.proofs.cascade.give_block.Goals as goal
@@ -9,6 +9,4 @@ carry_all-requires-clause-stands g c =
     rw c.gather-count.ensures.bins (∥∥₁_map c.requires.stands (λ w. (photons_of view w.0, photons_of view (events_in c.args.block.now), block_comes view c.args.levels.now c.args.block.now w.0 w.1)))
 
 pub returns-clause-follows : goal.returns-clause-follows
-returns-clause-follows g c = λ h can.
-    let view = correlation_view c.args.set.now in
-    rw photons-append (c.carry_all.ensures.follows (photons_of view h) (photons_of view (events_in c.args.block.now)) (rw c.gather-count.ensures.bins (block_comes view c.args.levels.now c.args.block.now h can)))
+returns-clause-follows g c = search (rules, arith, photons-append, block_comes)

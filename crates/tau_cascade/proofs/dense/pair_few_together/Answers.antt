@@ -1,5 +1,4 @@
-use Rattle.std.proofs.Common.{◌≡◌, ◌<◌, ◌+◌, ℕ, length, get_or, arith}
-use Rattle.std.proofs.lemmas.List.{get_or-replicate, take_rest}
+use Rattle.std.{proofs.Common.{◌≡◌, ◌<◌, ◌+◌, ℕ, length, get_or, arith}, proofs.lemmas.List.{get_or-replicate, take_rest}}
 use Rattle.lag_ring.{specs.declared.window.Side.TheVariants.First, specs.Window.weight_at, proofs.Windows.weight_at-le}
 use Rattle.tau_cascade.proofs.Together.{window-paired-all}
 use Rattle.tau_cascade.proofs.dense.pair_few_together.Goals as goal

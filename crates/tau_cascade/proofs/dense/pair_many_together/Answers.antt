@@ -1,5 +1,4 @@
-use Rattle.std.proofs.Common.{◌≡◌, ◌∙◌, ◌<◌, ◌≤◌, ◌+◌, ◌-◌, ℕ, ltb, length, get_or, drop, arith}
-use Rattle.std.{specs.List.filter, proofs.lemmas.List.{get_or-replicate, take_rest}}
+use Rattle.std.{proofs.Common.{◌≡◌, ◌∙◌, ◌<◌, ◌≤◌, ◌+◌, ◌-◌, ℕ, ltb, length, get_or, drop, arith}, specs.List.filter, proofs.lemmas.List.{get_or-replicate, take_rest}}
 use Rattle.lag_ring.{specs.declared.ring.Entry.Entry, specs.declared.window.Side.TheVariants.First, specs.Window.weight_at, proofs.Lists.all_filter, proofs.Windows.weight_at-le}
 use Rattle.tau_cascade.proofs.Together.{window-paired, few_counted}
 use Rattle.tau_cascade.proofs.dense.pair_many_together.Goals as goal

@@ -1,4 +1,4 @@
-use Rattle.std.proofs.Common.{◌≡◌, ◌∙◌, ◌<◌, ◌+◌, ◌-◌, ◌*◌, ℕ, min, arith}
+use Rattle.std.proofs.Common.{◌≡◌, ◌∙◌, ◌+◌, ◌-◌, ◌*◌, ℕ, min, arith}
 use Rattle.tau_cascade.{specs.Dense.window_pairs, proofs.Together.{strip_more, once_more}}
 use Rattle.tau_cascade.proofs.dense.pair_window.Goals as goal
 
@@ -8,7 +8,6 @@ loop-strip-preserved g c =
     let e = c.pair_strip.ensures in
     let at' : ℕ = c.loop-strip.strip * 64 in
     let all : ℕ = c.args.lags - c.args.skipped in
-    let below : at' < all = omega arith in
     let so_far : min at' all ≡ at' = omega arith in
     let next : min ((c.loop-strip.strip + 1) * 64) all ≡ at' + c.min-count.result = omega arith in
     record {

@@ -1,5 +1,4 @@
-use Rattle.std.proofs.Common.{◌≡◌, ◌≤◌, ltb, take}
-use Rattle.std.specs.List.{filter}
+use Rattle.std.{proofs.Common.{◌≡◌, ◌≤◌, ltb, take}, specs.List.{filter}}
 use Rattle.arrayvec.specs.ArrayVec.{array_vec_len}
 use Rattle.lag_ring.specs.declared.ring.Entry.{Entry}
 use Rattle.tau_cascade.proofs.dense.with_second.Given as goal

@@ -1,5 +1,4 @@
-use Rattle.std.proofs.Common.{◌≡◌, ◌∙◌, ℕ, ◌+◌, ◌*◌, ◌%◌, ◌≤◌, List, [], ◌∷◌, ◌++◌, eqb, length, get_or, take, drop, refl, arith}
-use Rattle.std.{proofs.Math.Nat.mul-le-mul_left, proofs.lemmas.List.take_more}
+use Rattle.std.{proofs.Common.{◌≡◌, ◌∙◌, ℕ, ◌+◌, ◌*◌, ◌%◌, ◌≤◌, List, [], ◌∷◌, ◌++◌, eqb, length, get_or, take, drop, arith, rules}, proofs.Math.Nat.mul-le-mul_left, proofs.lemmas.List.take_more}
 use Rattle.lag_ring.{specs.declared.ring.Entry.Entry, proofs.Rising.{all_weaker, all_push}, proofs.Windows.part-le}
 use Rattle.tau_cascade.proofs.Close.{laid_next, weight_next, behind_next, behind_at, behind_whole}
 use Rattle.tau_cascade.proofs.laid.lay_all.Goals as goal
@@ -8,16 +7,7 @@ abbrev none : Entry
 none = record { index = 0; a = 0; b = 0 }
 
 pub loop-bin-init : goal.loop-bin-init
-loop-bin-init c = record {
-  weights = λ light p inside. omega arith;
-  light = λ p inside. omega arith;
-  next = λ es. refl;
-  after = λ es behind. behind;
-  more = omega arith;
-  heaviest = tt;
-  place = omega arith;
-  same = refl;
-}
+loop-bin-init c = search (rules, arith)
 
 pub lay_one-laying-requires-clause-place : goal.lay_one-laying-requires-clause-place
 lay_one-laying-requires-clause-place c =

@@ -1,12 +1,10 @@
-use Rattle.std.proofs.Common.{◌≡◌, ◌∙◌, ℕ, ◌+◌, ◌-◌, ◌<◌, ◌≤◌, length, get_or, take, drop, refl, arith}
-use Rattle.std.proofs.lemmas.List.{get_or-replicate, take_rest, length-take-le, length-drop}
+use Rattle.std.{proofs.Common.{◌≡◌, ◌∙◌, ℕ, ◌+◌, ◌-◌, ◌<◌, ◌≤◌, length, get_or, take, drop, arith, rules}, proofs.lemmas.List.{get_or-replicate, take_rest, length-take-le, length-drop}}
 use Rattle.lag_ring.{specs.declared.window.Side.TheVariants.First, specs.Window.weight_at, proofs.Rising.all_weaker}
 use Rattle.tau_cascade.{specs.Laid.laid, proofs.Close.{laid-paired, all_room, front_room, behind_none, behind_front}}
 use Rattle.tau_cascade.proofs.laid.pair_light.Goals as goal
 
 pub lay_all-before-requires-clause-room : goal.lay_all-before-requires-clause-room
-lay_all-before-requires-clause-room g c =
-    rw c.from-reach.ensures (refl, omega (arith, c.requires.lags.1), front_room c.args.lags c.args.start c.args.list.now c.requires.lags.1 c.requires.list.0 c.requires.list.1, behind_front c.args.start c.args.list.now c.requires.list.2)
+lay_all-before-requires-clause-room g c = search (rules, arith, front_room, behind_front)
 
 pub lay_all-all-requires-clause-room : goal.lay_all-all-requires-clause-room
 lay_all-all-requires-clause-room g c =

@@ -1,5 +1,4 @@
-use Rattle.std.proofs.Common.{◌≡◌, ◌∙◌, ℕ, ◌+◌, ◌-◌, ◌*◌, ◌<◌, ◌≤◌, List, [], ◌∷◌, ◌++◌, length, get_or, take, drop, refl, sym, ap, arith, get_or-take, get_or-drop}
-use Rattle.std.{specs.List.sum_by, proofs.Math.Nat.mul-le-mul, proofs.lemmas.List.take_more}
+use Rattle.std.{proofs.Common.{◌≡◌, ◌∙◌, ℕ, ◌+◌, ◌-◌, ◌*◌, ◌<◌, ◌≤◌, List, [], ◌∷◌, ◌++◌, length, get_or, take, drop, sym, ap, arith, get_or-take, get_or-drop, rules}, specs.List.sum_by, proofs.Math.Nat.mul-le-mul, proofs.lemmas.List.take_more}
 use Rattle.lag_ring.{specs.declared.ring.Entry.Entry, specs.declared.window.Side.TheVariants.Second, specs.Window.product_at}
 use Rattle.tau_cascade.{specs.Laid.laid, proofs.Close.{behind_at, behind_next, behind_whole, is_light_at, laid_next, room_at, sums_next}}
 use Rattle.tau_cascade.proofs.laid.sum_laid.Goals as goal
@@ -8,14 +7,7 @@ abbrev none : Entry
 none = record { index = 0; a = 0; b = 0 }
 
 pub loop-bin-init : goal.loop-bin-init
-loop-bin-init c = record {
-  sums = λ q inside. c.requires.zeros q inside;
-  small = λ q inside. omega (arith, c.requires.zeros q inside);
-  next = λ es. refl;
-  after = λ es behind. behind;
-  place = omega arith;
-  same = refl;
-}
+loop-bin-init c = search (rules, arith)
 
 pub lay_behind-last-requires-clause-after : goal.lay_behind-last-requires-clause-after
 lay_behind-last-requires-clause-after c = behind_at c.loop-bin.last.index c.args.list.now c.loop-bin.bin-index none c.loop-bin-test.true (c.loop-bin.invariant.after (drop c.loop-bin.bin-index c.args.list.now) (behind_whole c.args.was.index c.loop-bin.bin-index c.args.list.now c.requires.place.1))

@@ -7,20 +7,11 @@ abbrev none : Entry
 none = record { index = 0; a = 0; b = 0 }
 
 pub loop-at-init : goal.loop-at-init
-loop-at-init g c = record {
-  from = omega arith;
-  far = λ n all. tt;
-  cells = λ p inside. omega (arith, none_paired (p + c.args.skipped + 1) c.args.start c.args.list.now c.requires.start);
-  same = search rules;
-  added = omega arith;
-  each = λ p. omega arith;
-  steps = search rules;
-}
+loop-at-init g c = search (rules, arith, none_paired)
 
 pub search_reach-from-requires-clause-after : goal.search_reach-from-requires-clause-after
 search_reach-from-requires-clause-after g c =
-    let inside : c.loop-at.at < length c.args.list.now = search (rules, arith) in
-    below_bins c.args.list.now c.loop-at.from c.loop-at.at c.args.lags none inside c.loop-at.invariant.from c.requires.rising
+    below_bins c.args.list.now c.loop-at.from c.loop-at.at c.args.lags none (search (rules, arith)) c.loop-at.invariant.from c.requires.rising
 
 pub search_reach-from-requires-clause-far : goal.search_reach-from-requires-clause-far
 search_reach-from-requires-clause-far g c =

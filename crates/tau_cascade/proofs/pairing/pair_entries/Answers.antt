@@ -30,4 +30,4 @@ pub returns-then-lag-from-clause-each : goal.returns-then-lag-from-clause-each
 returns-then-lag-from-clause-each g c = λ p. omega (arith, c.loop-e.invariant.each p, once_before c.args.entries.now c.loop-e.e-index (p + c.args.skipped + 1) c.args.index c.requires.rising)
 
 pub returns-clause-each : goal.returns-clause-each
-returns-clause-each g c = λ p. omega (arith, c.loop-e.invariant.each p, once_before c.args.entries.now c.loop-e.e-index (p + c.args.skipped + 1) c.args.index c.requires.rising)
+returns-clause-each g c = search (rules, arith, once_before)

@@ -7,10 +7,7 @@ abbrev none : Entry
 none = record { index = 0; a = 0; b = 0 }
 
 pub pair_run-requires-clause-rising : goal.pair_run-requires-clause-rising
-pair_run-requires-clause-rising g c =
-    let first = c.first_in_reach-from.ensures.place in
-    let end = c.run_end-end.ensures in
-    run_rising c.args.list.now c.first_in_reach-from.result c.runs.at c.run_end-end.result c.args.lags none first end.more end.within c.requires.rising
+pair_run-requires-clause-rising g c = search (rules, arith, run_rising, none)
 
 pub pair_run-requires-clause-fits : goal.pair_run-requires-clause-fits
 pair_run-requires-clause-fits g c = λ p inside.

@@ -1,7 +1,8 @@
 use Rattle.std.proofs.Common.{refl}
+use Rattle.record_stream.proofs.Lasts.{streamed-clear}
 use Rattle.gate_plan.specs.Groups.{sorting_of}
 use Rattle.trace_work.{specs.TraceLines.traced_none, proofs.TraceFeeds.ends-both}
-use Rattle.command_work.proofs.Streams.{streamed-clear, not_written}
+use Rattle.command_work.proofs.Streams.{not_written}
 use Rattle.trace_work.proofs.trace.end_lines.Goals as goal
 
 pub returns-clause-writes : goal.returns-clause-writes
@@ -10,7 +11,7 @@ returns-clause-writes g c = λ bytes h holds.
     let clear = streamed-clear _ _ _ _ _ _ _ bytes h c.requires.going in
     rw c.both.ensures
     (ends-both _ (λ t. t.trace.now) (λ t. g.O.Sink.written t.out.now) (λ t. t.block) (sorting_of c.args.lines.now.gates.now) _ _ _ _ _ (traced_none _ _ _ _ _ _ _ _)
-    (λ l is. record { lines = is.lines; given = is.given; text = rw c.requires.empty at is.text })
-    (λ l is. record { lines = is.lines; closed = is.closed; text = rw c.requires.empty at is.text; empty = is.empty })
-    c.args.lines.now.trace.now.set.some_width.0 bytes holds g.O.Sink _ _ refl refl refl refl c.finish-finished.result c.flush-flushed.result (fin.inside c.requires.going) clear c.requires.empty c.flush-flushed.ensures.all c.flush-flushed.ensures.short c.flush-flushed.ensures.cause
+    (λ l is. record { lines = is.lines; given = is.given; text = rw c.requires.begins.empty at is.text })
+    (λ l is. record { lines = is.lines; closed = is.closed; text = rw c.requires.begins.empty at is.text; empty = is.empty })
+    c.args.lines.now.trace.now.set.some_width.0 bytes holds g.O.Sink _ _ refl refl refl refl c.finish-finished.result c.flush-flushed.result (fin.inside c.requires.going) clear c.requires.begins.empty c.flush-flushed.ensures.all c.flush-flushed.ensures.short c.flush-flushed.ensures.cause
     (fin.answer (not_written _ c.requires.going) bytes h))

@@ -1,8 +1,93 @@
-use Rattle.std.proofs.lemmas.Result.{err_from_is_err_and}
-use Rattle.gate_plan.specs.Groups.{sorting_of}
+use Rattle.std.{proofs.lemmas.Result.err_from_is_err_and, proofs.Common.{◌≡◌, ◌∙◌, ℕ, List, [], ◌++◌, None, Some, Ok, Err, sym, ap, inl, inr, append_assoc, append-nil, Result, OnOk, OnErr, IfErr, arith, rules}, specs.declared.option.Option.Option, specs.Io.KnownBytes.{Appends, Keeps}}
+use Rattle.gate_plan.{specs.Groups.sorting_of, specs.Shifting.Sorting, specs.Histories.history}
 use Rattle.record_stream.specs.Standing.{how_of}
-use Rattle.trace_work.proofs.TraceLast.{last-refused, last-ended}
+use Rattle.tally_base.{specs.declared.fault.Fault.Fault, specs.declared.fault.Fault.TheVariants.WriteFault, specs.Faults.fault_in, specs.FaultCounts.Rose, specs.Settings.{TraceView, trace_view}, specs.Tally.History}
+use Rattle.bench_io.{specs.declared.sink.Sink.Ghosts, proofs.Bytes.{Appends-trans, AppendsShort-behind, AppendsShort-more}}
+use Rattle.ptu_definitions.{specs.Words.words_of, specs.Streams.{Reading, streamed}}
+use Rattle.long_trace.{specs.declared.trace.LongTrace.LongTrace, specs.LongTrace.set_of, specs.Texts.{open_text, whole_text}, specs.Written.{AppendsRest, CutsRest}, proofs.Rising.whole-front}
+use Rattle.command_work.{specs.Outcomes.{Outcome, written}, specs.Tellings.WritesEnd}
+use Rattle.trace_work.{specs.TraceOutcomes.{words_traced, records_traced}, specs.TracePieces.{traces, WroteLast, WritesLast}}
 use Rattle.trace_work.proofs.trace.end_trace.Goals as goal
+
+-- the end of a trace
+Keeps-append : (a b : Option (List ℕ)) → Keeps a b → Appends a b []
+Keeps-append a b k = search (rules, arith, append-nil)
+
+abbrev end_with : List ℕ → Option Fault → Outcome
+end_with text fault = record { text = text; fault = fault }
+
+module _ {O : Type 0} (o : Ghosts O) (by : Sorting) (how : Reading) (trace now : LongTrace) (bytes : List ℕ) where
+  abbrev set : TraceView
+  set = trace_view (set_of trace)
+
+  abbrev text : List ℕ → List ℕ
+  text = words_traced (Some set) by how
+
+  abbrev ends : List ℕ → Outcome
+  ends = records_traced (Some set) by how
+
+  abbrev all : History
+  all = history by how (words_of bytes)
+
+  -- bytes that end well have the whole text
+  ends-whole : fault_in (streamed how bytes) ≡ None → ends bytes ≡ written (whole_text set all)
+  ends-whole clear = search (rules, arith)
+
+  ends-refused : (fault : Fault) → fault_in (streamed how bytes) ≡ Some fault → ends bytes ≡ end_with (text (words_of bytes)) (Some fault)
+  ends-refused fault e = search (rules, arith)
+
+  -- The lines of what was kept back were not all written.
+  last-refused : (old new : O) (fault : Fault) → WritesLast o by how trace now old new bytes (Err fault) → WritesEnd (traces set by how) bytes (o.written old) (o.written new) (o.faults old) (o.faults new) (Err fault)
+  last-refused old new fault (inl h) =
+      let is = ends-refused fault h.1 in
+      inl (
+        ap (λ (end : Outcome). end.fault) is,
+        record {
+          more = [];
+          adds = ap (λ (end : Outcome). end.text) is ∙ sym (append-nil (text (words_of bytes)));
+          written = Keeps-append (o.written old) (o.written new) h.2;
+          kept = h.3;
+        },
+      )
+  last-refused old new fault (inr h) =
+      let front = whole-front set all in
+      inr (
+        h.0,
+        record {
+          more = h.1.more ++ front.0;
+          adds = ap (λ (end : Outcome). end.text) (ends-whole h.1.clear) ∙ front.1 ∙ ap (λ l. l ++ front.0) h.1.adds ∙ append_assoc (text (words_of bytes)) h.1.more front.0;
+          cut = AppendsShort-more (o.written old) (o.written new) h.1.more front.0 h.1.cut;
+          rose = h.1.rose;
+        },
+      )
+
+  -- They were written, and then the rest.
+  last-ended : (old mid new : O) (r : Result (Unit {0}) Fault) → set_of now ≡ set_of trace → WroteLast o by how trace now old mid bytes
+      → OnOk r (AppendsRest (o.written mid) (o.written new) (open_text (trace_view (set_of now)) all) (whole_text (trace_view (set_of now)) all))
+      → OnErr r (CutsRest (o.written mid) (o.written new) (open_text (trace_view (set_of now)) all) (whole_text (trace_view (set_of now)) all))
+      → IfErr r (λ fault. fault ≡ WriteFault) → OnErr r (Rose (o.faults mid) (o.faults new)) → OnOk r (o.faults new ≡ o.faults mid) → WritesEnd (traces set by how) bytes (o.written old) (o.written new) (o.faults old) (o.faults new) r
+  last-ended old mid new (Ok done) same h all_of cut write rose kept =
+      let rest = rw same at all_of in
+      let is = ends-whole h.clear in (
+        ap (λ (end : Outcome). end.fault) is,
+        record {
+          more = h.more ++ rest.rest;
+          adds = ap (λ (end : Outcome). end.text) is ∙ rest.whole ∙ ap (λ l. l ++ rest.rest) h.adds ∙ append_assoc (text (words_of bytes)) h.more rest.rest;
+          written = Appends-trans (o.written old) (o.written mid) (o.written new) h.more rest.rest h.written rest.appended;
+          kept = kept ∙ h.kept;
+        },
+      )
+  last-ended old mid new (Err fault) same h all_of cut write rose kept =
+      let rest = rw same at cut in
+      inr (
+        write,
+        record {
+          more = h.more ++ rest.rest;
+          adds = ap (λ (end : Outcome). end.text) (ends-whole h.clear) ∙ rest.whole ∙ ap (λ l. l ++ rest.rest) h.adds ∙ append_assoc (text (words_of bytes)) h.more rest.rest;
+          cut = AppendsShort-behind (o.written old) (o.written mid) (o.written new) h.more rest.rest h.written rest.cut;
+          rose = rw h.kept at rose;
+        },
+      )
 
 pub returns-in_err-last_lines : goal.returns-in_err-last_lines
 returns-in_err-last_lines g c = λ bytes h holds.

@@ -1,5 +1,4 @@
-use Rattle.std.proofs.Common.{arith}
-use Rattle.std.proofs.lemmas.Result.{on_ok_weaker}
+use Rattle.std.{proofs.Common.{arith, rules}, proofs.lemmas.Result.{on_ok_weaker}}
 use Rattle.gate_plan.specs.Groups.{sorting_of}
 use Rattle.trace_work.{specs.TraceLines.traced_none, proofs.TraceFeeds.{feeds-on, feeds-cut}}
 use Rattle.command_work.proofs.Streams.{stays-open}
@@ -8,8 +7,8 @@ use Rattle.trace_work.proofs.trace.feed_lines.Goals as goal
 pub returns-in-Ok-clause-writes : goal.returns-in-Ok-clause-writes
 returns-in-Ok-clause-writes g c = λ going bytes h holds.
     let it = feeds-on _ (λ t. t.trace.now) (λ t. g.O.Sink.written t.out.now) (λ t. t.block) (sorting_of c.args.lines.now.gates.now) _ _ _ _ _ (traced_none _ _ _ _ _ _ _ _)
-    (λ l is. record { lines = is.lines; given = is.given; text = rw c.requires.empty at is.text })
-    (λ l is. record { lines = is.lines; closed = is.closed; text = rw c.requires.empty at is.text; empty = is.empty })
+    (λ l is. record { lines = is.lines; given = is.given; text = rw c.requires.begins.empty at is.text })
+    (λ l is. record { lines = is.lines; closed = is.closed; text = rw c.requires.begins.empty at is.text; empty = is.empty })
     c.args.lines.now.trace.now.set.some_width.0 _ _ holds c.in-Ok.ensures.all c.in-Ok.ensures.cause.kept c.feed-fed.result (c.feed-fed.ensures.fed going bytes h) in
     record { writes = it.0; stands = it.1 }
 
@@ -17,8 +16,8 @@ pub returns-in-Err-clause-writes : goal.returns-in-Err-clause-writes
 returns-in-Err-clause-writes g c = λ going bytes h holds.
     record {
       writes = feeds-cut _ (λ t. t.trace.now) (λ t. g.O.Sink.written t.out.now) (λ t. t.block) (sorting_of c.args.lines.now.gates.now) _ _ _ _ _ (traced_none _ _ _ _ _ _ _ _)
-          (λ l is. record { lines = is.lines; given = is.given; text = rw c.requires.empty at is.text })
-          (λ l is. record { lines = is.lines; closed = is.closed; text = rw c.requires.empty at is.text; empty = is.empty })
+          (λ l is. record { lines = is.lines; given = is.given; text = rw c.requires.begins.empty at is.text })
+          (λ l is. record { lines = is.lines; closed = is.closed; text = rw c.requires.begins.empty at is.text; empty = is.empty })
           c.args.lines.now.trace.now.set.some_width.0 _ _ holds c.feed-fed.result c.in-Err.ensures.short c.in-Err.ensures.cause.once (c.feed-fed.ensures.fed going bytes h);
       stands = tt;
     }
@@ -33,6 +32,4 @@ pub returns-in-Err-clause-fed : goal.returns-in-Err-clause-fed
 returns-in-Err-clause-fed g c = record { same_how = c.feed-fed.ensures.same_how; taken = c.feed-fed.ensures.taken; limit = c.feed-fed.ensures.limit }
 
 pub returns-in-Ok-clause-behind : goal.returns-in-Ok-clause-behind
-returns-in-Ok-clause-behind g c =
-    let taker = c.feed-fed.new.taker in
-    on_ok_weaker c.feed-fed.result (λ f. record { going = taker.going; few = omega (arith, f.few, taker.few); before = omega (arith, f.before, taker.before) }) c.feed-fed.ensures.follows
+returns-in-Ok-clause-behind g c = search (rules, arith, on_ok_weaker)

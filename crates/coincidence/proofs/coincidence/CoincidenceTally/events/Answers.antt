@@ -1,5 +1,4 @@
-use Rattle.std.proofs.Common.{rules, ◌++◌}
-use Rattle.std.proofs.Math.Logic.{∥∥₁_map}
+use Rattle.std.{proofs.Common.{rules, ◌++◌}, proofs.Math.Logic.{∥∥₁_map}}
 use Rattle.tally_base.{specs.Settings.coincidence_view, specs.Columns.{gathered, events_in}}
 use Rattle.coincidence.proofs.Blockwise.{may_events, events_count}
 use Rattle.coincidence.proofs.coincidence.CoincidenceTally.events.Goals as goal

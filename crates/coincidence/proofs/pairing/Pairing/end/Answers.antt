@@ -1,5 +1,4 @@
-use Rattle.std.proofs.Common.{refl}
-use Rattle.std.proofs.Math.Logic.{∥∥₁_map}
+use Rattle.std.{proofs.Common.{refl}, proofs.Math.Logic.{∥∥₁_map}}
 use Rattle.tally_base.specs.Settings.{coincidence_view}
 use Rattle.coincidence.proofs.Puts.{end_shut}
 use Rattle.coincidence.proofs.pairing.Pairing.end.Goals as goal

@@ -1,23 +1,12 @@
 use Rattle.std.proofs.Common.{◌≡◌, false, length, rules, arith, length-append}
-use Rattle.tally_base.{specs.Columns.{item, gathered, events_in}, proofs.BlockRows.length-rows, proofs.Greatest.greatest_block, proofs.Lower.{order-lower, floor-lower}, proofs.Slices.whole_slice}
-use Rattle.coincidence.specs.Starts.{since_in}
+use Rattle.tally_base.{specs.Columns.{item, events_in}, proofs.BlockRows.length-rows, proofs.Greatest.greatest_block, proofs.Lower.{order-lower, floor-lower}, proofs.Slices.whole_slice}
 use Rattle.coincidence.proofs.start_stop.StartStopTally.events.Goals as goal
 
 pub count_block-self-requires-clause-in_order : goal.count_block-self-requires-clause-in_order
-count_block-self-requires-clause-in_order g c = let t = c.args.self.now in order-lower false (since_in t.start) t.floor (gathered c.args.block.now) t.started c.requires.in_order
+count_block-self-requires-clause-in_order g c = search (rules, arith, order-lower)
 
 pub invariant_of-self : goal.invariant_of-self
-invariant_of-self g c =
-    let t = c.args.self.now in
-    let es = gathered c.args.block.now in
-    let e = rw c.deref_mut.ensures.value at c.count_block-self.ensures in
-    let count : length c.count_block-self.new.cells ≡ length t.cells.items = search rules in
-    let all : t.cells.len ≡ length t.cells.items = search rules in
-    record {
-      sized = t.sized;
-      small = rw (whole_slice c.count_block-self.new.cells t.cells.items t.cells.len count all) (omega (arith, e.few, t.small, c.len.ensures.value));
-      started = rw c.floor_after-self.ensures (omega (arith, e.begun, floor-lower false (since_in t.start) t.floor es t.started));
-    }
+invariant_of-self g c = search (rules, arith, whole_slice, floor-lower)
 
 pub returns-clause-follows : goal.returns-clause-follows
 returns-clause-follows g c = λ h is.

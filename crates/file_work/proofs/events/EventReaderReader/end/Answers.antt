@@ -1,14 +1,11 @@
-use Rattle.std.proofs.Common.{Ok, Err, sym, ap}
-use Rattle.std.proofs.lemmas.Result.{err_from_is_err_and}
+use Rattle.std.{proofs.Common.{Ok, sym, ap, arith, rules}, proofs.lemmas.Result.{err_from_is_err_and}}
 use Rattle.tally_base.specs.Faults.{fault_in}
 use Rattle.record_stream.specs.Standing.{how_of}
 use Rattle.file_work.proofs.EventEnds.{ends-listed}
 use Rattle.file_work.proofs.events.EventReaderReader.end.Goals as goal
 
 pub returns-in_err-end_lines : goal.returns-in_err-end_lines
-returns-in_err-end_lines g c = λ bytes h.
-    let p = err_from_is_err_and c.from_residual.result c.from_residual.ensures.1 in
-    rw (p.1, p.2, c.end_lines.ensures.untouched) (ends-listed (how_of c.args.self.stream) bytes _ _ c.end_lines.result (Err c.in_err-end_lines.field-0.0) (c.end_lines.ensures.answer bytes h.streamed) (sym (ap fault_in c.in_err-end_lines.was)))
+returns-in_err-end_lines g c = search (rules, arith, err_from_is_err_and, ends-listed)
 
 pub returns : goal.returns
 returns g c = λ bytes h.

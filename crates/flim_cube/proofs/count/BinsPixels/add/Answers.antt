@@ -1,6 +1,4 @@
-use Rattle.std.proofs.Common.{◌≡◌, ◌∙◌, ◌+◌, ◌/◌, ◌<◌, ℕ, cond, ap, refl, rules, arith, length, get_or, Some, false, nat_le}
-use Rattle.std.proofs.lemmas.Bool.Decides.{nat_tests}
-use Rattle.std.proofs.lemmas.Grind.{common_steps}
+use Rattle.std.{proofs.Common.{◌≡◌, ◌∙◌, ◌+◌, ◌/◌, ◌<◌, ℕ, cond, ap, refl, rules, arith, length, get_or, Some, false, nat_le}, proofs.lemmas.Bool.Decides.{nat_tests}, proofs.lemmas.Grind.{common_steps}}
 use Rattle.flim_cube.{specs.Cells.counts_of, specs.CubeCounts.is_in_cell, proofs.Cells.raised_in}
 use Rattle.flim_cube.proofs.count.BinsPixels.add.Goals as goal
 

@@ -1,5 +1,4 @@
-use Rattle.std.proofs.Common.{◌≡◌, ◌∙◌, ℕ, ◌+◌, ◌*◌, ◌<◌, length, slice_index, ap, sym, rules, arith, ◌≢◌}
-use Rattle.std.proofs.lemmas.Nat.{mul-le, same_from_place}
+use Rattle.std.{proofs.Common.{◌≡◌, ◌∙◌, ℕ, ◌+◌, ◌*◌, ◌<◌, length, slice_index, ap, sym, rules, arith, ◌≢◌}, proofs.lemmas.Nat.{mul-le, same_from_place}}
 use Rattle.tally_base.proofs.Slices.{whole_slice}
 use Rattle.flim_cube.{specs.Bytes.{byte_in, length_counts}, specs.Cells.counts_of, proofs.Bytes.{get_counts, low_byte, count_more, count_same, counts_set, first_row, row_behind, first_placed}}
 use Rattle.flim_cube.proofs.spread.Cells.add.Goals as goal

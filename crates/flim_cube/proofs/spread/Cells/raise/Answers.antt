@@ -1,5 +1,4 @@
-use Rattle.std.proofs.Common.{◌≡◌, ◌∙◌, ℕ, ◌+◌, ◌*◌, ◌<◌, ◌≤◌, length, slice_index, set, inl, inr, ap, sym, rules, arith, ◌≢◌}
-use Rattle.std.{specs.Int.{w64, from_le_bytes}, proofs.lemmas.Bool.cases_lt, proofs.lemmas.Nat.{mul-le, from_le_bytes-to_le_bytes_8}}
+use Rattle.std.{proofs.Common.{◌≡◌, ◌∙◌, ℕ, ◌+◌, ◌*◌, ◌<◌, ◌≤◌, length, slice_index, set, inl, inr, ap, sym, rules, arith, ◌≢◌}, specs.Int.{w64, from_le_bytes}, proofs.lemmas.Bool.cases_lt, proofs.lemmas.Nat.{mul-le, from_le_bytes-to_le_bytes_8}}
 use Rattle.tally_base.proofs.Slices.{whole_slice}
 use Rattle.flim_cube.{specs.Bytes.{byte_in, count_in, length_counts}, specs.Cells.counts_of, proofs.Bytes.{count_from, count_same, counts_set, other_cell}}
 use Rattle.flim_cube.proofs.spread.Cells.raise.Goals as goal

@@ -1,5 +1,4 @@
-use Rattle.std.proofs.Common.{◌≡◌, ◌∙◌, ℕ, ◌+◌, ◌*◌, ◌<◌, List, [], ◌∷◌, slice_index, ap, sym, arith}
-use Rattle.std.specs.Int.{w16, from_le_bytes}
+use Rattle.std.{proofs.Common.{◌≡◌, ◌∙◌, ℕ, ◌+◌, ◌*◌, ◌<◌, List, [], ◌∷◌, slice_index, ap, sym, arith}, specs.Int.{w16, from_le_bytes}}
 use Rattle.flim_cube.{specs.Bytes.{byte_in, length_counts}, proofs.Bytes.{get_counts, count_two, count_from, each_of_eight}}
 use Rattle.flim_cube.proofs.spread.Cells.whole.Goals as goal
 

@@ -1,5 +1,4 @@
-use Rattle.std.proofs.Common.{◌≡◌, ◌∙◌, ℕ, ◌+◌, ◌*◌, ◌≤◌, length, rules, arith}
-use Rattle.std.proofs.lemmas.Nat.{mul-le}
+use Rattle.std.{proofs.Common.{◌≡◌, ◌∙◌, ℕ, ◌+◌, ◌*◌, ◌≤◌, length, rules, arith}, proofs.lemmas.Nat.{mul-le}}
 use Rattle.flim_cube.{specs.Bytes.byte_in, proofs.Bytes.{more_zeros, count_same, counts_same}}
 use Rattle.flim_cube.proofs.spread.Cells.widen.Goals as goal
 

@@ -3,7 +3,7 @@ use Rattle.gate_plan.{specs.Shifting.shifted, specs.Taking.takes, specs.Groups.s
 use Rattle.gate_plan.proofs.gates.Gates.groups.Goals as goal
 
 pub returns-in-Photon-clause-number : goal.returns-in-Photon-clause-number
-returns-in-Photon-clause-number c = (rw c.shifted_dtime.ensures at c.of_photon.ensures) ∙ sym (of_shifted (sorting_of c.args.self.now) c.args.e.now c.in-Photon.input c.in-Photon.dtime c.in-Photon.is)
+returns-in-Photon-clause-number c = cc (of_shifted (sorting_of c.args.self.now) c.args.e.now c.in-Photon.input c.in-Photon.dtime c.in-Photon.is)
 
 pub returns-in-Marker-clause-number : goal.returns-in-Marker-clause-number
 returns-in-Marker-clause-number c = sym (of_shifted_marker (sorting_of c.args.self.now) c.args.e.now c.in-Marker.bits c.in-Marker.is)

@@ -1,4 +1,4 @@
-use Rattle.std.proofs.Common.{◌≡◌, ◌+◌, ◌==◌, map, get_or, length, ap, refl, ◌∙◌}
+use Rattle.std.proofs.Common.{◌≡◌, ◌+◌, map, get_or, refl, ◌∙◌}
 use Rattle.tally_base.specs.Settings.{group_view}
 use Rattle.gate_plan.{specs.Parting.{plain_bits, gated_bits, gated_sum}, proofs.Parts.{parted_fits, few_groups}}
 use Rattle.gate_plan.proofs.gates.Gates.of.Goals as goal
@@ -25,6 +25,4 @@ pub invariant_of-result-clause-gates_are : goal.invariant_of-result-clause-gates
 invariant_of-result-clause-gates_are c = rw c.as_slice-5.ensures.value at c.gated_of-gated.ensures.gates
 
 pub invariant_of-result-clause-only_one : goal.invariant_of-result-clause-only_one
-invariant_of-result-clause-only_one c =
-    let gates = rw c.as_slice-5.ensures.value at c.gated_of-gated.ensures.gates in
-    (rw c.as_slice-6.ensures.value at c.only_gate-only.ensures.one) ∙ ap (λ all. length all == 1) gates
+invariant_of-result-clause-only_one c = cc

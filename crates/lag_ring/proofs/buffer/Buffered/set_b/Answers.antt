@@ -1,5 +1,4 @@
-use Rattle.std.proofs.Common.{◌≡◌, refl, rules, slice_get, Some}
-use Rattle.std.proofs.lemmas.List.{length-set}
+use Rattle.std.{proofs.Common.{◌≡◌, refl, rules, slice_get, Some}, proofs.lemmas.List.{length-set}}
 use Rattle.lag_ring.{specs.declared.ring.Entry.Entry, proofs.Rising.rising_set, proofs.buffer.Buffered.set_b.Goals.{in-Some, in_default}}
 use Rattle.lag_ring.proofs.buffer.Buffered.set_b.Goals as goal
 

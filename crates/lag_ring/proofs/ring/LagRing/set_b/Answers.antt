@@ -1,5 +1,4 @@
-use Rattle.std.proofs.Common.{◌≡◌, ◌∙◌, ◌<◌, ◌≤◌, ap, length, get_or, slice_get, slice_set, List, Some}
-use Rattle.std.proofs.lemmas.Option.{slice_get-get_or}
+use Rattle.std.{proofs.Common.{◌≡◌, ◌∙◌, ◌<◌, ◌≤◌, ap, length, get_or, slice_get, slice_set, List, Some}, proofs.lemmas.Option.{slice_get-get_or}}
 use Rattle.lag_ring.{specs.declared.ring.Entry.Entry, specs.Ring.{Ring, kept_or}, proofs.Rising.{all_at, all_set}}
 use Rattle.lag_ring.proofs.ring.LagRing.set_b.Goals as goal
 

@@ -1,5 +1,4 @@
-use Rattle.std.proofs.Common.{◌≡◌, ◌≢◌, ◌++◌, ◌∷◌, [], sym, ap, ◌∙◌, append-nil, take_while, ◌==◌, not, arith}
-use Rattle.std.{specs.List.flat_map, proofs.lemmas.Grind.common_steps}
+use Rattle.std.{proofs.Common.{◌≡◌, ◌≢◌, ◌++◌, ◌∷◌, [], sym, ap, ◌∙◌, append-nil, take_while, ◌==◌, not, arith}, specs.List.flat_map, proofs.lemmas.Grind.common_steps}
 use Rattle.tally_base.specs.Hexadecimal.{hexadecimal}
 use Rattle.ptu_tag.specs.declared.kind.TagKind.TheVariants.{AnsiString}
 use Rattle.list_out.{specs.HeaderText.{body_text, shown_byte}, proofs.Bodies.{body_text-digits, body_text-passed, body_text-ended}}

@@ -1,5 +1,4 @@
-use Rattle.std.proofs.Common.{◌∙◌, refl}
-use Rattle.std.proofs.lemmas.Result.{on_err_weaker}
+use Rattle.std.{proofs.Common.{◌∙◌, arith, rules}, proofs.lemmas.Result.{on_err_weaker}}
 use Rattle.bench_io.proofs.Bytes.{AppendsShort-same}
 use Rattle.long_trace.proofs.trace.LongTrace.start.Goals as goal
 
@@ -7,10 +6,4 @@ pub returns-clause-short : goal.returns-clause-short
 returns-clause-short g c = on_err_weaker c.write_or_refuse-written.result (λ cut. AppendsShort-same _ _ _ _ (c.as_slice.ensures.value ∙ c.first_line.ensures) cut) c.write_or_refuse-written.ensures.short
 
 pub returns-clause-starts : goal.returns-clause-starts
-returns-clause-starts g c = record {
-  begun = refl;
-  going = c.is_ok-self.ensures.value;
-  same_set = refl;
-  same_counts = (refl, refl);
-  stands = λ h is. record { bins = is.bins; before = is.before; taken = is.taken; floor = is.floor };
-}
+returns-clause-starts g c = search (rules, arith)

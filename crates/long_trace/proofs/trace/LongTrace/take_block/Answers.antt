@@ -1,4 +1,4 @@
-use Rattle.std.proofs.Common.{◌∙◌, false, refl, sym, ap, arith}
+use Rattle.std.proofs.Common.{◌∙◌, false, refl, sym, ap, arith, rules}
 use Rattle.tally_base.{specs.Columns.{item, gathered, events_in}, specs.Floors.{floor_after, InOrder}, proofs.Greatest.greatest-rows, proofs.BlockRows.length-rows, specs.Tally.greatest_time}
 use Rattle.long_trace.proofs.Given.{GivenMore-counts}
 use Rattle.long_trace.proofs.trace.LongTrace.take_block.Goals as goal
@@ -14,7 +14,7 @@ returns-clause-given c =
     c.count_block-self.ensures.floor ∙ ap (λ n. floor_after false n (gathered b)) is ∙ sym (greatest-rows false h (item b) b.len order))
 
 pub invariant_of-self-clause-few : goal.invariant_of-self-clause-few
-invariant_of-self-clause-few c = let b = c.args.block.now in omega (arith, c.args.self.now.few, c.count_block-self.ensures.counted.few, c.len.ensures.count, length-rows (item b) b.len)
+invariant_of-self-clause-few c = search (rules, arith, length-rows)
 
 pub invariant_of-self-clause-filled : goal.invariant_of-self-clause-filled
-invariant_of-self-clause-filled c = let b = c.args.block.now in omega (arith, c.args.self.now.filled, c.count_block-self.ensures.counted.filled, c.len.ensures.count, length-rows (item b) b.len)
+invariant_of-self-clause-filled c = search (rules, arith, length-rows)

@@ -1,5 +1,4 @@
-use Rattle.std.proofs.Common.{◌≡◌, ◌∙◌, ◌+◌, true, All, filter, rules, length, ap, sym, subst, refl}
-use Rattle.std.proofs.lemmas.List.Elements.{All-weaker, All-filter, filter_passes}
+use Rattle.std.{proofs.Common.{◌≡◌, ◌∙◌, ◌+◌, true, All, filter, rules, length, ap, sym, subst, refl}, proofs.lemmas.List.Elements.{All-weaker, All-filter, filter_passes}}
 use Rattle.tally_base.{specs.Events.is_photon, specs.Columns.gathered}
 use Rattle.ptu_definitions.specs.Fitting.{KindFits}
 use Rattle.gate_plan.specs.Groups.{sorting_of}

@@ -1,5 +1,4 @@
-use Rattle.std.proofs.Common.{◌∙◌, None, sym, ap, arith}
-use Rattle.std.proofs.lemmas.Result.{err_from_is_err_and}
+use Rattle.std.{proofs.Common.{◌∙◌, sym, ap, arith, rules}, proofs.lemmas.Result.{err_from_is_err_and}}
 use Rattle.ptu_definitions.specs.Streams.{Reading}
 use Rattle.plan_text.specs.Reading.{plan_view}
 use Rattle.gate_plan.{specs.Plans.reading_by, specs.Groups.sorting_of}
@@ -10,9 +9,7 @@ use Rattle.pick_work.{specs.PickOutcomes.chosen_by, specs.PickPieces.picks, proo
 use Rattle.pick_work.proofs.pick.PickJobJob.open.Goals as goal
 
 pub returns-in_err-fits-clause-opens : goal.returns-in_err-fits-clause-opens
-returns-in_err-fits-clause-opens g c =
-    let p = err_from_is_err_and c.from_residual.result c.from_residual.ensures.1 in
-    rw (p.1, p.2) (opens-misfit (Unit {0}) _ _ _ None _ 0 _ c.in_err-fits.field-0.0 (sym (rw c.mode-mode.ensures at c.in_err-fits.ensures.answer)))
+returns-in_err-fits-clause-opens g c = search (rules, arith, err_from_is_err_and, opens-misfit)
 
 pub returns-in_err-start-clause-opens : goal.returns-in_err-start-clause-opens
 returns-in_err-start-clause-opens g c =

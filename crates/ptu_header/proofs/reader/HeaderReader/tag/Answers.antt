@@ -1,5 +1,4 @@
-use Rattle.std.proofs.Common.{Err, refl, ap, subst, ◌∙◌, arith, ◌≡◌, ◌≤◌, ◌<◌, ◌^◌, ◌+◌, ◌++◌, ◌&&◌, true, length, take, length-append, nat_lt}
-use Rattle.std.proofs.lemmas.List.{length-take, take_all}
+use Rattle.std.{proofs.Common.{Err, refl, ap, subst, ◌∙◌, arith, ◌≡◌, ◌≤◌, ◌<◌, ◌^◌, ◌+◌, ◌++◌, ◌&&◌, true, length, take, length-append, nat_lt}, proofs.lemmas.List.{length-take, take_all}}
 use Rattle.tally_base.specs.declared.fault.Fault.TheVariants.{HeaderLimit, TruncatedHeader}
 use Rattle.ptu_definitions.specs.Headers.{header_answer}
 use Rattle.ptu_header.specs.declared.reader.Phase.TheVariants as Phases

@@ -1,5 +1,4 @@
-use Rattle.std.proofs.Common.{refl, sym, ap, subst, ◌∙◌, arith, ◌≡◌, ◌+◌, true, false, [], codes}
-use Rattle.std.{specs.Str.bytes_eq, specs.Int.{w64, cast_signed, cast_unsigned}, proofs.lemmas.Int.of_z-to_z, proofs.lemmas.Bool.{false_from_ne_true, false≢true}}
+use Rattle.std.{proofs.Common.{refl, sym, ap, subst, ◌∙◌, arith, ◌≡◌, ◌+◌, true, false, [], codes}, specs.Str.bytes_eq, specs.Int.{w64, cast_signed, cast_unsigned}, proofs.lemmas.Int.of_z-to_z, proofs.lemmas.Bool.{false_from_ne_true, false≢true}}
 use Rattle.tally_base.specs.declared.fault.Fault.TheVariants.{TagType, TagLength}
 use Rattle.ptu_definitions.specs.TagFields.{code_in, value_in, is_known, is_negative, body_size, is_end}
 use Rattle.ptu_tag.specs.Kinds.{IsHead, code_of}

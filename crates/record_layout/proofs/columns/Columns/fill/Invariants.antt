@@ -1,5 +1,4 @@
-use Rattle.std.proofs.Common.{◌<◌, ℕ, [], get_or}
-use Rattle.std.specs.Int.{from_le_bytes, w32}
+use Rattle.std.{proofs.Common.{◌<◌, ℕ, [], get_or}, specs.Int.{from_le_bytes, w32}}
 use Rattle.record_layout.specs.InColumns.{IsRow, row_at}
 use Rattle.record_layout.proofs.columns.Columns.fill.Given as goal
 

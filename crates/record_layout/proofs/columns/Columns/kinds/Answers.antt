@@ -1,5 +1,4 @@
-use Rattle.std.proofs.Common.{arith}
-use Rattle.std.proofs.lemmas.List.{take_all}
+use Rattle.std.{proofs.Common.{arith}, proofs.lemmas.List.{take_all}}
 use Rattle.record_layout.proofs.KindLemmas.{others-fit, counts_of-three}
 use Rattle.record_layout.proofs.columns.Columns.kinds.Goals as goal
 

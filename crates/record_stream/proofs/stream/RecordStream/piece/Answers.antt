@@ -1,5 +1,4 @@
-use Rattle.std.proofs.Common.{◌++◌, Err, subst, ◌∙◌}
-use Rattle.std.proofs.lemmas.Result.{err_from_is_err_and, on_ok_weaker}
+use Rattle.std.{proofs.Common.{◌++◌, Err, subst, ◌∙◌}, proofs.lemmas.Result.{err_from_is_err_and, on_ok_weaker}}
 use Rattle.ptu_definitions.{specs.Fours.numbers, specs.Prefixes.listed, specs.Words.words_of}
 use Rattle.record_layout.{specs.Begun.begun_in, proofs.BegunLemmas.slice-listed}
 use Rattle.record_stream.{specs.Feeding.Fed, specs.Standing.how_of, proofs.Feeds.{Fed-trans, Fed-more}, proofs.Fours.{cut-words, cut-rest}}

@@ -1,5 +1,4 @@
-use Rattle.std.proofs.Common.{◌+◌, ◌<◌, ◌≤◌, subst, ◌∙◌, arith, rules}
-use Rattle.std.proofs.lemmas.Result.{err_from_is_err_and}
+use Rattle.std.{proofs.Common.{◌+◌, ◌<◌, ◌≤◌, subst, ◌∙◌, arith, rules}, proofs.lemmas.Result.err_from_is_err_and}
 use Rattle.ptu_definitions.specs.Fitting.{KindFits}
 use Rattle.tally_base.{specs.Columns.{event_at, rows}, proofs.Floors.order-at, proofs.BlockRows.{length-rows, rows-split}}
 use Rattle.abs_time.specs.Floors.{orders_markers}

@@ -1,5 +1,4 @@
-use Rattle.std.proofs.Common.{◌≡◌, ◌∷◌, [], false, true, refl, ap, sym, ◌∙◌, map, None, Ok, add-zero, ◌+◌}
-use Rattle.std.proofs.lemmas.Result.{err_from_is_err_and, on_ok_weaker}
+use Rattle.std.{proofs.Common.{◌≡◌, ◌∷◌, [], false, true, refl, ap, sym, ◌∙◌, map, None, Ok, add-zero, ◌+◌}, proofs.lemmas.Result.{err_from_is_err_and, on_ok_weaker}}
 use Rattle.tally_base.specs.Events.{stops_late}
 use Rattle.ptu_definitions.specs.Streams.{Reading, refusal}
 use Rattle.abs_time.{specs.declared.clock.Placed.TheVariants.Event as InOrder, specs.declared.clock.Placed.TheVariants.Late, specs.Placing.place_answer}

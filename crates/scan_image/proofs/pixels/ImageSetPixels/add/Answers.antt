@@ -1,5 +1,4 @@
-use Rattle.std.proofs.Common.{◌+◌, ℕ, cond, refl, rules, arith, Some}
-use Rattle.std.proofs.lemmas.Grind.{common_steps}
+use Rattle.std.{proofs.Common.{◌+◌, ℕ, cond, refl, rules, arith, Some}, proofs.lemmas.Grind.common_steps}
 use Rattle.scan_image.{specs.ImageCounts.is_at, proofs.Cells.raised_at}
 use Rattle.scan_image.proofs.pixels.ImageSetPixels.add.Goals as goal
 

@@ -1,8 +1,54 @@
-use Rattle.std.proofs.Common.{◌≡◌, ◌∙◌, length, ap, refl, subst}
-use Rattle.std.specs.List.{refill}
+use Rattle.std.{proofs.Common.{◌≡◌, ◌∙◌, length, ap, refl, subst, ◌+◌, ◌<◌, ◌≤◌, ℕ, suc, List, [], ◌∷◌, ◌++◌, false, take, drop, sym, append_assoc, append-nil, arith, length-append}, specs.List.{refill, AllByRecursion}, proofs.Math.Seq.take-append_seam}
 use Rattle.arrayvec.specs.ArrayVec.{array_vec_len}
-use Rattle.settle.{specs.Standing.{IsSettled, next_place}, proofs.Passing.{passed, refilled}}
+use Rattle.tally_base.specs.declared.event.Event.{Event}
+use Rattle.ptu_definitions.{specs.Prefixes.each_after, specs.Settled.{marked_as, put_in, settles}, proofs.SettledLemmas.put_in-append, proofs.SettlingLemmas.{all-push, each-weaker}}
+use Rattle.settle.{specs.Standing.{IsSettled, next_place}, specs.Passing.{ComesOn, next_after, time_after}, proofs.Steps.{settled-emit, tells-one}}
 use Rattle.settle.proofs.settle.Settle.pass.Goals as goal
+
+-- events that come in order behind all that are kept back
+
+-- as many as there were stand in the place of all
+refilled : {A : Type 0} (n : ℕ) (xs ws : List A) → n ≡ length xs → length ws ≡ n → refill n xs ws ≡ ws
+refilled n xs ws full as_many = subst (λ k. take k (ws ++ drop (length ws) xs) ≡ ws) as_many (take-append_seam ws (drop (length ws) xs))
+
+-- The first of both together were let go, and the last are kept back.
+record IsPassed (k : ℕ) (waiting : List Event) (last next : ℕ) (pushed given came went : List Event) : Type 0 where
+  settled : IsSettled k false waiting (time_after last went) (next_after next came) (pushed ++ came) (given ++ went)
+  tells : each_after (settles k) pushed came ≡ marked_as false went
+
+put_in-last : (e : Event) (w : List Event) → AllByRecursion (λ x. x.time ≤ e.time) w → put_in e w ≡ w ++ e ∷ []
+put_in-last e w all = sym (ap (put_in e) (append-nil w)) ∙ put_in-append e w [] all
+
+passed : (k : ℕ) (came w w' went es g : List Event) (last next top : ℕ) → 0 < k → length w ≡ k → length w' ≡ k → IsSettled k false w last next es g → last ≤ top → AllByRecursion (λ x. x.time ≤ top) w → ComesOn next top came
+    → w ++ came ≡ went ++ w' → IsPassed k w' last next es g came went
+passed k [] w w' [] es g last next top some full full' settled low all comes is =
+    let same : w ≡ w' = sym (append-nil w) ∙ is in
+    record { settled = rw (append-nil, append-nil, ← same) settled; tells = refl }
+passed k [] w w' (y ∷ went) es g last next top some full full' settled low all comes is =
+    let n : length w ≡ suc (length (went ++ w')) = ap length (sym (append-nil w) ∙ is) in
+    absurd (omega (arith, n, full, full', length-append went w'))
+passed k (e ∷ came) [] w' went es g last next top some full full' settled low all comes is = absurd (omega (arith, some, full))
+passed k (e ∷ came) (x ∷ w) w' [] es g last next top some full full' settled low all comes is =
+    let n : suc (length (w ++ e ∷ came)) ≡ length w' = ap length is in
+    absurd (omega (arith, n, full, full', length-append w (e ∷ came)))
+passed k (e ∷ came) (x ∷ w) w' (y ∷ went) es g last next top some full full' settled low all comes is =
+    let same : x ≡ y = cc in
+    let tail : w ++ (e ∷ came) ≡ went ++ w' = cc in
+    let below : AllByRecursion (λ z. z.time ≤ e.time) (x ∷ w) = each-weaker (λ z. z.time ≤ top) (λ z. z.time ≤ e.time) (x ∷ w) (λ z le. let h : top ≤ e.time = comes.1 in omega (arith, le, h)) all in
+    let in_time : last ≤ e.time = let h : top ≤ e.time = comes.1 in omega (arith, low, h) in
+    let put : x ∷ (w ++ e ∷ []) ≡ put_in e (x ∷ w) = sym (put_in-last e (x ∷ w) below) in
+    let as_many : length (w ++ e ∷ []) ≡ length (x ∷ w) = omega (arith, length-append w (e ∷ [])) in
+    let one = settled-emit k false (x ∷ w) (w ++ e ∷ []) last next es g e x settled refl in_time comes.0 full put in
+    let rest =
+    passed k came (w ++ e ∷ []) w' went (es ++ e ∷ []) (g ++ x ∷ []) x.time (e.place + 1) e.time some (as_many ∙ full) full' one below.0 (all-push (λ z. z.time ≤ e.time) w e below.1 (omega arith)) comes.2 (append_assoc w (e ∷ []) came ∙ tail) in
+    let tells = tells-one k false (x ∷ w) (w ++ e ∷ []) last next es g e x settled refl in_time full as_many put in
+    subst (λ (z : Event). IsPassed k w' last next es g (e ∷ came) (z ∷ went)) same
+    (record {
+      settled =
+          subst (λ l. IsSettled k false w' (time_after x.time went) (next_after (e.place + 1) came) l (g ++ x ∷ went)) (append_assoc es (e ∷ []) came)
+          (subst (λ l. IsSettled k false w' (time_after x.time went) (next_after (e.place + 1) came) ((es ++ e ∷ []) ++ came) l) (append_assoc g (x ∷ []) went) rest.settled);
+      tells = ap (λ l. l ++ each_after (settles k) (es ++ e ∷ []) came) tells ∙ ap (λ l. (x, false) ∷ l) rest.tells;
+    })
 
 pub returns-clause-passed : goal.returns-clause-passed
 returns-clause-passed c = λ pushed given came went settled comes.

@@ -1,5 +1,4 @@
-use Rattle.std.proofs.Common.{rules, arith, ◌≤◌, ◌≡◌, ◌++◌, refl, sym, ◌∙◌, None, Some, length}
-use Rattle.std.{proofs.Math.Logic.{∥∥₁_map, ∥∥₁_elim}, proofs.Props.props, proofs.lemmas.Result.on_ok_weaker, specs.Vec.with_items}
+use Rattle.std.{proofs.Common.{rules, arith, ◌≤◌, ◌≡◌, ◌++◌, refl, sym, ◌∙◌, None, Some, length}, proofs.Math.Logic.{∥∥₁_map, ∥∥₁_elim}, proofs.Props.props, proofs.lemmas.Result.on_ok_weaker, specs.Vec.with_items}
 use Rattle.ptu_definitions.{specs.Words.words_of, proofs.Firsts.record_refusal-inside}
 use Rattle.record_stream.{specs.Standing.{carried_by, refused_with}, proofs.Fours.refused-bytes, proofs.Lasts.streamed-shown}
 use Rattle.tally_base.proofs.Slices.{whole_slice}

@@ -1,5 +1,4 @@
-use Rattle.std.proofs.Common.{rules, ◌≡◌, length}
-use Rattle.std.{proofs.Props.props, proofs.Math.Logic.∥∥₁_elim, proofs.lemmas.Option.slice_get_read}
+use Rattle.std.{proofs.Common.{rules, ◌≡◌, length, arith}, proofs.Props.props, proofs.Math.Logic.∥∥₁_elim, proofs.lemmas.Option.slice_get_read}
 use Rattle.tally_base.specs.Settings.{correlation_view}
 use Rattle.tau_cascade.{proofs.Shown.{level_count, shown_ring}, proofs.Work.{spent_within, all_lent, level_within}, specs.Correlation.photons_of}
 use Rattle.tau_cascade.proofs.cascade.Cascade.level.Goals as goal
@@ -7,8 +6,7 @@ use Rattle.tau_cascade.proofs.cascade.Cascade.level.Goals as goal
 pub returns-clause-lags : goal.returns-clause-lags
 returns-clause-lags c =
     let t = c.args.self.now in
-    let count : t.set.levels ≡ length t.levels.items = search rules in
-    let read = slice_get_read t.levels.items t.set.levels c.args.level c.index.result.now count c.requires c.index.ensures in
+    let read = slice_get_read t.levels.items t.set.levels c.args.level c.index.result.now (search rules) c.requires c.index.ensures in
     ∥∥₁_elim t.stands (hlevel props) (λ w. level_count t.closed t.set t.levels.items t.taken t.floor w.0 w.1 c.args.level c.index.result.now read)
 
 pub returns-clause-ring : goal.returns-clause-ring
@@ -17,16 +15,10 @@ returns-clause-ring c = λ r read.
     ∥∥₁_elim t.stands (hlevel props) (λ w. shown_ring t.closed t.set t.levels.items t.taken t.floor w.0 w.1 c.args.level r read)
 
 pub returns-clause-spent : goal.returns-clause-spent
-returns-clause-spent c =
-    let t = c.args.self.now in
-    let count : t.set.levels ≡ length t.levels.items = search rules in
-    all_lent t t.set.levels count
+returns-clause-spent c = search (rules, arith, all_lent)
 
 pub returns-clause-work : goal.returns-clause-work
-returns-clause-work c = λ h is.
-    let t = c.args.self.now in
-    let count : length t.levels.items ≡ t.set.levels = search rules in
-    spent_within t.closed t.set t.levels.items t.taken t.floor h count is
+returns-clause-work c = search (rules, arith, spent_within)
 
 pub returns-clause-own : goal.returns-clause-own
 returns-clause-own c = λ h is.

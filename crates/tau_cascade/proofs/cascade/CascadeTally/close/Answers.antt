@@ -1,5 +1,4 @@
-use Rattle.std.proofs.Common.{rules, ◌≡◌, length}
-use Rattle.std.proofs.Math.Logic.{∥∥₁_map}
+use Rattle.std.{proofs.Common.{rules, ◌≡◌, length}, proofs.Math.Logic.{∥∥₁_map}}
 use Rattle.tally_base.specs.Settings.{correlation_view}
 use Rattle.tau_cascade.{specs.Correlation.photons_of, proofs.Slices.whole_slice, proofs.Gives.{may_end, end_counts}}
 use Rattle.tau_cascade.proofs.cascade.CascadeTally.close.Goals as goal
@@ -15,11 +14,10 @@ end_all-requires-clause-stands g c =
 pub invariant_of-self-clause-stands : goal.invariant_of-self-clause-stands
 invariant_of-self-clause-stands g c =
     let t = c.args.self.now in
-    let count : length c.end_all.new.levels ≡ length t.levels.items = search rules in
     let all : t.levels.len ≡ length t.levels.items = search rules in
     ∥∥₁_map t.stands (λ w. (
       w.0,
-      rw (whole_slice c.end_all.new.levels t.levels.items t.levels.len count all)
+      rw (whole_slice c.end_all.new.levels t.levels.items t.levels.len (search rules) all)
           (end_counts t.closed c.requires.open t.set t.levels.items _ t.taken t.floor w.0 w.1
           (c.end_all.ensures.follows (photons_of (correlation_view t.set) w.0) (rw c.deref_mut.ensures.value
           (may_end t.closed c.requires.open t.set t.levels.items t.taken t.floor w.0 w.1 t.few)))),

@@ -1,5 +1,4 @@
-use Rattle.std.proofs.Common.{rules, ◌≡◌, length, ◌++◌}
-use Rattle.std.proofs.Math.Logic.{∥∥₁_map}
+use Rattle.std.{proofs.Common.{rules, ◌≡◌, length, ◌++◌}, proofs.Math.Logic.{∥∥₁_map}}
 use Rattle.tally_base.specs.Columns.{events_in}
 use Rattle.tau_cascade.{proofs.Slices.whole_slice, proofs.Blocks.{may_give_block, block_counts}}
 use Rattle.tau_cascade.proofs.cascade.CascadeTally.events.Goals as goal

@@ -1,5 +1,4 @@
-use Rattle.std.proofs.Common.{◌≡◌, ◌∙◌, ℕ, List, ◌+◌, ◌<◌, ◌≤◌, [], ◌∷◌, ◌++◌, length, take, sym, ap, refl, arith, slice_set}
-use Rattle.std.{proofs.Props.props, proofs.Math.Logic.{∥∥₁_map, ∥∥₁_elim}, proofs.lemmas.List.{take_more_set, take_at, drop_at}}
+use Rattle.std.{proofs.Common.{◌≡◌, ◌∙◌, ℕ, List, ◌+◌, ◌<◌, ◌≤◌, [], ◌∷◌, ◌++◌, length, take, sym, ap, refl, arith, slice_set}, proofs.Props.props, proofs.Math.Logic.{∥∥₁_map, ∥∥₁_elim}, proofs.lemmas.List.{take_more_set, take_at, drop_at}, proofs.lemmas.Grind.common_steps}
 use Rattle.tally_base.specs.Settings.{correlation_view}
 use Rattle.lag_ring.specs.declared.ring.Entry.{Entry}
 use Rattle.tau_cascade.proofs.Puts.{finish_open, finish_shut}
@@ -15,14 +14,7 @@ laid : (list entries : List Entry) (from : ℕ) (last : Entry) → take from lis
 laid list entries from last is inside = take_more_set list from last inside ∙ ap (λ ys. ys ++ last ∷ []) is
 
 pub shut_all-requires-clause-ring : goal.shut_all-requires-clause-ring
-shut_all-requires-clause-ring g c =
-    let last = c.in-Some.last in
-    let from = c.lay_out-from.result in
-    let entries = c.args.self.now.ring.entries in
-    let few : length entries ≤ c.args.set.now.lags = ∥∥₁_elim c.requires.stands (hlevel props) (λ w. omega (arith, w.2.was.ring.keeps.within, w.2.was.ring.reach)) in
-    let long = c.lay_out-from.auto.list in
-    let all = laid c.lay_out-from.new.list entries from last c.lay_out-from.ensures.entries (omega (arith, few, long, c.lay_out-from.ensures.count, c.requires.room, c.args.set.now.some_lags)) in
-    rw (all, take_at entries (last ∷ []) from (sym c.lay_out-from.ensures.count)) refl
+shut_all-requires-clause-ring g c = grind (arith, common_steps, ∥∥₁_elim, props, laid, take_at)
 
 pub shut_all-requires-clause-stands : goal.shut_all-requires-clause-stands
 shut_all-requires-clause-stands g c =

@@ -1,5 +1,4 @@
-use Rattle.std.proofs.Common.{◌≡◌, ◌∙◌, ◌-◌, ◌*◌, ◌%◌, ◌^◌, Some, [], ◌∷◌, length, take, drop, map, ap, sym, refl, arith}
-use Rattle.std.proofs.lemmas.List.{length-map, length-take-le, length-drop}
+use Rattle.std.{proofs.Common.{◌≡◌, ◌∙◌, ◌-◌, ◌*◌, ◌%◌, ◌^◌, Some, [], ◌∷◌, length, take, drop, map, ap, sym, refl, arith}, proofs.lemmas.List.{length-map, length-take-le, length-drop}}
 use Rattle.tally_base.specs.Settings.{correlation_view}
 use Rattle.lag_ring.{specs.declared.ring.Entry.Entry, specs.Ring.ring}
 use Rattle.tau_cascade.{specs.Bins.{raised, stretch}, proofs.Keeping.last_of, proofs.Passes.{passed, stretch-shift, moved_on, last_shut}}

@@ -1,5 +1,4 @@
-use Rattle.std.proofs.Common.{◌≡◌, ◌∙◌, ◌-◌, ◌++◌, Some, length, drop, slice_get, sym, ap, subst, arith}
-use Rattle.std.{proofs.Props.props, proofs.Math.Logic.∥∥₁_elim, proofs.lemmas.List.{take-append-drop, take_rest, length-drop}}
+use Rattle.std.{proofs.Common.{◌≡◌, ◌∙◌, ◌-◌, ◌++◌, Some, length, drop, slice_get, sym, ap, subst, arith}, proofs.Props.props, proofs.Math.Logic.∥∥₁_elim, proofs.lemmas.List.{take-append-drop, take_rest, length-drop}}
 use Rattle.tally_base.specs.Settings.{correlation_view}
 use Rattle.lag_ring.{specs.Ring.IsRising, proofs.Rising.rising_back}
 use Rattle.tau_cascade.{proofs.Keeping.{rising-prop, ring_last}, proofs.Paired.{all_rising, all_fit, cells_all}}

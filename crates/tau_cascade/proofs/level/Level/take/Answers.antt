@@ -1,5 +1,4 @@
-use Rattle.std.proofs.Common.{◌≡◌, ◌∙◌, ◌+◌, ◌<◌, ◌≤◌, length, map, take, arith}
-use Rattle.std.{proofs.Props.props, proofs.Math.Logic.{∥∥₁_map, ∥∥₁_elim}, proofs.lemmas.List.{length-map, take-take, drop-take}}
+use Rattle.std.{proofs.Common.{◌<◌, ◌≤◌, length, map, arith, rules}, proofs.Props.props, proofs.Math.Logic.{∥∥₁_map, ∥∥₁_elim}, proofs.lemmas.List.{length-map, take-take, drop-take}}
 use Rattle.tally_base.specs.Settings.{correlation_view}
 use Rattle.tau_cascade.{specs.Bins.raised, proofs.Takes.{first_fit, second_fit, parts, may_shut, took}}
 use Rattle.tau_cascade.proofs.level.Level.take.Goals as goal
@@ -12,8 +11,7 @@ lay_out-from-requires g c =
 pub merge_onto-merged-requires-clause-room : goal.merge_onto-merged-requires-clause-room
 merge_onto-merged-requires-clause-room g c =
     let few : length c.args.self.now.ring.entries ≤ c.args.set.now.lags = ∥∥₁_elim c.requires.stands (hlevel props) (λ w. omega (arith, w.3.was.ring.keeps.within, w.3.was.ring.reach)) in
-    let long = c.lay_out-from.auto.list in
-    omega (arith, few, c.requires.room, c.args.set.now.some_lags, c.lay_out-from.ensures.count, long)
+    search (rules, arith)
 
 pub merge_onto-merged-requires-clause-counts : goal.merge_onto-merged-requires-clause-counts
 merge_onto-merged-requires-clause-counts g c = ∥∥₁_elim c.requires.stands (hlevel props) (λ w.
@@ -25,11 +23,7 @@ merge_onto-merged-requires-clause-counts g c = ∥∥₁_elim c.requires.stands 
     ))
 
 pub shut_all-requires-clause-ring : goal.shut_all-requires-clause-ring
-shut_all-requires-clause-ring g c =
-    let from = c.lay_out-from.result in
-    let all = c.merge_onto-merged.new.list in
-    let front : take from (take (from + c.merge_onto-merged.result.closed) all) ≡ take from all = take-take from (from + c.merge_onto-merged.result.closed) all (omega arith) in
-    front ∙ c.merge_onto-merged.ensures.before ∙ c.lay_out-from.ensures.entries
+shut_all-requires-clause-ring g c = search (rules, arith, take-take)
 
 pub shut_all-requires-clause-stands : goal.shut_all-requires-clause-stands
 shut_all-requires-clause-stands g c =

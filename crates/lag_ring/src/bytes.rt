@@ -1,0 +1,135 @@
+// Weights by tick in bytes, and the pairs that single photons make over them at many lags at once.
+ghost use Rattle.std.{specs.Prelude.{◌≡◌, ℕ, ◌+◌, ◌^◌, ◌<◌, ◌≤◌, ◌==◌, length, slice_index, sum_by, if◌then◌else◌}, specs.List.{AllByRecursion}};
+ghost use Rattle.lag_ring.{specs.declared.window.Side.TheVariants.{First, Second}, specs.Window.weight_at, specs.Bytes.{IsLight, behind, BothFit, BothHave}};
+
+use crate::ring::Entry;
+
+/// How many lags are summed at once in bytes.
+pub const BYTE_LAGS: usize = 256;
+
+/// A number that no weight of the entries is above. It is not 0.
+pub fn weight_bound(entries: &[Entry]) -> u64
+    ensures some { 0 < result }
+    ensures light { IsLight result entries.now }
+{
+    let mut most = 1;
+    for entry in entries {
+        most |= entry.a | entry.b;
+    }
+    most
+}
+
+/// Adds a weight to a place of a window.
+#[inline(always)]
+fn put_byte(window: &mut [u8], at: usize, weight: u64)
+    requires inside { at < length window.old }
+    requires fits { slice_index window.old at + weight < 2 ^ 8 }
+    ensures weights { (p : ℕ) → p < length window.old
+        → slice_index window.new p ≡ slice_index window.old p + (if at == p then weight else 0) }
+    ensures same { length window.new ≡ length window.old }
+{
+    window[at] += weight as u8;
+}
+
+/// Adds the weights of an entry to the place of its index in two windows, where they have that place.
+#[inline(always)]
+fn put_entry(firsts: &mut [u8], seconds: &mut [u8], top: u64, low: u64, entry: &Entry)
+    requires early { entry.now.index + top < 2 ^ 64 }
+    requires sized { length seconds.old ≡ length firsts.old }
+    requires first { (p : ℕ) → p < length firsts.old → slice_index firsts.old p
+        + (if entry.now.index + top == low + p then entry.now.a else 0) < 2 ^ 8 }
+    requires second { (p : ℕ) → p < length firsts.old → slice_index seconds.old p
+        + (if entry.now.index + top == low + p then entry.now.b else 0) < 2 ^ 8 }
+    ensures firsts { (p : ℕ) → p < length firsts.old → slice_index firsts.new p
+        ≡ slice_index firsts.old p
+        + (if entry.now.index + top == low + p then entry.now.a else 0) }
+    ensures seconds { (p : ℕ) → p < length firsts.old → slice_index seconds.new p
+        ≡ slice_index seconds.old p
+        + (if entry.now.index + top == low + p then entry.now.b else 0) }
+    ensures same { (length firsts.new ≡ length firsts.old)
+        × (length seconds.new ≡ length firsts.old) }
+{
+    let place = entry.index + top;
+    if place >= low && place - low < firsts.len() as u64 {
+        put_byte(firsts, (place - low) as usize, entry.a);
+        put_byte(seconds, (place - low) as usize, entry.b);
+    }
+}
+
+/// Adds the weights of entries to the places of their indices in two windows, one for each group: place `p` is
+/// that of the index which is `top` below `low + p`. An index without a place counts nowhere.
+pub fn put_bytes(firsts: &mut [u8], seconds: &mut [u8], top: u64, low: u64, entries: &[Entry])
+    requires early { AllByRecursion (λ e. e.index + top < 2 ^ 64) entries.now }
+    requires sized { length seconds.old ≡ length firsts.old }
+    requires fit { BothFit top low firsts.old seconds.old entries.now }
+    ensures have { BothHave top low firsts.old seconds.old firsts.new seconds.new entries.now }
+    ensures same { (length firsts.new ≡ length firsts.old)
+        × (length seconds.new ≡ length firsts.old) }
+{
+    for entry in entries {
+        put_entry(firsts, seconds, top, low, entry);
+    }
+}
+
+/// Adds each byte of a part of a window to a sum.
+#[inline(always)]
+fn add_bytes(sums: &mut [u8; BYTE_LAGS], part: &[u8])
+    requires all { length part.now ≡ BYTE_LAGS }
+    requires fits { (q : ℕ) → q < BYTE_LAGS
+        → slice_index sums.old q + slice_index part.now q < 2 ^ 8 }
+    ensures sums { (q : ℕ) → q < BYTE_LAGS
+        → slice_index sums.new q ≡ slice_index sums.old q + slice_index part.now q }
+{
+    for q in 0..BYTE_LAGS {
+        sums[q] += part[q];
+    }
+}
+
+/// What stands behind each of a few spots of a window, summed for each of some lags.
+#[inline(always)]
+fn byte_sums(window: &[u8], from: usize, spots: &[u16]) -> [u8; BYTE_LAGS]
+    requires fits { (q : ℕ) → q < BYTE_LAGS
+        → sum_by (behind window.now (from + q)) spots.now < 2 ^ 8 }
+    requires inside { AllByRecursion (λ s. s + from + BYTE_LAGS ≤ length window.now) spots.now }
+    ensures sums { (q : ℕ) → q < BYTE_LAGS
+        → slice_index result q ≡ sum_by (behind window.now (from + q)) spots.now }
+{
+    let mut sums = [0; BYTE_LAGS];
+    for spot in spots {
+        let at = *spot as usize + from;
+        add_bytes(&mut sums, &window[at..at + BYTE_LAGS]);
+    }
+    sums
+}
+
+/// Adds each of some bytes to a sum.
+#[inline(always)]
+fn add_wide(sums: &mut [u32; BYTE_LAGS], bytes: &[u8; BYTE_LAGS])
+    requires fits { (q : ℕ) → q < BYTE_LAGS
+        → slice_index sums.old q + slice_index bytes.now q < 2 ^ 32 }
+    ensures sums { (q : ℕ) → q < BYTE_LAGS
+        → slice_index sums.new q ≡ slice_index sums.old q + slice_index bytes.now q }
+{
+    for q in 0..BYTE_LAGS {
+        sums[q] += u32::from(bytes[q]);
+    }
+}
+
+/// What stands behind each of some spots of a window, summed for each of some lags: sum `q` takes for a spot the
+/// place `from + q` behind it.
+pub fn byte_lag_sums(window: &[u8], most: usize, from: usize, spots: &[u16]) -> [u32; BYTE_LAGS]
+    requires most { (0 < most) × (most ≤ 255) }
+    requires light { (p : ℕ) → p < length window.now → slice_index window.now p ≤ most }
+    requires few { length spots.now ≤ 2 ^ 16 }
+    requires inside { AllByRecursion (λ s. s + from + BYTE_LAGS ≤ length window.now) spots.now }
+    ensures sums { (q : ℕ) → q < BYTE_LAGS
+        → slice_index result q ≡ sum_by (behind window.now (from + q)) spots.now }
+{
+    let mut sums = [0; BYTE_LAGS];
+    // So many spots are summed in bytes that none passes 255.
+    for part in spots.chunks(255 / most) {
+        let bytes = byte_sums(window, from, part);
+        add_wide(&mut sums, &bytes);
+    }
+    sums
+}
