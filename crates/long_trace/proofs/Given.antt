@@ -2,7 +2,7 @@
 use Rattle.std.proofs.Common.{◌≡◌, ◌∙◌, ◌+◌, ◌≤◌, Bool, false, List, [], ◌∷◌, ◌++◌, ℕ, max, length, sym, ap, arith, append-nil, append_assoc, length-append, IsTrue, nat_lt, if◌then◌else◌, rules}
 use Rattle.tally_base.{specs.declared.event.Event.Event, specs.Events.is_photon, specs.Tally.{History, greatest_time}, specs.Settings.trace_view, proofs.Greatest.greatest-push}
 use Rattle.count_trace.{specs.TraceCounts.count_before, proofs.Blocks.count-append}
-use Rattle.long_trace.{specs.declared.trace.LongTrace.LongTrace, specs.LongTrace.{GivenMore, set_of, is_going}, specs.Texts.{first_line, closed_lines, open_text}, specs.Bins.CountsOn, specs.States.state_of}
+use Rattle.long_trace.{specs.declared.trace.LongTrace.LongTrace, specs.LongTrace.{GivenMore, set_of, is_going, was_begun}, specs.Texts.{first_line, closed_lines, open_text}, specs.Bins.CountsOn, specs.States.state_of}
 
 pub GivenMore-nil : (t : LongTrace) → GivenMore t t [] []
 GivenMore-nil t = search (rules, arith, append-nil)
@@ -11,6 +11,7 @@ pub GivenMore-trans : (a b c : LongTrace) (m n : History) (lines lines' : List �
 GivenMore-trans a b c m n lines lines' p q = record {
   same_set = q.same_set ∙ p.same_set;
   same_going = q.same_going ∙ p.same_going;
+  same_begun = q.same_begun ∙ p.same_begun;
   follows = λ h is. rw (← append_assoc h m n) (q.follows (h ++ m) (p.follows h is));
   closed = λ h is.
       ap (open_text (trace_view (set_of a))) (sym (append_assoc h m n))
@@ -20,14 +21,15 @@ GivenMore-trans a b c m n lines lines' p q = record {
 }
 
 -- Its numbers were counted on, and those beside them.
-pub GivenMore-counts : (old new : LongTrace) (more : History) (lines lines' : List ℕ) → new.set ≡ old.set → is_going new ≡ is_going old → CountsOn (trace_view old.set) (state_of old.newest old.closed) (state_of new.newest new.closed) more lines lines' → lines ≡ []
+pub GivenMore-counts : (old new : LongTrace) (more : History) (lines lines' : List ℕ) → new.set ≡ old.set → is_going new ≡ is_going old → was_begun new ≡ was_begun old → CountsOn (trace_view old.set) (state_of old.newest old.closed) (state_of new.newest new.closed) more lines lines' → lines ≡ []
     → new.before ≡ old.before + count_before (trace_view old.set) more → new.taken ≡ old.taken + length more → ((h : History) → old.floor ≡ greatest_time false h → new.floor ≡ greatest_time false (h ++ more)) → GivenMore old new more lines'
-GivenMore-counts old new more lines lines' same going on none before taken floor =
+GivenMore-counts old new more lines lines' same going begun on none before taken floor =
     let set = trace_view old.set in
     let text : lines' ≡ on.text = on.put ∙ ap (λ l. l ++ on.text) none in
     record {
       same_set = same;
       same_going = going;
+      same_begun = begun;
       follows = λ h is. record {
         bins = rw same (on.counted h is.bins);
         before = rw same (omega (arith, before, is.before, count-append set (λ time. nat_lt time set.origin) h more));

@@ -46,6 +46,7 @@ pub record Starts (old new : LongTrace) (result : Result (Unit {0}) Fault) : Typ
 pub record GivenMore (old new : LongTrace) (more : History) (lines : List ℕ) : Type 0 where
   pub same_set : new.set ≡ old.set
   pub same_going : is_going new ≡ is_going old
+  pub same_begun : was_begun new ≡ was_begun old
   pub follows : (h : History) → Holds old h → Holds new (h ++ more)
   pub closed : (h : History) → Holds old h → open_text (trace_view old.set) (h ++ more) ≡ open_text (trace_view old.set) h ++ lines
 

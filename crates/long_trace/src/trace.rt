@@ -165,6 +165,7 @@ impl LongTrace {
         ensures follows { (h : History) → Holds self.old h
             → Holds self.new (h ++ (e.now, groups) ∷ []) }
         ensures going { is_going self.new ≡ is_ok result }
+        ensures begun { was_begun self.new ≡ was_begun self.old }
         ensures one_more { taken_of self.new ≡ taken_of self.old + 1 }
         ensures moved { floor_of self.new
             ≡ (if is_photon e.now then e.now.time else floor_of self.old) }

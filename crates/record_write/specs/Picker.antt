@@ -41,6 +41,7 @@ pub record Picks (old new : Picker) (e : Event) : Type 0 where
   pub picked : (photons : List Event) → HasPicked old photons → HasPicked new (photons ++ e ∷ [])
   pub last : last_by new ≡ e.time
   pub same_mode : mode_of new ≡ mode_of old
+  pub same_begun : was_begun new ≡ was_begun old
   pub going : is_going new ≡ true
 
 -- A call was refused, and the picker has picked no more.
@@ -48,6 +49,7 @@ pub record Closes (old new : Picker) : Type 0 where
   pub closed : is_going new ≡ false
   pub same_last : last_by new ≡ last_by old
   pub same_mode : mode_of new ≡ mode_of old
+  pub same_begun : was_begun new ≡ was_begun old
 
 -- This holds of the words of a photon behind those that the picker has picked.
 abbrev pub OnWordsOf : Picker → Event → (List ℕ → Type 0) → Type 0
